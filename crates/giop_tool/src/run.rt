@@ -1,0 +1,144 @@
+//! The program over a reader and two writers.
+
+ghost use Rattle.std.specs.Prelude.{◌≤◌};
+
+use crate::counter::Counter;
+use crate::events::{Note, PlayError, Written};
+use crate::play::play;
+use crate::script::{ScriptError, read_script};
+use crate::server::Server;
+use crate::settings::Setting;
+use std::alloc::{AllocError, AllocFailed, Global};
+use std::io;
+use std::io::{BufWriter, ErrorKind, Read, Write};
+
+/// Why the program ends with status 1.
+#[derive(Clone, Copy, Debug, PartialEq, Eq)]
+enum Stop {
+    /// Memory ran out.
+    Memory,
+    /// The input can't be read, isn't UTF-8, or hasn't ended.
+    Unreadable,
+    /// The line of the script with that number is no event.
+    BadLine(u64),
+    /// The output can't be written.
+    Unwritable,
+}
+
+impl From<AllocError> for Stop {
+    fn from(_e: AllocError) -> Stop {
+        Stop::Memory
+    }
+}
+
+impl From<ScriptError> for Stop {
+    fn from(error: ScriptError) -> Stop {
+        match error {
+            ScriptError::BadLine(line) => Stop::BadLine(line),
+            ScriptError::Memory => Stop::Memory,
+        }
+    }
+}
+
+impl From<PlayError> for Stop {
+    fn from(_e: PlayError) -> Stop {
+        Stop::Memory
+    }
+}
+
+/// An error of a writer.
+impl From<io::Error> for Stop {
+    fn from(error: io::Error) -> Stop {
+        match error.kind() {
+            ErrorKind::OutOfMemory => Stop::Memory,
+            _ => Stop::Unwritable,
+        }
+    }
+}
+
+/// All that a reader gives. A reader that hasn't ended after 4,294,967,295 reads is unreadable.
+fn read_all<R: Read>(alloc: Global, input: &mut R) -> Result<Vec<u8>, Stop> {
+    let mut all = Vec::new(alloc);
+    let mut buffer = [0u8; 8192];
+    for _ in 0..u32::MAX {
+        match input.read(&mut buffer) {
+            Ok(0) => return Ok(all),
+            Ok(n) => all.extend_from_slice(&buffer[..n])?,
+            Err(error) if error.kind() == ErrorKind::Interrupted => {}
+            Err(_) => return Err(Stop::Unreadable),
+        }
+    }
+    Err(Stop::Unreadable)
+}
+
+/// Prints a line for each entry with octets, and the total.
+fn print_written<W: Write>(
+    alloc: Global,
+    written: &[Written],
+    total: i64,
+    out: &mut W,
+) -> Result<(), Stop> {
+    let mut out = BufWriter::new(alloc, out)?;
+    for entry in written {
+        if !entry.octets.is_empty() {
+            let connection = entry.connection;
+            let digits = hex::encode(alloc, &entry.octets)?;
+            writeln!(out, "{connection} {digits}")?;
+        }
+    }
+    writeln!(out, "total {total}")?;
+    out.flush()?;
+    Ok(())
+}
+
+/// Tells whether memory ran out while an entry was made.
+fn is_cut_short(entry: &Written) -> bool {
+    matches!(entry.note, Note::Memory { .. })
+}
+
+/// Plays the script that a reader gives, and prints what is written.
+fn play_script<R: Read, W: Write>(alloc: Global, input: &mut R, out: &mut W) -> Result<(), Stop> {
+    let octets = read_all(alloc, input)?;
+    let script = std::str::from_utf8(octets.as_slice()).map_err(|_| Stop::Unreadable)?;
+    let events = read_script(alloc, script)?;
+    let mut server = Server::new(alloc, Counter::new(alloc, 0)?);
+    let mut written = Vec::new(alloc);
+    play(alloc, &mut server, events.as_slice(), &mut written)?;
+    if written.iter().any(is_cut_short) {
+        return Err(Stop::Memory);
+    }
+    print_written(alloc, written.as_slice(), server.servant().total(), out)
+}
+
+/// Prints why the program ends with status 1.
+fn tell<E: Write>(stop: Stop, err: &mut E) -> io::Result<()> {
+    match stop {
+        Stop::Memory => writeln!(err, "memory"),
+        Stop::Unreadable => writeln!(err, "input: unreadable"),
+        Stop::BadLine(line) => writeln!(err, "line {line}: bad event"),
+        Stop::Unwritable => Ok(()),
+    }
+}
+
+/// Does what a setting asks for, and answers the exit status: 0, or 1 where the input is refused,
+/// the output can't be written or memory runs out, which is told to `err`.
+pub fn run<R: Read, W: Write, E: Write>(
+    alloc: Global,
+    setting: &Setting,
+    input: &mut R,
+    out: &mut W,
+    err: &mut E,
+) -> u8
+    ensures { result ≤ 1 }
+{
+    let ended = match setting {
+        Setting::Play => play_script(alloc, input, out),
+    };
+    match ended {
+        Ok(()) => 0,
+        Err(stop) => {
+            let _ = tell(stop, err);
+            1
+        }
+    }
+}

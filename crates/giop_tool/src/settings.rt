@@ -1,0 +1,66 @@
+//! What the words of the command line ask for.
+
+ghost use Rattle.std.specs.Prelude.{IfErr};
+ghost use Rattle.giop_tool.specs.Settings.{IsNoWantOfMemory};
+
+use clap::error::ErrorKind;
+use clap::{ArgMatches, Command};
+use std::alloc::{AllocError, Global};
+
+/// What the program is to do.
+#[derive(Clone, Copy, Debug, PartialEq, Eq)]
+pub enum Setting {
+    /// Play the script on standard input.
+    Play,
+}
+
+/// Why the words were refused.
+#[derive(Debug, Drop)]
+pub enum SettingError {
+    /// The words are not those of the program, or ask for help.
+    Words(clap::Error),
+    /// Memory ran out.
+    Memory,
+}
+
+impl From<AllocError> for SettingError {
+    ghost use Rattle.std.specs.Prelude.{◌≡◌};
+    ghost use Rattle.giop_tool.specs.declared.settings.SettingError.TheVariants.{Memory};
+
+    ghost from_gives = { λ _ e. e ≡ Memory };
+
+    fn from(_e: AllocError) -> SettingError {
+        SettingError::Memory
+    }
+}
+
+/// `giop play`.
+fn play_command<'a>(alloc: Global) -> Command<'a> {
+    Command::new(alloc, "play").about(
+        "Plays a script of events on standard input, and prints what is written",
+    )
+}
+
+/// The whole command line.
+fn command<'a>(alloc: Global) -> Result<Command<'a>, AllocError> {
+    Command::new(alloc, "giop")
+        .about("A GIOP server of one counter. Without a subcommand it plays a script")
+        .no_binary_name(true)
+        .subcommand(play_command(alloc))
+}
+
+/// What the words after the program's name ask for. No words ask for `play`.
+pub fn settings(alloc: Global, words: &[&str]) -> Result<Setting, SettingError>
+    ensures { IfErr result IsNoWantOfMemory }
+{
+    let command = command(alloc)?;
+    match command.try_get_matches_from(words) {
+        Ok(_) => Ok(Setting::Play),
+        Err(error) => {
+            if error.kind() == ErrorKind::OutOfMemory {
+                return Err(SettingError::Memory);
+            }
+            Err(SettingError::Words(error))
+        }
+    }
+}
