@@ -1,12 +1,21 @@
 #!/usr/bin/env python3
-"""Runs the program with growth N of its memory refused, for each N from 1 until none is refused.
+"""Runs a program with growth N of its memory refused, for each N from 1 until none is refused.
 
-usage: refused_growths.py PROGRAM
+usage: refused_growths.py PROGRAM            the program `giop`, on the inputs below
+       refused_growths.py --calls PROGRAM    the program `refusals`, on each call that it lists
 
-Each run must end as the run with ample memory does, or print `memory` on standard error and end
-with status 1; in the last run, in which nothing is refused, it must end as with ample memory.
-Each input counts as one case. The last line is 'N passed, M failed'.
+An input: each run must end as the run with ample memory does, or print `memory` on standard error
+and end with status 1.
+
+A call: each run must end with `done`, with `refused`, which says that growth N was the call's own,
+that nothing changed and that the same call then gave what it is to give, or with `memory` as above,
+where growth N came before the call. At least one run must end with `refused`; of a call whose name
+ends in `without_growth` none may.
+
+The last run, in which nothing is refused, must end as with ample memory. Each input and each call
+counts as one case. The last line is 'N passed, M failed'.
 """
+import itertools
 import os
 import struct
 import subprocess
@@ -28,56 +37,107 @@ INPUTS = [
     ("help", ["--help"], b""),
 ]
 
+# how a call ends: the status, the standard output and the standard error
+DONE = (0, b"done\n", b"")
+REFUSED = (0, b"refused\n", b"")
+
 
 class Run:
-    """One run of the program under the library that refuses a growth."""
+    """How a run ended, and whether a growth was refused in it."""
 
-    def __init__(self, library, folder, program, words, given, number):
-        count = os.path.join(folder, "count")
-        with open(count, "wb") as f:
-            f.write(bytes(8))
-        env = dict(os.environ, LD_PRELOAD=library, REFUSE_GROWTH=str(number), REFUSE_COUNT=count)
-        run = subprocess.run([program] + words, input=given, capture_output=True, env=env, timeout=60)
-        with open(count, "rb") as f:
-            self.growths = struct.unpack("=Q", f.read())[0]
-        self.end = (run.returncode, run.stdout, run.stderr)
+    def __init__(self, end, is_refused):
+        self.end = end
+        self.is_refused = is_refused
 
     def told_memory(self):
         return self.end[0] == 1 and self.end[2] == b"memory\n"
 
 
-def fault_of(library, folder, program, words, given):
-    """What is wrong with the runs on one input, or None; and how many growths were refused."""
-    ample = Run(library, folder, program, words, given, 0)
+class Program:
+    """A program under the library that refuses a growth."""
+
+    def __init__(self, path, folder):
+        self.path = os.path.abspath(path)
+        self.library = os.path.join(folder, "refuse_growth.so")
+        self.count = os.path.join(folder, "count")
+        subprocess.run(["cc", "-O2", "-Wall", "-shared", "-fPIC", "-o", self.library,
+                        os.path.join(HERE, "refuse_growth.c"), "-ldl"], check=True)
+
+    def run(self, number, words, given=b""):
+        """The run with that growth refused, or none at 0."""
+        with open(self.count, "wb") as f:
+            f.write(bytes(8))
+        env = dict(os.environ, LD_PRELOAD=self.library, REFUSE_GROWTH=str(number),
+                   REFUSE_COUNT=self.count)
+        run = subprocess.run([self.path] + words, input=given, capture_output=True, env=env,
+                             timeout=60)
+        with open(self.count, "rb") as f:
+            growths = struct.unpack("=Q", f.read())[0]
+        return Run((run.returncode, run.stdout, run.stderr), 0 < number <= growths)
+
+    def runs(self, words, given=b""):
+        """The number and the run for growth 1, 2 and so on, up to the one in which none is refused."""
+        for number in itertools.count(1):
+            run = self.run(number, words, given)
+            yield number, run
+            if not run.is_refused:
+                return
+
+
+def fault_of_input(program, words, given):
+    """What is wrong with the runs on one input, or None; and what was seen."""
+    ample = program.run(0, words, given)
     if ample.told_memory():
-        return "told want of memory where nothing was refused", 0
-    number = 1
-    while True:
-        run = Run(library, folder, program, words, given, number)
-        if run.growths < number:
-            break
-        if run.end != ample.end and not run.told_memory():
-            return f"with growth {number} refused it ended with {run.end!r}", number
-        number += 1
-    if run.end != ample.end:
-        return f"with nothing refused it ended with {run.end!r}", number - 1
+        return "told want of memory where nothing was refused", ""
+    for number, run in program.runs(words, given):
+        if run.end != ample.end and not (run.is_refused and run.told_memory()):
+            return f"with growth {number} refused it ended with {run.end!r}", ""
     if number == 1:
-        return "no growth was asked for", 0
-    return None, number - 1
+        return "no growth was asked for", ""
+    return None, f"{number - 1} growths refused in turn"
+
+
+def fault_of_call(program, name):
+    """What is wrong with the runs of one call, or None; and what was seen."""
+    ample = program.run(0, [name])
+    if ample.end != DONE:
+        return f"with nothing refused it ended with {ample.end!r}", ""
+    refused = 0
+    for number, run in program.runs([name]):
+        if run.is_refused and run.end == REFUSED:
+            refused += 1
+        elif run.end != DONE and not (run.is_refused and run.told_memory()):
+            return f"with growth {number} refused it ended with {run.end!r}", ""
+    if name.split("/")[0].endswith("without_growth"):
+        if refused:
+            return f"{refused} growths of the call were refused", ""
+    elif not refused:
+        return "no growth of the call was refused", ""
+    return None, f"{number - 1} growths refused in turn, {refused} of them in the call"
+
+
+def calls_of(program):
+    """The names of the calls, or nothing where they can't be listed."""
+    status, out, _ = program.run(0, ["list"]).end
+    return out.decode().split() if status == 0 else []
 
 
 def main():
-    program = os.path.abspath(sys.argv[1])
     passed = failed = 0
     with tempfile.TemporaryDirectory() as folder:
-        library = os.path.join(folder, "refuse_growth.so")
-        subprocess.run(["cc", "-O2", "-Wall", "-shared", "-fPIC", "-o", library,
-                        os.path.join(HERE, "refuse_growth.c"), "-ldl"], check=True)
-        for name, words, given in INPUTS:
-            fault, refused = fault_of(library, folder, program, words, given)
+        program = Program(sys.argv[-1], folder)
+        if sys.argv[1:-1] == ["--calls"]:
+            cases = [(name, fault_of_call, (name,)) for name in calls_of(program)]
+        else:
+            cases = [(name, fault_of_input, (words, given)) for name, words, given in INPUTS]
+        if not cases:
+            failed += 1
+            print("FAILS the list: it names no call")
+        for name, fault_of, given in cases:
+            fault, seen = fault_of(program, *given)
             if fault is None:
                 passed += 1
-                print(f"{name}: {refused} growths refused in turn")
+                print(f"{name}: {seen}")
             else:
                 failed += 1
                 print(f"FAILS {name}: {fault}")

@@ -1,17 +1,23 @@
 //! Common Data Representation: the octets of values, and where each stands.
-//!
-//! It stands on `byteorder` alone. What its calls read is what the definitions in `specs/` say, for
-//! every input: the value, or the first fault with its place.
 #![tactic(auto)]
 
+pub mod checking;
 pub mod cursor;
 pub mod fault;
 pub mod laws;
 pub mod order;
+pub mod reading;
+pub mod types;
+pub mod values;
+pub mod writer;
+pub mod writing;
 
+pub use checking::{fits, writable};
 pub use cursor::Cursor;
-pub use fault::{Fault, Kind};
+pub use fault::{CdrError, Fault, Kind};
 pub use order::Order;
-
-#[cfg(test)]
-mod tests;
+pub use reading::{read, read_list};
+pub use types::{Case, Ty};
+pub use values::Val;
+pub use writer::Writer;
+pub use writing::{end_of, end_of_list, write, write_list};

@@ -11,11 +11,16 @@ use Rattle.cdr_core.specs.declared.fault.Kind.TheVariants as kind
 use Rattle.cdr_core.specs.declared.order.Order.{Order}
 use Rattle.cdr_core.specs.declared.order.Order.TheVariants.{Big, Little}
 use Rattle.cdr_core.specs.Numbers.{number_of}
-use Rattle.cdr_core.specs.Reading.{◌>>=◌, Read, fault, number_at, short_at, octets_at}
-use Rattle.cdr_core.specs.Spelling.{InTurn, IsNumber, IsOctets, IsShort, Takes}
+use Rattle.cdr_core.specs.Form.{Form}
+use Rattle.cdr_core.specs.Laws.{ReadIsSpelled, SpelledIsRead}
+use Rattle.cdr_core.specs.Parts.{raw, short, short_value, ulong, ulong_value}
+use Rattle.cdr_core.specs.Reading.{◌>>=◌, Read, fault, value_at}
+use Rattle.cdr_core.specs.Spelling.{InTurn, IsNumber, Spells, Takes}
+use Rattle.cdr_core.specs.Value as value
+use Rattle.cdr_core.specs.Value.{Value, label}
 use Rattle.cdr_core.specs.Steps.{bind_ok, ok_is}
-use Rattle.giop_tool.specs.Layout.{byte_order, Anything, IsKeyAddress, IsTarget, IsLocateRequest}
-use Rattle.giop_tool.specs.Locate.{Question, is_header, order_of, is_frame, address_at, target_at, question_at, question_of}
+use Rattle.giop_tool.specs.Layout.{byte_order, Anything, IsKey, IsKeyAddress, IsTarget, IsLocateRequest}
+use Rattle.giop_tool.specs.Locate.{Question, is_header, order_of, is_frame, content, key_at, natural, address_at, target_at, question_at, question_of}
 use Rattle.giop_tool.proofs.Frames.{and_true, eight}
 
 if_some : {A : Type 0} (b : Bool) (r : Option A) (y : A) → cond b r None ≡ Some y → (b ≡ true) × (r ≡ Some y)
@@ -101,33 +106,58 @@ in_turn A B o octets m more p rest a b = record {
   holds = record { front = a.front; rest = b.front; parts = refl; first = a.holds; second = subst (λ q. B q b.front) a.place b.holds };
 }
 
-module _ (order : Order) (numbers : Found (IsNumber order 4) (number_at order 4)) (shorts : Found (IsShort order) (short_at order)) (octets : Found (IsOctets order) (octets_at order)) where
+-- the value that octets spell by the type of an unsigned long, of a short or of octets
+ulong_is : (order : Order) (v : Value) (o : ℕ) (octets : List ℕ) → Spells ulong order v o octets → v ≡ ulong_value (natural v)
+ulong_is order (value.number kind z) o octets h = cc (h.0, h.3)
+ulong_is order _ o octets h = absurd h
+
+short_is : (order : Order) (v : Value) (o : ℕ) (octets : List ℕ) → Spells short order v o octets → v ≡ short_value (label v)
+short_is order (value.number kind z) o octets h = cc h.0
+short_is order _ o octets h = absurd h
+
+octets_is : (order : Order) (v : Value) (o : ℕ) (octets : List ℕ) → Spells raw order v o octets → v ≡ value.octets (content v)
+octets_is order (value.octets all) o octets h = refl
+octets_is order _ o octets h = absurd h
+
+-- a value in other words
+as_value : (t : Form) (order : Order) (v w : Value) (o : ℕ) (octets : List ℕ) (p : ℕ) (rest : List ℕ) → ((o : ℕ) (octets : List ℕ) → Spells t order v o octets → v ≡ w) → Takes (Spells t order v) o octets p rest → Takes (Spells t order w) o octets p rest
+as_value t order v w o octets p rest same a = record { front = a.front; parts = a.parts; place = a.place; holds = subst (λ x. Spells t order x o a.front) (same o a.front a.holds) a.holds }
+
+module _ (order : Order) (found : ReadIsSpelled) where
+  key_found : Found (IsKey order) (key_at order)
+  unfolding key_at
+  key_found o bytes key p rest h =
+      let b = bind_ok (value_at raw order o bytes) (λ (x : Value × ℕ × List ℕ). Ok (content x.0, x.1, x.2)) (key, p, rest) h in
+      let v = b.0.0 in
+      let first = as_value raw order v (value.octets (content v)) o bytes b.0.1 b.0.2 (octets_is order v) (found raw order o bytes v b.0.1 b.0.2 b.1) in
+      subst (λ (x : List ℕ × ℕ × List ℕ). Takes (IsKey order x.0) o bytes x.1 x.2) (ok_is (content v, b.0.1, b.0.2) (key, p, rest) b.2) first
+
   address_found : Found (IsKeyAddress order) (address_at order)
   unfolding address_at
   address_found o bytes key p rest h =
-      let b = bind_ok (short_at order o bytes) (λ (x : ℤ × ℕ × List ℕ). cond (int_eq x.0 (pos 0)) (octets_at order x.1 x.2) (fault kind.BadEnum o)) (key, p, rest) h in
-      let g = if_err (int_eq b.0.0 (pos 0)) (octets_at order b.0.1 b.0.2) _ (key, p, rest) b.2 in
-      let zero_is : b.0.0 ≡ pos 0 = (Decides-int_eq b.0.0 (pos 0)).0 g.0 in
-      let first = shorts o bytes b.0.0 b.0.1 b.0.2 b.1 in
-      in_turn (IsShort order (pos 0)) (IsOctets order key) o bytes b.0.1 b.0.2 p rest (subst (λ z. Takes (IsShort order z) o bytes b.0.1 b.0.2) zero_is first) (octets b.0.1 b.0.2 key p rest g.1)
+      let b = bind_ok (value_at short order o bytes) (λ (x : Value × ℕ × List ℕ). cond (int_eq (label x.0) (pos 0)) (key_at order x.1 x.2) (fault kind.BadEnum o)) (key, p, rest) h in
+      let g = if_err (int_eq (label b.0.0) (pos 0)) (key_at order b.0.1 b.0.2) _ (key, p, rest) b.2 in
+      let zero_is : label b.0.0 ≡ pos 0 = (Decides-int_eq (label b.0.0) (pos 0)).0 g.0 in
+      let first = as_value short order b.0.0 (short_value (label b.0.0)) o bytes b.0.1 b.0.2 (short_is order b.0.0) (found short order o bytes b.0.0 b.0.1 b.0.2 b.1) in
+      in_turn (Spells short order (short_value (pos 0))) (IsKey order key) o bytes b.0.1 b.0.2 p rest (subst (λ z. Takes (Spells short order (short_value z)) o bytes b.0.1 b.0.2) zero_is first) (key_found b.0.1 b.0.2 key p rest g.1)
 
   target_found : (minor : ℕ) → Found (IsTarget (minor == 2) order) (target_at minor order)
   unfolding target_at
   target_found minor o bytes key p rest h = by (minor == 2) h
     where
-      by : (b : Bool) → cond b (address_at order o bytes) (octets_at order o bytes) ≡ Ok (key, p, rest) → Takes (IsTarget b order key) o bytes p rest
+      by : (b : Bool) → cond b (address_at order o bytes) (key_at order o bytes) ≡ Ok (key, p, rest) → Takes (IsTarget b order key) o bytes p rest
       by true h = address_found o bytes key p rest h
-      by false h = octets o bytes key p rest h
+      by false h = key_found o bytes key p rest h
 
-  pub question_found : (minor : ℕ) (body : List ℕ) (q : Question) → question_at minor order body ≡ Ok q → (q.minor ≡ minor) × InTurn (IsNumber order 4 q.id) (InTurn (IsTarget (q.minor == 2) order q.key) Anything) 12 body
+  pub question_found : (minor : ℕ) (body : List ℕ) (q : Question) → question_at minor order body ≡ Ok q → (q.minor ≡ minor) × InTurn (Spells ulong order (ulong_value q.id)) (InTurn (IsTarget (q.minor == 2) order q.key) Anything) 12 body
   unfolding question_at
   question_found minor body q h =
-      let b = bind_ok (number_at order 4 12 body) (λ (id : ℕ × ℕ × List ℕ). target_at minor order id.1 id.2 >>= λ key. Ok (record { minor = minor; id = id.0; key = key.0 })) q h in
-      let k = bind_ok (target_at minor order b.0.1 b.0.2) (λ (key : List ℕ × ℕ × List ℕ). Ok (record { minor = minor; id = b.0.0; key = key.0 })) q b.2 in
-      let is : ◌≡◌ {A = Question} (record { minor = minor; id = b.0.0; key = k.0.0 }) q = ok_is (record { minor = minor; id = b.0.0; key = k.0.0 }) q k.2 in
-      let first = numbers 12 body b.0.0 b.0.1 b.0.2 b.1 in
+      let b = bind_ok (value_at ulong order 12 body) (λ (id : Value × ℕ × List ℕ). target_at minor order id.1 id.2 >>= λ key. Ok (record { minor = minor; id = natural id.0; key = key.0 })) q h in
+      let k = bind_ok (target_at minor order b.0.1 b.0.2) (λ (key : List ℕ × ℕ × List ℕ). Ok (record { minor = minor; id = natural b.0.0; key = key.0 })) q b.2 in
+      let is : ◌≡◌ {A = Question} (record { minor = minor; id = natural b.0.0; key = k.0.0 }) q = ok_is (record { minor = minor; id = natural b.0.0; key = k.0.0 }) q k.2 in
+      let first = as_value ulong order b.0.0 (ulong_value (natural b.0.0)) 12 body b.0.1 b.0.2 (ulong_is order b.0.0) (found ulong order 12 body b.0.0 b.0.1 b.0.2 b.1) in
       let second = target_found minor b.0.1 b.0.2 k.0.0 k.0.1 k.0.2 k.1 in
-      subst (λ (q : Question). (q.minor ≡ minor) × InTurn (IsNumber order 4 q.id) (InTurn (IsTarget (q.minor == 2) order q.key) Anything) 12 body) is (
+      subst (λ (q : Question). (q.minor ≡ minor) × InTurn (Spells ulong order (ulong_value q.id)) (InTurn (IsTarget (q.minor == 2) order q.key) Anything) 12 body) is (
         refl,
         record {
           front = first.front;
@@ -138,13 +168,17 @@ module _ (order : Order) (numbers : Found (IsNumber order 4) (number_at order 4)
         },
       )
 
-module _ (order : Order) (numbers : Only (IsNumber order 4) (number_at order 4)) (shorts : Only (IsShort order) (short_at order)) (octets : Only (IsOctets order) (octets_at order)) where
+module _ (order : Order) (only : SpelledIsRead) where
+  key_only : Only (IsKey order) (key_at order)
+  unfolding key_at
+  key_only key o front rest h = ap (λ (r : Read Value). r >>= λ x. Ok (content x.0, x.1, x.2)) (only raw order (value.octets key) o front rest h)
+
   address_only : Only (IsKeyAddress order) (address_at order)
   unfolding address_at
   address_only key o front rest h =
       let e : front ++ rest ≡ h.front ++ (h.rest ++ rest) = ap (λ b. b ++ rest) h.parts ∙ append_assoc h.front h.rest rest in
-      let a = shorts (pos 0) o h.front (h.rest ++ rest) h.first in
-      let k = octets key (o + length h.front) h.rest rest h.second in
+      let a = only short order (short_value (pos 0)) o h.front (h.rest ++ rest) h.first in
+      let k = key_only key (o + length h.front) h.rest rest h.second in
       let p : (o + length h.front) + length h.rest ≡ o + length front = omega (arith, ap length h.parts, length-append h.front h.rest) in
       rw (e, a, k, p) refl
 
@@ -152,29 +186,28 @@ module _ (order : Order) (numbers : Only (IsNumber order 4) (number_at order 4))
   unfolding target_at
   target_only minor key o front rest h = by (minor == 2) h
     where
-      by : (b : Bool) → IsTarget b order key o front → cond b (address_at order o (front ++ rest)) (octets_at order o (front ++ rest)) ≡ Ok (key, o + length front, rest)
+      by : (b : Bool) → IsTarget b order key o front → cond b (address_at order o (front ++ rest)) (key_at order o (front ++ rest)) ≡ Ok (key, o + length front, rest)
       by true h = address_only key o front rest h
-      by false h = octets key o front rest h
+      by false h = key_only key o front rest h
 
-  pub question_only : (q : Question) (body : List ℕ) → InTurn (IsNumber order 4 q.id) (InTurn (IsTarget (q.minor == 2) order q.key) Anything) 12 body → question_at q.minor order body ≡ Ok q
+  pub question_only : (q : Question) (body : List ℕ) → InTurn (Spells ulong order (ulong_value q.id)) (InTurn (IsTarget (q.minor == 2) order q.key) Anything) 12 body → question_at q.minor order body ≡ Ok q
   unfolding question_at
   question_only q body h =
-      let a = numbers q.id 12 h.front h.rest h.first in
+      let a = only ulong order (ulong_value q.id) 12 h.front h.rest h.first in
       let t = h.second in
       let k = target_only q.minor q.key (12 + length h.front) t.front t.rest t.first in
       rw (h.parts, a, t.parts, k) refl
 
--- how the three laws say what is read, and what is read again
-pub question_is : ((order : Order) → Found (IsNumber order 4) (number_at order 4)) → ((order : Order) → Found (IsShort order) (short_at order)) → ((order : Order) → Found (IsOctets order) (octets_at order))
-    → (octets : List ℕ) (q : Question) → question_of octets ≡ Some q → (order : Order) × IsLocateRequest order q octets
+-- how the laws say what is read, and what is read again
+pub question_is : ReadIsSpelled → (octets : List ℕ) (q : Question) → question_of octets ≡ Some q → (order : Order) × IsLocateRequest order q octets
 unfolding question_of
-question_is numbers shorts all octets q h =
+question_is found octets q h =
     let order = order_of (get_or octets 6 0) in
     let minor = get_or octets 5 0 in
     let body = drop 12 octets in
     let a = if_some (is_frame octets) (result_ok (question_at minor order body)) q h in
     let f = frame_is octets a.0 in
-    let b = question_found order (numbers order) (shorts order) (all order) minor body q (ok_some (question_at minor order body) q a.1) in (
+    let b = question_found order found minor body q (ok_some (question_at minor order body) q a.1) in (
       order,
       record {
         version = subst (λ m. m ≤ 2) (sym b.0) f.version;
@@ -202,13 +235,12 @@ framed minor order size body le long gives =
     let left : length octets - 12 ≡ length body = omega arith in
     both_true _ _ (both_true _ _ (le-leb 12 (length octets) (omega arith)) (headed minor order (size ++ body) le)) (eq-eqb _ _ (number ∙ sym left))
 
-pub question_again : ((order : Order) → Only (IsNumber order 4) (number_at order 4)) → ((order : Order) → Only (IsShort order) (short_at order)) → ((order : Order) → Only (IsOctets order) (octets_at order))
-    → (octets : List ℕ) (q : Question) (order : Order) → IsLocateRequest order q octets → question_of octets ≡ Some q
+pub question_again : SpelledIsRead → (octets : List ℕ) (q : Question) (order : Order) → IsLocateRequest order q octets → question_of octets ≡ Some q
 unfolding question_of
-question_again numbers shorts all octets q order h =
+question_again only octets q order h =
     let whole = 71 ∷ 73 ∷ 79 ∷ 80 ∷ 1 ∷ q.minor ∷ byte_order order ∷ 3 ∷ (h.size ++ h.body) in
     let f : is_frame whole ≡ true = framed q.minor order h.size h.body h.version h.told.long h.told.gives in
     let cut : drop 4 (h.size ++ h.body) ≡ h.body = drop_at h.size h.body 4 h.told.long in
-    let a = question_only order (numbers order) (shorts order) (all order) q h.body h.fields in
+    let a = question_only order only q h.body h.fields in
     let r : question_at q.minor (order_of (byte_order order)) (drop 4 (h.size ++ h.body)) ≡ Ok q = rw (order_again order, cut) a in
     ap question_of h.parts ∙ ap (λ b. cond b (result_ok (question_at q.minor (order_of (byte_order order)) (drop 4 (h.size ++ h.body)))) None) f ∙ ap result_ok r

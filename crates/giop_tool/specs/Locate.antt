@@ -1,5 +1,5 @@
 -- How one LocateRequest is read, and how it is answered.
-use Rattle.std.specs.Prelude.{◌≡◌, ℕ, ◌-◌, pos, Bool, ◌&&◌, ◌==◌, nat_le, List, [], ◌∷◌, ◌++◌, length, drop, slice_index, Result, Ok, Err, Option, None, if◌then◌else◌}
+use Rattle.std.specs.Prelude.{◌≡◌, ℕ, ◌-◌, pos, unsigned_abs, Bool, ◌&&◌, ◌==◌, nat_le, List, [], ◌∷◌, ◌++◌, length, drop, slice_index, Result, Ok, Err, Option, None, if◌then◌else◌}
 use Rattle.std.specs.Ordering.{int_eq}
 use Rattle.std.specs.Result.{result_ok}
 use Rattle.byteorder.specs.Endian.{big_bytes}
@@ -9,7 +9,10 @@ use Rattle.cdr_core.specs.declared.order.Order.{Order}
 use Rattle.cdr_core.specs.declared.order.Order.TheVariants.{Big, Little}
 use Rattle.cdr_core.specs.Cursor.{Position}
 use Rattle.cdr_core.specs.Numbers.{number_of}
-use Rattle.cdr_core.specs.Reading.{◌>>=◌, Read, fault, number_at, short_at, octets_at}
+use Rattle.cdr_core.specs.Parts.{raw, short, ulong}
+use Rattle.cdr_core.specs.Reading.{◌>>=◌, Read, fault, value_at}
+use Rattle.cdr_core.specs.Value as value
+use Rattle.cdr_core.specs.Value.{Value, label}
 
 -- what a client asks: where the object of a key is, in a minor version of GIOP 1
 pub record Question : Type 0 where
@@ -30,20 +33,34 @@ abbrev pub is_frame : List ℕ → Bool
 is_frame octets =
     nat_le 12 (length octets) && is_header octets && (number_of (order_of (slice_index octets 6)) 4 (drop 8 octets) == length octets - 12)
 
+-- the number of a value without a sign, and the octets of a sequence
+abbrev pub natural : Value → ℕ
+natural (value.number kind z) = unsigned_abs z
+natural _ = 0
+
+abbrev pub content : Value → List ℕ
+content (value.octets all) = all
+content _ = []
+
+unfoldable pub key_at : Order → ℕ → List ℕ → Read (List ℕ)
+key_at order place octets = do
+  x ← value_at raw order place octets
+  Ok (content x.0, x.1, x.2)
+
 -- in 1.2 the key stands behind the disposition KeyAddr, 0
 unfoldable pub address_at : Order → ℕ → List ℕ → Read (List ℕ)
 address_at order place octets = do
-  x ← short_at order place octets
-  if int_eq x.0 (pos 0) then octets_at order x.1 x.2 else fault kind.BadEnum place
+  x ← value_at short order place octets
+  if int_eq (label x.0) (pos 0) then key_at order x.1 x.2 else fault kind.BadEnum place
 
 unfoldable pub target_at : ℕ → Order → ℕ → List ℕ → Read (List ℕ)
-target_at minor order place octets = if minor == 2 then address_at order place octets else octets_at order place octets
+target_at minor order place octets = if minor == 2 then address_at order place octets else key_at order place octets
 
 unfoldable pub question_at : ℕ → Order → List ℕ → Result Question Fault
 question_at minor order octets = do
-  id ← number_at order 4 12 octets
+  id ← value_at ulong order 12 octets
   key ← target_at minor order id.1 id.2
-  Ok (record { minor = minor; id = id.0; key = key.0 })
+  Ok (record { minor = minor; id = natural id.0; key = key.0 })
 
 -- the question that octets are, if they are one
 unfoldable pub question_of : List ℕ → Option Question

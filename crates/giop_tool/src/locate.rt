@@ -1,8 +1,9 @@
 //! One LocateRequest, and the LocateReply to it.
 
 ghost use Rattle.std.specs.Prelude.{◌≡◌, ◌≤◌, length, None, Some, Err, Ok, slice_index, drop, MatchOption, MatchResult};
+ghost use Rattle.cdr_core.specs.Cursor.{Gives};
 ghost use Rattle.cdr_core.specs.Numbers.{number_of};
-ghost use Rattle.giop_tool.specs.Locate.{address_at, is_frame, is_header, locate_reply, order_of, question_at, question_of, target_at, GivesOnce};
+ghost use Rattle.giop_tool.specs.Locate.{address_at, is_frame, is_header, key_at, locate_reply, order_of, question_at, question_of, target_at, GivesOnce};
 
 use byteorder::{BigEndian, ByteOrder, LittleEndian};
 use cdr_core::{Cursor, Fault, Kind, Order};
@@ -64,6 +65,14 @@ fn is_frame(octets: &[u8]) -> bool
     size_in(octets) as usize == octets.len() - 12
 }
 
+/// An object key.
+#[tactic(auto, unfolding(crate::specs::Locate::key_at))]
+fn key<'a>(cursor: &mut Cursor<'a>) -> Result<&'a [u8], Fault>
+    ensures { Gives (λ x. x.now) result (key_at cursor.old.order) cursor.old cursor.new }
+{
+    cursor.octets()
+}
+
 /// The object key behind the addressing disposition of a target of 1.2, which must be KeyAddr.
 #[tactic(auto, unfolding(crate::specs::Locate::address_at))]
 fn address<'a>(cursor: &mut Cursor<'a>) -> Result<&'a [u8], Fault>
@@ -77,7 +86,7 @@ fn address<'a>(cursor: &mut Cursor<'a>) -> Result<&'a [u8], Fault>
             at,
         });
     }
-    let object_key = cursor.octets()?;
+    let object_key = key(cursor)?;
     Ok(object_key)
 }
 
@@ -89,7 +98,7 @@ fn target<'a>(minor: u8, cursor: &mut Cursor<'a>) -> Result<&'a [u8], Fault>
     if minor == 2 {
         return address(cursor);
     }
-    cursor.octets()
+    key(cursor)
 }
 
 /// The question in the octets behind a header.

@@ -1,0 +1,144 @@
+use Rattle.std.proofs.Common.{inr, refl, sym, ap, ◌∙◌}
+use Rattle.std.proofs.lemmas.Result.{err_from_is_err_and}
+use Rattle.cdr_core.specs.Reading.{value_at}
+use Rattle.cdr_core.specs.Value.{label}
+use Rattle.cdr_core.specs.View.{form_of, value_of, values_of}
+use Rattle.cdr_core.specs.Turns.{each_done, each_more}
+use Rattle.cdr_core.proofs.Loops.{each_ends, members_more, members_end, members_done, case_passed, case_chosen, case_fails, default_none, default_chosen, default_fails, sequence_reads, sequence_fails, array_reads, array_fails}
+use Rattle.cdr_core.proofs.Wants.{first_read, may_any, may_store, sequence_wants}
+use Rattle.cdr_core.proofs.Views.{values_of-push, form_of-Array, form_of-Seq, value_of-Array, value_of-Seq}
+use Rattle.cdr_core.proofs.reading.+reading.Goals as goal
+
+pub each-loop-preserved : goal.each-loop-preserved
+each-loop-preserved t c =
+    let i = c.loop.invariant in
+    let read = rw i.order at c.in_ok-value.ensures in
+    let cursor = c.value.new.cursor in
+    record {
+      order = read.1;
+      first = inr (first_read (form_of c.args.ty.now) c.args.cursor.now c.loop.cursor i.first (value_of c.in_ok-value.field-0) cursor.place cursor.rest read.0);
+      whole = rw (c.in_ok-push.ensures.items, values_of-push)
+          (each_more (value_at (form_of c.args.ty.now) c.args.cursor.now.order) (values_of c.loop.all.items) c.args.count c.loop.counter c.loop.cursor.place c.loop.cursor.rest (value_of c.in_ok-value.field-0) cursor.place cursor.rest _ c.loop-test.true read.0 i.whole);
+    }
+
+pub each-returns-in_err-value : goal.each-returns-in_err-value
+each-returns-in_err-value t c =
+    let p = err_from_is_err_and c.from_residual.result c.from_residual.ensures.1 in
+    let i = c.loop.invariant in
+    let read = rw i.order at c.in_err-value.ensures in
+    rw (p.1, p.2) (each_ends c.in_err-value.field-0.0 (value_at (form_of c.args.ty.now) c.args.cursor.now.order) (values_of c.loop.all.items) c.args.count c.loop.counter c.loop.cursor.place c.loop.cursor.rest _ c.loop-test.true read.0 i.whole, may_store c.in_err-value.field-0.0 (form_of c.args.ty.now) c.args.cursor.now c.loop.cursor i.first read.1)
+
+pub each-returns : goal.each-returns
+each-returns t c =
+    let i = c.loop.invariant in
+    (each_done (value_at (form_of c.args.ty.now) c.args.cursor.now.order) (values_of c.loop.all.items) c.args.count c.loop.counter c.loop.cursor.place c.loop.cursor.rest _ c.loop-test.false i.whole, i.order)
+
+pub each_of-loop-ty-preserved : goal.each_of-loop-ty-preserved
+each_of-loop-ty-preserved t c =
+    let i = c.loop-ty.invariant in
+    let read = rw i.order at c.in_ok-value.ensures in
+    let cursor = c.value.new.cursor in
+    record {
+      order = read.1;
+      whole = rw (c.in_ok-push.ensures.items, values_of-push)
+          (members_more c.args.types.now c.loop-ty.ty-index c.ty-item.result c.args.cursor.now.order (values_of c.loop-ty.all.items) c.loop-ty.cursor.place c.loop-ty.cursor.rest (value_of c.in_ok-value.field-0) cursor.place cursor.rest _ c.loop-ty-test.true c.ty-item.is read.0 i.whole);
+    }
+
+pub each_of-returns-in_err-value : goal.each_of-returns-in_err-value
+each_of-returns-in_err-value t c =
+    let p = err_from_is_err_and c.from_residual-in_err-value.result c.from_residual-in_err-value.ensures.1 in
+    let i = c.loop-ty.invariant in
+    let read = rw i.order at c.in_err-value.ensures in
+    rw (p.1, p.2) (members_end c.in_err-value.field-0.0 c.args.types.now c.loop-ty.ty-index c.ty-item.result c.args.cursor.now.order (values_of c.loop-ty.all.items) c.loop-ty.cursor.place c.loop-ty.cursor.rest _ c.loop-ty-test.true c.ty-item.is read.0 i.whole, may_any c.in_err-value.field-0.0)
+
+pub each_of-returns : goal.each_of-returns
+each_of-returns t c =
+    let i = c.loop-ty.invariant in
+    (members_done c.args.types.now c.loop-ty.ty-index c.args.cursor.now.order (values_of c.loop-ty.all.items) c.loop-ty.cursor.place c.loop-ty.cursor.rest _ c.loop-ty-test.false i.whole, i.order)
+
+pub chosen-loop-case-preserved : goal.chosen-loop-case-preserved
+chosen-loop-case-preserved t c =
+    let i = c.loop-case.invariant in
+    let l = label (value_of c.args.discriminator.now) in
+    record {
+      same = i.same;
+      whole = case_passed c.deref-case-items.result.now c.in-Union.default c.loop-case.case-index c.case-item.result c.args.cursor.now.order l c.args.cursor.now.place c.args.cursor.now.rest _ c.loop-case-test.true c.case-item.is (sym c.is_labelled.ensures ∙ c.if-is_labelled.false) i.whole;
+    }
+
+pub chosen-returns-then-is_labelled : goal.chosen-returns-then-is_labelled
+chosen-returns-then-is_labelled t c =
+    let i = c.loop-case.invariant in
+    let l = label (value_of c.args.discriminator.now) in
+    let read = rw i.same at c.in_ok-member.ensures in
+    let cursor = c.value.new.cursor in
+    rw c.in_ok-new.ensures.ok (case_chosen c.deref-case-items.result.now c.in-Union.default c.loop-case.case-index c.case-item.result c.args.cursor.now.order l c.args.cursor.now.place c.args.cursor.now.rest (value_of c.in_ok-member.member) cursor.place cursor.rest _ c.loop-case-test.true c.case-item.is (sym c.is_labelled.ensures ∙ c.if-is_labelled.true) read.0 i.whole, read.1)
+
+pub chosen-returns-in_err-member : goal.chosen-returns-in_err-member
+chosen-returns-in_err-member t c =
+    let p = err_from_is_err_and c.from_residual.result c.from_residual.ensures.1 in
+    let i = c.loop-case.invariant in
+    let l = label (value_of c.args.discriminator.now) in
+    let read = rw i.same at c.in_err-member.ensures in
+    rw (p.1, p.2) (case_fails c.in_err-member.field-0.0 c.deref-case-items.result.now c.in-Union.default c.loop-case.case-index c.case-item.result c.args.cursor.now.order l c.args.cursor.now.place c.args.cursor.now.rest _ c.loop-case-test.true c.case-item.is (sym c.is_labelled.ensures ∙ c.if-is_labelled.true) read.0 i.whole, may_any c.in_err-member.field-0.0)
+
+pub chosen-returns-in-None : goal.chosen-returns-in-None
+chosen-returns-in-None t c =
+    let i = c.loop-case.invariant in
+    let l = label (value_of c.args.discriminator.now) in
+    rw i.same (default_none c.deref-case-items.result.now c.in-Union.default c.loop-case.case-index c.args.cursor.now.order l c.args.cursor.now.place c.args.cursor.now.rest _ c.loop-case-test.false c.in-None.is i.whole, refl)
+
+pub chosen-returns-in_ok-new-in-Some : goal.chosen-returns-in_ok-new-in-Some
+chosen-returns-in_ok-new-in-Some t c =
+    let i = c.loop-case.invariant in
+    let l = label (value_of c.args.discriminator.now) in
+    let read = rw (i.same, c.deref.ensures) at c.in_ok-member-in-Some.ensures in
+    let cursor = c.value-in-Some.new.cursor in
+    rw c.in_ok-new-in-Some.ensures.ok (default_chosen c.deref-case-items.result.now c.in-Union.default c.loop-case.case-index c.in-Some.ty c.args.cursor.now.order l c.args.cursor.now.place c.args.cursor.now.rest (value_of c.in_ok-member-in-Some.member) cursor.place cursor.rest _ c.loop-case-test.false c.in-Some.is read.0 i.whole, read.1)
+
+pub chosen-returns-in_err-member-in-Some : goal.chosen-returns-in_err-member-in-Some
+chosen-returns-in_err-member-in-Some t c =
+    let p = err_from_is_err_and c.from_residual-in_err-member-in-Some.result c.from_residual-in_err-member-in-Some.ensures.1 in
+    let i = c.loop-case.invariant in
+    let l = label (value_of c.args.discriminator.now) in
+    let read = rw (i.same, c.deref.ensures) at c.in_err-member-in-Some.ensures in
+    rw (p.1, p.2) (default_fails c.in_err-member-in-Some.field-0.0 c.deref-case-items.result.now c.in-Union.default c.loop-case.case-index c.in-Some.ty c.args.cursor.now.order l c.args.cursor.now.place c.args.cursor.now.rest _ c.loop-case-test.false c.in-Some.is read.0 i.whole, may_any c.in_err-member-in-Some.field-0.0)
+
+pub value-returns-in_ok-each-in-Seq : goal.value-returns-in_ok-each-in-Seq
+value-returns-in_ok-each-in-Seq t c =
+    let a = c.in-Seq in
+    let old = c.args.cursor.now in
+    let mid = c.length.new.self in
+    let new = c.each.new.cursor in
+    let n = c.in_ok-count-in-Seq.ensures in
+    let read = rw (n.1, c.deref.ensures) at c.in_ok-each-in-Seq.ensures in
+    rw (ap form_of a.is ∙ form_of-Seq a.bound a.member, value_of-Seq)
+    (sequence_reads a.bound (form_of a.member.value) old.order old.place old.rest c.in_ok-count-in-Seq.count mid.place mid.rest (values_of c.in_ok-each-in-Seq.field-0.items) new.place new.rest n.0 read.0, read.1)
+
+pub value-returns-in_err-each-in-Seq : goal.value-returns-in_err-each-in-Seq
+value-returns-in_err-each-in-Seq t c =
+    let p = err_from_is_err_and c.from_residual-in_err-each-in-Seq.result c.from_residual-in_err-each-in-Seq.ensures.1 in
+    let a = c.in-Seq in
+    let old = c.args.cursor.now in
+    let mid = c.length.new.self in
+    let n = c.in_ok-count-in-Seq.ensures in
+    let read = rw (n.1, c.deref.ensures) at c.in_err-each-in-Seq.ensures in
+    rw (p.1, p.2, ap form_of a.is ∙ form_of-Seq a.bound a.member)
+    (sequence_fails c.in_err-each-in-Seq.field-0.0 a.bound (form_of a.member.value) old.order old.place old.rest c.in_ok-count-in-Seq.count mid.place mid.rest n.0 read.0, sequence_wants c.in_err-each-in-Seq.field-0.0 a.bound (form_of a.member.value) old.order old.place old.rest c.in_ok-count-in-Seq.count mid.place mid.rest n.0 read.1)
+
+pub value-returns-in_ok-each-in-Array : goal.value-returns-in_ok-each-in-Array
+value-returns-in_ok-each-in-Array t c =
+    let a = c.in-Array in
+    let old = c.args.cursor.now in
+    let new = c.each-in-Array.new.cursor in
+    let read = rw c.deref-in-Array.ensures at c.in_ok-each-in-Array.ensures in
+    rw (ap form_of a.is ∙ form_of-Array a.count a.member, value_of-Array)
+    (array_reads a.count (form_of a.member.value) old.order old.place old.rest (values_of c.in_ok-each-in-Array.field-0.items) new.place new.rest read.0, read.1)
+
+pub value-returns-in_err-each-in-Array : goal.value-returns-in_err-each-in-Array
+value-returns-in_err-each-in-Array t c =
+    let p = err_from_is_err_and c.from_residual-in_err-each-in-Array.result c.from_residual-in_err-each-in-Array.ensures.1 in
+    let a = c.in-Array in
+    let old = c.args.cursor.now in
+    let read = rw c.deref-in-Array.ensures at c.in_err-each-in-Array.ensures in
+    rw (p.1, p.2, ap form_of a.is ∙ form_of-Array a.count a.member)
+    (array_fails c.in_err-each-in-Array.field-0.0 a.count (form_of a.member.value) old.order old.place old.rest read.0, read.1)

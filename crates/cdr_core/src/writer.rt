@@ -1,0 +1,183 @@
+//! A place in an output, at which parts are written one after another.
+
+ghost use Rattle.std.specs.Prelude.{◌≡◌, ◌≤◌, ◌<◌, ◌+◌, ◌-◌, ◌^◌, ◌++◌, ◌⊎◌, length, replicate, [], ◌∷◌, MatchResult, OnErr, OnOk};
+ghost use Rattle.cdr_core.specs.Encapsulation.{byte_order};
+ghost use Rattle.cdr_core.specs.Numbers.{padding};
+ghost use Rattle.cdr_core.specs.Parts.{octet_value, short_value, ulong_value, ulonglong_value, ushort_value};
+ghost use Rattle.cdr_core.specs.Spelling.{IsClean};
+ghost use Rattle.cdr_core.specs.Value as value;
+ghost use Rattle.cdr_core.specs.Writing.{place_in, Puts};
+
+use crate::order::Order;
+use crate::writing::{gap, put_eight, put_four, put_raw, put_string, put_two, put_zeros};
+use std::alloc::AllocError;
+use std::marker::Model;
+
+/// The order of numbers, and where the next octet of an output stands on the scale of the alignment.
+///
+/// Each call appends one part to the output, behind zeros for its padding, as `write` does with the
+/// value of its type, and takes plain or lent data. Where memory runs out the output is as it was.
+#[derive(Drop)]
+pub struct Writer {
+    order: Order,
+    at: u64,
+    start: usize,
+}
+
+/// The octet that tells a byte order.
+#[inline]
+fn byte_order(order: Order) -> u8
+    ensures { result ≡ byte_order order }
+{
+    match order {
+        Order::Big => 0,
+        Order::Little => 1,
+    }
+}
+
+impl Model for Writer {
+    ghost use Rattle.std.specs.Prelude.{◌<◌, ◌^◌};
+    ghost use Rattle.cdr_core.specs.Writing.{Writing};
+
+    ghost Value = { Writing };
+
+    ghost view = { λ w. record { order = w.order; at = w.at; start = w.start } };
+
+    ghost invariant = { λ w. w.at < 2 ^ 32 };
+}
+
+impl Writer {
+    /// A writer whose first octet will stand at the place `at`, behind what the output has now.
+    #[inline]
+    pub fn new(order: Order, at: u64, out: &Vec<u8>) -> Writer
+        requires { at < 2 ^ 32 }
+        ensures { result ≡ record { order = order; at = at; start = length out.now.items } }
+    {
+        Writer {
+            order,
+            at,
+            start: out.len(),
+        }
+    }
+
+    /// Begins an encapsulation with the octet that tells its byte order (CORBA 3.3 Part 2, 9.3.3).
+    #[inline]
+    pub fn encapsulated(order: Order, out: &mut Vec<u8>) -> Result<Writer, AllocError>
+        ensures { MatchResult result
+            (λ w. (out.new.items ≡ out.old.items ++ byte_order order ∷ []) × (w ≡ record { order = order; at = 1; start = length out.new.items }))
+            (λ e. out.new.items ≡ out.old.items) }
+    {
+        out.reserve(1)?;
+        out.push_reserved(byte_order(order));
+        Ok(Writer::new(order, 1, out))
+    }
+
+    /// The place of the next octet.
+    #[inline]
+    pub fn place(&self, out: &Vec<u8>) -> u64
+        requires { self.now.start ≤ length out.now.items }
+        ensures { result ≡ place_in self.now out.now.items }
+    {
+        self.at + (out.len() - self.start) as u64
+    }
+
+    /// Zeros up to the next place divisible by `size`.
+    #[inline]
+    pub fn align(&self, size: u64, out: &mut Vec<u8>) -> Result<(), AllocError>
+        requires size { (size ≡ 1) ⊎ ((size ≡ 2) ⊎ ((size ≡ 4) ⊎ (size ≡ 8))) }
+        requires start { self.now.start ≤ length out.old.items }
+        ensures ok { OnOk result (out.new.items ≡ out.old.items ++ replicate (padding (place_in self.now out.old.items) size) 0) }
+        ensures err { OnErr result (out.new.items ≡ out.old.items) }
+    {
+        let zeros = gap(self.place(out), size);
+        out.reserve(zeros as usize)?;
+        put_zeros(zeros, out);
+        Ok(())
+    }
+
+    /// An octet.
+    #[inline]
+    pub fn octet(&self, octet: u8, out: &mut Vec<u8>) -> Result<(), AllocError>
+        requires { self.now.start ≤ length out.old.items }
+        ensures { Puts self.now (octet_value octet) result out.old.items out.new.items }
+    {
+        out.reserve(1)?;
+        out.push_reserved(octet);
+        Ok(())
+    }
+
+    /// A short.
+    #[inline]
+    pub fn short(&self, number: i16, out: &mut Vec<u8>) -> Result<(), AllocError>
+        requires { self.now.start ≤ length out.old.items }
+        ensures { Puts self.now (short_value number) result out.old.items out.new.items }
+    {
+        let place = self.place(out);
+        out.reserve(gap(place, 2) as usize + 2)?;
+        put_two(self.order, place, number.cast_unsigned(), out);
+        Ok(())
+    }
+
+    /// An unsigned short.
+    #[inline]
+    pub fn ushort(&self, number: u16, out: &mut Vec<u8>) -> Result<(), AllocError>
+        requires { self.now.start ≤ length out.old.items }
+        ensures { Puts self.now (ushort_value number) result out.old.items out.new.items }
+    {
+        let place = self.place(out);
+        out.reserve(gap(place, 2) as usize + 2)?;
+        put_two(self.order, place, number, out);
+        Ok(())
+    }
+
+    /// An unsigned long.
+    #[inline]
+    pub fn ulong(&self, number: u32, out: &mut Vec<u8>) -> Result<(), AllocError>
+        requires { self.now.start ≤ length out.old.items }
+        ensures { Puts self.now (ulong_value number) result out.old.items out.new.items }
+    {
+        let place = self.place(out);
+        out.reserve(gap(place, 4) as usize + 4)?;
+        put_four(self.order, place, number, out);
+        Ok(())
+    }
+
+    /// An unsigned long long.
+    #[inline]
+    pub fn ulonglong(&self, number: u64, out: &mut Vec<u8>) -> Result<(), AllocError>
+        requires { self.now.start ≤ length out.old.items }
+        ensures { Puts self.now (ulonglong_value number) result out.old.items out.new.items }
+    {
+        let place = self.place(out);
+        out.reserve(gap(place, 8) as usize + 8)?;
+        put_eight(self.order, place, number, out);
+        Ok(())
+    }
+
+    /// A string, given without its NUL.
+    #[inline]
+    pub fn string(&self, text: &[u8], out: &mut Vec<u8>) -> Result<(), AllocError>
+        requires start { self.now.start ≤ length out.old.items }
+        requires long { length text.now + 1 < 2 ^ 32 }
+        requires clean { IsClean text.now }
+        ensures { Puts self.now (value.string text.now) result out.old.items out.new.items }
+    {
+        let place = self.place(out);
+        out.reserve(gap(place, 4) as usize + text.len() + 5)?;
+        put_string(self.order, place, text, out);
+        Ok(())
+    }
+
+    /// A sequence of octets.
+    #[inline]
+    pub fn octets(&self, all: &[u8], out: &mut Vec<u8>) -> Result<(), AllocError>
+        requires start { self.now.start ≤ length out.old.items }
+        requires long { length all.now < 2 ^ 32 }
+        ensures { Puts self.now (value.octets all.now) result out.old.items out.new.items }
+    {
+        let place = self.place(out);
+        out.reserve(gap(place, 4) as usize + all.len() + 4)?;
+        put_raw(self.order, place, all, out);
+        Ok(())
+    }
+}

@@ -1,0 +1,31 @@
+use Rattle.std.proofs.Common.{refl, sym, ap, ◌∙◌}
+use Rattle.std.proofs.lemmas.Result.{err_from_is_err_and}
+use Rattle.cdr_core.specs.Reading.{value_at}
+use Rattle.cdr_core.specs.Turns.{each_done, each_more, each_stops, values_push}
+use Rattle.ior_core.specs.Grammar.{tagged}
+use Rattle.ior_core.specs.View.{tag_and_octets, tagged_value, tagged_values}
+use Rattle.ior_core.proofs.tagged.each.Goals as goal
+
+pub returns-in_err-tag : goal.returns-in_err-tag
+returns-in_err-tag c =
+    let p = err_from_is_err_and c.from_residual.result c.from_residual.ensures.1 in
+    let i = c.loop.invariant in
+    let read = rw i.order at c.in_err-tag.ensures in
+    rw (p.1, p.2) (each_stops c.in_err-tag.field-0.0 (value_at tagged c.args.cursor.now.order) (tagged_values c.loop.all.items) c.args.count c.loop.counter c.loop.cursor.place c.loop.cursor.rest _ c.loop-test.true read i.whole, tt)
+
+pub loop-preserved : goal.loop-preserved
+loop-preserved c =
+    let i = c.loop.invariant in
+    let read = rw i.order at c.in_ok-tag.ensures in
+    let cursor = c.lent.new.cursor in
+    let v = tag_and_octets c.in_ok-tag.tag c.in_ok-octets.octets.items in
+    record {
+      order = read.1;
+      whole = rw (c.in_ok-push.ensures.items, values_push tagged_value)
+          (each_more (value_at tagged c.args.cursor.now.order) (tagged_values c.loop.all.items) c.args.count c.loop.counter c.loop.cursor.place c.loop.cursor.rest v cursor.place cursor.rest _ c.loop-test.true (rw c.in_ok-octets.ensures.items read.0) i.whole);
+    }
+
+pub returns : goal.returns
+returns c =
+    let i = c.loop.invariant in
+    (each_done (value_at tagged c.args.cursor.now.order) (tagged_values c.loop.all.items) c.args.count c.loop.counter c.loop.cursor.place c.loop.cursor.rest _ c.loop-test.false i.whole, i.order)

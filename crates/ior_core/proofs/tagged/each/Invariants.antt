@@ -1,0 +1,14 @@
+use Rattle.std.proofs.Common.{◌≡◌, ◌-◌}
+use Rattle.cdr_core.specs.Reading.{each_at, value_at}
+use Rattle.cdr_core.specs.Turns.{with_front}
+use Rattle.ior_core.specs.Grammar.{tagged}
+use Rattle.ior_core.specs.View.{tagged_values}
+use Rattle.ior_core.proofs.tagged.each.Given as goal
+
+-- what was read so far and what is left give the whole
+abbrev pub invariant-loop : goal.invariant-loop
+invariant-loop l = record {
+  order : l.cursor.order ≡ l.fn.cursor.order;
+  whole : with_front (tagged_values l.all.items) (each_at (value_at tagged l.fn.cursor.order) (l.count - l.counter) l.cursor.place l.cursor.rest)
+      ≡ each_at (value_at tagged l.fn.cursor.order) l.count l.fn.cursor.place l.fn.cursor.rest;
+}

@@ -1,0 +1,5 @@
+pub mod Grammar
+pub mod View
+pub mod Calls
+pub mod Profiles
+pub mod Text

@@ -1,0 +1,99 @@
+//! Object references.
+
+ghost use Rattle.std.specs.Prelude.{◌≡◌, ◌++◌, ◌<◌, ◌≤◌, ◌^◌, length, option_map, MatchResult, OnErr, OnOk, ⊤};
+ghost use Rattle.cdr_core.specs.Appending.{Appends, Keeps};
+ghost use Rattle.cdr_core.specs.Cursor.{GivesUnlessMemory};
+ghost use Rattle.cdr_core.specs.Reading.{value_at};
+ghost use Rattle.cdr_core.specs.Writing.{octets_of, IsWritable};
+ghost use Rattle.ior_core.specs.Calls.{ReadsReference};
+ghost use Rattle.ior_core.specs.Grammar.{reference};
+ghost use Rattle.ior_core.specs.Text.{key_at};
+ghost use Rattle.ior_core.specs.View.{ior_value};
+
+use crate::error::IorError;
+use crate::profile::iiop_key;
+use crate::tagged::{Profile, put_list, read_list};
+use cdr_core::{CdrError, Cursor, Order, Writer};
+use std::alloc::{AllocError, Global};
+
+/// The tag of an IIOP profile (CORBA 3.3 Part 2, 7.6.2).
+const TAG_INTERNET_IOP: u32 = 0;
+
+/// A reference to an object (IOP::IOR): the repository id of its type, and where it is reached. The
+/// nil reference has an empty type and no profiles.
+#[derive(Debug, Drop)]
+pub struct Ior {
+    pub type_id: Vec<u8>,
+    pub profiles: Vec<Profile>,
+}
+
+/// A reference.
+#[tactic(auto, using(crate::proofs::Steps::reference_is))]
+pub(crate) fn reference(alloc: Global, cursor: &mut Cursor) -> Result<Ior, CdrError>
+    ensures { GivesUnlessMemory ior_value result (value_at reference cursor.old.order) (λ o octets. ⊤) cursor.old cursor.new }
+{
+    let type_id = Vec::from_slice(alloc, cursor.string()?)?;
+    let profiles = read_list(alloc, cursor)?;
+    Ok(Ior { type_id, profiles })
+}
+
+/// Appends a reference.
+pub(crate) fn put(writer: &Writer, ior: &Ior, out: &mut Vec<u8>) -> Result<(), AllocError>
+    requires start { writer.now.start ≤ length out.old.items }
+    requires writable { IsWritable (ior_value ior.now) }
+    ensures { MatchResult result (λ _. Appends writer.now (ior_value ior.now) out.old.items out.new.items) (λ _. Keeps out.old.items out.new.items) }
+{
+    writer.string(&ior.type_id, out)?;
+    put_list(writer, &ior.profiles, out)
+}
+
+/// The reference that a front of the octets spells, the first of which stands at the place `at`, and
+/// the length of that front, the padding before it included.
+///
+/// It stands in the order and on the alignment of what is around it, and is no encapsulation. At
+/// `Cdr` it is the first fault.
+pub fn read_ior(
+    alloc: Global,
+    order: Order,
+    at: u64,
+    octets: &[u8],
+) -> Result<(Ior, usize), IorError>
+    requires { at < 2 ^ 32 }
+    ensures { ReadsReference order at octets.now result }
+{
+    cdr_core::laws::read_is_spelled();
+    let mut cursor = Cursor::new(octets, order, at);
+    let ior = reference(alloc, &mut cursor)?;
+    let left = cursor.rest().len();
+    Ok((ior, octets.len() - left))
+}
+
+/// Appends a reference, whose first octet stands at the place `at`.
+///
+/// Where memory runs out `out` is as it was.
+pub fn write_ior(order: Order, at: u64, ior: &Ior, out: &mut Vec<u8>) -> Result<(), AllocError>
+    requires at { at < 2 ^ 32 }
+    requires writable { IsWritable (ior_value ior.now) }
+    ensures ok { OnOk result (out.new.items ≡ out.old.items ++ octets_of order (ior_value ior.now) at) }
+    ensures err { OnErr result (out.new.items ≡ out.old.items) }
+{
+    let writer = Writer::new(order, at, out);
+    let start = out.len();
+    let result = put(&writer, ior, out);
+    if result.is_err() {
+        out.truncate(start);
+    }
+    result
+}
+
+/// The object key in the profile of an index, counted from 0, where the profile is one of IIOP that
+/// reads. It takes no memory.
+pub fn object_key(ior: &Ior, index: u32) -> Option<&[u8]>
+    ensures { option_map (λ key. key.now) result ≡ key_at ior.now.profiles.items index }
+{
+    let profile = ior.profiles.get(index as usize)?;
+    if profile.tag != TAG_INTERNET_IOP {
+        return None;
+    }
+    iiop_key(&profile.octets)
+}

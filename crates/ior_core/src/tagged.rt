@@ -1,0 +1,117 @@
+//! Octets with a tag: tagged profiles and tagged components.
+
+ghost use Rattle.std.specs.Prelude.{◌≡◌, ◌++◌, ◌<◌, ◌≤◌, ◌^◌, length, map, MatchResult, ⊤};
+ghost use Rattle.cdr_core.specs.Appending.{Appends, Keeps, PutsAll};
+ghost use Rattle.cdr_core.specs.Cursor.{GivesUnlessMemory};
+ghost use Rattle.cdr_core.specs.Reading.{each_at, value_at};
+ghost use Rattle.cdr_core.specs.Turns.{passing};
+ghost use Rattle.cdr_core.specs.Value.{values};
+ghost use Rattle.cdr_core.specs.Writing.{AreWritable, IsWritable};
+ghost use Rattle.ior_core.specs.Calls.{GivesOnce};
+ghost use Rattle.ior_core.specs.Grammar.{tagged, tagged_list};
+ghost use Rattle.ior_core.specs.View.{lent_value, list_value, tagged_value, tagged_values};
+
+use cdr_core::{CdrError, Cursor, Fault, Writer};
+use std::alloc::{AllocError, Global};
+
+/// A tag, and octets whose meaning the tag gives.
+#[derive(Debug, Drop)]
+pub struct Tagged {
+    pub tag: u32,
+    pub octets: Vec<u8>,
+}
+
+/// A profile of a reference (IOP::TaggedProfile). Tag 0 is TAG_INTERNET_IOP, tag 1 is
+/// TAG_MULTIPLE_COMPONENTS.
+pub type Profile = Tagged;
+
+/// A component of a profile (IOP::TaggedComponent).
+pub type Component = Tagged;
+
+/// A tag, and octets that are lent.
+#[inline]
+#[tactic(auto, using(crate::proofs::Steps::tagged_is))]
+fn lent<'a>(cursor: &mut Cursor<'a>) -> Result<(u32, &'a [u8]), Fault>
+    ensures { GivesOnce lent_value result (value_at tagged cursor.old.order) cursor.old cursor.new }
+{
+    let tag = cursor.ulong()?;
+    let octets = cursor.octets()?;
+    Ok((tag, octets))
+}
+
+/// So many tags with their octets. Memory is taken as they are read, and not by their count.
+fn each(alloc: Global, count: u32, cursor: &mut Cursor) -> Result<Vec<Tagged>, CdrError>
+    ensures { GivesUnlessMemory (λ v. tagged_values v.items) result (each_at (value_at tagged cursor.old.order) count) (λ o octets. ⊤) cursor.old cursor.new }
+{
+    let mut all = Vec::new(alloc);
+    for _ in 0..count {
+        let (tag, octets) = lent(cursor)?;
+        let octets = Vec::from_slice(alloc, octets)?;
+        all.push(Tagged { tag, octets })?;
+    }
+    Ok(all)
+}
+
+/// A sequence of tags with their octets.
+#[tactic(auto, using(crate::proofs::Steps::list_is))]
+pub(crate) fn read_list(alloc: Global, cursor: &mut Cursor) -> Result<Vec<Tagged>, CdrError>
+    ensures { GivesUnlessMemory (λ v. list_value v.items) result (value_at tagged_list cursor.old.order) (λ o octets. ⊤) cursor.old cursor.new }
+{
+    let count = cursor.count()?;
+    each(alloc, count, cursor)
+}
+
+/// Passes over so many tags with their octets.
+fn pass(count: u32, cursor: &mut Cursor) -> Result<(), Fault>
+    ensures { GivesOnce (λ u. u) result (λ o octets. passing (each_at (value_at tagged cursor.old.order) count o octets)) cursor.old cursor.new }
+{
+    for _ in 0..count {
+        lent(cursor)?;
+    }
+    Ok(())
+}
+
+/// Passes over a sequence of tags with their octets.
+#[tactic(auto, using(crate::proofs::Steps::list_is))]
+pub(crate) fn pass_list(cursor: &mut Cursor) -> Result<(), Fault>
+    ensures { GivesOnce (λ u. u) result (λ o octets. passing (value_at tagged_list cursor.old.order o octets)) cursor.old cursor.new }
+{
+    let count = cursor.count()?;
+    pass(count, cursor)
+}
+
+/// Appends a tag and its octets.
+fn put(writer: &Writer, one: &Tagged, out: &mut Vec<u8>) -> Result<(), AllocError>
+    requires start { writer.now.start ≤ length out.old.items }
+    requires long { length one.now.octets.items < 2 ^ 32 }
+    ensures { MatchResult result (λ _. Appends writer.now (tagged_value one.now) out.old.items out.new.items) (λ _. Keeps out.old.items out.new.items) }
+{
+    writer.ulong(one.tag, out)?;
+    writer.octets(&one.octets, out)
+}
+
+/// Appends a sequence of tags with their octets.
+pub(crate) fn put_list(
+    writer: &Writer,
+    all: &[Tagged],
+    out: &mut Vec<u8>,
+) -> Result<(), AllocError>
+    requires start { writer.now.start ≤ length out.old.items }
+    requires writable { IsWritable (list_value all.now) }
+    ensures { MatchResult result (λ _. Appends writer.now (list_value all.now) out.old.items out.new.items) (λ _. Keeps out.old.items out.new.items) }
+{
+    writer.ulong(all.len() as u32, out)?;
+    put_each(writer, all, out)
+}
+
+/// Appends tags with their octets.
+fn put_each(writer: &Writer, all: &[Tagged], out: &mut Vec<u8>) -> Result<(), AllocError>
+    requires start { writer.now.start ≤ length out.old.items }
+    requires writable { AreWritable (tagged_values all.now) }
+    ensures { MatchResult result (λ _. PutsAll writer.now (tagged_values all.now) out.old.items out.new.items) (λ _. Keeps out.old.items out.new.items) }
+{
+    for one in all {
+        put(writer, one, out)?;
+    }
+    Ok(())
+}

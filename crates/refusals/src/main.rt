@@ -1,0 +1,40 @@
+//! The program `refusals`: calls of `cdr_core` that take memory, each made by name.
+//!
+//! A case is one call on fixed inputs. Where memory for it is refused, the program looks whether
+//! everything is as it was, and makes the same call again. What the calls give is compared with
+//! octets and texts written out in `samples`. It is run under a `malloc` that refuses one growth.
+#![tactic(auto)]
+
+mod cases;
+mod copying;
+mod output;
+mod reading;
+mod run;
+mod samples;
+mod shapes;
+mod text;
+mod trial;
+mod writing;
+
+use std::process::ExitCode;
+use std::{env, io};
+
+/// Runs the case that the first word names.
+fn status_of(rt: &HostRuntime) -> io::Result<u8> {
+    let alloc = rt.alloc();
+    let words: Vec<String> = env::args(rt)?.collect(alloc)?;
+    let word = words.get(1).map_or("", |word| word.as_str());
+    Ok(run::run(alloc, word, &mut rt.stdout(), &mut rt.stderr()))
+}
+
+fn main(rt: HostRuntime) -> ExitCode {
+    match status_of(&rt) {
+        Ok(status) => ExitCode::from(status),
+        Err(error) => {
+            if error.kind() == io::ErrorKind::OutOfMemory {
+                let _ = eprintln!(&rt; "memory");
+            }
+            ExitCode::from(1)
+        }
+    }
+}

@@ -1,0 +1,57 @@
+//! The vectors that octets are written into.
+
+ghost use Rattle.std.specs.Prelude.{◌≡◌, ◌↔◌, ◌++◌, IfOk, IsTrue};
+
+use std::alloc::{AllocError, Global};
+
+/// What stands in a vector before a call, and how much room it has.
+#[derive(Clone, Copy, Debug, PartialEq, Eq)]
+pub enum Room {
+    /// Nothing, and no room.
+    Empty,
+    /// Octets, and no room for more.
+    Full,
+    /// Octets, and room for those of each sample.
+    Ample,
+}
+
+/// The octets that stand in a vector before a call, if any do.
+const BEFORE: [u8; 3] = [0xca, 0xfe, 1];
+
+/// More octets than `BEFORE` and any sample have.
+const AMPLE: usize = 64;
+
+/// A vector, and the octets that stood in it before the call.
+#[derive(Drop)]
+pub struct Output {
+    /// The octets that stood in it.
+    pub before: &'static [u8],
+    /// The vector.
+    pub out: Vec<u8>,
+}
+
+impl Output {
+    /// A vector before a call.
+    pub fn new(alloc: Global, room: Room) -> Result<Output, AllocError>
+        ensures { IfOk result (λ o. o.out.items ≡ o.before.now) }
+    {
+        let (before, capacity): (&'static [u8], usize) = match room {
+            Room::Empty => (&[], 0),
+            Room::Full => (&BEFORE, BEFORE.len()),
+            Room::Ample => (&BEFORE, AMPLE),
+        };
+        let mut out = Vec::with_capacity(alloc, capacity)?;
+        out.extend_from_slice(before)?;
+        Ok(Output { before, out })
+    }
+
+    /// Tells whether these octets stand in the vector behind those from before, and no others.
+    pub fn has_gained(&self, octets: &[u8]) -> bool
+        ensures { IsTrue result ↔ (self.now.out.items ≡ self.now.before.now ++ octets.now) }
+    {
+        match self.out.strip_prefix(self.before) {
+            Some(gained) => gained == octets,
+            None => false,
+        }
+    }
+}
