@@ -1,3 +1,4 @@
 pub mod Steps
 pub mod Bodies
 pub mod Texts
+pub mod Enclosed

@@ -3,3 +3,4 @@ pub mod View
 pub mod Calls
 pub mod Profiles
 pub mod Text
+pub mod Laws

@@ -6,6 +6,7 @@
 #![tactic(auto)]
 
 pub mod error;
+pub mod laws;
 pub mod profile;
 pub mod reference;
 pub mod tagged;
