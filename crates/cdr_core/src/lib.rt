@@ -1,4 +1,7 @@
-//! Common Data Representation: the octets of values, and where each stands.
+//! Common Data Representation (CORBA 3.3 Part 2, 9.3): the octets of values, and where each stands.
+//!
+//! `read` and `write` go between octets and a `Val` by a `Ty`; a `Cursor` reads part by part and
+//! lends, a `Writer` appends part by part. Places count on the scale of the alignment.
 #![tactic(auto)]
 
 pub mod checking;
@@ -7,6 +10,8 @@ pub mod fault;
 pub mod laws;
 pub mod order;
 pub mod reading;
+#[cfg(test)]
+mod tests;
 pub mod types;
 pub mod values;
 pub mod writer;

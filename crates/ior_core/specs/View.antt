@@ -16,7 +16,6 @@ tagged_value t = tag_and_octets t.tag t.octets.items
 abbrev pub lent_value : ℕ × Bor (List ℕ) → Value
 lent_value x = tag_and_octets x.0 x.1.now
 
-
 abbrev pub tagged_values : List Tagged → Values
 tagged_values all = values (map tagged_value all)
 

@@ -17,4 +17,3 @@ pub use profile::{IiopProfile, iiop_key, read_iiop, write_iiop};
 pub use reference::{Ior, object_key, read_ior, write_ior};
 pub use tagged::{Component, Profile, Tagged};
 pub use text::{parse_text, print_text};
-

@@ -65,11 +65,7 @@ fn pass_behind(minor: u8, cursor: &mut Cursor) -> Result<(), Fault>
 }
 
 /// What stands behind the head of a profile.
-fn read_behind(
-    alloc: Global,
-    minor: u8,
-    cursor: &mut Cursor,
-) -> Result<Vec<Component>, CdrError>
+fn read_behind(alloc: Global, minor: u8, cursor: &mut Cursor) -> Result<Vec<Component>, CdrError>
     ensures gives { GivesUnlessMemory (λ v. behind_value minor v.items) result (behind_at (is_0 (pos minor)) cursor.old.order) (λ o octets. ⊤) cursor.old cursor.new }
     ensures none { IfOk result (λ v. HasNone minor v.items) }
 {

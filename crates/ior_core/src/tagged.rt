@@ -91,11 +91,7 @@ fn put(writer: &Writer, one: &Tagged, out: &mut Vec<u8>) -> Result<(), AllocErro
 }
 
 /// Appends a sequence of tags with their octets.
-pub(crate) fn put_list(
-    writer: &Writer,
-    all: &[Tagged],
-    out: &mut Vec<u8>,
-) -> Result<(), AllocError>
+pub(crate) fn put_list(writer: &Writer, all: &[Tagged], out: &mut Vec<u8>) -> Result<(), AllocError>
     requires start { writer.now.start ≤ length out.old.items }
     requires writable { IsWritable (list_value all.now) }
     ensures { MatchResult result (λ _. Appends writer.now (list_value all.now) out.old.items out.new.items) (λ _. Keeps out.old.items out.new.items) }
