@@ -25,6 +25,13 @@ import tempfile
 HERE = os.path.dirname(os.path.abspath(__file__))
 LOCATE = "47494f50010200030000000d00000001000000000000000163"
 
+
+def words_of(case):
+    """The words of a case."""
+    with open(os.path.join(HERE, "cases", case + ".args"), encoding="utf-8") as f:
+        return f.read().splitlines()
+
+
 # a name, the words, and the standard input
 INPUTS = [
     ("an empty script", [], b""),
@@ -33,6 +40,7 @@ INPUTS = [
         f"open {c}\nbytes {c} 0 {LOCATE}\nbytes {c} 1 00\nclose {c}\n" for c in range(25)).encode()),
     ("a bad line", [], b"open 1\nclose\n"),
     ("input that is no text", [], b"open 1\n\xff\n"),
+    ("a reference", words_of("references/counter"), b""),
     ("an unknown word", ["swim"], b""),
     ("help", ["--help"], b""),
 ]

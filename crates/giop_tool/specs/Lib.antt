@@ -8,3 +8,4 @@ pub mod Layout
 pub mod Standing
 pub mod Script
 pub mod Settings
+pub mod ReferenceLines

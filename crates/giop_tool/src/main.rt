@@ -1,7 +1,7 @@
 //! The program `giop`: a server of one counter, driven by a script of events.
 //!
 //! It reads the script on standard input, plays its events on a server, and prints the octets that
-//! are written on each connection.
+//! are written on each connection. It also shows the reference that a text is.
 #![tactic(auto)]
 
 mod counter;
@@ -9,6 +9,7 @@ mod events;
 mod laws;
 mod locate;
 mod play;
+mod reference;
 mod run;
 mod script;
 mod server;

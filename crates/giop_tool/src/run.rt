@@ -5,15 +5,17 @@ ghost use Rattle.std.specs.Prelude.{◌≤◌};
 use crate::counter::Counter;
 use crate::events::{Note, PlayError, Written};
 use crate::play::play;
+use crate::reference::reference_lines;
 use crate::script::{ScriptError, read_script};
 use crate::server::Server;
 use crate::settings::Setting;
+use ior_core::{IorError, parse_text};
 use std::alloc::{AllocError, AllocFailed, Global};
 use std::io;
 use std::io::{BufWriter, ErrorKind, Read, Write};
 
 /// Why the program ends with status 1.
-#[derive(Clone, Copy, Debug, PartialEq, Eq)]
+#[derive(Debug, Drop)]
 enum Stop {
     /// Memory ran out.
     Memory,
@@ -21,6 +23,8 @@ enum Stop {
     Unreadable,
     /// The line of the script with that number is no event.
     BadLine(u64),
+    /// The text is no reference.
+    BadText(IorError),
     /// The output can't be written.
     Unwritable,
 }
@@ -43,6 +47,15 @@ impl From<ScriptError> for Stop {
 impl From<PlayError> for Stop {
     fn from(_e: PlayError) -> Stop {
         Stop::Memory
+    }
+}
+
+impl From<IorError> for Stop {
+    fn from(error: IorError) -> Stop {
+        match error {
+            IorError::Memory => Stop::Memory,
+            error => Stop::BadText(error),
+        }
     }
 }
 
@@ -110,12 +123,22 @@ fn play_script<R: Read, W: Write>(alloc: Global, input: &mut R, out: &mut W) -> 
     print_written(alloc, written.as_slice(), server.servant().total(), out)
 }
 
+/// Prints the lines of the reference that a text is.
+fn print_reference<W: Write>(alloc: Global, text: &str, out: &mut W) -> Result<(), Stop> {
+    let ior = parse_text(alloc, text)?;
+    let lines = reference_lines(alloc, &ior)?;
+    out.write_all(lines.as_bytes())?;
+    out.flush()?;
+    Ok(())
+}
+
 /// Prints why the program ends with status 1.
 fn tell<E: Write>(stop: Stop, err: &mut E) -> io::Result<()> {
     match stop {
         Stop::Memory => writeln!(err, "memory"),
         Stop::Unreadable => writeln!(err, "input: unreadable"),
         Stop::BadLine(line) => writeln!(err, "line {line}: bad event"),
+        Stop::BadText(error) => writeln!(err, "ior: {error}"),
         Stop::Unwritable => Ok(()),
     }
 }
@@ -133,6 +156,7 @@ pub fn run<R: Read, W: Write, E: Write>(
 {
     let ended = match setting {
         Setting::Play => play_script(alloc, input, out),
+        Setting::Ior(text) => print_reference(alloc, text, out),
     };
     match ended {
         Ok(()) => 0,

@@ -4,14 +4,16 @@ ghost use Rattle.std.specs.Prelude.{IfErr};
 ghost use Rattle.giop_tool.specs.Settings.{IsNoWantOfMemory};
 
 use clap::error::ErrorKind;
-use clap::{ArgMatches, Command};
+use clap::{Arg, ArgAction, ArgMatches, Command};
 use std::alloc::{AllocError, Global};
 
 /// What the program is to do.
 #[derive(Clone, Copy, Debug, PartialEq, Eq)]
-pub enum Setting {
+pub enum Setting<'a> {
     /// Play the script on standard input.
     Play,
+    /// Show the reference that the text is.
+    Ior(&'a str),
 }
 
 /// Why the words were refused.
@@ -41,21 +43,44 @@ fn play_command<'a>(alloc: Global) -> Command<'a> {
     )
 }
 
+/// `giop ior TEXT`.
+fn ior_command<'a>(alloc: Global) -> Result<Command<'a>, AllocError> {
+    let text = Arg::new(alloc, "TEXT")
+        .help("IOR: and hexadecimal digits")
+        .required(true)
+        .action(ArgAction::Set);
+    Command::new(alloc, "ior")
+        .about("Shows the type and the profiles of an object reference")
+        .arg(text)
+}
+
 /// The whole command line.
 fn command<'a>(alloc: Global) -> Result<Command<'a>, AllocError> {
     Command::new(alloc, "giop")
         .about("A GIOP server of one counter. Without a subcommand it plays a script")
         .no_binary_name(true)
-        .subcommand(play_command(alloc))
+        .subcommand(play_command(alloc))?
+        .subcommand(ior_command(alloc)?)
+}
+
+/// What words that were taken ask for.
+fn setting_of<'a>(matches: &ArgMatches<'a>) -> Setting<'a> {
+    match matches
+        .subcommand_matches("ior")
+        .and_then(|ior| ior.get_str("TEXT"))
+    {
+        Some(text) => Setting::Ior(text),
+        None => Setting::Play,
+    }
 }
 
 /// What the words after the program's name ask for. No words ask for `play`.
-pub fn settings(alloc: Global, words: &[&str]) -> Result<Setting, SettingError>
+pub fn settings<'a>(alloc: Global, words: &'a [&'a str]) -> Result<Setting<'a>, SettingError>
     ensures { IfErr result IsNoWantOfMemory }
 {
     let command = command(alloc)?;
     match command.try_get_matches_from(words) {
-        Ok(_) => Ok(Setting::Play),
+        Ok(matches) => Ok(setting_of(&matches)),
         Err(error) => {
             if error.kind() == ErrorKind::OutOfMemory {
                 return Err(SettingError::Memory);

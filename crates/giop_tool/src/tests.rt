@@ -1,4 +1,4 @@
-//! Scripts with what they print, written out from the standard's layouts; and words.
+//! Scripts and references with what they print, written out from the standard's layouts; and words.
 
 use crate::run::run;
 use crate::settings::{Setting, SettingError, settings};
@@ -67,10 +67,39 @@ fn streams_end(rt: HostRuntime) {
     play_rows(&rt, ENDS.as_slice());
 }
 
-/// The exit status that a usage error asks for, or none where the words ask for `play`.
+// A reference with one profile, whose component is an octet 0; and a digit that is none.
+const TEXTS: [Row; 2] = [
+    (
+        "IOR:000000000000000258000000000000010000000000000021000101000000000268000001000000016300000000000001000000010000000100",
+        "type X\nprofile 0 iiop 1.1 host h port 1 key 63\n  component 1 00\n",
+        "",
+    ),
+    ("IOR:0g", "", "ior: bad digit at 1\n"),
+];
+
+#[test]
+fn references_are_shown(rt: HostRuntime) {
+    for (text, printed, told) in &TEXTS {
+        let mut out = Vec::new(rt.alloc());
+        let mut err = Vec::new(rt.alloc());
+        let mut input: &[u8] = &[];
+        let status = run(
+            rt.alloc(),
+            &Setting::Ior(text),
+            &mut input,
+            &mut out,
+            &mut err,
+        );
+        assert_eq!(rt; out.as_slice(), printed.as_bytes(), "{text}");
+        assert_eq!(rt; err.as_slice(), told.as_bytes(), "{text}");
+        assert_eq!(rt; status == 0, told.is_empty(), "{text}");
+    }
+}
+
+/// The exit status that a usage error asks for, or none where the words are taken.
 fn refusal(alloc: Global, words: &[&str]) -> Option<i32> {
     match settings(alloc, words) {
-        Ok(Setting::Play) => None,
+        Ok(_) => None,
         Err(SettingError::Words(error)) => Some(error.exit_code()),
         Err(SettingError::Memory) => Some(1),
     }
@@ -82,4 +111,12 @@ fn words_ask_for_play(rt: HostRuntime) {
     assert_eq!(rt; refusal(rt.alloc(), &["play"]), None);
     assert_eq!(rt; refusal(rt.alloc(), &["swim"]), Some(2));
     assert_eq!(rt; refusal(rt.alloc(), &["play", "--fast"]), Some(2));
+}
+
+#[test]
+fn words_ask_for_ior(rt: HostRuntime) {
+    let asked = settings(rt.alloc(), &["ior", "IOR:00"]);
+    assert!(rt; matches!(asked, Ok(Setting::Ior("IOR:00"))));
+    assert_eq!(rt; refusal(rt.alloc(), &["ior"]), Some(2));
+    assert_eq!(rt; refusal(rt.alloc(), &["ior", "IOR:00", "IOR:00"]), Some(2));
 }

@@ -10,6 +10,8 @@ pub mod laws;
 pub mod profile;
 pub mod reference;
 pub mod tagged;
+#[cfg(test)]
+mod tests;
 pub mod text;
 
 pub use error::IorError;

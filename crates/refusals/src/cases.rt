@@ -4,8 +4,13 @@ ghost use Rattle.std.specs.Prelude.{◌≡◌, ◌++◌, codes, IfSome};
 
 use crate::copying::Copying;
 use crate::output::Room;
+use crate::profiles::{ProfileReading, ProfileWriting};
 use crate::reading::{ListReading, Reading};
-use crate::samples::{FAULTS, LISTS, Sample, VALUES};
+use crate::references::{Parsing, Printing, ReferenceReading, ReferenceWriting};
+use crate::samples::{
+    FAULTS, LISTS, PROFILE_FAULTS, PROFILES, REFERENCE_FAULTS, REFERENCES, Sample, TEXT_FAULTS,
+    TEXTS, VALUES,
+};
 use crate::trial::{Ending, Miss, tried};
 use crate::writing::{ListWriting, Writing};
 use std::alloc::Global;
@@ -25,6 +30,18 @@ enum Call {
     WriteList(Room),
     /// `Val::copy`.
     Copy,
+    /// `read_ior`.
+    ReadReference,
+    /// `write_ior` into a vector with such room.
+    WriteReference(Room),
+    /// `read_iiop`.
+    ReadProfile,
+    /// `write_iiop` into a vector with such room.
+    WriteProfile(Room),
+    /// `parse_text`.
+    Parse,
+    /// `print_text`.
+    Print,
 }
 
 /// A call, and the samples on which it is made.
@@ -36,7 +53,7 @@ struct Suite {
 }
 
 /// All suites.
-static SUITES: [Suite; 10] = [
+static SUITES: [Suite; 23] = [
     Suite {
         name: "read",
         call: Call::Read,
@@ -86,6 +103,71 @@ static SUITES: [Suite; 10] = [
         name: "copy",
         call: Call::Copy,
         samples: &VALUES,
+    },
+    Suite {
+        name: "read_ior",
+        call: Call::ReadReference,
+        samples: &REFERENCES,
+    },
+    Suite {
+        name: "read_ior_faulty",
+        call: Call::ReadReference,
+        samples: &REFERENCE_FAULTS,
+    },
+    Suite {
+        name: "write_ior_empty",
+        call: Call::WriteReference(Room::Empty),
+        samples: &REFERENCES,
+    },
+    Suite {
+        name: "write_ior_full",
+        call: Call::WriteReference(Room::Full),
+        samples: &REFERENCES,
+    },
+    Suite {
+        name: "write_ior_without_growth",
+        call: Call::WriteReference(Room::Ample),
+        samples: &REFERENCES,
+    },
+    Suite {
+        name: "read_iiop",
+        call: Call::ReadProfile,
+        samples: &PROFILES,
+    },
+    Suite {
+        name: "read_iiop_faulty",
+        call: Call::ReadProfile,
+        samples: &PROFILE_FAULTS,
+    },
+    Suite {
+        name: "write_iiop_empty",
+        call: Call::WriteProfile(Room::Empty),
+        samples: &PROFILES,
+    },
+    Suite {
+        name: "write_iiop_full",
+        call: Call::WriteProfile(Room::Full),
+        samples: &PROFILES,
+    },
+    Suite {
+        name: "write_iiop_without_growth",
+        call: Call::WriteProfile(Room::Ample),
+        samples: &PROFILES,
+    },
+    Suite {
+        name: "parse_text",
+        call: Call::Parse,
+        samples: &TEXTS,
+    },
+    Suite {
+        name: "parse_text_faulty",
+        call: Call::Parse,
+        samples: &TEXT_FAULTS,
+    },
+    Suite {
+        name: "print_text",
+        call: Call::Print,
+        samples: &TEXTS,
     },
 ];
 
@@ -151,6 +233,17 @@ impl Case {
             Call::Write(room) => tried(alloc, &mut Writing::new(alloc, sample, room)?),
             Call::WriteList(room) => tried(alloc, &mut ListWriting::new(alloc, sample, room)?),
             Call::Copy => tried(alloc, &mut Copying::new(alloc, sample)?),
+            Call::ReadReference => tried(alloc, &mut ReferenceReading { sample }),
+            Call::WriteReference(room) => {
+                tried(alloc, &mut ReferenceWriting::new(alloc, sample, room)?)
+            }
+            Call::ReadProfile => tried(alloc, &mut ProfileReading { sample }),
+            Call::WriteProfile(room) => tried(
+                alloc,
+                &mut ProfileWriting::new(alloc, sample, room)?,
+            ),
+            Call::Parse => tried(alloc, &mut Parsing { sample }),
+            Call::Print => tried(alloc, &mut Printing::new(alloc, sample)?),
         };
         Ok(ending?)
     }

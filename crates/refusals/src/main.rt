@@ -1,4 +1,4 @@
-//! The program `refusals`: calls of `cdr_core` that take memory, each made by name.
+//! The program `refusals`: calls of `cdr_core` and `ior_core` that take memory, each made by name.
 //!
 //! A case is one call on fixed inputs. Where memory for it is refused, the program looks whether
 //! everything is as it was, and makes the same call again. What the calls give is compared with
@@ -8,10 +8,13 @@
 mod cases;
 mod copying;
 mod output;
+mod profiles;
 mod reading;
+mod references;
 mod run;
 mod samples;
 mod shapes;
+mod sizes;
 mod text;
 mod trial;
 mod writing;

@@ -6,18 +6,31 @@ use crate::samples::{Gives, Sample};
 use crate::text::is_printed_as;
 use crate::trial::{Miss, Trial, Wrong};
 use cdr_core::{CdrError, Ty, Val, read, read_list};
-use std::alloc::{AllocError, Global};
+use std::alloc::Global;
+use std::fmt::Debug;
 
-/// Compares a value with that of a sample, and how many octets were used with how many it has.
-fn check_value(sample: &Sample, value: &Val, used: usize) -> Result<(), Wrong>
-    ensures { OnOk result (used ≡ length sample.now.octets.now) }
-{
+/// The type of a sample.
+fn ty(alloc: Global, sample: &Sample) -> Result<Ty, Miss> {
+    let shape = sample.shape.ok_or(Wrong::Inputs)?;
+    Ok(shape.ty(alloc)?)
+}
+
+/// Compares a value with that of a sample.
+pub fn check_printed<T: Debug>(sample: &Sample, value: &T) -> Result<(), Wrong> {
     let Gives::Value(text) = sample.gives else {
         return Err(Wrong::Fault);
     };
     if !is_printed_as(value, text) {
         return Err(Wrong::Value);
     }
+    Ok(())
+}
+
+/// Compares a value with that of a sample, and how many octets were used with how many it has.
+pub fn check_value<T: Debug>(sample: &Sample, value: &T, used: usize) -> Result<(), Wrong>
+    ensures { OnOk result (used ≡ length sample.now.octets.now) }
+{
+    check_printed(sample, value)?;
     if used != sample.octets.len() {
         return Err(Wrong::Length);
     }
@@ -41,9 +54,11 @@ pub struct Reading {
 
 impl Reading {
     /// The inputs.
-    pub fn new(alloc: Global, sample: &'static Sample) -> Result<Reading, AllocError> {
-        let ty = sample.shape.ty(alloc)?;
-        Ok(Reading { sample, ty })
+    pub fn new(alloc: Global, sample: &'static Sample) -> Result<Reading, Miss> {
+        Ok(Reading {
+            sample,
+            ty: ty(alloc, sample)?,
+        })
     }
 }
 
@@ -75,9 +90,11 @@ pub struct ListReading {
 
 impl ListReading {
     /// The inputs.
-    pub fn new(alloc: Global, sample: &'static Sample) -> Result<ListReading, AllocError> {
-        let ty = sample.shape.ty(alloc)?;
-        Ok(ListReading { sample, ty })
+    pub fn new(alloc: Global, sample: &'static Sample) -> Result<ListReading, Miss> {
+        Ok(ListReading {
+            sample,
+            ty: ty(alloc, sample)?,
+        })
     }
 }
 
@@ -105,7 +122,7 @@ impl Trial for ListReading {
 
 /// The value of a sample.
 pub fn value(alloc: Global, sample: &Sample) -> Result<Val, Miss> {
-    let ty = sample.shape.ty(alloc)?;
+    let ty = ty(alloc, sample)?;
     if !ty.is_valid() {
         return Err(Wrong::Inputs.into());
     }

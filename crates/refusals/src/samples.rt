@@ -4,12 +4,12 @@
 use crate::shapes::Shape;
 use cdr_core::{Fault, Kind, Order};
 
-/// Octets at a place, and what reading them as a type gives.
+/// Octets at a place, and what reading them gives.
 pub struct Sample {
     /// The second part of the names of its cases.
     pub name: &'static str,
-    /// The type.
-    pub shape: Shape,
+    /// The type, where the call takes one.
+    pub shape: Option<Shape>,
     /// The order of the octets of a number.
     pub order: Order,
     /// The place of the first octet.
@@ -32,7 +32,7 @@ pub enum Gives {
 /// "abc".
 const STRING: Sample = Sample {
     name: "string",
-    shape: Shape::Str,
+    shape: Some(Shape::Str),
     order: Order::Big,
     at: 0,
     octets: &[0, 0, 0, 4, b'a', b'b', b'c', 0],
@@ -42,7 +42,7 @@ const STRING: Sample = Sample {
 /// Three octets behind a gap of three.
 const OCTETS: Sample = Sample {
     name: "octets",
-    shape: Shape::Octets,
+    shape: Some(Shape::Octets),
     order: Order::Little,
     at: 1,
     octets: &[0, 0, 0, 3, 0, 0, 0, 7, 8, 9],
@@ -52,7 +52,7 @@ const OCTETS: Sample = Sample {
 /// Six longs behind a gap of two, so that their vector grows twice.
 const LONGS: Sample = Sample {
     name: "longs",
-    shape: Shape::Longs,
+    shape: Some(Shape::Longs),
     order: Order::Big,
     at: 2,
     octets: &[
@@ -65,7 +65,7 @@ const LONGS: Sample = Sample {
 /// "a" and "bc".
 const STRINGS: Sample = Sample {
     name: "strings",
-    shape: Shape::Strings,
+    shape: Some(Shape::Strings),
     order: Order::Little,
     at: 0,
     octets: &[
@@ -77,7 +77,7 @@ const STRINGS: Sample = Sample {
 /// "a" and the empty string.
 const ARRAY: Sample = Sample {
     name: "array",
-    shape: Shape::Array,
+    shape: Some(Shape::Array),
     order: Order::Big,
     at: 4,
     octets: &[0, 0, 0, 2, b'a', 0, 0, 0, 0, 0, 0, 1, 0],
@@ -87,7 +87,7 @@ const ARRAY: Sample = Sample {
 /// "a", -2 and a sequence of "bc".
 const STRUCT: Sample = Sample {
     name: "struct",
-    shape: Shape::Struct,
+    shape: Some(Shape::Struct),
     order: Order::Big,
     at: 0,
     octets: &[
@@ -99,7 +99,7 @@ const STRUCT: Sample = Sample {
 /// At 2 "a".
 const UNION_LABEL: Sample = Sample {
     name: "union_label",
-    shape: Shape::Labelled,
+    shape: Some(Shape::Labelled),
     order: Order::Little,
     at: 0,
     octets: &[2, 0, 0, 0, 2, 0, 0, 0, b'a', 0],
@@ -109,7 +109,7 @@ const UNION_LABEL: Sample = Sample {
 /// At false one octet.
 const UNION_DEFAULT: Sample = Sample {
     name: "union_default",
-    shape: Shape::Defaulted,
+    shape: Some(Shape::Defaulted),
     order: Order::Big,
     at: 3,
     octets: &[0, 0, 0, 0, 1, 7],
@@ -119,7 +119,7 @@ const UNION_DEFAULT: Sample = Sample {
 /// At 3 nothing.
 const UNION_EMPTY: Sample = Sample {
     name: "union_empty",
-    shape: Shape::Labelled,
+    shape: Some(Shape::Labelled),
     order: Order::Little,
     at: 0,
     octets: &[3, 0, 0, 0],
@@ -129,7 +129,7 @@ const UNION_EMPTY: Sample = Sample {
 /// A sequence of one struct of 'x' and "a", and at 1 the octets 7 and the octets 8 and 9.
 const NESTED: Sample = Sample {
     name: "nested",
-    shape: Shape::Nested,
+    shape: Some(Shape::Nested),
     order: Order::Big,
     at: 0,
     octets: &[
@@ -161,7 +161,7 @@ pub const LISTS: [Sample; 2] = [STRUCT, NESTED];
 /// The second string has no NUL at its end.
 const STRINGS_FAULT: Sample = Sample {
     name: "strings",
-    shape: Shape::Strings,
+    shape: Some(Shape::Strings),
     order: Order::Little,
     at: 0,
     octets: &[
@@ -176,7 +176,7 @@ const STRINGS_FAULT: Sample = Sample {
 /// The second string has a NUL inside.
 const ARRAY_FAULT: Sample = Sample {
     name: "array",
-    shape: Shape::Array,
+    shape: Some(Shape::Array),
     order: Order::Big,
     at: 4,
     octets: &[0, 0, 0, 2, b'a', 0, 0, 0, 0, 0, 0, 3, b'b', 0, 0],
@@ -189,7 +189,7 @@ const ARRAY_FAULT: Sample = Sample {
 /// The sequence has more strings than its bound.
 const STRUCT_FAULT: Sample = Sample {
     name: "struct",
-    shape: Shape::Struct,
+    shape: Some(Shape::Struct),
     order: Order::Big,
     at: 0,
     octets: &[0, 0, 0, 2, b'a', 0, 0xff, 0xfe, 0, 0, 0, 9],
@@ -202,7 +202,7 @@ const STRUCT_FAULT: Sample = Sample {
 /// The last octets are fewer than their length.
 const NESTED_FAULT: Sample = Sample {
     name: "nested",
-    shape: Shape::Nested,
+    shape: Some(Shape::Nested),
     order: Order::Big,
     at: 0,
     octets: &[
@@ -217,3 +217,129 @@ const NESTED_FAULT: Sample = Sample {
 
 /// Octets that are faulty behind a part for which memory is taken.
 pub const FAULTS: [Sample; 4] = [STRINGS_FAULT, ARRAY_FAULT, STRUCT_FAULT, NESTED_FAULT];
+
+/// "X", and the octet 0 with the tag 1.
+const REFERENCE: Sample = Sample {
+    name: "one_profile",
+    shape: None,
+    order: Order::Big,
+    at: 0,
+    octets: &[
+        0, 0, 0, 2, b'X', 0, 0, 0, 0, 0, 0, 1, 0, 0, 0, 1, 0, 0, 0, 1, 0,
+    ],
+    gives: Gives::Value("Ior { type_id: [88], profiles: [Tagged { tag: 1, octets: [0] }] }"),
+};
+
+/// "X", no octets with the tag 5, and the octet 7 with the tag 1, behind a gap of two.
+const TWO_PROFILES: Sample = Sample {
+    name: "two_profiles",
+    shape: None,
+    order: Order::Little,
+    at: 2,
+    octets: &[
+        0, 0, 2, 0, 0, 0, b'X', 0, 0, 0, 2, 0, 0, 0, 5, 0, 0, 0, 0, 0, 0, 0, 1, 0, 0, 0, 1, 0, 0,
+        0, 7,
+    ],
+    gives: Gives::Value(
+        "Ior { type_id: [88], profiles: [Tagged { tag: 5, octets: [] }, Tagged { tag: 1, octets: [7] }] }",
+    ),
+};
+
+/// References.
+pub const REFERENCES: [Sample; 2] = [REFERENCE, TWO_PROFILES];
+
+/// The tag of the second profile has three octets.
+const REFERENCE_FAULT: Sample = Sample {
+    name: "second_profile",
+    shape: None,
+    order: Order::Big,
+    at: 0,
+    octets: &[
+        0, 0, 0, 2, b'X', 0, 0, 0, 0, 0, 0, 2, 0, 0, 0, 1, 0, 0, 0, 1, 0, 0, 0, 0, 0, 0, 0,
+    ],
+    gives: Gives::Fault(Fault {
+        kind: Kind::Short,
+        at: 24,
+    }),
+};
+
+/// Octets that are faulty behind a part of a reference.
+pub const REFERENCE_FAULTS: [Sample; 1] = [REFERENCE_FAULT];
+
+/// "X", and the octet 0 with the tag 1.
+const TEXT: Sample = Sample {
+    name: "one_profile",
+    shape: None,
+    order: Order::Big,
+    at: 0,
+    octets: b"IOR:00000000000000025800000000000001000000010000000100",
+    gives: Gives::Value("Ior { type_id: [88], profiles: [Tagged { tag: 1, octets: [0] }] }"),
+};
+
+/// Texts of references.
+pub const TEXTS: [Sample; 1] = [TEXT];
+
+/// The count of the profiles is missing behind "A".
+const TEXT_FAULT: Sample = Sample {
+    name: "count",
+    shape: None,
+    order: Order::Big,
+    at: 0,
+    octets: b"IOR:0000000000000002410000",
+    gives: Gives::Fault(Fault {
+        kind: Kind::Short,
+        at: 12,
+    }),
+};
+
+/// Texts of octets that are faulty behind a part of a reference.
+pub const TEXT_FAULTS: [Sample; 1] = [TEXT_FAULT];
+
+/// A profile of 1.0: the host "h", the port 1 and the key "c".
+const PROFILE_1_0: Sample = Sample {
+    name: "without_components",
+    shape: None,
+    order: Order::Big,
+    at: 0,
+    octets: &[0, 1, 0, 0, 0, 0, 0, 2, b'h', 0, 0, 1, 0, 0, 0, 1, b'c'],
+    gives: Gives::Value(
+        "IiopProfile { minor: 0, host: [104], port: 1, object_key: [99], components: [] }",
+    ),
+};
+
+/// A profile of 1.1 with the octet 0 as a component.
+const PROFILE_1_1: Sample = Sample {
+    name: "one_component",
+    shape: None,
+    order: Order::Big,
+    at: 0,
+    octets: &[
+        0, 1, 1, 0, 0, 0, 0, 2, b'h', 0, 0, 1, 0, 0, 0, 1, b'c', 0, 0, 0, 0, 0, 0, 1, 0, 0, 0, 1,
+        0, 0, 0, 1, 0,
+    ],
+    gives: Gives::Value(
+        "IiopProfile { minor: 1, host: [104], port: 1, object_key: [99], components: [Tagged { tag: 1, octets: [0] }] }",
+    ),
+};
+
+/// IIOP profiles.
+pub const PROFILES: [Sample; 2] = [PROFILE_1_0, PROFILE_1_1];
+
+/// The second component is missing.
+const PROFILE_FAULT: Sample = Sample {
+    name: "second_component",
+    shape: None,
+    order: Order::Big,
+    at: 0,
+    octets: &[
+        0, 1, 1, 0, 0, 0, 0, 2, b'h', 0, 0, 1, 0, 0, 0, 1, b'c', 0, 0, 0, 0, 0, 0, 2, 0, 0, 0, 1,
+        0, 0, 0, 1, 0,
+    ],
+    gives: Gives::Fault(Fault {
+        kind: Kind::Short,
+        at: 36,
+    }),
+};
+
+/// Octets that are faulty behind a component of a profile.
+pub const PROFILE_FAULTS: [Sample; 1] = [PROFILE_FAULT];

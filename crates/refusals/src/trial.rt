@@ -3,6 +3,7 @@
 ghost use Rattle.std.specs.Prelude.{OnOk};
 
 use cdr_core::CdrError;
+use ior_core::IorError;
 use std::alloc::{AllocError, Global};
 use thiserror::Error;
 
@@ -65,6 +66,16 @@ impl From<CdrError> for Miss {
     }
 }
 
+/// Want of memory, or another error where none is to be.
+impl From<IorError> for Miss {
+    fn from(error: IorError) -> Miss {
+        match error {
+            IorError::Memory => Miss::Memory,
+            _ => Miss::Wrong(Wrong::Fault),
+        }
+    }
+}
+
 /// How a call ended with which nothing is wrong.
 #[derive(Clone, Copy, Debug, PartialEq, Eq)]
 pub enum Ending {
@@ -74,7 +85,7 @@ pub enum Ending {
     Refused,
 }
 
-/// A call of `cdr_core` with its inputs and with what it is to give.
+/// A call with its inputs and with what it is to give.
 pub trait Trial {
     /// What holds behind a call that was right.
     ghost is_right: { Self → Type 0 } = { λ _. Unit {0} };
