@@ -1,7 +1,7 @@
 //! References and their texts: the nil reference, the letters' case, several profiles, a long text.
 
 use super::{assert_parses, assert_prints, joined, reference};
-use crate::{object_key, parse_text};
+use crate::{Ior, object_key, parse_text};
 use std::alloc::Global;
 use std::process::Abort;
 use std::test::Fail;
@@ -64,12 +64,23 @@ fn letters_stand_in_either_case(rt: HostRuntime) -> Result<(), Fail> {
     Ok(())
 }
 
+/// A profile of IIOP 1.0 in big order, for the key `c`.
+const FIRST: &str = "00010000 00000002 6800 0001 00000001 63";
+
+/// Components, as a profile of their own.
+const RAW: &str = "00000000 00000001 00000001 00000001 00";
+
+/// A profile of IIOP 1.1 in little order, for the key `de`.
+const LAST: &str = "01010100 02000000 6900 0200 02000000 64650000 01000000 01000000 01000000 00";
+
+/// Asserts the key in the profile of an index.
+fn assert_key(rt: &impl Abort, ior: &Ior, index: u32, key: &[u8]) {
+    assert_eq!(rt; object_key(ior, index), Some(key));
+}
+
 #[test]
 fn several_profiles_stand_in_a_reference(rt: HostRuntime) -> Result<(), Fail> {
-    let first = "00010000 00000002 6800 0001 00000001 63";
-    let raw = "00000000 00000001 00000001 00000001 00";
-    let last = "01010100 02000000 6900 0200 02000000 64650000 01000000 01000000 01000000 00";
-    let wanted = reference(rt.alloc(), "X", &[(0, first), (1, raw), (0, last)])?;
+    let wanted = reference(rt.alloc(), "X", &[(0, FIRST), (1, RAW), (0, LAST)])?;
     let text = "IOR:00000000 00000002 58000000 00000003 \
         00000000 00000011 00010000 00000002 6800 0001 00000001 63000000 \
         00000001 00000011 00000000 00000001 00000001 00000001 00000000 \
@@ -82,9 +93,8 @@ fn several_profiles_stand_in_a_reference(rt: HostRuntime) -> Result<(), Fail> {
         00000000 21000000 01010100 02000000 6900 0200 02000000 64650000 \
         01000000 01000000 01000000 00";
     assert_parses(&rt, text, &wanted)?;
-    for (index, key) in [(0, "c"), (2, "de")] {
-        assert_eq!(rt; object_key(&wanted, index), Some(key.as_bytes()), "{index}");
-    }
+    assert_key(&rt, &wanted, 0, b"c");
+    assert_key(&rt, &wanted, 2, b"de");
     for index in [1, 3, u32::MAX] {
         assert_eq!(rt; object_key(&wanted, index), None, "{index}");
     }
