@@ -1,0 +1,21 @@
+-- What the value of a lent part says is what the part says.
+use Rattle.std.proofs.Common.{◌≡◌, ℕ, List, [], ◌∷◌, map, refl, ap}
+use Rattle.cdr_core.specs.Value.{values}
+use Rattle.giop_core.specs.declared.items.Contexts.{Contexts}
+use Rattle.giop_core.specs.declared.message.Target.{Target}
+use Rattle.giop_core.specs.declared.message.Target.TheVariants as target
+use Rattle.giop_core.specs.Content as content
+use Rattle.giop_core.specs.Content.{addressed, all_tagged, items_of}
+use Rattle.giop_core.specs.Lent.{addressed_by, contexts_left, contexts_value, tagged_value, target_value}
+
+pub all_again : (xs : List (ℕ × List ℕ)) → all_tagged (values (map tagged_value xs)) ≡ xs
+all_again [] = refl
+all_again (x ∷ xs) = ap (λ ys. x ∷ ys) (all_again xs)
+
+pub items_again : (c : Contexts) → items_of (contexts_value c) ≡ contexts_left c
+items_again c = all_again (contexts_left c)
+
+pub addressed_again : (t : Target) → addressed (target_value t) ≡ addressed_by t
+addressed_again (target.Key k) = refl
+addressed_again (target.Profile tag d) = refl
+addressed_again (target.Reference i r) = ap (content.by_reference i r.type_id.now) (items_again r.profiles)

@@ -1,0 +1,10 @@
+pub mod Steps
+pub mod Choices
+pub mod Passing
+pub mod Again
+pub mod Firsts
+pub mod Enclosed
+pub mod Shared
+pub mod Spelled
+pub mod Nths
+pub mod HeaderLemmas

@@ -1,0 +1,38 @@
+-- The service context of a request that may be sent again (Fault Tolerant CORBA, 23.2.7).
+use Rattle.std.specs.Prelude.{ℕ, ℤ, ◌==◌, List, [], ◌∷◌, Option, Some, None, Result, Ok, Err, if◌then◌else◌}
+use Rattle.cdr_core.specs.declared.fault.Fault.{Fault}
+use Rattle.cdr_core.specs.Encapsulation.{encapsulated}
+use Rattle.cdr_core.specs.Reading.{value_at}
+use Rattle.cdr_core.specs.Value.{Value}
+use Rattle.giop_core.specs.declared.ft.FtField.{FtField}
+use Rattle.giop_core.specs.declared.ft.FtField.TheVariants as field
+use Rattle.giop_core.specs.Rows.{ft_request}
+use Rattle.giop_core.specs.Content.{content_octets, integer, member, natural, parts}
+
+-- what a request's contexts say of its client
+pub data Ft : Type 0 where
+  absent : Ft
+  bad : Ft
+  present : List ℕ → ℤ → ℕ → Ft
+
+abbrev pub ft_by : Result Value Fault → Ft
+ft_by (Err f) = bad
+ft_by (Ok v) = present (content_octets (member 0 (parts v))) (integer (member 1 (parts v))) (natural (member 2 (parts v)))
+
+-- the octets of the first item of an id
+abbrev pub first_of : ℕ → List (ℕ × List ℕ) → Option (List ℕ)
+first_of id [] = None
+first_of id (x ∷ xs) = if x.0 == id then Some x.1 else first_of id xs
+
+abbrev pub ft_of : Option (List ℕ) → Ft
+ft_of None = absent
+ft_of (Some octets) = ft_by (encapsulated (value_at ft_request) octets)
+
+-- FT 23.2.7: the context of id 13, FT_REQUEST, the first of them
+unfoldable pub ft_in : List (ℕ × List ℕ) → Ft
+ft_in contexts = ft_of (first_of 13 contexts)
+
+abbrev pub ft_seen : FtField → Ft
+ft_seen field.Absent = absent
+ft_seen field.Bad = bad
+ft_seen (field.Present c r e) = present c.now r e

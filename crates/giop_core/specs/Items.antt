@@ -1,0 +1,22 @@
+-- Items one after another in octets: service contexts, or profiles.
+use Rattle.std.specs.Prelude.{ℕ, zero, suc, List, [], ◌∷◌, Result, Ok, Err}
+use Rattle.std.specs.Borrow.{Bor}
+use Rattle.cdr_core.specs.declared.order.Order.{Order}
+use Rattle.cdr_core.specs.Value.{Value}
+use Rattle.cdr_core.specs.Reading.{Read, value_at}
+use Rattle.ior_core.specs.Grammar.{tagged}
+use Rattle.giop_core.specs.Content.{tagged_of}
+
+-- a lent item as octets
+abbrev pub item_at : ℕ × Bor (List ℕ) → ℕ × List ℕ
+item_at x = (x.0, x.1.now)
+
+-- the first item and the others, as far as they read
+abbrev pub items_from : Read Value → (ℕ → List ℕ → List (ℕ × List ℕ)) → List (ℕ × List ℕ)
+items_from (Ok x) others = tagged_of x.0 ∷ others x.1 x.2
+items_from (Err f) others = []
+
+-- the first n items
+unfoldable pub items_in : Order → ℕ → ℕ → List ℕ → List (ℕ × List ℕ)
+items_in order zero o octets = []
+items_in order (suc n) o octets = items_from (value_at tagged order o octets) (items_in order n)

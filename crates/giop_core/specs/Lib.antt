@@ -1,0 +1,11 @@
+pub mod Rows
+pub mod Content
+pub mod Messages
+pub mod Items
+pub mod Lent
+pub mod Calls
+pub mod Ft
+pub mod Grammar
+pub mod Laws
+pub mod Keys
+pub mod Headers

@@ -1,0 +1,64 @@
+-- Messages by the table of their rows, read from left to right.
+use Rattle.std.specs.Prelude.{ℕ, ◌+◌, Bool, true, false, List, [], ◌∷◌, drop, Result, Ok, Err, if◌then◌else◌}
+use Rattle.cdr_core.specs.declared.order.Order.{Order}
+use Rattle.cdr_core.specs.Form.{Form}
+use Rattle.cdr_core.specs.Value as value
+use Rattle.cdr_core.specs.Value.{Value}
+use Rattle.cdr_core.specs.Numbers.{padding}
+use Rattle.cdr_core.specs.Reading.{Read, value_at}
+use Rattle.giop_core.specs.declared.header.Version.{Version}
+use Rattle.giop_core.specs.declared.header.Version.TheVariants.{V12}
+use Rattle.giop_core.specs.declared.header.MessageKind.{MessageKind}
+use Rattle.giop_core.specs.declared.header.MessageKind.TheVariants.{Request, Reply}
+use Rattle.giop_core.specs.declared.fault.MessageFault.{MessageFault}
+use Rattle.giop_core.specs.declared.fault.MessageFault.TheVariants.{Cdr, BadAddressing}
+use Rattle.giop_core.specs.Rows.{row}
+use Rattle.giop_core.specs.Content.{Content, Rest, content}
+
+infixl 10 ◌>>=◌
+abbrev pub ◌>>=◌ : {A B : Type 0} → Result A MessageFault → (A → Result B MessageFault) → Result B MessageFault
+(Ok x) >>= f = f x
+(Err e) >>= f = Err e
+
+-- what reading gives: a value, the place behind it and the octets that are left, or the first fault
+abbrev pub Found : Type 0 → Type 0
+Found A = Result (A × ℕ × List ℕ) MessageFault
+
+-- whether it is a union whose discriminator is none of its labels
+abbrev pub is_unknown : Value → Bool
+is_unknown (value.union d value.no_values) = true
+is_unknown _ = false
+
+-- the place is that of the discriminator, if there is one
+abbrev pub judged : ℕ → Read Value → Found Value
+judged place (Err f) = Err (Cdr f)
+judged place (Ok x) = if is_unknown x.0 then Err (BadAddressing place) else Ok x
+
+abbrev pub field_at : Form → Order → ℕ → List ℕ → Found Value
+field_at t order o octets = judged (o + padding o 2) (value_at t order o octets)
+
+abbrev pub fields_at : List Form → Order → ℕ → List ℕ → Found (List Value)
+fields_at [] order o octets = Ok ([], o, octets)
+fields_at (t ∷ ts) order o octets = do
+  x ← field_at t order o octets
+  xs ← fields_at ts order x.1 x.2
+  Ok (x.0 ∷ xs.0, xs.1, xs.2)
+
+-- the rest as it is
+abbrev pub directly : Order → ℕ → List ℕ → Rest
+directly order place rest = record { order = order; place = place; octets = rest }
+
+-- GIOP 9.4.2, 9.4.3: a body of 1.2 stands at a place divisible by 8, even past the end
+abbrev pub aligned : Order → ℕ → List ℕ → Rest
+aligned order place rest = record { order = order; place = place + padding place 8; octets = drop (padding place 8) rest }
+
+abbrev pub rest_at : Version → MessageKind → Order → ℕ → List ℕ → Rest
+rest_at V12 Request order place rest = aligned order place rest
+rest_at V12 Reply order place rest = aligned order place rest
+rest_at _ _ order place rest = directly order place rest
+
+-- the message of a kind in a version that the octets behind its header are, or the first fault
+unfoldable pub message_of : Version → MessageKind → Order → List ℕ → Result Content MessageFault
+message_of version kind order octets = do
+  x ← fields_at (row version kind) order 12 octets
+  Ok (content version kind x.0 (rest_at version kind order x.1 x.2))

@@ -1,0 +1,51 @@
+-- The grammar of the messages: what stands behind each header, in order.
+use Rattle.std.specs.Prelude.{ℕ, pos, List, [], ◌∷◌}
+use Rattle.cdr_core.specs.Form as form
+use Rattle.cdr_core.specs.Form.{Form}
+use Rattle.cdr_core.specs.Parts.{long, octet, raw, short, text, ulong, ulonglong}
+use Rattle.cdr_core.specs.View.{forms}
+use Rattle.ior_core.specs.Grammar.{reference, tagged, tagged_list}
+use Rattle.giop_core.specs.declared.header.Version.{Version}
+use Rattle.giop_core.specs.declared.header.Version.TheVariants.{V10, V11, V12}
+use Rattle.giop_core.specs.declared.header.MessageKind.{MessageKind}
+use Rattle.giop_core.specs.declared.header.MessageKind.TheVariants.{Request, Reply, CancelRequest, LocateRequest, LocateReply, CloseConnection, MessageError, Fragment}
+
+-- IOP: typedef sequence<ServiceContext> ServiceContextList; a service context is an unsigned long, its id, and octets
+abbrev pub contexts : Form
+contexts = tagged_list
+
+-- GIOP 9.4.2: octet reserved[3], which mean nothing
+abbrev pub reserved : Form
+reserved = form.array 3 octet
+
+-- GIOP 9.4.2: struct IORAddressingInfo { unsigned long selected_profile_index; IOP::IOR ior; }
+abbrev pub selected : Form
+selected = form.structure (forms (ulong ∷ reference ∷ []))
+
+abbrev pub choice : Form → Form → Form → Form
+choice a b c = form.union short (form.labelled (pos 0) a (form.labelled (pos 1) b (form.labelled (pos 2) c form.otherwise_nothing)))
+
+-- GIOP 9.4.2: union TargetAddress switch (AddressingDisposition) of KeyAddr 0, ProfileAddr 1 and ReferenceAddr 2, a short
+abbrev pub target : Form
+target = choice raw tagged selected
+
+-- the types of what stands behind the header of a message (GIOP 9.4.2 to 9.4.9)
+unfoldable pub row : Version → MessageKind → List Form
+row V10 Request = contexts ∷ ulong ∷ form.boolean ∷ raw ∷ text ∷ raw ∷ []
+row V11 Request = contexts ∷ ulong ∷ form.boolean ∷ reserved ∷ raw ∷ text ∷ raw ∷ []
+row V12 Request = ulong ∷ octet ∷ reserved ∷ target ∷ text ∷ contexts ∷ []
+row V12 Reply = ulong ∷ form.enumeration 6 ∷ contexts ∷ []
+row _ Reply = contexts ∷ ulong ∷ form.enumeration 4 ∷ []
+row _ CancelRequest = ulong ∷ []
+row V12 LocateRequest = ulong ∷ target ∷ []
+row _ LocateRequest = ulong ∷ raw ∷ []
+row V12 LocateReply = ulong ∷ form.enumeration 6 ∷ []
+row _ LocateReply = ulong ∷ form.enumeration 3 ∷ []
+row V12 Fragment = ulong ∷ []
+row _ Fragment = []
+row _ CloseConnection = []
+row _ MessageError = []
+
+-- FT 23.2.7: struct FTRequestServiceContext { string client_id; long retention_id; TimeBase::TimeT expiration_time; }
+abbrev pub ft_request : Form
+ft_request = form.structure (forms (text ∷ long ∷ ulonglong ∷ []))

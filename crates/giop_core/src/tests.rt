@@ -1,0 +1,12 @@
+//! Headers and messages written out from the standard's layouts, and what is read of them.
+
+mod contexts;
+mod faults;
+mod header;
+mod locates;
+mod others;
+mod recordings;
+mod replies;
+mod requests;
+mod said;
+mod targets;

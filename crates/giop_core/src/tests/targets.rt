@@ -1,0 +1,343 @@
+//! Targets: keys, profiles and references, what they lend, and the object keys that they name.
+
+use super::said::{
+    Aim, Asked, Row, Said, assert_fault, assert_rows, assert_target, octets_in, whole,
+};
+use crate::{Message, MessageFault, Part, ReplyWish, Target, Version};
+use cdr_core::Order;
+use std::process::Abort;
+use std::test::Fail;
+
+/// The target of a LocateRequest.
+fn target_in<'m>(rt: &impl Abort, octets: &'m [u8]) -> Target<'m> {
+    match whole(rt, octets) {
+        Ok(
+            Message {
+                part: Part::LocateRequest(_, target),
+                ..
+            },
+        ) => target,
+        _ => rt.abort(),
+    }
+}
+
+/// The digits of a LocateRequest, its target, and the key that it names.
+type Naming = (&'static str, Aim, Option<&'static [u8]>);
+
+fn assert_names(rt: &(impl Abort + AllocGlobal), rows: &[Naming]) -> Result<(), Fail> {
+    for (text, aim, key) in rows {
+        let octets = octets_in(rt, text)?;
+        let target = target_in(rt, &octets);
+        assert_target(rt, &target, aim);
+        assert_eq!(rt; target.object_key(), *key, "{text}");
+    }
+    Ok(())
+}
+
+// By key alone in 1.0 and 1.1, and by its disposition in 1.2.
+const KEYS: [Naming; 5] = [
+    (
+        "47494f50 01000003 0000000b 00000001 00000003 6b6579",
+        Aim::Key(b"key"),
+        Some(b"key"),
+    ),
+    (
+        "47494f50 01010103 0b000000 01000000 03000000 6b6579",
+        Aim::Key(b"key"),
+        Some(b"key"),
+    ),
+    (
+        "47494f50 01020003 0000000d 00000001 00000000 00000001 63",
+        Aim::Key(b"c"),
+        Some(b"c"),
+    ),
+    (
+        "47494f50 01020103 0d000000 01000000 00000000 01000000 63",
+        Aim::Key(b"c"),
+        Some(b"c"),
+    ),
+    (
+        "47494f50 01020003 0000000c 00000001 00000000 00000000",
+        Aim::Key(b""),
+        Some(b""),
+    ),
+];
+
+#[test]
+fn targets_by_key(rt: HostRuntime) -> Result<(), Fail> {
+    assert_names(&rt, &KEYS)
+}
+
+// IIOP 1.2, host 127.0.0.1, port 2809, key `c`, no components.
+const COUNTER: &[u8] = &[
+    0, 1, 2, 0, 0, 0, 0, 10, b'1', b'2', b'7', b'.', b'0', b'.', b'0', b'.', b'1', 0, 0x0a, 0xf9,
+    0, 0, 0, 1, b'c', 0, 0, 0, 0, 0, 0, 0,
+];
+
+// IIOP 1.0, host `h`, port 1, key `key`, in little order.
+const LITTLE: &[u8] = &[
+    1, 1, 0, 0, 2, 0, 0, 0, b'h', 0, 1, 0, 3, 0, 0, 0, b'k', b'e', b'y',
+];
+
+// The tag of IIOP names the key of its profile, whatever the order of the message.
+const PROFILES: [Naming; 6] = [
+    (
+        "47494f50 01020003 00000030 00000002 00010000 00000000 00000020 00010200 0000000a \
+         3132372e302e302e3100 0af9 00000001 63000000 00000000",
+        Aim::Profile(0, COUNTER),
+        Some(b"c"),
+    ),
+    (
+        "47494f50 01020103 30000000 02000000 0100eeee 00000000 20000000 00010200 0000000a \
+         3132372e302e302e3100 0af9 00000001 63000000 00000000",
+        Aim::Profile(0, COUNTER),
+        Some(b"c"),
+    ),
+    (
+        "47494f50 01020003 00000023 00000002 0001eeee 00000000 00000013 01010000 02000000 6800 0100 \
+         03000000 6b6579",
+        Aim::Profile(0, LITTLE),
+        Some(b"key"),
+    ),
+    (
+        "47494f50 01020103 23000000 02000000 01000000 00000000 13000000 01010000 02000000 6800 0100 \
+         03000000 6b6579",
+        Aim::Profile(0, LITTLE),
+        Some(b"key"),
+    ),
+    (
+        "47494f50 01020003 00000030 00000002 00010000 00000001 00000020 00010200 0000000a \
+         3132372e302e302e3100 0af9 00000001 63000000 00000000",
+        Aim::Profile(1, COUNTER),
+        None,
+    ),
+    (
+        "47494f50 01020103 23000000 02000000 01000000 00000001 13000000 01010000 02000000 6800 0100 \
+         03000000 6b6579",
+        Aim::Profile(0x0100_0000, LITTLE),
+        None,
+    ),
+];
+
+#[test]
+fn targets_by_profile(rt: HostRuntime) -> Result<(), Fail> {
+    assert_names(&rt, &PROFILES)
+}
+
+// No octets; a byte order that is none; another major version; a key past the end; no components
+// in 1.1.
+const UNREADABLE: [Naming; 5] = [
+    (
+        "47494f50 01020003 00000010 00000002 00010000 00000000 00000000",
+        Aim::Profile(0, &[]),
+        None,
+    ),
+    (
+        "47494f50 01020003 00000023 00000002 00010000 00000000 00000013 02010000 00000002 6800 0001 \
+         00000003 6b6579",
+        Aim::Profile(
+            0,
+            &[
+                2, 1, 0, 0, 0, 0, 0, 2, 0x68, 0, 0, 1, 0, 0, 0, 3, 0x6b, 0x65, 0x79,
+            ],
+        ),
+        None,
+    ),
+    (
+        "47494f50 01020003 00000023 00000002 00010000 00000000 00000013 00020000 00000002 6800 0001 \
+         00000003 6b6579",
+        Aim::Profile(
+            0,
+            &[
+                0, 2, 0, 0, 0, 0, 0, 2, 0x68, 0, 0, 1, 0, 0, 0, 3, 0x6b, 0x65, 0x79,
+            ],
+        ),
+        None,
+    ),
+    (
+        "47494f50 01020003 00000022 00000002 00010000 00000000 00000012 00010000 00000002 6800 0001 \
+         00000003 6b65",
+        Aim::Profile(
+            0,
+            &[
+                0, 1, 0, 0, 0, 0, 0, 2, 0x68, 0, 0, 1, 0, 0, 0, 3, 0x6b, 0x65,
+            ],
+        ),
+        None,
+    ),
+    (
+        "47494f50 01020003 00000023 00000002 00010000 00000000 00000013 00010100 00000002 6800 0001 \
+         00000003 6b6579",
+        Aim::Profile(
+            0,
+            &[
+                0, 1, 1, 0, 0, 0, 0, 2, 0x68, 0, 0, 1, 0, 0, 0, 3, 0x6b, 0x65, 0x79,
+            ],
+        ),
+        None,
+    ),
+];
+
+#[test]
+fn profiles_that_do_not_read(rt: HostRuntime) -> Result<(), Fail> {
+    assert_names(&rt, &UNREADABLE)
+}
+
+// A profile of tag 1, and one of IIOP.
+const PAIR: &[(u32, &[u8])] = &[(1, &[0xaa, 0xbb]), (0, LITTLE)];
+
+// The number chooses among the profiles, from 0. Past them it names nothing; nor does it in the nil
+// reference.
+const REFERENCES: [Naming; 6] = [
+    (
+        "47494f50 01020003 0000003f 00000002 0002eeee 00000000 00000002 5800 eeee 00000002 00000001 \
+         00000002 aabb eeee 00000000 00000013 01010000 02000000 6800 0100 03000000 6b6579",
+        Aim::Reference(0, b"X", PAIR),
+        None,
+    ),
+    (
+        "47494f50 01020003 0000003f 00000002 0002eeee 00000001 00000002 5800 eeee 00000002 00000001 \
+         00000002 aabb eeee 00000000 00000013 01010000 02000000 6800 0100 03000000 6b6579",
+        Aim::Reference(1, b"X", PAIR),
+        Some(b"key"),
+    ),
+    (
+        "47494f50 01020103 3f000000 02000000 0200eeee 01000000 02000000 5800 eeee 02000000 01000000 \
+         02000000 aabb eeee 00000000 13000000 01010000 02000000 6800 0100 03000000 6b6579",
+        Aim::Reference(1, b"X", PAIR),
+        Some(b"key"),
+    ),
+    (
+        "47494f50 01020103 3f000000 02000000 0200eeee 02000000 02000000 5800 eeee 02000000 01000000 \
+         02000000 aabb eeee 00000000 13000000 01010000 02000000 6800 0100 03000000 6b6579",
+        Aim::Reference(2, b"X", PAIR),
+        None,
+    ),
+    (
+        "47494f50 01020003 0000003f 00000002 0002eeee ffffffff 00000002 5800 eeee 00000002 00000001 \
+         00000002 aabb eeee 00000000 00000013 01010000 02000000 6800 0100 03000000 6b6579",
+        Aim::Reference(u32::MAX, b"X", PAIR),
+        None,
+    ),
+    (
+        "47494f50 01020003 00000018 00000002 00020000 00000000 00000001 00000000 00000000",
+        Aim::Reference(0, b"", &[]),
+        None,
+    ),
+];
+
+#[test]
+fn targets_by_reference(rt: HostRuntime) -> Result<(), Fail> {
+    assert_names(&rt, &REFERENCES)
+}
+
+// Behind the reference stands what would read as one more profile.
+#[test]
+fn profiles_of_a_reference_by_number(rt: HostRuntime) -> Result<(), Fail> {
+    let octets = octets_in(
+        &rt,
+        "47494f50 01020003 00000041 00000002 00020000 00000000 00000003 582f00 00 00000003 \
+         00000005 00000001 01 000000 00000006 00000000 00000005 00000002 0203 eeee 00000009 \
+         00000001 05",
+    )?;
+    let target = target_in(&rt, &octets);
+    let Target::Reference(0, reference) = &target else {
+        rt.abort()
+    };
+    assert_eq!(rt; reference.type_id(), b"X/".as_slice());
+    assert_eq!(rt; reference.count(), 3);
+    for (index, wanted) in [
+        (2, Some((5, [2, 3].as_slice()))),
+        (0, Some((5, &[1]))),
+        (1, Some((6, &[]))),
+        (3, None),
+        (4, None),
+        (0x0100_0000, None),
+        (u32::MAX, None),
+        (2, Some((5, &[2, 3]))),
+    ] {
+        assert_eq!(rt; reference.profile(index), wanted, "{index}");
+    }
+    Ok(())
+}
+
+const BY_PROFILE: Said = Said::Request(Asked {
+    id: 7,
+    wish: ReplyWish::Full,
+    target: Aim::Profile(0, LITTLE),
+    operation: b"go",
+    contexts: &[],
+    body: (64, &[0xff]),
+});
+
+const BY_REFERENCE: Said = Said::Request(Asked {
+    id: 7,
+    wish: ReplyWish::Full,
+    target: Aim::Reference(1, b"X", PAIR),
+    operation: b"go",
+    contexts: &[],
+    body: (96, &[0xff]),
+});
+
+// The operation stands behind a target of any length.
+const REQUESTS: [Row; 4] = [
+    (
+        Version::V12,
+        Order::Big,
+        "47494f50 01020000 00000035 00000007 03000000 0001eeee 00000000 00000013 01010000 02000000 \
+         6800 0100 03000000 6b6579 ee 00000003 676f00 ee 00000000 ff",
+        BY_PROFILE,
+    ),
+    (
+        Version::V12,
+        Order::Little,
+        "47494f50 01020100 35000000 07000000 03000000 0100eeee 00000000 13000000 01010000 02000000 \
+         6800 0100 03000000 6b6579 ee 03000000 676f00 ee 00000000 ff",
+        BY_PROFILE,
+    ),
+    (
+        Version::V12,
+        Order::Big,
+        "47494f50 01020000 00000055 00000007 03000000 0002eeee 00000001 00000002 5800 eeee 00000002 \
+         00000001 00000002 aabb eeee 00000000 00000013 01010000 02000000 6800 0100 03000000 6b6579 \
+         ee 00000003 676f00 ee 00000000 eeeeeeee ff",
+        BY_REFERENCE,
+    ),
+    (
+        Version::V12,
+        Order::Little,
+        "47494f50 01020100 55000000 07000000 03000000 0200eeee 01000000 02000000 5800 eeee 02000000 \
+         01000000 02000000 aabb eeee 00000000 13000000 01010000 02000000 6800 0100 03000000 6b6579 \
+         ee 03000000 676f00 ee 00000000 eeeeeeee ff",
+        BY_REFERENCE,
+    ),
+];
+
+#[test]
+fn requests_by_profile_and_by_reference(rt: HostRuntime) -> Result<(), Fail> {
+    assert_rows(&rt, &REQUESTS)
+}
+
+#[test]
+fn other_dispositions(rt: HostRuntime) -> Result<(), Fail> {
+    for (order, length, dispositions) in [
+        (
+            "00",
+            "0000000d",
+            ["0003", "0004", "0100", "0200", "8000", "ffff"],
+        ),
+        (
+            "01",
+            "0d000000",
+            ["0300", "0400", "0001", "0002", "0080", "ffff"],
+        ),
+    ] {
+        for disposition in dispositions {
+            let text = format!(in rt.alloc();
+                "47494f50 0102{order}03 {length} 00000001 {disposition}0000 00000001 63"
+            )?;
+            assert_fault(&rt, &text, MessageFault::BadAddressing(16))?;
+        }
+    }
+    Ok(())
+}
