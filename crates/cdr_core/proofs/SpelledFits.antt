@@ -1,5 +1,5 @@
 -- What octets spell by a valid form fits it.
-use Rattle.std.proofs.Common.{◌≡◌, ℕ, zero, suc, ◌+◌, ◌<◌, ◌^◌, ℤ, inl, inr, List, [], ◌∷◌, ◌++◌, length, drop, take, get_or, Ok, subst, sym, arith}
+use Rattle.std.proofs.Common.{◌≡◌, ℕ, zero, suc, ◌+◌, ◌<◌, ◌^◌, ℤ, inl, inr, List, [], ◌∷◌, ◌++◌, length, drop, take, get_or, slice_index_or, Ok, subst, sym, arith}
 use Rattle.std.proofs.lemmas.Int.{ints}
 use Rattle.std.proofs.Math.Facts.{Fits-of_lt, sfits_to_z}
 use Rattle.std.proofs.lemmas.List.{take-append-drop}
@@ -112,3 +112,7 @@ read_fits t order o octets v p rest valid a h =
     let taken = found t order o octets v p rest h in
     let fits = spelled_fits t order v o taken.front valid (parts_of octets taken.front rest taken.parts a).0 taken.holds in
     (fits, may t v fits)
+
+pub are_octets : (octets : List ℕ) → ((i : ℕ) → slice_index_or octets i 0 < 256) → AreOctets octets
+are_octets [] h = tt
+are_octets (x ∷ xs) h = (h 0, are_octets xs (λ i. h (suc i)))

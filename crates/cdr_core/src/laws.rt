@@ -5,6 +5,7 @@
 //! proof of its own rests on it.
 
 ghost use Rattle.cdr_core.specs.Laws.{EitherWay, FaultsStop, FittingIsWritable, NotBoth, OneFault, OneFront, ReadFits, ReadIsSpelled, SpelledFits, SpelledIsRead, StopsAreFaults, WrittenIsSpelled};
+ghost use Rattle.cdr_core.specs.Numbers.{AreOctets};
 
 /// What is read is spelled.
 #[tactic(auto, using(crate::proofs::Found::found))]
@@ -70,4 +71,9 @@ pub fn spelled_fits()
 #[tactic(auto, using(crate::proofs::SpelledFits::read_fits))]
 pub fn read_fits()
     ensures { ReadFits }
+{}
+
+/// A slice of `u8` has octets, which the laws of reading ask for.
+pub fn are_octets(octets: &[u8])
+    ensures { AreOctets octets.now }
 {}

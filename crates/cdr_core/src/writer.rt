@@ -1,15 +1,20 @@
 //! A place in an output, at which parts are written one after another.
 
 ghost use Rattle.std.specs.Prelude.{◌≡◌, ◌≤◌, ◌<◌, ◌+◌, ◌-◌, ◌^◌, ◌++◌, ◌⊎◌, length, replicate, [], ◌∷◌, MatchResult, OnErr, OnOk};
+ghost use Rattle.cdr_core.specs.Appending.{PutsAll};
 ghost use Rattle.cdr_core.specs.Encapsulation.{byte_order};
 ghost use Rattle.cdr_core.specs.Numbers.{padding};
-ghost use Rattle.cdr_core.specs.Parts.{octet_value, short_value, ulong_value, ulonglong_value, ushort_value};
+ghost use Rattle.cdr_core.specs.Parts.{long_value, octet_value, short_value, ulong_value, ulonglong_value, ushort_value};
 ghost use Rattle.cdr_core.specs.Spelling.{IsClean};
 ghost use Rattle.cdr_core.specs.Value as value;
-ghost use Rattle.cdr_core.specs.Writing.{place_in, Puts};
+ghost use Rattle.cdr_core.specs.View.{values_of};
+ghost use Rattle.cdr_core.specs.Writing.{place_in, AreWritable, Puts};
 
 use crate::order::Order;
-use crate::writing::{gap, put_eight, put_four, put_raw, put_string, put_two, put_zeros};
+use crate::values::Val;
+use crate::writing::{
+    end_of_list, gap, needed, put_all, put_eight, put_four, put_raw, put_string, put_two, put_zeros,
+};
 use std::alloc::AllocError;
 use std::marker::Model;
 
@@ -106,6 +111,17 @@ impl Writer {
         Ok(())
     }
 
+    /// A boolean, the octet 0 or 1.
+    #[inline]
+    pub fn boolean(&self, truth: bool, out: &mut Vec<u8>) -> Result<(), AllocError>
+        requires { self.now.start ≤ length out.old.items }
+        ensures { Puts self.now (value.boolean truth) result out.old.items out.new.items }
+    {
+        out.reserve(1)?;
+        out.push_reserved(u8::from(truth));
+        Ok(())
+    }
+
     /// A short.
     #[inline]
     pub fn short(&self, number: i16, out: &mut Vec<u8>) -> Result<(), AllocError>
@@ -127,6 +143,18 @@ impl Writer {
         let place = self.place(out);
         out.reserve(gap(place, 2) as usize + 2)?;
         put_two(self.order, place, number, out);
+        Ok(())
+    }
+
+    /// A long.
+    #[inline]
+    pub fn long(&self, number: i32, out: &mut Vec<u8>) -> Result<(), AllocError>
+        requires { self.now.start ≤ length out.old.items }
+        ensures { Puts self.now (long_value number) result out.old.items out.new.items }
+    {
+        let place = self.place(out);
+        out.reserve(gap(place, 4) as usize + 4)?;
+        put_four(self.order, place, number.cast_unsigned(), out);
         Ok(())
     }
 
@@ -178,6 +206,19 @@ impl Writer {
         let place = self.place(out);
         out.reserve(gap(place, 4) as usize + all.len() + 4)?;
         put_raw(self.order, place, all, out);
+        Ok(())
+    }
+
+    /// Values one after another.
+    pub fn values(&self, values: &[Val], out: &mut Vec<u8>) -> Result<(), AllocError>
+        requires start { self.now.start ≤ length out.old.items }
+        requires writable { AreWritable (values_of values.now) }
+        ensures ok { OnOk result (PutsAll self.now (values_of values.now) out.old.items out.new.items) }
+        ensures err { OnErr result (out.new.items ≡ out.old.items) }
+    {
+        let place = self.place(out);
+        out.reserve(needed(place, end_of_list(place, values)))?;
+        put_all(self.order, self.at, self.start, values, out);
         Ok(())
     }
 }

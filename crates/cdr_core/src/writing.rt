@@ -220,7 +220,7 @@ fn put_sequence(order: Order, at: u64, start: usize, all: &[Val], out: &mut Vec<
 
 /// Appends values one after another, for whose octets there is room.
 #[cycle(writing)]
-fn put_all(order: Order, at: u64, start: usize, all: &[Val], out: &mut Vec<u8>)
+pub(crate) fn put_all(order: Order, at: u64, start: usize, all: &[Val], out: &mut Vec<u8>)
     requires at { at < 2 ^ 32 }
     requires start { start ≤ length out.old.items }
     requires writable { AreWritable (values_of all.now) }
@@ -235,7 +235,7 @@ fn put_all(order: Order, at: u64, start: usize, all: &[Val], out: &mut Vec<u8>)
 
 /// How many octets there are up to an end.
 #[inline]
-fn needed(at: u64, end: Option<u64>) -> usize
+pub(crate) fn needed(at: u64, end: Option<u64>) -> usize
     requires { IfSome end (λ e. at ≤ e) }
     ensures { MatchOption end (result ≡ 2 ^ 64 - 1) (λ e. at + result ≡ e) }
 {

@@ -6,8 +6,7 @@ use Rattle.cdr_core.specs.declared.order.Order.{Order}
 use Rattle.cdr_core.specs.Reading.{value_at}
 use Rattle.ior_core.specs.Grammar.{tagged}
 use Rattle.giop_core.specs.Ft.{first_of}
-use Rattle.giop_core.specs.Items.{items_in}
-use Rattle.giop_core.specs.Lent.{tagged_value}
+use Rattle.giop_core.specs.Items.{items_in, tagged_value}
 use Rattle.giop_core.proofs.Passing.{items_next, items_none, items_stop}
 
 module _ (order : Order) (id count i o : ℕ) (octets : List ℕ) (total : Option (List ℕ)) (so_far : first_of id (items_in order (count - i) o octets) ≡ total) where

@@ -8,3 +8,7 @@ pub mod Shared
 pub mod Spelled
 pub mod Nths
 pub mod HeaderLemmas
+pub mod ItemsPut
+pub mod Longs
+pub mod Whole
+pub mod Retention

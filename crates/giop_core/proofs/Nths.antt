@@ -5,8 +5,7 @@ use Rattle.cdr_core.specs.declared.fault.Fault.{Fault}
 use Rattle.cdr_core.specs.declared.order.Order.{Order}
 use Rattle.cdr_core.specs.Reading.{value_at}
 use Rattle.ior_core.specs.Grammar.{tagged}
-use Rattle.giop_core.specs.Items.{items_in}
-use Rattle.giop_core.specs.Lent.{tagged_value}
+use Rattle.giop_core.specs.Items.{items_in, tagged_value}
 use Rattle.giop_core.proofs.Passing.{items_next, items_none, items_stop}
 
 get_none : (k : ℕ) → slice_get {X = ℕ × List ℕ} [] k ≡ None

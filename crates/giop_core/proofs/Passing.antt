@@ -13,8 +13,7 @@ use Rattle.cdr_core.specs.Value.{Value, Values, values}
 use Rattle.cdr_core.specs.View.{forms}
 use Rattle.ior_core.specs.Grammar.{tagged, tagged_list}
 use Rattle.giop_core.specs.Content.{content_octets, natural, tagged_of}
-use Rattle.giop_core.specs.Items.{items_in}
-use Rattle.giop_core.specs.Lent.{list_value, tagged_value}
+use Rattle.giop_core.specs.Items.{items_in, list_value, tagged_value}
 use Rattle.giop_core.specs.Rows.{contexts}
 
 -- what was passed over was read, or stopped

@@ -3,15 +3,20 @@ use Rattle.std.proofs.Common.{◌≡◌, ℕ, List, [], ◌∷◌, Ok, Err, refl
 use Rattle.cdr_core.specs.declared.fault.Fault.{Fault}
 use Rattle.cdr_core.specs.declared.order.Order.{Order}
 use Rattle.cdr_core.specs.Fields.{fields_at, structure_is}
+use Rattle.cdr_core.specs.Fitting.{IsValid}
 use Rattle.cdr_core.specs.Form as form
 use Rattle.cdr_core.specs.Form.{Form}
+use Rattle.cdr_core.specs.Laws.{ReadFits}
+use Rattle.cdr_core.specs.Numbers.{AreOctets}
 use Rattle.cdr_core.specs.Parts.{long, raw, text, ulong, ulonglong}
 use Rattle.cdr_core.specs.Reading.{◌>>=◌, Read, each_at, value_at}
 use Rattle.cdr_core.specs.Value as value
 use Rattle.cdr_core.specs.Value.{Value, values}
 use Rattle.cdr_core.specs.View.{forms}
-use Rattle.ior_core.specs.Grammar.{tagged}
-use Rattle.giop_core.specs.Rows.{ft_request}
+use Rattle.cdr_core.specs.Writing.{IsWritable}
+use Rattle.ior_core.specs.Grammar.{reference, tagged}
+use Rattle.giop_core.specs.Items.{list_value, reference_as}
+use Rattle.giop_core.specs.Rows.{contexts, ft_request}
 
 -- a struct of two, and one of three, member by member
 
@@ -55,3 +60,13 @@ module _ (t : Form) (order : Order) (o : ℕ) (octets : List ℕ) where
       pub three_reads : (c : Value) (r : ℕ) (left : List ℕ) → value_at t order q more ≡ Ok (c, r, left) → value_at (form.array 3 t) order o octets ≡ Ok (value.array (values (a ∷ b ∷ c ∷ [])), r, left)
       unfolding value_at each_at
       three_reads c r left e = rw (first, second, e) refl
+
+-- a reference that was read can be written
+
+pub reference_writable : ReadFits → (order : Order) (o : ℕ) (octets : List ℕ) → AreOctets octets → (id : List ℕ) (items : List (ℕ × List ℕ)) (p : ℕ) (rest : List ℕ) (q : ℕ) (more : List ℕ)
+    → value_at text order o octets ≡ Ok (value.string id, p, rest) → value_at contexts order p rest ≡ Ok (list_value items, q, more) → IsWritable (reference_as id items)
+reference_writable law order o octets are id items p rest q more first second =
+    (law reference order o octets (reference_as id items) q more valid are (pair_reads text contexts order o octets (value.string id) p rest (list_value items) q more first second)).1
+  where
+    valid : IsValid reference
+    valid = ((λ e. absurd cc), (tt, (((λ e. absurd cc), (tt, (tt, tt))), tt)))

@@ -1,8 +1,10 @@
 -- Items one after another in octets: service contexts, or profiles.
-use Rattle.std.specs.Prelude.{ℕ, zero, suc, List, [], ◌∷◌, Result, Ok, Err}
+use Rattle.std.specs.Prelude.{ℕ, zero, suc, List, [], ◌∷◌, map, Result, Ok, Err}
 use Rattle.std.specs.Borrow.{Bor}
 use Rattle.cdr_core.specs.declared.order.Order.{Order}
-use Rattle.cdr_core.specs.Value.{Value}
+use Rattle.cdr_core.specs.Parts.{ulong_value}
+use Rattle.cdr_core.specs.Value as value
+use Rattle.cdr_core.specs.Value.{Value, values}
 use Rattle.cdr_core.specs.Reading.{Read, value_at}
 use Rattle.ior_core.specs.Grammar.{tagged}
 use Rattle.giop_core.specs.Content.{tagged_of}
@@ -20,3 +22,15 @@ items_from (Err f) others = []
 unfoldable pub items_in : Order → ℕ → ℕ → List ℕ → List (ℕ × List ℕ)
 items_in order zero o octets = []
 items_in order (suc n) o octets = items_from (value_at tagged order o octets) (items_in order n)
+
+-- items as values
+
+abbrev pub tagged_value : ℕ × List ℕ → Value
+tagged_value x = value.structure (values (ulong_value x.0 ∷ value.octets x.1 ∷ []))
+
+abbrev pub list_value : List (ℕ × List ℕ) → Value
+list_value items = value.sequence (values (map tagged_value items))
+
+-- a reference by its type and its profiles
+abbrev pub reference_as : List ℕ → List (ℕ × List ℕ) → Value
+reference_as type_id profiles = value.structure (values (value.string type_id ∷ list_value profiles ∷ []))

@@ -13,7 +13,7 @@ use Rattle.giop_core.specs.declared.message.Part.{Part}
 use Rattle.giop_core.specs.declared.message.Part.TheVariants as part
 use Rattle.giop_core.specs.declared.message.Request.{Request}
 use Rattle.giop_core.specs.declared.message.Reply.{Reply}
-use Rattle.giop_core.specs.Items.{item_at, items_in}
+use Rattle.giop_core.specs.Items.{item_at, items_in, list_value, reference_as, tagged_value}
 use Rattle.giop_core.specs.Content as content
 use Rattle.giop_core.specs.Content.{Addressed, Rest, Content}
 
@@ -22,14 +22,8 @@ contexts_left c = items_in c.cursor.order c.left c.cursor.place c.cursor.rest
 
 -- values that are lent
 
-abbrev pub tagged_value : ℕ × List ℕ → Value
-tagged_value x = value.structure (values (ulong_value x.0 ∷ value.octets x.1 ∷ []))
-
 abbrev pub lent_value : ℕ × Bor (List ℕ) → Value
 lent_value x = tagged_value (item_at x)
-
-abbrev pub list_value : List (ℕ × List ℕ) → Value
-list_value items = value.sequence (values (map tagged_value items))
 
 abbrev pub contexts_value : Contexts → Value
 contexts_value c = list_value (contexts_left c)
@@ -38,7 +32,7 @@ abbrev pub three_value : ℕ × ℕ × ℕ → Value
 three_value x = value.array (values (octet_value x.0 ∷ octet_value x.1 ∷ octet_value x.2 ∷ []))
 
 abbrev pub reference_value : IorView → Value
-reference_value r = value.structure (values (value.string r.type_id.now ∷ contexts_value r.profiles ∷ []))
+reference_value r = reference_as r.type_id.now (contexts_left r.profiles)
 
 abbrev pub selected_value : ℕ × IorView → Value
 selected_value x = value.structure (values (ulong_value x.0 ∷ reference_value x.1 ∷ []))

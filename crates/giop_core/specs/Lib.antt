@@ -9,3 +9,6 @@ pub mod Grammar
 pub mod Laws
 pub mod Keys
 pub mod Headers
+pub mod Written
+pub mod Long
+pub mod Facts

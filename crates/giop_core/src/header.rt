@@ -239,7 +239,7 @@ impl Header {
     }
 
     /// The octets of the header, whether or not there can be such a one.
-    fn octets(&self) -> [u8; 12]
+    pub(crate) fn octets(&self) -> [u8; 12]
         ensures { result ≡ header_octets self.now }
     {
         let minor = minor_of(self.version);

@@ -65,6 +65,8 @@ pub(crate) fn read_contexts<'m>(cursor: &mut Cursor<'m>) -> Result<Contexts<'m>,
 fn read_reference<'m>(cursor: &mut Cursor<'m>) -> Result<IorView<'m>, Fault>
     ensures { Reads reference_value result reference cursor.old cursor.new }
 {
+    cdr_core::laws::read_fits();
+    cdr_core::laws::are_octets(cursor.rest());
     let type_id = cursor.string()?;
     let profiles = read_contexts(cursor)?;
     Ok(IorView { type_id, profiles })

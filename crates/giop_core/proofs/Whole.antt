@@ -1,0 +1,192 @@
+-- A message put together: its fields, its body, and the header over the room for it.
+use Rattle.std.proofs.Common.{◌≡◌, ◌≢◌, ℕ, zero, suc, ◌+◌, ◌-◌, ◌<◌, ◌≤◌, ◌^◌, false, List, [], ◌∷◌, ◌++◌, length, take, drop, replicate, Result, Ok, Err, MatchResult, refl, sym, ap, subst, ◌∙◌, arith, append_assoc, length-append}
+use Rattle.std.proofs.lemmas.List.{append-nil, drop-append-le, drop_at, length-drop, length-replicate, take-append-drop, take-append-le, take_at}
+use Rattle.std.specs.declared.alloc.AllocError.{AllocError}
+use Rattle.cdr_core.specs.declared.order.Order.{Order}
+use Rattle.cdr_core.specs.declared.order.Order.TheVariants.{Big, Little}
+use Rattle.cdr_core.specs.Appending.{keeps_all, keeps_both, place_behind, Keeps, PutsAll}
+use Rattle.cdr_core.specs.Numbers.{digits_of, padding}
+use Rattle.cdr_core.specs.Parts.{ulong_value}
+use Rattle.cdr_core.specs.Value as value
+use Rattle.cdr_core.specs.Value.{Value, Values, no_values, values}
+use Rattle.cdr_core.specs.Writing.{and_then, number_octets, octets_of, octets_of_all, place_in, AreWritable, IsWritable, Puts, Writing}
+use Rattle.giop_core.specs.declared.header.MessageKind.{MessageKind}
+use Rattle.giop_core.specs.declared.header.MessageKind.TheVariants as kind
+use Rattle.giop_core.specs.declared.header.Version.{Version}
+use Rattle.giop_core.specs.declared.header.Version.TheVariants.{V10, V11, V12}
+use Rattle.giop_core.specs.declared.refusal.WriteError.{WriteError}
+use Rattle.giop_core.specs.declared.refusal.WriteError.TheVariants.{TooLong, Memory}
+use Rattle.giop_core.specs.declared.wish.ReplyWish.{ReplyWish}
+use Rattle.giop_core.specs.Content.{nth, Addressed}
+use Rattle.giop_core.specs.Headers.{header_octets}
+use Rattle.giop_core.specs.Items.{list_value}
+use Rattle.giop_core.specs.Long.{AreLong, IsLong, Judges}
+use Rattle.giop_core.specs.Written.{aligned_octets, behind_gap, behind_header, body_octets, cancel_fields, header_for, locate_request_fields, message_octets, reply_fields, request_fields, target_in, with_body, Adds}
+use Rattle.giop_core.proofs.Longs.{first_long, four, rest_long}
+
+-- a gap that belongs to octets
+
+gap_some : (n : ℕ) (xs : List ℕ) → length xs ≢ 0 → replicate n 0 ++ xs ≡ behind_gap n xs
+gap_some n [] h = absurd (h refl)
+gap_some n (x ∷ xs) h = refl
+
+gap_none : (n : ℕ) (xs : List ℕ) → length xs ≡ 0 → behind_gap n xs ≡ []
+gap_none n [] h = refl
+gap_none n (x ∷ xs) h = absurd (omega (arith, h))
+
+module _ (w : Writing) (body : Values) (old aligned new : List ℕ) (le : w.start ≤ length old)
+    (a : aligned ≡ old ++ replicate (padding (place_in w old) 8) 0) (p : PutsAll w body aligned new) where
+  abbrev gap : ℕ
+  gap = padding (place_in w old) 8
+
+  abbrev octets : List ℕ
+  octets = octets_of_all w.order body (place_in w old + gap)
+
+  behind : new ≡ (old ++ replicate gap 0) ++ octets
+  behind =
+      let place : place_in w aligned ≡ place_in w old + gap = ap (place_in w) a ∙ place_behind w.at w.start old (replicate gap 0) le ∙ ap (λ n. place_in w old + n) (length-replicate {A = ℕ} gap 0) in
+      p ∙ ap (λ o. aligned ++ octets_of_all w.order body o) place ∙ ap (λ xs. xs ++ octets) a
+
+  longer : length new ≡ length aligned + length octets
+  longer = ap length (behind ∙ ap (λ xs. xs ++ octets) (sym a)) ∙ length-append aligned octets
+
+  pub aligned_some : length new ≢ length aligned → new ≡ old ++ aligned_octets w.order body (place_in w old)
+  aligned_some h =
+      behind ∙ append_assoc old (replicate gap 0) octets ∙ ap (λ xs. old ++ xs) (gap_some gap octets (λ none. h (omega (arith, longer, none))))
+
+  pub aligned_none : length new ≡ length aligned → take (length old) new ≡ old ++ aligned_octets w.order body (place_in w old)
+  aligned_none h =
+      let none = gap_none gap octets (omega (arith, longer, h)) in
+      ap (take (length old)) (behind ∙ append_assoc old (replicate gap 0) octets) ∙ take_at old (replicate gap 0 ++ octets) (length old) refl ∙ sym (ap (λ xs. old ++ xs) none ∙ append-nil old)
+
+-- what stands before a place stands in front
+pub front_kept : (n : ℕ) (xs : List ℕ) → Keeps (take n xs) xs
+front_kept n xs = record { more = drop n xs; parts = sym (take-append-drop n xs) }
+
+-- the body behind the fields
+
+module _ (version : Version) (kind : MessageKind) (order : Order) (start : ℕ) (body : Values) (w : Writing) (old bodied : List ℕ)
+    (begun : start + 12 ≤ length old) (is : w ≡ record { order = order; at = 12; start = start + 12 })
+    (put : bodied ≡ old ++ body_octets version kind w.order body (place_in w old)) where
+  octets_behind : drop (start + 12) bodied ≡ with_body version kind order body (drop (start + 12) old)
+  octets_behind =
+      let place : 12 + (length old - (start + 12)) ≡ 12 + length (drop (start + 12) old) = omega (arith, length-drop (start + 12) old) in
+      let told : bodied ≡ old ++ body_octets version kind order body (12 + (length old - (start + 12))) = rw is at put in
+      ap (drop (start + 12)) told ∙ drop-append-le (start + 12) old (body_octets version kind order body (12 + (length old - (start + 12)))) begun
+      ∙ ap (λ o. drop (start + 12) old ++ body_octets version kind order body o) place
+
+  octets_before : take start bodied ≡ take start old
+  octets_before = ap (take start) put ∙ take-append-le start old (body_octets version kind w.order body (place_in w old)) (omega (arith, begun))
+
+  pub body_behind : (r : Result (Unit {0}) WriteError) (new : List ℕ) → Adds version kind order (drop (start + 12) bodied) r (take start bodied) new
+      → Adds version kind order (with_body version kind order body (drop (start + 12) old)) r (take start old) new
+  body_behind r new h = subst (λ xs. Adds version kind order xs r (take start old) new) octets_behind (subst (λ xs. Adds version kind order (drop (start + 12) bodied) r xs new) octets_before h)
+
+-- the fields behind the room for the header
+
+module _ (version : Version) (kind : MessageKind) (order : Order) (fields : List Value) (body : Values) (w : Writing) (old begun fielded : List ℕ)
+    (begins : begun ≡ old ++ replicate 12 0) (is : w ≡ record { order = order; at = 12; start = length begun })
+    (puts : PutsAll w (values fields) begun fielded) where
+  whole : fielded ≡ old ++ (replicate 12 0 ++ octets_of_all order (values fields) 12)
+  whole =
+      let here : 12 + (length begun - length begun) ≡ 12 = omega arith in
+      let told : fielded ≡ begun ++ octets_of_all order (values fields) (12 + (length begun - length begun)) = rw is at puts in
+      told ∙ ap (λ o. begun ++ octets_of_all order (values fields) o) here ∙ ap (λ xs. xs ++ octets_of_all order (values fields) 12) begins ∙ append_assoc old (replicate 12 0) (octets_of_all order (values fields) 12)
+
+  front : take (length old) fielded ≡ old
+  front = ap (take (length old)) whole ∙ take_at old (replicate 12 0 ++ octets_of_all order (values fields) 12) (length old) refl
+
+  fields_behind : drop (length old + 12) fielded ≡ octets_of_all order (values fields) 12
+  fields_behind =
+      ap (drop (length old + 12)) (whole ∙ sym (append_assoc old (replicate 12 0) (octets_of_all order (values fields) 12)))
+      ∙ drop_at (old ++ replicate 12 0) (octets_of_all order (values fields) 12) (length old + 12) (omega (arith, length-append old (replicate {A = ℕ} 12 0)))
+
+  pub finished : (start : ℕ) → start ≡ length old → (r : Result (Unit {0}) WriteError) (new : List ℕ)
+      → Adds version kind order (with_body version kind order body (drop (start + 12) fielded)) r (take start fielded) new
+      → Adds version kind order (behind_header version kind order fields body) r old new
+  unfolding behind_header
+  finished start same r new h =
+      let told = subst (λ n. Adds version kind order (with_body version kind order body (drop (n + 12) fielded)) r (take n fielded) new) same h in
+      subst (λ xs. Adds version kind order (with_body version kind order body xs) r old new) fields_behind
+      (subst (λ xs. Adds version kind order (with_body version kind order body (drop (length old + 12) fielded)) r xs new) front told)
+
+-- a field that is too long
+
+nth_long : (n : ℕ) (fields : List Value) → IsLong (nth n fields) → AreLong (values fields)
+nth_long n [] long order o = absurd (omega (arith, long order o))
+nth_long zero (v ∷ vs) long order o = first_long v (values vs) long order o
+nth_long (suc n) (v ∷ vs) long order o = rest_long v (values vs) (nth_long n vs long) order o
+
+fields_long : (version : Version) (kind : MessageKind) (order : Order) (fields : List Value) (body : Values) → AreLong (values fields) → 2 ^ 32 ≤ length (behind_header version kind order fields body)
+unfolding behind_header
+fields_long version kind order fields body long =
+    let front = octets_of_all order (values fields) 12 in
+    omega (arith, long order 12, length-append front (body_octets version kind order body (12 + length front)))
+
+pub judged_adds : (version : Version) (kind : MessageKind) (order : Order) (fields : List Value) (body : Values) (old : List ℕ) (v : Value) (e : WriteError) → (IsLong v → AreLong (values fields))
+    → Judges {A = Unit {0}} v (Err e) → Adds {A = Unit {0}} version kind order (behind_header version kind order fields body) (Err e) old old
+judged_adds version kind order fields body old v TooLong long h = (fields_long version kind order fields body (long h), keeps_all old old refl)
+judged_adds version kind order fields body old v Memory long h = absurd h
+
+-- the fields of a request
+
+module _ (id : ℕ) (wish : ReplyWish) (to : Addressed) (operation : List ℕ) (contexts : List (ℕ × List ℕ)) where
+  pub request_writable : (version : Version) → IsWritable (target_in version to) → IsWritable (value.string operation) → IsWritable (list_value contexts) → AreWritable (values (request_fields version id wish to operation contexts))
+  request_writable V10 t o c = (c, (tt, (tt, (t, (o, (omega arith, tt))))))
+  request_writable V11 t o c = (c, (tt, (tt, ((omega arith, (tt, (tt, (tt, tt)))), (t, (o, (omega arith, tt)))))))
+  request_writable V12 t o c = (tt, (tt, ((omega arith, (tt, (tt, (tt, tt)))), (t, (o, (c, tt))))))
+
+  pub request_target_long : (version : Version) → IsLong (target_in version to) → AreLong (values (request_fields version id wish to operation contexts))
+  request_target_long V10 long = nth_long 3 (request_fields V10 id wish to operation contexts) long
+  request_target_long V11 long = nth_long 4 (request_fields V11 id wish to operation contexts) long
+  request_target_long V12 long = nth_long 3 (request_fields V12 id wish to operation contexts) long
+
+  pub request_operation_long : (version : Version) → IsLong (value.string operation) → AreLong (values (request_fields version id wish to operation contexts))
+  request_operation_long V10 long = nth_long 4 (request_fields V10 id wish to operation contexts) long
+  request_operation_long V11 long = nth_long 5 (request_fields V11 id wish to operation contexts) long
+  request_operation_long V12 long = nth_long 4 (request_fields V12 id wish to operation contexts) long
+
+  pub request_contexts_long : (version : Version) → IsLong (list_value contexts) → AreLong (values (request_fields version id wish to operation contexts))
+  request_contexts_long V10 long = nth_long 0 (request_fields V10 id wish to operation contexts) long
+  request_contexts_long V11 long = nth_long 0 (request_fields V11 id wish to operation contexts) long
+  request_contexts_long V12 long = nth_long 5 (request_fields V12 id wish to operation contexts) long
+
+-- the fields of a reply
+
+pub reply_writable : (version : Version) (id status : ℕ) (contexts : List (ℕ × List ℕ)) → IsWritable (list_value contexts) → AreWritable (values (reply_fields version id status contexts))
+reply_writable V10 id status contexts c = (c, (tt, (tt, tt)))
+reply_writable V11 id status contexts c = (c, (tt, (tt, tt)))
+reply_writable V12 id status contexts c = (tt, (tt, (c, tt)))
+
+pub reply_contexts_long : (version : Version) (id status : ℕ) (contexts : List (ℕ × List ℕ)) → IsLong (list_value contexts) → AreLong (values (reply_fields version id status contexts))
+reply_contexts_long V10 id status contexts long = nth_long 0 (reply_fields V10 id status contexts) long
+reply_contexts_long V11 id status contexts long = nth_long 0 (reply_fields V11 id status contexts) long
+reply_contexts_long V12 id status contexts long = nth_long 2 (reply_fields V12 id status contexts) long
+
+pub locate_target_long : (version : Version) (id : ℕ) (to : Addressed) → IsLong (target_in version to) → AreLong (values (locate_request_fields version id to))
+locate_target_long version id to long = nth_long 1 (locate_request_fields version id to) long
+
+-- a cancel is its header and an id
+
+cancel_is : (version : Version) (order : Order) (id : ℕ) → behind_header version kind.CancelRequest order (cancel_fields id) no_values ≡ digits_of order 4 id
+unfolding behind_header
+cancel_is V10 order id = append-nil (digits_of order 4 id ++ []) ∙ append-nil (digits_of order 4 id)
+cancel_is V11 order id = append-nil (digits_of order 4 id ++ []) ∙ append-nil (digits_of order 4 id)
+cancel_is V12 order id = append-nil (digits_of order 4 id ++ []) ∙ append-nil (digits_of order 4 id)
+
+module _ (version : Version) (order : Order) (id : ℕ) (old begun new : List ℕ) (w : Writing)
+    (begins : begun ≡ old ++ header_octets (header_for version kind.CancelRequest order 4)) (is : w ≡ record { order = order; at = 12; start = length begun }) where
+  pub cancel_whole : new ≡ begun ++ octets_of w.order (ulong_value id) (place_in w begun) → new ≡ old ++ message_octets version kind.CancelRequest order (behind_header version kind.CancelRequest order (cancel_fields id) no_values)
+  cancel_whole e =
+      let here : 12 + (length begun - length begun) ≡ 12 = omega arith in
+      let told : new ≡ begun ++ number_octets order 4 (12 + (length begun - length begun)) id = rw is at e in
+      let header = header_octets (header_for version kind.CancelRequest order 4) in
+      let four_of : length (behind_header version kind.CancelRequest order (cancel_fields id) no_values) ≡ 4 = ap length (cancel_is version order id) ∙ four order id in
+      told ∙ ap (λ o. begun ++ number_octets order 4 o id) here ∙ ap (λ xs. xs ++ digits_of order 4 id) begins ∙ append_assoc old header (digits_of order 4 id)
+      ∙ ap (λ xs. old ++ (header ++ xs)) (sym (cancel_is version order id))
+      ∙ ap (λ n. old ++ (header_octets (header_for version kind.CancelRequest order n) ++ behind_header version kind.CancelRequest order (cancel_fields id) no_values)) (sym four_of)
+
+  pub cancel_puts : (r : Result (Unit {0}) AllocError) → Puts w (ulong_value id) r begun new
+      → MatchResult r (λ _. new ≡ old ++ message_octets version kind.CancelRequest order (behind_header version kind.CancelRequest order (cancel_fields id) no_values)) (λ _. Keeps old new)
+  cancel_puts (Ok x) e = cancel_whole e
+  cancel_puts (Err x) e = record { more = header_octets (header_for version kind.CancelRequest order 4); parts = e ∙ begins }

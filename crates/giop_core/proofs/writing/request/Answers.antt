@@ -1,0 +1,34 @@
+use Rattle.std.proofs.Common.{map, arith}
+use Rattle.std.proofs.lemmas.Result.{err_from_is_err_and}
+use Rattle.cdr_core.specs.Value as value
+use Rattle.cdr_core.specs.Value.{no_values}
+use Rattle.cdr_core.specs.View.{values_of}
+use Rattle.giop_core.specs.declared.header.MessageKind.TheVariants as kind
+use Rattle.giop_core.specs.Items.{item_at, list_value}
+use Rattle.giop_core.specs.Lent.{addressed_by}
+use Rattle.giop_core.specs.Written.{locate_reply_fields, locate_request_fields, reply_fields, request_fields, target_in}
+use Rattle.giop_core.proofs.Whole.{finished, judged_adds, locate_target_long, reply_contexts_long, reply_writable, request_contexts_long, request_operation_long, request_target_long, request_writable}
+use Rattle.giop_core.proofs.writing.request.Goals as goal
+
+pub returns-in_err-judge_target : goal.returns-in_err-judge_target
+returns-in_err-judge_target c =
+    let a = c.args in
+    let p = err_from_is_err_and c.from_residual.result c.from_residual.ensures.1 in
+    rw (p.1, p.2) (judged_adds a.version kind.Request a.order (request_fields a.version a.request_id a.wish (addressed_by a.target.now) a.operation.now (map item_at a.contexts.now)) (values_of a.body.now) a.out.now.items (target_in a.version (addressed_by a.target.now)) c.in_err-judge_target.field-0.0 (request_target_long a.request_id a.wish (addressed_by a.target.now) a.operation.now (map item_at a.contexts.now) a.version) c.in_err-judge_target.ensures)
+
+pub returns-in_err-judge_text : goal.returns-in_err-judge_text
+returns-in_err-judge_text c =
+    let a = c.args in
+    let p = err_from_is_err_and c.from_residual-in_err-judge_text.result c.from_residual-in_err-judge_text.ensures.1 in
+    rw (p.1, p.2) (judged_adds a.version kind.Request a.order (request_fields a.version a.request_id a.wish (addressed_by a.target.now) a.operation.now (map item_at a.contexts.now)) (values_of a.body.now) a.out.now.items (value.string a.operation.now) c.in_err-judge_text.field-0.0 (request_operation_long a.request_id a.wish (addressed_by a.target.now) a.operation.now (map item_at a.contexts.now) a.version) c.in_err-judge_text.ensures)
+
+pub returns-in_err-judge_contexts : goal.returns-in_err-judge_contexts
+returns-in_err-judge_contexts c =
+    let a = c.args in
+    let p = err_from_is_err_and c.from_residual-in_err-judge_contexts.result c.from_residual-in_err-judge_contexts.ensures.1 in
+    rw (p.1, p.2) (judged_adds a.version kind.Request a.order (request_fields a.version a.request_id a.wish (addressed_by a.target.now) a.operation.now (map item_at a.contexts.now)) (values_of a.body.now) a.out.now.items (list_value (map item_at a.contexts.now)) c.in_err-judge_contexts.field-0.0 (request_contexts_long a.request_id a.wish (addressed_by a.target.now) a.operation.now (map item_at a.contexts.now) a.version) c.in_err-judge_contexts.ensures)
+
+pub returns : goal.returns
+returns c =
+    let a = c.args in
+    finished a.version kind.Request a.order (request_fields a.version a.request_id a.wish (addressed_by a.target.now) a.operation.now (map item_at a.contexts.now)) (values_of a.body.now) c.in_ok-writer.writer a.out.now.items c.begin.new.out.items c.put_request.new.out.items c.in_ok-writer.ensures.0 c.in_ok-writer.ensures.1 c.in_ok-put_request.ensures c.len-start.result (omega (arith, c.len-start.ensures, a.out.now.ok.0)) c.finish.result c.finish.new.out.items c.finish.ensures

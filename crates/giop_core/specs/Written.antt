@@ -1,0 +1,169 @@
+-- How a message is written: its fields, its body, and its header.
+use Rattle.std.specs.Prelude.{◌≡◌, ℕ, ◌+◌, ◌<◌, ◌≤◌, ◌^◌, ℤ, pos, Bool, true, false, List, [], ◌∷◌, ◌++◌, length, replicate, Result, Ok, Err, ⊤}
+use Rattle.cdr_core.specs.declared.order.Order.{Order}
+use Rattle.cdr_core.specs.Appending.{Keeps, PutsAll}
+use Rattle.cdr_core.specs.Encapsulation.{byte_order}
+use Rattle.cdr_core.specs.Numbers.{padding}
+use Rattle.cdr_core.specs.Parts.{long_value, octet_value, ulong_value, ulonglong_value}
+use Rattle.cdr_core.specs.Value as value
+use Rattle.cdr_core.specs.Value.{Value, Values, values}
+use Rattle.cdr_core.specs.Writing.{and_then, octets_of, octets_of_all, Writing}
+use Rattle.giop_core.specs.declared.header.Header.{Header}
+use Rattle.giop_core.specs.declared.header.MessageKind.{MessageKind}
+use Rattle.giop_core.specs.declared.header.MessageKind.TheVariants.{Request, Reply, CancelRequest, LocateRequest, LocateReply, CloseConnection, MessageError}
+use Rattle.giop_core.specs.declared.header.Version.{Version}
+use Rattle.giop_core.specs.declared.header.Version.TheVariants.{V10, V11, V12}
+use Rattle.giop_core.specs.declared.wish.ReplyWish.{ReplyWish}
+use Rattle.giop_core.specs.declared.wish.ReplyWish.TheVariants as wish
+use Rattle.giop_core.specs.declared.refusal.WriteError.{WriteError}
+use Rattle.giop_core.specs.declared.refusal.WriteError.TheVariants.{TooLong, Memory}
+use Rattle.giop_core.specs.Content as content
+use Rattle.giop_core.specs.Content.{Addressed}
+use Rattle.giop_core.specs.Headers.{header_octets}
+use Rattle.giop_core.specs.Items.{list_value, reference_as, tagged_value}
+
+-- the values of fields
+
+-- GIOP 9.4.2: response_expected in 1.0 and 1.1, and response_flags in 1.2
+abbrev pub is_expected : ReplyWish → Bool
+is_expected wish.None = false
+is_expected _ = true
+
+abbrev pub flags_of : ReplyWish → ℕ
+flags_of wish.None = 0
+flags_of wish.Empty = 1
+flags_of wish.Full = 3
+
+-- reserved octets, which are written as zeros
+abbrev pub zeros : Value
+zeros = value.array (values (octet_value 0 ∷ octet_value 0 ∷ octet_value 0 ∷ []))
+
+abbrev pub alternative : ℤ → Value → Value
+alternative d v = value.union (value.number Rattle.cdr_core.specs.Form.short d) (value.value v value.no_values)
+
+abbrev pub selected_as : ℕ → List ℕ → List (ℕ × List ℕ) → Value
+selected_as index type_id profiles = value.structure (values (ulong_value index ∷ reference_as type_id profiles ∷ []))
+
+-- a target of 1.2
+abbrev pub target_of : Addressed → Value
+target_of (content.by_key key) = alternative (pos 0) (value.octets key)
+target_of (content.by_profile tag octets) = alternative (pos 1) (tagged_value (tag, octets))
+target_of (content.by_reference index type_id profiles) = alternative (pos 2) (selected_as index type_id profiles)
+
+-- the object key, which alone a message of 1.0 and 1.1 has
+abbrev pub key_of : Addressed → Value
+key_of (content.by_key key) = value.octets key
+key_of _ = value.octets []
+
+abbrev pub target_in : Version → Addressed → Value
+target_in V12 to = target_of to
+target_in _ to = key_of to
+
+-- the fields of messages, in the order of their rows; the principal of a request is empty
+
+abbrev pub request_fields : Version → ℕ → ReplyWish → Addressed → List ℕ → List (ℕ × List ℕ) → List Value
+request_fields V10 id wish to operation contexts = list_value contexts ∷ ulong_value id ∷ value.boolean (is_expected wish) ∷ key_of to ∷ value.string operation ∷ value.octets [] ∷ []
+request_fields V11 id wish to operation contexts = list_value contexts ∷ ulong_value id ∷ value.boolean (is_expected wish) ∷ zeros ∷ key_of to ∷ value.string operation ∷ value.octets [] ∷ []
+request_fields V12 id wish to operation contexts = ulong_value id ∷ octet_value (flags_of wish) ∷ zeros ∷ target_of to ∷ value.string operation ∷ list_value contexts ∷ []
+
+abbrev pub reply_fields : Version → ℕ → ℕ → List (ℕ × List ℕ) → List Value
+reply_fields V12 id status contexts = ulong_value id ∷ value.enumeration status ∷ list_value contexts ∷ []
+reply_fields _ id status contexts = list_value contexts ∷ ulong_value id ∷ value.enumeration status ∷ []
+
+abbrev pub cancel_fields : ℕ → List Value
+cancel_fields id = ulong_value id ∷ []
+
+abbrev pub locate_request_fields : Version → ℕ → Addressed → List Value
+locate_request_fields version id to = ulong_value id ∷ target_in version to ∷ []
+
+abbrev pub locate_reply_fields : ℕ → ℕ → List Value
+locate_reply_fields id status = ulong_value id ∷ value.enumeration status ∷ []
+
+-- GIOP 9.4.2, 9.4.3: the octets of a body of 1.2 stand at the next place divisible by 8; where there are none there is no gap
+abbrev pub behind_gap : ℕ → List ℕ → List ℕ
+behind_gap gap [] = []
+behind_gap gap (x ∷ xs) = replicate gap 0 ++ (x ∷ xs)
+
+abbrev pub aligned_octets : Order → Values → ℕ → List ℕ
+aligned_octets order body place = behind_gap (padding place 8) (octets_of_all order body (place + padding place 8))
+
+abbrev pub body_octets : Version → MessageKind → Order → Values → ℕ → List ℕ
+body_octets V12 Request order body place = aligned_octets order body place
+body_octets V12 Reply order body place = aligned_octets order body place
+body_octets _ _ order body place = octets_of_all order body place
+
+-- fields, and the body behind them
+abbrev pub with_body : Version → MessageKind → Order → Values → List ℕ → List ℕ
+with_body version kind order body fields = and_then 12 fields (body_octets version kind order body)
+
+-- what stands behind the header
+unfoldable pub behind_header : Version → MessageKind → Order → List Value → Values → List ℕ
+behind_header version kind order fields body = with_body version kind order body (octets_of_all order (values fields) 12)
+
+-- the header of a whole message
+abbrev pub header_for : Version → MessageKind → Order → ℕ → Header
+header_for version kind order size = record { version = version; order = order; more = false; kind = kind; size = size }
+
+-- a whole message
+abbrev pub message_octets : Version → MessageKind → Order → List ℕ → List ℕ
+message_octets version kind order behind = header_octets (header_for version kind order (length behind)) ++ behind
+
+-- FT 23.2.7: what the context FT_REQUEST holds, in an encapsulation
+abbrev pub ft_value_of : List ℕ → ℤ → ℕ → Value
+ft_value_of client_id retention_id expiration = value.structure (values (value.string client_id ∷ long_value retention_id ∷ ulonglong_value expiration ∷ []))
+
+abbrev pub ft_octets : Order → List ℕ → ℤ → ℕ → List ℕ
+ft_octets order client_id retention_id expiration = byte_order order ∷ octets_of order (ft_value_of client_id retention_id expiration) 1
+
+-- conditions
+
+-- 1.0 and 1.1 know no target but an object key
+abbrev pub CanAddress : Version → Addressed → Type 0
+CanAddress V12 to = ⊤
+CanAddress _ (content.by_key key) = ⊤
+CanAddress _ to = ⊥
+
+-- 1.0 and 1.1 can't ask for an empty reply
+abbrev pub CanAsk : Version → ReplyWish → Type 0
+CanAsk V12 w = ⊤
+CanAsk _ wish.Empty = ⊥
+CanAsk _ w = ⊤
+
+-- how many statuses a Reply has, and a LocateReply
+abbrev pub reply_statuses : Version → ℕ
+reply_statuses V12 = 6
+reply_statuses _ = 4
+
+abbrev pub locate_statuses : Version → ℕ
+locate_statuses V12 = 6
+locate_statuses _ = 3
+
+-- what a writer did
+
+-- a message with these octets behind its header is appended, or it would be too long, or memory ran out
+abbrev pub Wrote : {A : Type 0} → Version → MessageKind → Order → List ℕ → Result A WriteError → List ℕ → List ℕ → Type 0
+Wrote version kind order behind (Ok x) old new = (length behind < 2 ^ 32) × (new ≡ old ++ message_octets version kind order behind)
+Wrote version kind order behind (Err TooLong) old new = (2 ^ 32 ≤ length behind) × (new ≡ old)
+Wrote version kind order behind (Err Memory) old new = new ≡ old
+
+-- the same on the way: where it fails, what there was still stands in front
+abbrev pub Adds : {A : Type 0} → Version → MessageKind → Order → List ℕ → Result A WriteError → List ℕ → List ℕ → Type 0
+Adds version kind order behind (Ok x) old new = (length behind < 2 ^ 32) × (new ≡ old ++ message_octets version kind order behind)
+Adds version kind order behind (Err TooLong) old new = (2 ^ 32 ≤ length behind) × Keeps old new
+Adds version kind order behind (Err Memory) old new = Keeps old new
+
+-- fields are appended
+abbrev pub PutsFields : {A E : Type 0} → Writing → List Value → Result A E → List ℕ → List ℕ → Type 0
+PutsFields w fields (Ok x) old new = PutsAll w (values fields) old new
+PutsFields w fields (Err e) old new = Keeps old new
+
+-- the same of octets by themselves
+abbrev pub WroteOctets : {A : Type 0} → List ℕ → Result A WriteError → List ℕ → List ℕ → Type 0
+WroteOctets octets (Ok x) old new = (length octets < 2 ^ 32) × (new ≡ old ++ octets)
+WroteOctets octets (Err TooLong) old new = (2 ^ 32 ≤ length octets) × (new ≡ old)
+WroteOctets octets (Err Memory) old new = new ≡ old
+
+abbrev pub AddsOctets : {A : Type 0} → List ℕ → Result A WriteError → List ℕ → List ℕ → Type 0
+AddsOctets octets (Ok x) old new = (length octets < 2 ^ 32) × (new ≡ old ++ octets)
+AddsOctets octets (Err TooLong) old new = (2 ^ 32 ≤ length octets) × Keeps old new
+AddsOctets octets (Err Memory) old new = Keeps old new
