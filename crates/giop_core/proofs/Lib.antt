@@ -12,3 +12,4 @@ pub mod ItemsPut
 pub mod Longs
 pub mod Whole
 pub mod Retention
+pub mod ReadAgain

@@ -63,7 +63,7 @@ some order o x =
     let front = number_octets order 4 o x.0 in
     omega (arith, four order x.0, length-append (replicate (padding o 4) 0) (digits_of order 4 x.0), length-append front (octets_of_all order (values (value.octets x.1 ∷ [])) (o + length front)))
 
-at_least : (xs : List (ℕ × List ℕ)) (order : Order) (o : ℕ) → length xs ≤ length (octets_of_all order (values (map tagged_value xs)) o)
+pub at_least : (xs : List (ℕ × List ℕ)) (order : Order) (o : ℕ) → length xs ≤ length (octets_of_all order (values (map tagged_value xs)) o)
 at_least [] order o = omega arith
 at_least (x ∷ xs) order o =
     let front = octets_of order (tagged_value x) o in

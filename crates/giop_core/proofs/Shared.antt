@@ -17,6 +17,16 @@ pub locate_11 : (order : Order) (octets : List ℕ) → message_of V11 kind.Loca
 unfolding message_of row content
 locate_11 order octets = refl
 
+pub locate_reply_11 : (order : Order) (octets : List ℕ) → message_of V11 kind.LocateReply order octets ≡ message_of V10 kind.LocateReply order octets
+unfolding message_of row content
+locate_reply_11 order octets = refl
+
+pub cancel_any : (v : Version) (order : Order) (octets : List ℕ) → message_of v kind.CancelRequest order octets ≡ message_of V10 kind.CancelRequest order octets
+unfolding message_of row content
+cancel_any V10 order octets = refl
+cancel_any V11 order octets = refl
+cancel_any V12 order octets = refl
+
 pub close_any : (v : Version) (order : Order) (octets : List ℕ) → message_of v kind.CloseConnection order octets ≡ Ok content.close
 unfolding message_of row content
 close_any V10 order octets = refl

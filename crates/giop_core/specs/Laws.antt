@@ -1,11 +1,23 @@
 -- The laws, each over the definitions alone.
-use Rattle.std.specs.Prelude.{◌≡◌, ℕ, List, Ok}
+use Rattle.std.specs.Prelude.{◌≡◌, ℕ, ◌+◌, ◌<◌, ◌^◌, ℤ, FitsSigned, List, ◌∷◌, length, Ok, ⊤}
+use Rattle.std.specs.Int.{w32}
+use Rattle.std.specs.List.{AllByRecursion}
 use Rattle.cdr_core.specs.declared.order.Order.{Order}
+use Rattle.cdr_core.specs.Numbers.{padding}
+use Rattle.cdr_core.specs.Spelling.{IsClean}
+use Rattle.cdr_core.specs.Value.{Value, Values, no_values, values}
+use Rattle.cdr_core.specs.Writing.{octets_of_all}
 use Rattle.giop_core.specs.declared.header.MessageKind.{MessageKind}
+use Rattle.giop_core.specs.declared.header.MessageKind.TheVariants.{Request, Reply, CancelRequest, LocateRequest, LocateReply}
 use Rattle.giop_core.specs.declared.header.Version.{Version}
-use Rattle.giop_core.specs.Content.{Content}
+use Rattle.giop_core.specs.declared.header.Version.TheVariants.{V10, V11, V12}
+use Rattle.giop_core.specs.declared.wish.ReplyWish.{ReplyWish}
+use Rattle.giop_core.specs.Content as content
+use Rattle.giop_core.specs.Content.{Addressed, Content, Rest}
+use Rattle.giop_core.specs.Ft.{ft_in, present}
 use Rattle.giop_core.specs.Grammar.{IsMessage}
 use Rattle.giop_core.specs.Messages.{message_of}
+use Rattle.giop_core.specs.Written.{behind_header, cancel_fields, ft_octets, locate_reply_fields, locate_request_fields, locate_statuses, reply_fields, reply_statuses, request_fields, CanAddress, CanAsk}
 
 -- What is read is a message by the grammar ..
 abbrev pub MessagesAreSpelled : Type 0
@@ -14,3 +26,55 @@ MessagesAreSpelled = (version : Version) (kind : MessageKind) (order : Order) (o
 -- .. and what is a message by the grammar is read.
 abbrev pub SpelledMessagesAreRead : Type 0
 SpelledMessagesAreRead = (version : Version) (kind : MessageKind) (order : Order) (octets : List ℕ) (m : Content) → IsMessage version kind order octets m → message_of version kind order octets ≡ Ok m
+
+-- each has an id, or a tag, that is an unsigned long
+abbrev pub HaveTags : List (ℕ × List ℕ) → Type 0
+HaveTags items = AllByRecursion (λ x. x.0 < 2 ^ 32) items
+
+-- what a writer is given: numbers that are unsigned longs, and a type id without NUL
+abbrev pub IsTarget : Addressed → Type 0
+IsTarget (content.by_key key) = ⊤
+IsTarget (content.by_profile tag octets) = tag < 2 ^ 32
+IsTarget (content.by_reference index type_id profiles) = (index < 2 ^ 32) × IsClean type_id × HaveTags profiles
+
+-- the body of a message that is written, behind fields that end at a place
+abbrev pub written_rest : Version → MessageKind → Order → Values → ℕ → Rest
+written_rest V12 Request order body place = record { order = order; place = place + padding place 8; octets = octets_of_all order body (place + padding place 8) }
+written_rest V12 Reply order body place = record { order = order; place = place + padding place 8; octets = octets_of_all order body (place + padding place 8) }
+written_rest _ _ order body place = record { order = order; place = place; octets = octets_of_all order body place }
+
+abbrev pub rest_behind : Version → MessageKind → Order → List Value → Values → Rest
+rest_behind version kind order fields body = written_rest version kind order body (12 + length (octets_of_all order (values fields) 12))
+
+-- Octets behind a header that are not too long for its size, and are read as that message.
+abbrev pub IsReadAs : Version → MessageKind → Order → List Value → Values → (Rest → Content) → Type 0
+IsReadAs version kind order fields body m =
+    length (behind_header version kind order fields body) < 2 ^ 32 → message_of version kind order (behind_header version kind order fields body) ≡ Ok (m (rest_behind version kind order fields body))
+
+-- What is written is read as the same message.
+
+abbrev pub WrittenRequestIsRead : Type 0
+WrittenRequestIsRead = (version : Version) (order : Order) (id : ℕ) (wish : ReplyWish) (to : Addressed) (operation : List ℕ) (contexts : List (ℕ × List ℕ)) (body : Values)
+    → id < 2 ^ 32 → CanAsk version wish → CanAddress version to → IsTarget to → IsClean operation → HaveTags contexts
+    → IsReadAs version Request order (request_fields version id wish to operation contexts) body (content.request id wish to operation contexts)
+
+abbrev pub WrittenReplyIsRead : Type 0
+WrittenReplyIsRead = (version : Version) (order : Order) (id status : ℕ) (contexts : List (ℕ × List ℕ)) (body : Values) → id < 2 ^ 32 → status < reply_statuses version → HaveTags contexts
+    → IsReadAs version Reply order (reply_fields version id status contexts) body (content.reply id status contexts)
+
+abbrev pub WrittenCancelIsRead : Type 0
+WrittenCancelIsRead = (version : Version) (order : Order) (id : ℕ) → id < 2 ^ 32 → IsReadAs version CancelRequest order (cancel_fields id) no_values (λ _. content.cancel id)
+
+abbrev pub WrittenLocateRequestIsRead : Type 0
+WrittenLocateRequestIsRead = (version : Version) (order : Order) (id : ℕ) (to : Addressed) → id < 2 ^ 32 → CanAddress version to → IsTarget to
+    → IsReadAs version LocateRequest order (locate_request_fields version id to) no_values (λ _. content.locate_request id to)
+
+abbrev pub WrittenLocateReplyIsRead : Type 0
+WrittenLocateReplyIsRead = (version : Version) (order : Order) (id status : ℕ) (body : Values) → id < 2 ^ 32 → status < locate_statuses version
+    → IsReadAs version LocateReply order (locate_reply_fields id status) body (content.locate_reply id status)
+
+-- A written FT_REQUEST is present with its three parts, wherever it is the first of its id.
+abbrev pub WrittenFtIsPresent : Type 0
+WrittenFtIsPresent = (order : Order) (client_id : List ℕ) (retention_id : ℤ) (expiration : ℕ) (more : List (ℕ × List ℕ))
+    → IsClean client_id → FitsSigned w32 retention_id → expiration < 2 ^ 64 → length (ft_octets order client_id retention_id expiration) < 2 ^ 32
+    → ft_in ((13, ft_octets order client_id retention_id expiration) ∷ more) ≡ present client_id retention_id expiration

@@ -234,6 +234,7 @@ impl Header {
         ensures spelled { result ≡ header_octets self.now }
         ensures again { header_of result ≡ Ok self.now }
     {
+        // that the size is one of 32 bits is known where it is read
         let _size = self.size;
         self.octets()
     }

@@ -203,6 +203,26 @@ fn locate(version: Version, order: Order, octets: &[u8]) -> Result<(u32, Target<
 }
 
 #[tactic(auto, unfolding(crate::specs::Messages::message_of, crate::specs::Rows::row, crate::specs::Content::content))]
+fn locate_reply_10(order: Order, octets: &[u8]) -> Result<(u32, u32, Body<'_>), MessageFault>
+    ensures { Shows (λ x. content.locate_reply x.0 x.1 (rest_of x.2)) result (message_of V10 kind.LocateReply order octets.now) }
+{
+    let mut cursor = Cursor::new(octets, order, BEHIND_HEADER);
+    let request_id = cursor.ulong()?;
+    let status = cursor.ordinal(3)?;
+    Ok((request_id, status, body_at(&cursor, order)))
+}
+
+#[tactic(auto, unfolding(crate::specs::Messages::message_of, crate::specs::Rows::row, crate::specs::Content::content))]
+fn locate_reply_12(order: Order, octets: &[u8]) -> Result<(u32, u32, Body<'_>), MessageFault>
+    ensures { Shows (λ x. content.locate_reply x.0 x.1 (rest_of x.2)) result (message_of V12 kind.LocateReply order octets.now) }
+{
+    let mut cursor = Cursor::new(octets, order, BEHIND_HEADER);
+    let request_id = cursor.ulong()?;
+    let status = cursor.ordinal(6)?;
+    Ok((request_id, status, body_at(&cursor, order)))
+}
+
+#[tactic(auto, using(crate::proofs::Shared::locate_reply_11))]
 fn locate_reply(
     version: Version,
     order: Order,
@@ -210,26 +230,19 @@ fn locate_reply(
 ) -> Result<(u32, u32, Body<'_>), MessageFault>
     ensures { Shows (λ x. content.locate_reply x.0 x.1 (rest_of x.2)) result (message_of version kind.LocateReply order octets.now) }
 {
-    let mut cursor = Cursor::new(octets, order, BEHIND_HEADER);
-    let request_id = cursor.ulong()?;
-    let status = match version {
-        Version::V10 => cursor.ordinal(3)?,
-        Version::V11 => cursor.ordinal(3)?,
-        Version::V12 => cursor.ordinal(6)?,
-    };
-    Ok((request_id, status, body_at(&cursor, order)))
+    match version {
+        Version::V10 | Version::V11 => locate_reply_10(order, octets),
+        Version::V12 => locate_reply_12(order, octets),
+    }
 }
 
+/// Every version has the same CancelRequest.
 #[tactic(auto, unfolding(crate::specs::Messages::message_of, crate::specs::Rows::row, crate::specs::Content::content))]
-fn cancel(version: Version, order: Order, octets: &[u8]) -> Result<u32, MessageFault>
-    ensures { Shows content.cancel result (message_of version kind.CancelRequest order octets.now) }
+fn cancel(order: Order, octets: &[u8]) -> Result<u32, MessageFault>
+    ensures { Shows content.cancel result (message_of V10 kind.CancelRequest order octets.now) }
 {
     let mut cursor = Cursor::new(octets, order, BEHIND_HEADER);
-    match version {
-        Version::V10 => Ok(cursor.ulong()?),
-        Version::V11 => Ok(cursor.ulong()?),
-        Version::V12 => Ok(cursor.ulong()?),
-    }
+    Ok(cursor.ulong()?)
 }
 
 #[tactic(auto, unfolding(crate::specs::Messages::message_of, crate::specs::Rows::row, crate::specs::Content::content))]
@@ -252,7 +265,7 @@ fn fragment(
 }
 
 /// What octets behind a header of that kind, version and order say.
-#[tactic(auto, using(crate::proofs::Shared::close_any, crate::proofs::Shared::error_any))]
+#[tactic(auto, using(crate::proofs::Shared::cancel_any, crate::proofs::Shared::close_any, crate::proofs::Shared::error_any))]
 fn part(
     kind: MessageKind,
     version: Version,
@@ -264,7 +277,7 @@ fn part(
     match kind {
         MessageKind::Request => Ok(Part::Request(request(version, order, octets)?)),
         MessageKind::Reply => Ok(Part::Reply(reply(version, order, octets)?)),
-        MessageKind::CancelRequest => Ok(Part::Cancel(cancel(version, order, octets)?)),
+        MessageKind::CancelRequest => Ok(Part::Cancel(cancel(order, octets)?)),
         MessageKind::LocateRequest => {
             let (request_id, target) = locate(version, order, octets)?;
             Ok(Part::LocateRequest(request_id, target))
