@@ -1,6 +1,6 @@
 //! Each call of a writer: the octets that it appends, behind which gap.
 
-use crate::{Order, Writer};
+use crate::{Order, Val, Writer};
 use std::test::Fail;
 
 #[test]
@@ -36,6 +36,38 @@ fn longs_are_appended_behind_a_gap(rt: HostRuntime) -> Result<(), Fail> {
     let writer = Writer::new(Order::Little, 7, &out);
     writer.ulong(0x1234_5678, &mut out)?;
     assert_eq!(rt; out.as_slice(), [0, 0x78, 0x56, 0x34, 0x12].as_slice());
+    Ok(())
+}
+
+#[test]
+fn a_long_is_appended_in_twos_complement(rt: HostRuntime) -> Result<(), Fail> {
+    let mut out = Vec::new(rt.alloc());
+    let writer = Writer::new(Order::Big, 2, &out);
+    writer.long(-2, &mut out)?;
+    assert_eq!(rt; out.as_slice(), [0, 0, 0xff, 0xff, 0xff, 0xfe].as_slice());
+    Ok(())
+}
+
+#[test]
+fn booleans_are_octets(rt: HostRuntime) -> Result<(), Fail> {
+    let mut out = Vec::new(rt.alloc());
+    let writer = Writer::new(Order::Big, 3, &out);
+    writer.boolean(true, &mut out)?;
+    writer.boolean(false, &mut out)?;
+    assert_eq!(rt; out.as_slice(), [1, 0].as_slice());
+    Ok(())
+}
+
+#[test]
+fn values_are_appended_one_after_another(rt: HostRuntime) -> Result<(), Fail> {
+    let mut out = [7].to_vec(rt.alloc())?;
+    let writer = Writer::new(Order::Big, 12, &out);
+    writer.octet(9, &mut out)?;
+    writer.values(&[Val::Octet(1), Val::ULong(2)], &mut out)?;
+    assert_eq!(rt;
+        out.as_slice(),
+        [7, 9, 1, 0, 0, 0, 0, 0, 2].as_slice()
+    );
     Ok(())
 }
 
