@@ -14,14 +14,17 @@ use crate::parts::read_tagged;
 use cdr_core::{Cursor, Writer};
 use std::alloc::AllocError;
 
+/// What is written for an octet that means nothing.
+const RESERVED: u8 = 0;
+
 /// Appends three octets that mean nothing.
 pub(crate) fn put_reserved(writer: &Writer, out: &mut Vec<u8>) -> Result<(), AllocError>
     requires { writer.now.start ≤ length out.old.items }
     ensures { MatchResult result (λ _. Appends writer.now zeros out.old.items out.new.items) (λ _. Keeps out.old.items out.new.items) }
 {
-    writer.octet(0, out)?;
-    writer.octet(0, out)?;
-    writer.octet(0, out)
+    writer.octet(RESERVED, out)?;
+    writer.octet(RESERVED, out)?;
+    writer.octet(RESERVED, out)
 }
 
 /// Appends a tag, or an id, and its octets.

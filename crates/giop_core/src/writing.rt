@@ -3,6 +3,7 @@
 ghost use Rattle.std.specs.Prelude.{◌≡◌, ◌≤◌, ◌<◌, ◌+◌, ◌^◌, ◌++◌, [], length, drop, take, map, replicate, MatchResult};
 ghost use Rattle.cdr_core.specs.Appending.{Appends, Keeps};
 ghost use Rattle.cdr_core.specs.Spelling.{IsClean};
+ghost use Rattle.cdr_core.specs.Value as value;
 ghost use Rattle.cdr_core.specs.Value.{no_values, values};
 ghost use Rattle.cdr_core.specs.View.{values_of};
 ghost use Rattle.cdr_core.specs.Writing.{place_in, AreWritable, IsWritable};
@@ -173,6 +174,14 @@ fn put_target_in(
     }
 }
 
+/// Appends the principal of a Request of 1.0 and 1.1, which is empty.
+fn put_principal(writer: &Writer, out: &mut Vec<u8>) -> Result<(), AllocError>
+    requires { writer.now.start ≤ length out.old.items }
+    ensures { MatchResult result (λ _. Appends writer.now (value.octets []) out.old.items out.new.items) (λ _. Keeps out.old.items out.new.items) }
+{
+    writer.octets(&[], out)
+}
+
 /// Appends the fields of a Request of 1.0.
 fn put_request_10(
     writer: &Writer,
@@ -193,7 +202,7 @@ fn put_request_10(
     writer.boolean(is_expected(wish), out)?;
     put_key(writer, target, out)?;
     writer.string(operation, out)?;
-    writer.octets(&[], out)?;
+    put_principal(writer, out)?;
     Ok(())
 }
 
@@ -218,7 +227,7 @@ fn put_request_11(
     put_reserved(writer, out)?;
     put_key(writer, target, out)?;
     writer.string(operation, out)?;
-    writer.octets(&[], out)?;
+    put_principal(writer, out)?;
     Ok(())
 }
 

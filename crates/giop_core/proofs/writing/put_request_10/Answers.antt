@@ -25,4 +25,4 @@ returns c =
     let p3 = puts_then w (values (contexts ∷ id ∷ [])) expected old c.ulong.new.out.items c.boolean.new.out.items le p2 (rw c.is_expected.ensures at c.in_ok-boolean.ensures) in
     let p4 = puts_then w (values (contexts ∷ id ∷ expected ∷ [])) key old c.boolean.new.out.items c.put_key.new.out.items le p3 c.in_ok-put_key.ensures in
     let p5 = puts_then w (values (contexts ∷ id ∷ expected ∷ key ∷ [])) operation old c.put_key.new.out.items c.string.new.out.items le p4 c.in_ok-string.ensures in
-    puts_then w (values (contexts ∷ id ∷ expected ∷ key ∷ operation ∷ [])) principal old c.string.new.out.items c.octets.new.out.items le p5 c.in_ok-octets.ensures
+    puts_then w (values (contexts ∷ id ∷ expected ∷ key ∷ operation ∷ [])) principal old c.string.new.out.items c.put_principal.new.out.items le p5 c.in_ok-put_principal.ensures

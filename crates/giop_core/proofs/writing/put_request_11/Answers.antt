@@ -27,4 +27,4 @@ returns c =
     let p4 = puts_then w (values (contexts ∷ id ∷ expected ∷ [])) reserved old c.boolean.new.out.items c.put_reserved.new.out.items le p3 c.in_ok-put_reserved.ensures in
     let p5 = puts_then w (values (contexts ∷ id ∷ expected ∷ reserved ∷ [])) key old c.put_reserved.new.out.items c.put_key.new.out.items le p4 c.in_ok-put_key.ensures in
     let p6 = puts_then w (values (contexts ∷ id ∷ expected ∷ reserved ∷ key ∷ [])) operation old c.put_key.new.out.items c.string.new.out.items le p5 c.in_ok-string.ensures in
-    puts_then w (values (contexts ∷ id ∷ expected ∷ reserved ∷ key ∷ operation ∷ [])) principal old c.string.new.out.items c.octets.new.out.items le p6 c.in_ok-octets.ensures
+    puts_then w (values (contexts ∷ id ∷ expected ∷ reserved ∷ key ∷ operation ∷ [])) principal old c.string.new.out.items c.put_principal.new.out.items le p6 c.in_ok-put_principal.ensures
