@@ -4,16 +4,14 @@ use Rattle.std.proofs.lemmas.Bool.Decides.{Decides-int_eq}
 use Rattle.std.specs.Ordering.{int_eq}
 use Rattle.cdr_core.specs.declared.fault.Fault.{Fault}
 use Rattle.cdr_core.specs.declared.order.Order.{Order}
-use Rattle.cdr_core.specs.Form as form
 use Rattle.cdr_core.specs.Form.{Form}
 use Rattle.cdr_core.specs.Numbers.{padding}
 use Rattle.cdr_core.specs.Parts.{short, short_value}
-use Rattle.cdr_core.specs.Reading.{◌>>=◌, chosen_at, value_at}
+use Rattle.cdr_core.specs.Reading.{chosen_at, value_at}
 use Rattle.cdr_core.specs.Value.{Value}
-use Rattle.giop_core.specs.declared.fault.MessageFault.{MessageFault}
 use Rattle.giop_core.specs.declared.fault.MessageFault.TheVariants.{BadAddressing, Cdr}
 use Rattle.giop_core.specs.Lent.{alternative}
-use Rattle.giop_core.specs.Messages.{field_at, judged}
+use Rattle.giop_core.specs.Messages.{field_at}
 use Rattle.giop_core.specs.Rows.{choice}
 
 -- one label isn't another

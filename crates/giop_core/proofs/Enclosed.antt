@@ -4,7 +4,7 @@ use Rattle.cdr_core.specs.declared.fault.Fault.{Fault}
 use Rattle.cdr_core.specs.declared.order.Order.{Order}
 use Rattle.cdr_core.specs.Encapsulation.{encapsulated, order_at}
 use Rattle.cdr_core.specs.Form.{Form}
-use Rattle.cdr_core.specs.Reading.{◌>>=◌, value_at}
+use Rattle.cdr_core.specs.Reading.{value_at}
 use Rattle.cdr_core.specs.Value.{Value}
 
 module _ (t : Form) (octets : List ℕ) where

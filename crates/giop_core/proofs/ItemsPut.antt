@@ -59,9 +59,10 @@ module _ (w : Writing) (all : List (ℕ × Bor (List ℕ))) (i : ℕ) (d : ℕ �
 
   pub context_step : (now new : List ℕ) → w.start ≤ length now → Appends w (lent_value (get_or all i d)) now new → AreWritable (values (map lent_value (drop i all)))
       → AreWritable (values (map lent_value (drop (i + 1) all)))
-        × (new ++ octets_of_all w.order (values (map lent_value (drop (i + 1) all))) (place_in w new) ≡ now ++ octets_of_all w.order (values (map lent_value (drop i all))) (place_in w now))
+      × (new ++ octets_of_all w.order (values (map lent_value (drop (i + 1) all))) (place_in w new) ≡ now ++ octets_of_all w.order (values (map lent_value (drop i all))) (place_in w now))
   context_step now new le e h =
-      let vs = values (map lent_value (drop (i + 1) all)) in
-      ((subst AreWritable left h).1,
-      puts_next w (lent_value (get_or all i d)) vs now new (new ++ octets_of_all w.order vs (place_in w new)) le e refl
-      ∙ sym (ap (λ ws. now ++ octets_of_all w.order ws (place_in w now)) left))
+      let vs = values (map lent_value (drop (i + 1) all)) in (
+        (subst AreWritable left h).1,
+        puts_next w (lent_value (get_or all i d)) vs now new (new ++ octets_of_all w.order vs (place_in w new)) le e refl
+            ∙ sym (ap (λ ws. now ++ octets_of_all w.order ws (place_in w now)) left),
+      )

@@ -1,5 +1,5 @@
 -- A value is too long where a part of it is.
-use Rattle.std.proofs.Common.{◌≡◌, ℕ, zero, suc, ◌+◌, ◌<◌, ◌≤◌, ◌^◌, ℤ, List, [], ◌∷◌, ◌++◌, length, drop, get_or, map, replicate, Result, Ok, Err, refl, sym, ap, subst, ◌∙◌, arith, length-append}
+use Rattle.std.proofs.Common.{◌≡◌, ℕ, ◌+◌, ◌<◌, ◌≤◌, ◌^◌, List, [], ◌∷◌, ◌++◌, length, drop, get_or, map, replicate, Err, refl, sym, ap, subst, arith, length-append}
 use Rattle.std.proofs.lemmas.List.{drop_more, length-map}
 use Rattle.std.specs.Borrow.{Bor}
 use Rattle.cdr_core.specs.declared.order.Order.{Order}
@@ -20,7 +20,7 @@ pub octets_long : (all : List ℕ) → 2 ^ 32 ≤ length all → IsLong (value.o
 octets_long all le order o = omega (arith, le, length-append (number_octets order 4 o (length all)) all)
 
 pub text_long : (text : List ℕ) → 2 ^ 32 ≤ length text + 1 → IsLong (value.string text)
-text_long text le order o = 
+text_long text le order o =
     let front = number_octets order 4 o (length text + 1) in
     omega (arith, le, length-append front (text ++ 0 ∷ []), length-append text (0 ∷ []), length-append (front ++ text) (0 ∷ []), length-append front text)
 

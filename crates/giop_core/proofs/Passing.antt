@@ -1,5 +1,5 @@
 -- Items one after the other: passed over, and listed.
-use Rattle.std.proofs.Common.{◌≡◌, ℕ, zero, suc, ◌+◌, ◌<◌, ℤ, pos, List, [], ◌∷◌, length, map, Ok, Err, refl, sym, ap, subst, ◌∙◌, arith}
+use Rattle.std.proofs.Common.{◌≡◌, ℕ, zero, suc, ℤ, pos, List, [], ◌∷◌, length, map, Ok, Err, refl, sym, ap, subst, ◌∙◌}
 use Rattle.cdr_core.specs.declared.fault.Fault.{Fault}
 use Rattle.cdr_core.specs.declared.order.Order.{Order}
 use Rattle.cdr_core.specs.Fields.{fields_at, sequence_is, structure_is}
@@ -11,7 +11,7 @@ use Rattle.cdr_core.specs.Turns.{passing}
 use Rattle.cdr_core.specs.Value as value
 use Rattle.cdr_core.specs.Value.{Value, Values, values}
 use Rattle.cdr_core.specs.View.{forms}
-use Rattle.ior_core.specs.Grammar.{tagged, tagged_list}
+use Rattle.ior_core.specs.Grammar.{tagged}
 use Rattle.giop_core.specs.Content.{content_octets, natural, tagged_of}
 use Rattle.giop_core.specs.Items.{items_in, list_value, tagged_value}
 use Rattle.giop_core.specs.Rows.{contexts}

@@ -1,5 +1,5 @@
 -- What is written fits the types of its row, and is read as it was.
-use Rattle.std.proofs.Common.{◌≡◌, ℕ, zero, suc, ◌+◌, ◌<◌, ◌≤◌, ◌^◌, ℤ, pos, false, List, [], ◌∷◌, ◌++◌, FitsSigned, length, drop, map, replicate, Ok, refl, sym, ap, subst, ◌∙◌, arith, length-append}
+use Rattle.std.proofs.Common.{◌≡◌, ℕ, zero, suc, ◌+◌, ◌<◌, ◌^◌, ℤ, pos, false, List, [], ◌∷◌, ◌++◌, FitsSigned, length, drop, map, replicate, Ok, refl, sym, ap, ◌∙◌, arith, length-append}
 use Rattle.std.proofs.lemmas.Int.{ints}
 use Rattle.std.proofs.lemmas.List.{append-nil, drop_at, length-replicate}
 use Rattle.std.specs.Int.{FitsUnsigned, w32}
@@ -119,9 +119,10 @@ module _ (order : Order) where
 
   items_fit : (xs : List (ℕ × List ℕ)) (o : ℕ) → HaveTags xs → length (octets_of_all order (values (map tagged_value xs)) o) < 2 ^ 32 → AllFit (Fits tagged) (values (map tagged_value xs))
   items_fit [] o h small = tt
-  items_fit (x ∷ xs) o h small =
-      (tagged_fits x o h.0 (first_short (tagged_value x) (values (map tagged_value xs)) o small),
-      items_fit xs (o + length (octets_of order (tagged_value x) o)) h.1 (rest_short (tagged_value x) (values (map tagged_value xs)) o small))
+  items_fit (x ∷ xs) o h small = (
+    tagged_fits x o h.0 (first_short (tagged_value x) (values (map tagged_value xs)) o small),
+    items_fit xs (o + length (octets_of order (tagged_value x) o)) h.1 (rest_short (tagged_value x) (values (map tagged_value xs)) o small),
+  )
 
   list_fits : (xs : List (ℕ × List ℕ)) (o : ℕ) → HaveTags xs → length (octets_of order (list_value xs) o) < 2 ^ 32 → Fits contexts (list_value xs)
   list_fits xs o h small =
@@ -294,19 +295,19 @@ read_as : SpelledIsRead → WrittenIsSpelled → (version : Version) (kind : Mes
     → ((rest : Rest) → content version kind fields rest ≡ m rest) → (length (octets_of_all order (values fields) 12) < 2 ^ 32 → FitRow (row version kind) fields) → IsReadAs version kind order fields body m
 read_as read spelled version kind order fields body m says fit small =
     message_only read version kind order (behind_header version kind order fields body) (content version kind fields (rest_behind version kind order fields body))
-        (written_is_message spelled version kind order fields body (fit (fields_small version kind order fields body small)))
+    (written_is_message spelled version kind order fields body (fit (fields_small version kind order fields body small)))
     ∙ ap (λ (x : Content). Ok x) (says (rest_behind version kind order fields body))
 
 module _ (read : SpelledIsRead) (spelled : WrittenIsSpelled) where
   pub request_read : WrittenRequestIsRead
   request_read version order id wish to operation contexts body lt ask can is clean tags =
       read_as read spelled version kind.Request order (request_fields version id wish to operation contexts) body (content.request id wish to operation contexts)
-          (λ rest. request_says version id wish to operation contexts rest ask can) (request_fits order id lt version wish to operation contexts can is clean tags)
+      (λ rest. request_says version id wish to operation contexts rest ask can) (request_fits order id lt version wish to operation contexts can is clean tags)
 
   pub reply_read : WrittenReplyIsRead
   reply_read version order id status contexts body lt below tags =
       read_as read spelled version kind.Reply order (reply_fields version id status contexts) body (content.reply id status contexts)
-          (reply_says version id status contexts) (reply_fits order id lt version status contexts below tags)
+      (reply_says version id status contexts) (reply_fits order id lt version status contexts below tags)
 
   pub cancel_read : WrittenCancelIsRead
   cancel_read version order id lt =
@@ -315,12 +316,12 @@ module _ (read : SpelledIsRead) (spelled : WrittenIsSpelled) where
   pub locate_request_read : WrittenLocateRequestIsRead
   locate_request_read version order id to lt can is =
       read_as read spelled version kind.LocateRequest order (locate_request_fields version id to) value.no_values (λ _. content.locate_request id to)
-          (λ rest. locate_request_says version id to rest can) (locate_request_fits order id lt version to can is)
+      (λ rest. locate_request_says version id to rest can) (locate_request_fits order id lt version to can is)
 
   pub locate_reply_read : WrittenLocateReplyIsRead
   locate_reply_read version order id status body lt below =
       read_as read spelled version kind.LocateReply order (locate_reply_fields id status) body (content.locate_reply id status)
-          (locate_reply_says version id status) (λ _. locate_reply_fits order id lt version status below)
+      (locate_reply_says version id status) (λ _. locate_reply_fits order id lt version status below)
 
 -- a written FT_REQUEST
 
@@ -336,4 +337,4 @@ ft_read read spelled order client id expiration more clean signed lt small =
     let octets = octets_of order v 1 in
     let holds = spelled ft_request order v (ft_fits order client id expiration clean signed lt small) 1 in
     ap ft_by (enclosed_only read (λ o w. Spells ft_request o w) (value_at ft_request) (λ o w p front rest s. read ft_request o w p front rest s) (ft_octets order client id expiration) v
-        (record { order = order; front = octets; rest = []; parts = ap (λ xs. byte_order order ∷ xs) (sym (append-nil octets)); holds = holds }))
+    (record { order = order; front = octets; rest = []; parts = ap (λ xs. byte_order order ∷ xs) (sym (append-nil octets)); holds = holds }))

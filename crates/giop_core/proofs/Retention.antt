@@ -1,5 +1,5 @@
 -- What an FT_REQUEST context holds, as it is appended.
-use Rattle.std.proofs.Common.{◌≡◌, ℕ, ◌≤◌, ◌^◌, ℤ, List, [], ◌∷◌, ◌++◌, length, Err, refl, sym, ap, arith}
+use Rattle.std.proofs.Common.{◌≡◌, ℕ, ◌≤◌, ℤ, List, [], ◌∷◌, ◌++◌, length, Err, refl, ap, arith}
 use Rattle.cdr_core.specs.declared.order.Order.{Order}
 use Rattle.cdr_core.specs.Appending.{enclosed_puts, keeps_all, puts_one, puts_then, Appends}
 use Rattle.cdr_core.specs.Encapsulation.{byte_order}
@@ -9,7 +9,7 @@ use Rattle.cdr_core.specs.Value.{Value, Values, values}
 use Rattle.cdr_core.specs.Writing.{Writing}
 use Rattle.giop_core.specs.declared.refusal.WriteError.{WriteError}
 use Rattle.giop_core.specs.declared.refusal.WriteError.TheVariants.{TooLong, Memory}
-use Rattle.giop_core.specs.Long.{IsLong, Judges}
+use Rattle.giop_core.specs.Long.{Judges}
 use Rattle.giop_core.specs.Written.{ft_octets, AddsOctets}
 use Rattle.giop_core.proofs.Longs.{first_long}
 

@@ -10,7 +10,7 @@ use Rattle.cdr_core.specs.Value.{Value}
 use Rattle.giop_core.specs.declared.fault.MessageFault.{MessageFault}
 use Rattle.giop_core.specs.declared.fault.MessageFault.TheVariants.{BadAddressing}
 use Rattle.giop_core.specs.Content.{Content, content}
-use Rattle.giop_core.specs.Grammar.{IsMessage, SpellsFields}
+use Rattle.giop_core.specs.Grammar.{SpellsFields}
 use Rattle.giop_core.specs.Laws.{MessagesAreSpelled, SpelledMessagesAreRead}
 use Rattle.giop_core.specs.Messages.{◌>>=◌, field_at, fields_at, is_unknown, judged, message_of, rest_at}
 use Rattle.giop_core.specs.Rows.{row}

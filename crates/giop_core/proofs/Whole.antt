@@ -1,15 +1,14 @@
 -- A message put together: its fields, its body, and the header over the room for it.
-use Rattle.std.proofs.Common.{◌≡◌, ◌≢◌, ℕ, zero, suc, ◌+◌, ◌-◌, ◌<◌, ◌≤◌, ◌^◌, false, List, [], ◌∷◌, ◌++◌, length, take, drop, replicate, Result, Ok, Err, MatchResult, refl, sym, ap, subst, ◌∙◌, arith, append_assoc, length-append}
+use Rattle.std.proofs.Common.{◌≡◌, ◌≢◌, ℕ, zero, suc, ◌+◌, ◌-◌, ◌≤◌, ◌^◌, List, [], ◌∷◌, ◌++◌, length, take, drop, replicate, Result, Ok, Err, MatchResult, refl, sym, ap, subst, ◌∙◌, arith, append_assoc, length-append}
 use Rattle.std.proofs.lemmas.List.{append-nil, drop-append-le, drop_at, length-drop, length-replicate, take-append-drop, take-append-le, take_at}
 use Rattle.std.specs.declared.alloc.AllocError.{AllocError}
 use Rattle.cdr_core.specs.declared.order.Order.{Order}
-use Rattle.cdr_core.specs.declared.order.Order.TheVariants.{Big, Little}
-use Rattle.cdr_core.specs.Appending.{keeps_all, keeps_both, place_behind, Keeps, PutsAll}
+use Rattle.cdr_core.specs.Appending.{keeps_all, place_behind, Keeps, PutsAll}
 use Rattle.cdr_core.specs.Numbers.{digits_of, padding}
 use Rattle.cdr_core.specs.Parts.{ulong_value}
 use Rattle.cdr_core.specs.Value as value
 use Rattle.cdr_core.specs.Value.{Value, Values, no_values, values}
-use Rattle.cdr_core.specs.Writing.{and_then, number_octets, octets_of, octets_of_all, place_in, AreWritable, IsWritable, Puts, Writing}
+use Rattle.cdr_core.specs.Writing.{number_octets, octets_of, octets_of_all, place_in, AreWritable, IsWritable, Puts, Writing}
 use Rattle.giop_core.specs.declared.header.MessageKind.{MessageKind}
 use Rattle.giop_core.specs.declared.header.MessageKind.TheVariants as kind
 use Rattle.giop_core.specs.declared.header.Version.{Version}

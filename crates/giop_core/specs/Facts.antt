@@ -1,7 +1,7 @@
 -- That a value may be written is a fact: a type with at most one value.
 use Rattle.std.proofs.Common.{ℕ, List, [], ◌∷◌}
 use Rattle.std.proofs.Props.{props}
-use mathlib.Core.HLevel.{Π_prop, ×_prop, Unit-prop}
+use mathlib.Core.HLevel.{×_prop}
 use Rattle.cdr_core.specs.Spelling.{IsClean}
 use Rattle.cdr_core.specs.Value as value
 use Rattle.cdr_core.specs.Value.{Value, Values}

@@ -1,5 +1,5 @@
 -- Items one after another in octets: service contexts, or profiles.
-use Rattle.std.specs.Prelude.{ℕ, zero, suc, List, [], ◌∷◌, map, Result, Ok, Err}
+use Rattle.std.specs.Prelude.{ℕ, zero, suc, List, [], ◌∷◌, map, Ok, Err}
 use Rattle.std.specs.Borrow.{Bor}
 use Rattle.cdr_core.specs.declared.order.Order.{Order}
 use Rattle.cdr_core.specs.Parts.{ulong_value}

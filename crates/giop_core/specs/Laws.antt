@@ -10,7 +10,7 @@ use Rattle.cdr_core.specs.Writing.{octets_of_all}
 use Rattle.giop_core.specs.declared.header.MessageKind.{MessageKind}
 use Rattle.giop_core.specs.declared.header.MessageKind.TheVariants.{Request, Reply, CancelRequest, LocateRequest, LocateReply}
 use Rattle.giop_core.specs.declared.header.Version.{Version}
-use Rattle.giop_core.specs.declared.header.Version.TheVariants.{V10, V11, V12}
+use Rattle.giop_core.specs.declared.header.Version.TheVariants.{V12}
 use Rattle.giop_core.specs.declared.wish.ReplyWish.{ReplyWish}
 use Rattle.giop_core.specs.Content as content
 use Rattle.giop_core.specs.Content.{Addressed, Content, Rest}

@@ -1,5 +1,5 @@
 -- What lent parts of a message stand for.
-use Rattle.std.specs.Prelude.{ℕ, ℤ, pos, List, [], ◌∷◌, map}
+use Rattle.std.specs.Prelude.{ℕ, ℤ, pos, List, [], ◌∷◌}
 use Rattle.std.specs.Borrow.{Bor}
 use Rattle.cdr_core.specs.Parts.{long_value, octet_value, short_value, text_value, ulong_value, ulonglong_value}
 use Rattle.cdr_core.specs.Value as value

@@ -1,5 +1,5 @@
 -- The grammar of the messages: what stands behind each header, in order.
-use Rattle.std.specs.Prelude.{ℕ, pos, List, [], ◌∷◌}
+use Rattle.std.specs.Prelude.{pos, List, [], ◌∷◌}
 use Rattle.cdr_core.specs.Form as form
 use Rattle.cdr_core.specs.Form.{Form}
 use Rattle.cdr_core.specs.Parts.{long, octet, raw, short, text, ulong, ulonglong}

@@ -10,7 +10,7 @@ use Rattle.cdr_core.specs.Value.{Value, Values, values}
 use Rattle.cdr_core.specs.Writing.{and_then, octets_of, octets_of_all, Writing}
 use Rattle.giop_core.specs.declared.header.Header.{Header}
 use Rattle.giop_core.specs.declared.header.MessageKind.{MessageKind}
-use Rattle.giop_core.specs.declared.header.MessageKind.TheVariants.{Request, Reply, CancelRequest, LocateRequest, LocateReply, CloseConnection, MessageError}
+use Rattle.giop_core.specs.declared.header.MessageKind.TheVariants.{Request, Reply}
 use Rattle.giop_core.specs.declared.header.Version.{Version}
 use Rattle.giop_core.specs.declared.header.Version.TheVariants.{V10, V11, V12}
 use Rattle.giop_core.specs.declared.wish.ReplyWish.{ReplyWish}

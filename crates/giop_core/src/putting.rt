@@ -28,12 +28,7 @@ pub(crate) fn put_reserved(writer: &Writer, out: &mut Vec<u8>) -> Result<(), All
 }
 
 /// Appends a tag, or an id, and its octets.
-fn put_tagged(
-    writer: &Writer,
-    tag: u32,
-    octets: &[u8],
-    out: &mut Vec<u8>,
-) -> Result<(), AllocError>
+fn put_tagged(writer: &Writer, tag: u32, octets: &[u8], out: &mut Vec<u8>) -> Result<(), AllocError>
     requires start { writer.now.start ≤ length out.old.items }
     requires long { length octets.now < 2 ^ 32 }
     ensures { MatchResult result (λ _. Appends writer.now (tagged_value (tag, octets.now)) out.old.items out.new.items) (λ _. Keeps out.old.items out.new.items) }
@@ -52,11 +47,7 @@ fn put_context(writer: &Writer, one: &(u32, &[u8]), out: &mut Vec<u8>) -> Result
 }
 
 /// Appends service contexts one after another.
-fn put_each(
-    writer: &Writer,
-    all: &[(u32, &[u8])],
-    out: &mut Vec<u8>,
-) -> Result<(), AllocError>
+fn put_each(writer: &Writer, all: &[(u32, &[u8])], out: &mut Vec<u8>) -> Result<(), AllocError>
     requires start { writer.now.start ≤ length out.old.items }
     requires writable { AreWritable (values (map lent_value all.now)) }
     ensures { MatchResult result (λ _. PutsAll writer.now (values (map lent_value all.now)) out.old.items out.new.items) (λ _. Keeps out.old.items out.new.items) }

@@ -18,8 +18,8 @@ use crate::header::{Header, MessageKind, Version};
 use crate::judging::{LONGEST, judge_contexts, judge_target, judge_text};
 use crate::message::Target;
 use crate::putting::{put_contexts, put_reserved, put_target};
-use crate::wish::ReplyWish;
 use crate::refusal::WriteError;
+use crate::wish::ReplyWish;
 use cdr_core::{Order, Val, Writer};
 use std::alloc::AllocError;
 
@@ -387,8 +387,18 @@ fn request(
     judge_contexts(contexts)?;
     let start = out.len();
     let writer = begin(order, out)?;
-    put_request(version, &writer, request_id, wish, target, operation, contexts, out)?;
-    finish(version, MessageKind::Request, start, order, &writer, body, out)
+    put_request(
+        version, &writer, request_id, wish, target, operation, contexts, out,
+    )?;
+    finish(
+        version,
+        MessageKind::Request,
+        start,
+        order,
+        &writer,
+        body,
+        out,
+    )
 }
 
 /// Appends a Reply; where that fails, what there was still stands in front.
@@ -408,7 +418,15 @@ fn reply(
     let start = out.len();
     let writer = begin(order, out)?;
     put_reply(version, &writer, request_id, status, contexts, out)?;
-    finish(version, MessageKind::Reply, start, order, &writer, body, out)
+    finish(
+        version,
+        MessageKind::Reply,
+        start,
+        order,
+        &writer,
+        body,
+        out,
+    )
 }
 
 /// Appends a LocateRequest; where that fails, what there was still stands in front.
@@ -426,7 +444,15 @@ fn locate_request(
     let start = out.len();
     let writer = begin(order, out)?;
     put_locate_request(version, &writer, request_id, target, out)?;
-    finish(version, MessageKind::LocateRequest, start, order, &writer, &[], out)
+    finish(
+        version,
+        MessageKind::LocateRequest,
+        start,
+        order,
+        &writer,
+        &[],
+        out,
+    )
 }
 
 /// Appends a LocateReply; where that fails, what there was still stands in front.
@@ -444,7 +470,15 @@ fn locate_reply(
     let start = out.len();
     let writer = begin(order, out)?;
     put_locate_reply(&writer, request_id, status, out)?;
-    finish(version, MessageKind::LocateReply, start, order, &writer, body, out)
+    finish(
+        version,
+        MessageKind::LocateReply,
+        start,
+        order,
+        &writer,
+        body,
+        out,
+    )
 }
 
 /// Appends a Request (CORBA 3.3 Part 2, 9.4.2), whose principal is empty.

@@ -18,9 +18,10 @@ returns-then-len-start-gt-LONGEST c =
     let old = a.out.now.items in
     let new = c.ulonglong.new.out in
     let all : new.items ≡ old ++ ft_octets a.order a.client_id.now a.retention_id a.expiration =
-        ft_put a.order a.client_id.now a.retention_id a.expiration old c.in_ok-writer.writer c.encapsulated.new.out.items c.string.new.out.items c.long.new.out.items new.items c.in_ok-writer.ensures.0 c.in_ok-writer.ensures.1 c.in_ok-string.ensures (rw (to_z-of_z w32 a.retention_id c.ranges.retention_id) at c.in_ok-long.ensures) c.in_ok-ulonglong.ensures in
-    (omega (arith, c.if-len-start-gt-LONGEST.true, c.len.ensures, c.len-start.ensures, new.ok.0, a.out.now.ok.0, ap length all, length-append old (ft_octets a.order a.client_id.now a.retention_id a.expiration)),
-    record { more = ft_octets a.order a.client_id.now a.retention_id a.expiration; parts = all })
+    ft_put a.order a.client_id.now a.retention_id a.expiration old c.in_ok-writer.writer c.encapsulated.new.out.items c.string.new.out.items c.long.new.out.items new.items c.in_ok-writer.ensures.0 c.in_ok-writer.ensures.1 c.in_ok-string.ensures (rw (to_z-of_z w32 a.retention_id c.ranges.retention_id) at c.in_ok-long.ensures) c.in_ok-ulonglong.ensures in (
+      omega (arith, c.if-len-start-gt-LONGEST.true, c.len.ensures, c.len-start.ensures, new.ok.0, a.out.now.ok.0, ap length all, length-append old (ft_octets a.order a.client_id.now a.retention_id a.expiration)),
+      record { more = ft_octets a.order a.client_id.now a.retention_id a.expiration; parts = all },
+    )
 
 pub returns : goal.returns
 returns c =
@@ -28,5 +29,5 @@ returns c =
     let old = a.out.now.items in
     let new = c.ulonglong.new.out in
     let all : new.items ≡ old ++ ft_octets a.order a.client_id.now a.retention_id a.expiration =
-        ft_put a.order a.client_id.now a.retention_id a.expiration old c.in_ok-writer.writer c.encapsulated.new.out.items c.string.new.out.items c.long.new.out.items new.items c.in_ok-writer.ensures.0 c.in_ok-writer.ensures.1 c.in_ok-string.ensures (rw (to_z-of_z w32 a.retention_id c.ranges.retention_id) at c.in_ok-long.ensures) c.in_ok-ulonglong.ensures in
+    ft_put a.order a.client_id.now a.retention_id a.expiration old c.in_ok-writer.writer c.encapsulated.new.out.items c.string.new.out.items c.long.new.out.items new.items c.in_ok-writer.ensures.0 c.in_ok-writer.ensures.1 c.in_ok-string.ensures (rw (to_z-of_z w32 a.retention_id c.ranges.retention_id) at c.in_ok-long.ensures) c.in_ok-ulonglong.ensures in
     (omega (arith, c.if-len-start-gt-LONGEST.false, c.len.ensures, c.len-start.ensures, new.ok.0, a.out.now.ok.0, ap length all, length-append old (ft_octets a.order a.client_id.now a.retention_id a.expiration)), all)

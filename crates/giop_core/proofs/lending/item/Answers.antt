@@ -1,4 +1,4 @@
-use Rattle.std.proofs.Common.{◌≤◌, arith}
+use Rattle.std.proofs.Common.{arith}
 use Rattle.giop_core.specs.Items.{item_at}
 use Rattle.giop_core.proofs.Nths.{nth_here, nth_later, nth_nothing, nth_nowhere}
 use Rattle.giop_core.proofs.lending.item.Goals as goal

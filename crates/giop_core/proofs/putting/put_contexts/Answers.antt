@@ -1,4 +1,4 @@
-use Rattle.std.proofs.Common.{◌≡◌, ◌++◌, arith, sym, ap, ◌∙◌, length, map}
+use Rattle.std.proofs.Common.{◌≡◌, ◌++◌, arith, ap, ◌∙◌, length, map}
 use Rattle.std.proofs.Math.Facts.{Fits-of_lt}
 use Rattle.std.proofs.lemmas.List.{length-map}
 use Rattle.std.specs.Int.{w32}
@@ -8,7 +8,6 @@ use Rattle.cdr_core.specs.Turns.{count_values}
 use Rattle.cdr_core.specs.Value.{count, values}
 use Rattle.cdr_core.specs.Writing.{number_octets, octets_of_all, place_in}
 use Rattle.giop_core.specs.Items.{item_at, tagged_value}
-use Rattle.giop_core.specs.Lent.{lent_value}
 use Rattle.giop_core.proofs.ItemsPut.{lent_items}
 use Rattle.giop_core.proofs.putting.put_contexts.Goals as goal
 

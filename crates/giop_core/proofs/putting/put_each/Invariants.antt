@@ -1,4 +1,4 @@
-use Rattle.std.proofs.Common.{◌≡◌, ◌≤◌, ◌++◌, length, drop, map}
+use Rattle.std.proofs.Common.{◌≡◌, ◌++◌, drop, map}
 use Rattle.cdr_core.specs.Appending.{Keeps}
 use Rattle.cdr_core.specs.Value.{values}
 use Rattle.cdr_core.specs.Writing.{octets_of_all, place_in, AreWritable}

@@ -1,4 +1,4 @@
-use Rattle.std.proofs.Common.{◌≡◌, ◌++◌, arith, sym, ap, ◌∙◌, length}
+use Rattle.std.proofs.Common.{◌≡◌, ◌++◌, arith, ap, ◌∙◌}
 use Rattle.cdr_core.specs.Appending.{appended, keeps_both, Keeps, PutsAll}
 use Rattle.cdr_core.specs.Steps.{match_as}
 use Rattle.cdr_core.specs.Turns.{count_values}

@@ -1,13 +1,8 @@
-use Rattle.std.proofs.Common.{map, arith}
-use Rattle.std.proofs.lemmas.Result.{err_from_is_err_and}
-use Rattle.cdr_core.specs.Value as value
-use Rattle.cdr_core.specs.Value.{no_values}
+use Rattle.std.proofs.Common.{arith}
 use Rattle.cdr_core.specs.View.{values_of}
 use Rattle.giop_core.specs.declared.header.MessageKind.TheVariants as kind
-use Rattle.giop_core.specs.Items.{item_at, list_value}
-use Rattle.giop_core.specs.Lent.{addressed_by}
-use Rattle.giop_core.specs.Written.{locate_reply_fields, locate_request_fields, reply_fields, request_fields, target_in}
-use Rattle.giop_core.proofs.Whole.{finished, judged_adds, locate_target_long, reply_contexts_long, reply_writable, request_contexts_long, request_operation_long, request_target_long, request_writable}
+use Rattle.giop_core.specs.Written.{locate_reply_fields}
+use Rattle.giop_core.proofs.Whole.{finished}
 use Rattle.giop_core.proofs.writing.locate_reply.Goals as goal
 
 pub returns : goal.returns

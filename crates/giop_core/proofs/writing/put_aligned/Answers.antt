@@ -1,4 +1,4 @@
-use Rattle.std.proofs.Common.{◌≡◌, length, arith}
+use Rattle.std.proofs.Common.{arith}
 use Rattle.cdr_core.specs.View.{values_of}
 use Rattle.giop_core.proofs.Whole.{aligned_some}
 use Rattle.giop_core.proofs.writing.put_aligned.Goals as goal

@@ -1,11 +1,11 @@
 use Rattle.std.proofs.Common.{[], ◌∷◌, map}
 use Rattle.cdr_core.specs.Appending.{puts_one, puts_then}
-use Rattle.cdr_core.specs.Parts.{octet_value, ulong_value}
+use Rattle.cdr_core.specs.Parts.{ulong_value}
 use Rattle.cdr_core.specs.Value as value
 use Rattle.cdr_core.specs.Value.{Value, values}
 use Rattle.giop_core.specs.Items.{item_at, list_value}
 use Rattle.giop_core.specs.Lent.{addressed_by}
-use Rattle.giop_core.specs.Written.{flags_of, is_expected, key_of, target_in, target_of, zeros}
+use Rattle.giop_core.specs.Written.{is_expected, key_of}
 use Rattle.giop_core.proofs.writing.put_request_10.Goals as goal
 
 pub returns : goal.returns
