@@ -10,3 +10,7 @@ mod replies;
 mod requests;
 mod said;
 mod targets;
+mod written_locates;
+mod written_others;
+mod written_replies;
+mod written_requests;

@@ -2,3 +2,4 @@ pub mod Steps
 pub mod Frames
 pub mod Questions
 pub mod Lines
+pub mod Replies

@@ -14,7 +14,7 @@ plays_more old (d ∷ es) (v ∷ ws) mid e w p c h = (p.0, p.1, plays_more (afte
 plays_more old [] (v ∷ ws) mid e w p c h = absurd p
 plays_more old (d ∷ es) [] mid e w p c h = absurd p
 
-not_true : (b : Bool) → not b ≡ true → b ≡ false
+pub not_true : (b : Bool) → not b ≡ true → b ≡ false
 not_true true h = absurd cc
 not_true false h = refl
 

@@ -7,7 +7,7 @@ use Rattle.cdr_core.specs.Value as value
 use Rattle.cdr_core.specs.Value.{Value, Values}
 use Rattle.ior_core.specs.declared.reference.Ior.{Ior}
 use Rattle.ior_core.specs.declared.tagged.Tagged.{Tagged}
-use Rattle.ior_core.specs.Profiles.{body_of, has_major_1, held, member, Body}
+use Rattle.ior_core.specs.Profiles.{body_of, has_major_1, member, Body}
 
 -- the octets of ASCII from the space on that print, but the backslash
 abbrev pub is_plain : ℕ → Bool

@@ -8,16 +8,15 @@ ghost use Rattle.giop_tool.specs.Locate.{question_of, Question};
 ghost use Rattle.giop_tool.specs.Output.{outputs, past_after, IsWithoutMemory, Plays};
 ghost use Rattle.giop_tool.specs.declared.events.Written.{Written};
 
-use cdr_core::laws::{read_is_spelled, spelled_is_read};
+use giop_core::laws::messages_are_spelled;
 
 /// What is taken as a question is a whole LocateRequest by the standard's layout, and each whole
-/// LocateRequest whose target is an object key is taken so; so nothing else is answered.
+/// LocateRequest is taken so; so nothing else is answered.
 pub fn questions_are_locate_requests()
     ensures found { (octets : List ℕ) (q : Question) → question_of octets ≡ Some q → (order : Order) × IsLocateRequest order q octets }
     ensures only { (octets : List ℕ) (q : Question) (order : Order) → IsLocateRequest order q octets → question_of octets ≡ Some q }
 {
-    read_is_spelled();
-    spelled_is_read();
+    messages_are_spelled();
 }
 
 /// Where nothing was noted as want of memory, what was written at each place is the output of the

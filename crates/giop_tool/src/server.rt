@@ -1,23 +1,29 @@
 //! A server of the counter that answers LocateRequests alone.
 
-ghost use Rattle.std.specs.Prelude.{◌≡◌, List, [], ◌∷◌, ◌++◌, not, IsSome, None, Some, IfOk, OnErr};
+ghost use Rattle.std.specs.Prelude.{◌≡◌, ◌<◌, List, [], ◌∷◌, ◌++◌, not, IsSome, None, Some, IfErr, IfOk};
 ghost use Rattle.std.specs.Ordering.{nat_cmp};
 ghost use Rattle.std.specs.BTreeMap.{get};
-ghost use Rattle.giop_tool.specs.Answer.{reply_to};
+ghost use Rattle.giop_core.specs.Keys.{key_of_addressed};
+ghost use Rattle.giop_core.specs.Lent.{addressed_by};
+ghost use Rattle.giop_core.specs.declared.refusal.WriteError.TheVariants as refusal;
+ghost use Rattle.giop_tool.specs.Answer.{reply_to, status_of};
 ghost use Rattle.giop_tool.specs.Event.{Opened, Piece, Close, Lost, Event};
 ghost use Rattle.giop_tool.specs.History.{is_open};
 ghost use Rattle.giop_tool.specs.Locate.{question_of};
 ghost use Rattle.giop_tool.specs.Standing.{Changes, Connects, Serves, Stands, link_after};
 
 use crate::counter::Counter;
-use crate::locate::{locate_reply, read_question};
-use std::alloc::{AllocError, Global};
+use crate::locate::read_question;
+use cdr_core::Order;
+use giop_core::{Target, WriteError, write_close, write_error, write_locate_reply};
+use std::alloc::Global;
 use std::collections::BTreeMap;
 
-/// CloseConnection and MessageError, each a header alone (CORBA 3.3 Part 2, 9.4.7 and 9.4.8).
-const CLOSE_CONNECTION: [u8; 12] = [b'G', b'I', b'O', b'P', 1, 0, 0, 5, 0, 0, 0, 0];
+/// The status of a LocateReply where the object isn't known (CORBA 3.3 Part 2, 9.4.6).
+const UNKNOWN_OBJECT: u32 = 0;
 
-const MESSAGE_ERROR: [u8; 12] = [b'G', b'I', b'O', b'P', 1, 0, 0, 6, 0, 0, 0, 0];
+/// The status where the object is here.
+const OBJECT_HERE: u32 = 1;
 
 /// Whether what comes on a connection still has a meaning.
 #[derive(Clone, Copy, Debug, PartialEq, Eq)]
@@ -109,8 +115,8 @@ impl Server {
 
     /// Appends what the server writes for a piece of a connection's octets, at a moment.
     ///
-    /// An empty piece writes nothing. One that is exactly a LocateRequest for an object key is
-    /// answered. For any other MessageError is written, and the connection is closed.
+    /// An empty piece writes nothing. One that is exactly a LocateRequest is answered. For any other
+    /// MessageError is written, and the connection is closed.
     pub fn feed(
         &mut self,
         connection: u64,
@@ -148,25 +154,44 @@ impl Server {
         if self.is_closed(connection) {
             return Ok(());
         }
-        if out.extend_from_slice(&CLOSE_CONNECTION).is_err() {
+        if write_close(out).is_err() {
             return Err(self.lose(connection));
         }
         self.end(connection);
         Ok(())
     }
 
+    /// The status of the reply to a question for a target: whether it names the counter.
+    fn status_of(&self, target: &Target<'_>) -> u32
+        ensures told { result ≡ status_of (key_of_addressed (addressed_by target.now)) }
+        ensures known { result < 2 }
+    {
+        match target.object_key() {
+            Some(object_key) if self.counter.has_object(object_key) => OBJECT_HERE,
+            _ => UNKNOWN_OBJECT,
+        }
+    }
+
     /// Appends the answer to a piece that isn't empty, and tells whether the connection goes on.
-    fn reply(&self, piece: &[u8], out: &mut Vec<u8>) -> Result<Link, AllocError>
+    /// Want of memory alone refuses it: a reply without a body is short.
+    #[tactic(auto, using(crate::proofs::Replies::reply_is_short))]
+    fn reply(&self, piece: &[u8], out: &mut Vec<u8>) -> Result<Link, WriteError>
         ensures ok { IfOk result (λ link. (out.new.items ≡ out.old.items ++ reply_to (question_of piece.now)) × (link ≡ link_after (question_of piece.now))) }
-        ensures err { OnErr result (out.new.items ≡ out.old.items) }
+        ensures err { IfErr result (λ e. (e ≡ refusal.Memory) × (out.new.items ≡ out.old.items)) }
     {
         let Some(question) = read_question(piece) else {
-            out.extend_from_slice(&MESSAGE_ERROR)?;
+            write_error(out)?;
             return Ok(Link::Closed);
         };
-        let status = u8::from(self.counter.has_object(question.object_key));
-        let reply = locate_reply(question.minor, question.id, status);
-        out.extend_from_slice(&reply)?;
+        let status = self.status_of(&question.target);
+        write_locate_reply(
+            question.version,
+            Order::Big,
+            question.request_id,
+            status,
+            &[],
+            out,
+        )?;
         Ok(Link::Live)
     }
 

@@ -1,12 +1,18 @@
-//! The program `refusals`: calls of `cdr_core` and `ior_core` that take memory, each made by name.
+//! The program `refusals`: calls of `cdr_core`, `ior_core` and `giop_core` that take memory, each
+//! made by name.
 //!
 //! A case is one call on fixed inputs. Where memory for it is refused, the program looks whether
 //! everything is as it was, and makes the same call again. What the calls give is compared with
-//! octets and texts written out in `samples`. It is run under a `malloc` that refuses one growth.
+//! octets and texts written out in `samples` and `message_samples`. It is run under a `malloc` that
+//! refuses one growth.
 #![tactic(auto)]
 
 mod cases;
+mod clients;
 mod copying;
+mod message_samples;
+mod message_suites;
+mod messages;
 mod output;
 mod profiles;
 mod reading;
@@ -15,6 +21,7 @@ mod run;
 mod samples;
 mod shapes;
 mod sizes;
+mod suites;
 mod text;
 mod trial;
 mod writing;

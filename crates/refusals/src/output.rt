@@ -18,8 +18,8 @@ pub enum Room {
 /// The octets that stand in a vector before a call, if any do.
 const BEFORE: [u8; 3] = [0xca, 0xfe, 1];
 
-/// More octets than `BEFORE` and any sample have.
-const AMPLE: usize = 64;
+/// More octets than `BEFORE`, any sample and the room that a message is begun with have together.
+const AMPLE: usize = 256;
 
 /// A vector, and the octets that stood in it before the call.
 #[derive(Drop)]

@@ -10,7 +10,7 @@ use std::alloc::Global;
 use std::fmt::Debug;
 
 /// The type of a sample.
-fn ty(alloc: Global, sample: &Sample) -> Result<Ty, Miss> {
+pub fn ty(alloc: Global, sample: &Sample) -> Result<Ty, Miss> {
     let shape = sample.shape.ok_or(Wrong::Inputs)?;
     Ok(shape.ty(alloc)?)
 }

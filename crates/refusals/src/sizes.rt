@@ -10,7 +10,7 @@ ghost use Rattle.ior_core.specs.View.{ior_value, list_value, tagged_values};
 use ior_core::{Component, IiopProfile, Ior, Tagged};
 
 /// Tells whether no octet is NUL.
-fn is_clean(octets: &[u8]) -> bool
+pub fn is_clean(octets: &[u8]) -> bool
     ensures { IsTrue result ↔ IsClean octets.now }
 {
     for octet in octets {

@@ -3,6 +3,7 @@
 ghost use Rattle.std.specs.Prelude.{OnOk};
 
 use cdr_core::CdrError;
+use giop_core::WriteError;
 use ior_core::IorError;
 use std::alloc::{AllocError, Global};
 use thiserror::Error;
@@ -72,6 +73,16 @@ impl From<IorError> for Miss {
         match error {
             IorError::Memory => Miss::Memory,
             _ => Miss::Wrong(Wrong::Fault),
+        }
+    }
+}
+
+/// Want of memory, or a message that is too long where none is to be.
+impl From<WriteError> for Miss {
+    fn from(error: WriteError) -> Miss {
+        match error {
+            WriteError::TooLong => Miss::Wrong(Wrong::Fault),
+            WriteError::Memory => Miss::Memory,
         }
     }
 }

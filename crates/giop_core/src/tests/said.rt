@@ -254,16 +254,44 @@ fn assert_part(rt: &impl Abort, found: Part, order: Order, wanted: &Said) {
     }
 }
 
+/// Asserts that octets are a message, and what it says.
+fn assert_message(rt: &(impl Abort + AllocGlobal), octets: &[u8], row: &Row) {
+    let (version, order, text, said) = row;
+    let read = whole(rt, octets);
+    assert_eq!(rt; read.as_ref().err(), None, "{text}");
+    let Ok(message) = read else { rt.abort() };
+    assert_eq!(rt; message.version, *version, "{text}");
+    assert_eq!(rt; message.order, *order, "{text}");
+    assert_part(rt, message.part, *order, said);
+}
+
 /// Asserts that each message reads, and what it says.
 pub(super) fn assert_rows(rt: &(impl Abort + AllocGlobal), rows: &[Row]) -> Result<(), Fail> {
-    for (version, order, text, said) in rows {
-        let octets = octets_in(rt, text)?;
-        let read = whole(rt, &octets);
-        assert_eq!(rt; read.as_ref().err(), None, "{text}");
-        let Ok(message) = read else { rt.abort() };
-        assert_eq!(rt; message.version, *version, "{text}");
-        assert_eq!(rt; message.order, *order, "{text}");
-        assert_part(rt, message.part, *order, said);
+    for row in rows {
+        let octets = octets_in(rt, row.2)?;
+        assert_message(rt, &octets, row);
     }
+    Ok(())
+}
+
+/// Asserts that octets are those of digits.
+pub(super) fn assert_octets(
+    rt: &(impl Abort + AllocGlobal),
+    found: &[u8],
+    text: &str,
+) -> Result<(), Fail> {
+    let wanted = octets_in(rt, text)?;
+    assert_eq!(rt; found, wanted.as_slice(), "{text}");
+    Ok(())
+}
+
+/// Asserts that octets that were written are a message, and that they read as what it says.
+pub(super) fn assert_written(
+    rt: &(impl Abort + AllocGlobal),
+    found: &[u8],
+    row: &Row,
+) -> Result<(), Fail> {
+    assert_octets(rt, found, row.2)?;
+    assert_message(rt, found, row);
     Ok(())
 }

@@ -9,7 +9,7 @@ use std::process::Abort;
 use std::test::Fail;
 
 /// The target of a LocateRequest.
-fn target_in<'m>(rt: &impl Abort, octets: &'m [u8]) -> Target<'m> {
+pub(super) fn target_in<'m>(rt: &impl Abort, octets: &'m [u8]) -> Target<'m> {
     match whole(rt, octets) {
         Ok(
             Message {
@@ -69,13 +69,13 @@ fn targets_by_key(rt: HostRuntime) -> Result<(), Fail> {
 }
 
 // IIOP 1.2, host 127.0.0.1, port 2809, key `c`, no components.
-const COUNTER: &[u8] = &[
+pub(super) const COUNTER: &[u8] = &[
     0, 1, 2, 0, 0, 0, 0, 10, b'1', b'2', b'7', b'.', b'0', b'.', b'0', b'.', b'1', 0, 0x0a, 0xf9,
     0, 0, 0, 1, b'c', 0, 0, 0, 0, 0, 0, 0,
 ];
 
 // IIOP 1.0, host `h`, port 1, key `key`, in little order.
-const LITTLE: &[u8] = &[
+pub(super) const LITTLE: &[u8] = &[
     1, 1, 0, 0, 2, 0, 0, 0, b'h', 0, 1, 0, 3, 0, 0, 0, b'k', b'e', b'y',
 ];
 
@@ -184,7 +184,7 @@ fn profiles_that_do_not_read(rt: HostRuntime) -> Result<(), Fail> {
 }
 
 // A profile of tag 1, and one of IIOP.
-const PAIR: &[(u32, &[u8])] = &[(1, &[0xaa, 0xbb]), (0, LITTLE)];
+pub(super) const PAIR: &[(u32, &[u8])] = &[(1, &[0xaa, 0xbb]), (0, LITTLE)];
 
 // The number chooses among the profiles, from 0. Past them it names nothing; nor does it in the nil
 // reference.
