@@ -64,10 +64,7 @@ fn values_are_appended_one_after_another(rt: HostRuntime) -> Result<(), Fail> {
     let writer = Writer::new(Order::Big, 12, &out);
     writer.octet(9, &mut out)?;
     writer.values(&[Val::Octet(1), Val::ULong(2)], &mut out)?;
-    assert_eq!(rt;
-        out.as_slice(),
-        [7, 9, 1, 0, 0, 0, 0, 0, 2].as_slice()
-    );
+    assert_eq!(rt; out.as_slice(), [7, 9, 1, 0, 0, 0, 0, 0, 2].as_slice());
     Ok(())
 }
 
