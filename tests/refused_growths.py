@@ -23,6 +23,14 @@ import sys
 import tempfile
 
 HERE = os.path.dirname(os.path.abspath(__file__))
+REQUEST = (
+    "47494f50 01020000 00000048 00000005 03000000 00000000 00000001 63000000 00000004 61646400"
+    "00000001 0000000d 00000018 00000000 00000002 41000000 00000001 0000000000000064 00000000"
+    "00000007")
+FRAGMENTS = (
+    "47494f50 01020200 00000014 00000005 03000000 00000000 00000001 63000000"
+    "47494f50 01020207 00000014 00000005 00000004 61646400 00000000 00000000"
+    "47494f50 01020007 00000008 00000005 00000007")
 LOCATE = "47494f50010200030000000d00000001000000000000000163"
 
 
@@ -41,6 +49,10 @@ INPUTS = [
     ("a bad line", [], b"open 1\nclose\n"),
     ("input that is no text", [], b"open 1\n\xff\n"),
     ("a reference", words_of("references/counter"), b""),
+    ("a request with its contexts", ["show"], REQUEST.encode()),
+    ("a message in three fragments", ["show"], FRAGMENTS.encode()),
+    ("a stream that ends in a fault", ["check"], (REQUEST + "00" * 12).encode()),
+    ("digits that are none", ["check"], b"47 4g"),
     ("an unknown word", ["swim"], b""),
     ("help", ["--help"], b""),
 ]

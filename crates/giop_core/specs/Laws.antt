@@ -1,5 +1,5 @@
 -- The laws, each over the definitions alone.
-use Rattle.std.specs.Prelude.{◌≡◌, ℕ, ◌+◌, ◌<◌, ◌^◌, ℤ, FitsSigned, List, ◌∷◌, length, Ok, ⊤}
+use Rattle.std.specs.Prelude.{◌≡◌, ℕ, ◌+◌, ◌<◌, ◌^◌, ℤ, FitsSigned, List, ◌∷◌, length, Ok, ⊤, IsTrue}
 use Rattle.std.specs.Int.{w32}
 use Rattle.std.specs.List.{AllByRecursion}
 use Rattle.cdr_core.specs.declared.order.Order.{Order}
@@ -7,6 +7,7 @@ use Rattle.cdr_core.specs.Numbers.{padding}
 use Rattle.cdr_core.specs.Spelling.{IsClean}
 use Rattle.cdr_core.specs.Value.{Value, Values, no_values, values}
 use Rattle.cdr_core.specs.Writing.{octets_of_all}
+use Rattle.giop_core.specs.declared.header.Header.{Header}
 use Rattle.giop_core.specs.declared.header.MessageKind.{MessageKind}
 use Rattle.giop_core.specs.declared.header.MessageKind.TheVariants.{Request, Reply, CancelRequest, LocateRequest, LocateReply}
 use Rattle.giop_core.specs.declared.header.Version.{Version}
@@ -16,6 +17,7 @@ use Rattle.giop_core.specs.Content as content
 use Rattle.giop_core.specs.Content.{Addressed, Content, Rest}
 use Rattle.giop_core.specs.Ft.{ft_in, present}
 use Rattle.giop_core.specs.Grammar.{IsMessage}
+use Rattle.giop_core.specs.Headers.{header_octets, header_of, is_possible}
 use Rattle.giop_core.specs.Messages.{message_of}
 use Rattle.giop_core.specs.Written.{behind_header, cancel_fields, ft_octets, locate_reply_fields, locate_request_fields, locate_statuses, reply_fields, reply_statuses, request_fields, CanAddress, CanAsk}
 
@@ -26,6 +28,10 @@ MessagesAreSpelled = (version : Version) (kind : MessageKind) (order : Order) (o
 -- .. and what is a message by the grammar is read.
 abbrev pub SpelledMessagesAreRead : Type 0
 SpelledMessagesAreRead = (version : Version) (kind : MessageKind) (order : Order) (octets : List ℕ) (m : Content) → IsMessage version kind order octets m → message_of version kind order octets ≡ Ok m
+
+-- A header that can be is read again from its octets.
+abbrev pub HeadersAreReadAgain : Type 0
+HeadersAreReadAgain = (h : Header) → h.size < 2 ^ 32 → IsTrue (is_possible h) → header_of (header_octets h) ≡ Ok h
 
 -- each has an id, or a tag, that is an unsigned long
 abbrev pub HaveTags : List (ℕ × List ℕ) → Type 0

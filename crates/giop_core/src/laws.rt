@@ -1,6 +1,6 @@
 //! Laws over the definitions: each is what a function with an empty body ensures.
 
-ghost use Rattle.giop_core.specs.Laws.{MessagesAreSpelled, SpelledMessagesAreRead, WrittenCancelIsRead, WrittenFtIsPresent, WrittenLocateReplyIsRead, WrittenLocateRequestIsRead, WrittenReplyIsRead, WrittenRequestIsRead};
+ghost use Rattle.giop_core.specs.Laws.{HeadersAreReadAgain, MessagesAreSpelled, SpelledMessagesAreRead, WrittenCancelIsRead, WrittenFtIsPresent, WrittenLocateReplyIsRead, WrittenLocateRequestIsRead, WrittenReplyIsRead, WrittenRequestIsRead};
 
 /// Reading gives the message that the grammar says the octets are, and gives it wherever there is
 /// one.
@@ -32,3 +32,9 @@ pub fn written_ft_is_present()
     cdr_core::laws::spelled_is_read();
     cdr_core::laws::written_is_spelled();
 }
+
+/// A header that can be is read again from its octets.
+#[tactic(auto, using(crate::proofs::HeaderLemmas::header_again))]
+pub fn headers_are_read_again()
+    ensures { HeadersAreReadAgain }
+{}

@@ -3,3 +3,4 @@ pub mod Frames
 pub mod Questions
 pub mod Lines
 pub mod Replies
+pub mod Endings

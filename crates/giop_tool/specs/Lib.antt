@@ -9,3 +9,4 @@ pub mod Standing
 pub mod Script
 pub mod Settings
 pub mod ReferenceLines
+pub mod StreamEnds

@@ -8,12 +8,14 @@ mod counter;
 mod events;
 mod laws;
 mod locate;
+mod messages;
 mod play;
 mod reference;
 mod run;
 mod script;
 mod server;
 mod settings;
+mod stream;
 #[cfg(test)]
 mod tests;
 

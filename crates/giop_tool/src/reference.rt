@@ -29,7 +29,7 @@ fn put_octet(alloc: Global, octet: u8, text: &mut String) -> Result<(), AllocErr
 }
 
 /// Octets as text.
-fn shown(alloc: Global, octets: &[u8]) -> Result<String, AllocError>
+pub(crate) fn shown(alloc: Global, octets: &[u8]) -> Result<String, AllocError>
     ensures { IfOk result (λ text. string_bytes text ≡ lines.shown octets.now) }
 {
     let mut text = String::new(alloc);
@@ -40,7 +40,7 @@ fn shown(alloc: Global, octets: &[u8]) -> Result<String, AllocError>
 }
 
 /// The hexadecimal digits of octets, or a dash where there are none.
-fn digits(alloc: Global, octets: &[u8]) -> Result<String, AllocError>
+pub(crate) fn digits(alloc: Global, octets: &[u8]) -> Result<String, AllocError>
     ensures { IfOk result (λ text. string_bytes text ≡ lines.digits_of octets.now) }
 {
     if octets.is_empty() {

@@ -9,6 +9,7 @@ use crate::reference::reference_lines;
 use crate::script::{ScriptError, read_script};
 use crate::server::Server;
 use crate::settings::Setting;
+use crate::stream::{DigitError, show_stream};
 use ior_core::{IorError, parse_text};
 use std::alloc::{AllocError, AllocFailed, Global};
 use std::io;
@@ -16,7 +17,7 @@ use std::io::{BufWriter, ErrorKind, Read, Write};
 
 /// Why the program ends with status 1.
 #[derive(Debug, Drop)]
-enum Stop {
+pub(crate) enum Stop {
     /// Memory ran out.
     Memory,
     /// The input can't be read, isn't UTF-8, or hasn't ended.
@@ -25,6 +26,10 @@ enum Stop {
     BadLine(u64),
     /// The text is no reference.
     BadText(IorError),
+    /// The input has an odd number of digits.
+    OddDigits,
+    /// The input has something that is no digit.
+    BadDigit,
     /// The output can't be written.
     Unwritable,
 }
@@ -55,6 +60,16 @@ impl From<IorError> for Stop {
         match error {
             IorError::Memory => Stop::Memory,
             error => Stop::BadText(error),
+        }
+    }
+}
+
+impl From<DigitError> for Stop {
+    fn from(error: DigitError) -> Stop {
+        match error {
+            DigitError::Odd => Stop::OddDigits,
+            DigitError::Bad => Stop::BadDigit,
+            DigitError::Memory => Stop::Memory,
         }
     }
 }
@@ -132,6 +147,35 @@ fn print_reference<W: Write>(alloc: Global, text: &str, out: &mut W) -> Result<(
     Ok(())
 }
 
+/// Prints how the stream that a reader gives ends, and the messages in it, if they are to be shown.
+/// Answers whether it ends well.
+fn print_stream<R: Read, W: Write>(
+    alloc: Global,
+    input: &mut R,
+    is_shown: bool,
+    out: &mut W,
+) -> Result<bool, Stop> {
+    let octets = read_all(alloc, input)?;
+    let text = std::str::from_utf8(octets.as_slice()).map_err(|_| Stop::Unreadable)?;
+    show_stream(alloc, text.as_bytes(), is_shown, out)
+}
+
+/// Does what a setting asks for, and answers whether it ended well.
+fn done<R: Read, W: Write>(
+    alloc: Global,
+    setting: &Setting,
+    input: &mut R,
+    out: &mut W,
+) -> Result<bool, Stop> {
+    match setting {
+        Setting::Play => play_script(alloc, input, out)?,
+        Setting::Ior(text) => print_reference(alloc, text, out)?,
+        Setting::Show => return print_stream(alloc, input, true, out),
+        Setting::Check => return print_stream(alloc, input, false, out),
+    }
+    Ok(true)
+}
+
 /// Prints why the program ends with status 1.
 fn tell<E: Write>(stop: Stop, err: &mut E) -> io::Result<()> {
     match stop {
@@ -139,12 +183,15 @@ fn tell<E: Write>(stop: Stop, err: &mut E) -> io::Result<()> {
         Stop::Unreadable => writeln!(err, "input: unreadable"),
         Stop::BadLine(line) => writeln!(err, "line {line}: bad event"),
         Stop::BadText(error) => writeln!(err, "ior: {error}"),
+        Stop::OddDigits => writeln!(err, "input: odd digits"),
+        Stop::BadDigit => writeln!(err, "input: bad digit"),
         Stop::Unwritable => Ok(()),
     }
 }
 
-/// Does what a setting asks for, and answers the exit status: 0, or 1 where the input is refused,
-/// the output can't be written or memory runs out, which is told to `err`.
+/// Does what a setting asks for, and answers the exit status: 0, or 1 where a stream doesn't end behind
+/// a message, the input is refused, the output can't be written or memory runs out, the last of which
+/// are told to `err`.
 pub fn run<R: Read, W: Write, E: Write>(
     alloc: Global,
     setting: &Setting,
@@ -154,12 +201,9 @@ pub fn run<R: Read, W: Write, E: Write>(
 ) -> u8
     ensures { result ≤ 1 }
 {
-    let ended = match setting {
-        Setting::Play => play_script(alloc, input, out),
-        Setting::Ior(text) => print_reference(alloc, text, out),
-    };
-    match ended {
-        Ok(()) => 0,
+    match done(alloc, setting, input, out) {
+        Ok(true) => 0,
+        Ok(false) => 1,
         Err(stop) => {
             let _ = tell(stop, err);
             1

@@ -12,6 +12,10 @@ use std::alloc::{AllocError, Global};
 pub enum Setting<'a> {
     /// Play the script on standard input.
     Play,
+    /// Show the messages of the stream on standard input.
+    Show,
+    /// Tell how the stream on standard input ends.
+    Check,
     /// Show the reference that the text is.
     Ior(&'a str),
 }
@@ -43,6 +47,20 @@ fn play_command<'a>(alloc: Global) -> Command<'a> {
     )
 }
 
+/// `giop show`.
+fn show_command<'a>(alloc: Global) -> Command<'a> {
+    Command::new(alloc, "show").about(
+        "Shows the messages of a stream, which standard input gives in hexadecimal digits",
+    )
+}
+
+/// `giop check`.
+fn check_command<'a>(alloc: Global) -> Command<'a> {
+    Command::new(alloc, "check").about(
+        "Tells how a stream ends, which standard input gives in hexadecimal digits",
+    )
+}
+
 /// `giop ior TEXT`.
 fn ior_command<'a>(alloc: Global) -> Result<Command<'a>, AllocError> {
     let text = Arg::new(alloc, "TEXT")
@@ -60,11 +78,19 @@ fn command<'a>(alloc: Global) -> Result<Command<'a>, AllocError> {
         .about("A GIOP server of one counter. Without a subcommand it plays a script")
         .no_binary_name(true)
         .subcommand(play_command(alloc))?
+        .subcommand(show_command(alloc))?
+        .subcommand(check_command(alloc))?
         .subcommand(ior_command(alloc)?)
 }
 
 /// What words that were taken ask for.
 fn setting_of<'a>(matches: &ArgMatches<'a>) -> Setting<'a> {
+    if matches.subcommand_matches("show").is_some() {
+        return Setting::Show;
+    }
+    if matches.subcommand_matches("check").is_some() {
+        return Setting::Check;
+    }
     match matches
         .subcommand_matches("ior")
         .and_then(|ior| ior.get_str("TEXT"))

@@ -1,0 +1,93 @@
+-- Samples: what the definitions give on streams written out in octets.
+use Rattle.std.proofs.Common.{◌≡◌, ℕ, ◌++◌, List, [], ◌∷◌, Some, None, refl, map, lit≤}
+use Rattle.cdr_core.specs.Reading.{value_at, whole_at, number_at, part_at, octets_at, length_at}
+use Rattle.giop_core.specs.Headers.{header_of}
+use Rattle.giop_core.specs.Messages.{message_of}
+use Rattle.giop_core.specs.Rows.{row}
+use Rattle.giop_frames.specs.declared.fault.StreamFault.TheVariants.{StrayFragment, TwiceStarted, TooManyPartial, UnalignedFragment, TooLarge}
+use Rattle.giop_frames.specs.declared.limits.Limits.{Limits}
+use Rattle.giop_frames.specs.Frames.{sight, split}
+use Rattle.giop_frames.specs.Fragments.{judged_as, judged_by}
+use Rattle.giop_frames.specs.Streams.{Told, fault_of, messages_of, rest_of}
+
+limits : Limits
+limits = record { message = 4096; partials = 1; message_in_range = (lit≤ tt, lit≤ tt); partials_in_range = (lit≤ tt, lit≤ tt) }
+
+-- the first piece of a LocateRequest of id 1, cut behind its disposition and key length; 12 + 12 octets
+opening : List ℕ
+opening = 71 ∷ 73 ∷ 79 ∷ 80 ∷ 1 ∷ 2 ∷ 2 ∷ 3 ∷ 0 ∷ 0 ∷ 0 ∷ 12 ∷ 0 ∷ 0 ∷ 0 ∷ 1 ∷ 0 ∷ 0 ∷ 0 ∷ 0 ∷ 0 ∷ 0 ∷ 0 ∷ 2 ∷ []
+
+-- its last Fragment, with the two octets of the key
+ending : List ℕ
+ending = 71 ∷ 73 ∷ 79 ∷ 80 ∷ 1 ∷ 2 ∷ 0 ∷ 7 ∷ 0 ∷ 0 ∷ 0 ∷ 6 ∷ 0 ∷ 0 ∷ 0 ∷ 1 ∷ 65 ∷ 66 ∷ []
+
+-- a CancelRequest of id 1
+cancel : List ℕ
+cancel = 71 ∷ 73 ∷ 79 ∷ 80 ∷ 1 ∷ 2 ∷ 0 ∷ 2 ∷ 0 ∷ 0 ∷ 0 ∷ 4 ∷ 0 ∷ 0 ∷ 0 ∷ 1 ∷ []
+
+-- another LocateRequest of id 1, whole
+again : List ℕ
+again = 71 ∷ 73 ∷ 79 ∷ 80 ∷ 1 ∷ 2 ∷ 0 ∷ 3 ∷ 0 ∷ 0 ∷ 0 ∷ 12 ∷ 0 ∷ 0 ∷ 0 ∷ 1 ∷ 0 ∷ 0 ∷ 0 ∷ 0 ∷ 0 ∷ 0 ∷ 0 ∷ 0 ∷ []
+
+-- the first piece of a Reply of id 2
+other : List ℕ
+other = 71 ∷ 73 ∷ 79 ∷ 80 ∷ 1 ∷ 2 ∷ 2 ∷ 1 ∷ 0 ∷ 0 ∷ 0 ∷ 12 ∷ 0 ∷ 0 ∷ 0 ∷ 2 ∷ 0 ∷ 0 ∷ 0 ∷ 0 ∷ 0 ∷ 0 ∷ 0 ∷ 0 ∷ []
+
+-- the places and the octets of messages
+seen : List Told → List (ℕ × List ℕ)
+seen ms = map (λ m. (m.place, m.message.octets)) ms
+
+of : List ℕ → List (ℕ × List ℕ)
+of s = seen (messages_of limits s)
+
+first_alone : of opening ≡ []
+unfolding of seen limits opening ending cancel again other messages_of fault_of rest_of split sight header_of judged_by judged_as message_of row value_at whole_at number_at part_at octets_at length_at
+first_alone = refl
+
+first_pending : fault_of limits opening ≡ None
+unfolding of seen limits opening ending cancel again other messages_of fault_of rest_of split sight header_of judged_by judged_as message_of row value_at whole_at number_at part_at octets_at length_at
+first_pending = refl
+
+joined_at_the_last : of (opening ++ ending) ≡ (42, 0 ∷ 0 ∷ 0 ∷ 1 ∷ 0 ∷ 0 ∷ 0 ∷ 0 ∷ 0 ∷ 0 ∷ 0 ∷ 2 ∷ 65 ∷ 66 ∷ []) ∷ []
+unfolding of seen limits opening ending cancel again other messages_of fault_of rest_of split sight header_of judged_by judged_as message_of row value_at whole_at number_at part_at octets_at length_at
+joined_at_the_last = refl
+
+stray_alone : fault_of limits ending ≡ Some StrayFragment
+unfolding of seen limits opening ending cancel again other messages_of fault_of rest_of split sight header_of judged_by judged_as message_of row value_at whole_at number_at part_at octets_at length_at
+stray_alone = refl
+
+cancelled_is_stray : fault_of limits (opening ++ cancel ++ ending) ≡ Some StrayFragment
+unfolding of seen limits opening ending cancel again other messages_of fault_of rest_of split sight header_of judged_by judged_as message_of row value_at whole_at number_at part_at octets_at length_at
+cancelled_is_stray = refl
+
+cancel_is_told : of (opening ++ cancel) ≡ (40, 0 ∷ 0 ∷ 0 ∷ 1 ∷ []) ∷ []
+unfolding of seen limits opening ending cancel again other messages_of fault_of rest_of split sight header_of judged_by judged_as message_of row value_at whole_at number_at part_at octets_at length_at
+cancel_is_told = refl
+
+twice : fault_of limits (opening ++ again) ≡ Some TwiceStarted
+unfolding of seen limits opening ending cancel again other messages_of fault_of rest_of split sight header_of judged_by judged_as message_of row value_at whole_at number_at part_at octets_at length_at
+twice = refl
+
+too_many : fault_of limits (opening ++ other) ≡ Some TooManyPartial
+unfolding of seen limits opening ending cancel again other messages_of fault_of rest_of split sight header_of judged_by judged_as message_of row value_at whole_at number_at part_at octets_at length_at
+too_many = refl
+
+what_waits : rest_of limits (again ++ 71 ∷ 73 ∷ []) ≡ 71 ∷ 73 ∷ []
+unfolding of seen limits opening ending cancel again other messages_of fault_of rest_of split sight header_of judged_by judged_as message_of row value_at whole_at number_at part_at octets_at length_at
+what_waits = refl
+
+unaligned : fault_of limits (71 ∷ 73 ∷ 79 ∷ 80 ∷ 1 ∷ 2 ∷ 2 ∷ 1 ∷ 0 ∷ 0 ∷ 0 ∷ 13 ∷ []) ≡ Some UnalignedFragment
+unfolding of seen limits opening ending cancel again other messages_of fault_of rest_of split sight header_of judged_by judged_as message_of row value_at whole_at number_at part_at octets_at length_at
+unaligned = refl
+
+too_large : fault_of limits (71 ∷ 73 ∷ 79 ∷ 80 ∷ 1 ∷ 2 ∷ 0 ∷ 1 ∷ 0 ∷ 0 ∷ 15 ∷ 245 ∷ []) ≡ Some TooLarge
+unfolding of seen limits opening ending cancel again other messages_of fault_of rest_of split sight header_of judged_by judged_as message_of row value_at whole_at number_at part_at octets_at length_at
+too_large = refl
+
+not_too_large : fault_of limits (71 ∷ 73 ∷ 79 ∷ 80 ∷ 1 ∷ 2 ∷ 0 ∷ 1 ∷ 0 ∷ 0 ∷ 15 ∷ 244 ∷ []) ≡ None
+unfolding of seen limits opening ending cancel again other messages_of fault_of rest_of split sight header_of judged_by judged_as message_of row value_at whole_at number_at part_at octets_at length_at
+not_too_large = refl
+
+cut_in_1_1 : fault_of limits (71 ∷ 73 ∷ 79 ∷ 80 ∷ 1 ∷ 1 ∷ 2 ∷ 1 ∷ 0 ∷ 0 ∷ 0 ∷ 12 ∷ []) ≡ Some StrayFragment
+unfolding of seen limits opening ending cancel again other messages_of fault_of rest_of split sight header_of judged_by judged_as message_of row value_at whole_at number_at part_at octets_at length_at
+cut_in_1_1 = refl

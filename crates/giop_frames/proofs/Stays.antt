@@ -1,0 +1,62 @@
+-- A fault stays the fault, and the messages before it stay those, whatever follows.
+use Rattle.std.proofs.Common.{◌≡◌, ℕ, List, [], ◌∷◌, ◌++◌, Option, Some, None, refl, sym, ap, ◌∙◌}
+use Rattle.giop_frames.specs.declared.fault.StreamFault.{StreamFault}
+use Rattle.giop_frames.specs.declared.limits.Limits.{Limits}
+use Rattle.giop_frames.specs.Frames.{Frame, Split, Waiting, Whole, Refused, after_frame, sight, split, split_from}
+use Rattle.giop_frames.specs.Fragments.{Bad, Quiet, Done, judged}
+use Rattle.giop_frames.specs.Streams.{Reading, after_message, fault_of, messages_of, place_after, reading_from, reading_of}
+use Rattle.giop_frames.proofs.Readings.{step-bad, step-done, step-quiet}
+use Rattle.giop_frames.proofs.Splits.{split-append, step-refused, step-waiting, step-whole}
+
+-- behind a header that is refused nothing is split
+split-stays : (limits : Limits) (w s c : List ℕ) (d : StreamFault) → (split_from limits w s).fault ≡ Some d → split_from limits w (s ++ c) ≡ split_from limits w s
+split-stays limits w [] c d n = absurd (let k : None ≡ Some d = n in cc)
+split-stays limits w (x ∷ s) c d n =
+    (elim (sight limits (w ++ x ∷ [])) as (λ v. sight limits (w ++ x ∷ []) ≡ v → split_from limits w (x ∷ s ++ c) ≡ split_from limits w (x ∷ s)) [
+      | Waiting ↦ λ e.
+          let here = step-waiting limits w x s e in
+          let ends : (split_from limits (w ++ x ∷ []) s).fault ≡ Some d = ap (λ (t : Split). t.fault) (sym here) ∙ n in
+          step-waiting limits w x (s ++ c) e ∙ split-stays limits (w ++ x ∷ []) s c d ends ∙ sym here
+      | Whole f ↦ λ e.
+          let here = step-whole limits w x s f e in
+          let ends : (split_from limits [] s).fault ≡ Some d = ap (λ (t : Split). t.fault) (sym here) ∙ n in
+          step-whole limits w x (s ++ c) f e ∙ ap (after_frame f) (split-stays limits [] s c d ends) ∙ sym here
+      | Refused k ↦ λ e. step-refused limits w x (s ++ c) k e ∙ sym (step-refused limits w x s k e)
+    ]) refl
+
+-- behind a frame that is refused nothing is read
+reading-stays : (limits : Limits) (h : List Frame) (last : Option StreamFault) (fs gs : List Frame) (d : StreamFault) → (reading_from limits h None fs).fault ≡ Some d
+    → reading_from limits h last (fs ++ gs) ≡ reading_from limits h None fs
+reading-stays limits h last [] gs d n = absurd (let k : None ≡ Some d = n in cc)
+reading-stays limits h last (f ∷ fs) gs d n =
+    (elim (judged limits h f) as (λ v. judged limits h f ≡ v → reading_from limits h last (f ∷ fs ++ gs) ≡ reading_from limits h None (f ∷ fs)) [
+      | Bad e ↦ λ j. step-bad limits h last f (fs ++ gs) e j ∙ sym (step-bad limits h None f fs e j)
+      | Quiet ↦ λ j.
+          let here = step-quiet limits h None f fs j in
+          let ends : (reading_from limits (f ∷ h) None fs).fault ≡ Some d = ap (λ (r : Reading). r.fault) (sym here) ∙ n in
+          step-quiet limits h last f (fs ++ gs) j ∙ reading-stays limits (f ∷ h) last fs gs d ends ∙ sym here
+      | Done m ↦ λ j.
+          let here = step-done limits h None f fs m j in
+          let ends : (reading_from limits (f ∷ h) None fs).fault ≡ Some d = ap (λ (r : Reading). r.fault) (sym here) ∙ n in
+          step-done limits h last f (fs ++ gs) m j ∙ ap (after_message (record { place = place_after (f ∷ h); message = m })) (reading-stays limits (f ∷ h) last fs gs d ends) ∙ sym here
+    ]) refl
+
+stopped : (limits : Limits) (s c : List ℕ) (d : StreamFault) → fault_of limits s ≡ Some d → reading_of limits (s ++ c) ≡ reading_of limits s
+unfolding fault_of split
+stopped limits s c d n =
+    let first = split_from limits [] s in
+    (elim first.fault as (λ o. first.fault ≡ o → reading_of limits (s ++ c) ≡ reading_of limits s) [
+      | None ↦ λ k.
+          let t = split_from limits first.rest c in
+          let ends : (reading_from limits [] None first.frames).fault ≡ Some d = ap (λ (last : Option StreamFault). (reading_from limits [] last first.frames).fault) (sym k) ∙ n in
+          ap (λ (u : Split). reading_from limits [] u.fault u.frames) (split-append limits [] s c k) ∙ reading-stays limits [] t.fault first.frames t.frames d ends ∙ ap (λ (last : Option StreamFault). reading_from limits [] last first.frames) (sym k)
+      | Some e ↦ λ k. ap (λ (u : Split). reading_from limits [] u.fault u.frames) (split-stays limits [] s c e k)
+    ]) refl
+
+pub fault-stays : (limits : Limits) (s c : List ℕ) (d : StreamFault) → fault_of limits s ≡ Some d → fault_of limits (s ++ c) ≡ Some d
+unfolding fault_of
+fault-stays limits s c d n = ap (λ (r : Reading). r.fault) (stopped limits s c d n) ∙ n
+
+pub messages-stay : (limits : Limits) (s c : List ℕ) (d : StreamFault) → fault_of limits s ≡ Some d → messages_of limits (s ++ c) ≡ messages_of limits s
+unfolding messages_of
+messages-stay limits s c d n = ap (λ (r : Reading). r.messages) (stopped limits s c d n)

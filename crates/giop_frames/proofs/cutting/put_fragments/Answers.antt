@@ -1,0 +1,32 @@
+use Rattle.std.proofs.Common.{◌++◌, ℕ, List, [], true, sym, ap, ◌∙◌, arith}
+use Rattle.std.specs.List.{flat_map}
+use Rattle.giop_frames.specs.Cutting.{fragment_of, fragments_of, frame_octets, pieces_from}
+use Rattle.giop_frames.proofs.Cuts.{appended-by, appended-more, cut-last, cut-more, kept-more}
+use Rattle.giop_frames.proofs.cutting.put_fragments.Goals as goal
+
+pub loop-left-preserved : goal.loop-left-preserved
+loop-left-preserved c =
+    let h = c.args.header.now in
+    let id = c.args.id.now in
+    let n = c.args.room in
+    let front = c.split_at.result.0.now in
+    let others = c.split_at.result.1.now in
+    let left = c.loop-left.left.now in
+    let out = c.loop-left.out.items in
+    let after = c.put_fragment.new.out.items in
+    let x = frame_octets (fragment_of h id true front) in
+    record {
+      same = kept-more out after x (flat_map frame_octets (fragments_of h id (pieces_from n [] left))) (flat_map frame_octets (fragments_of h id (pieces_from n [] others))) _
+          c.in_ok-put_fragment.ensures.ok (cut-more h id front others left n c.requires.some c.loop-left-test.true c.split_at.ensures.front c.split_at.ensures.back) c.loop-left.invariant.same;
+      more = appended-more c.args.out.now.items out after c.loop-left.invariant.more (appended-by out after x c.in_ok-put_fragment.ensures.ok);
+      small = omega (arith, c.loop-left.invariant.small, c.split_at.ensures.back_len);
+    }
+
+pub returns-clause-ok : goal.returns-clause-ok
+returns-clause-ok c =
+    let h = c.args.header.now in
+    let id = c.args.id.now in
+    let n = c.args.room in
+    let left = c.loop-left.left.now in
+    let out = c.loop-left.out.items in
+    c.in_ok-put_fragment-2.ensures.ok ∙ ap (λ (x : List ℕ). out ++ x) (sym (cut-last h id left n c.loop-left-test.false)) ∙ c.loop-left.invariant.same

@@ -1,0 +1,14 @@
+use Rattle.std.proofs.Common.{◌≡◌, ◌+◌, ◌<◌, ◌^◌, ◌++◌, [], length}
+use Rattle.std.specs.List.{flat_map}
+use Rattle.giop_frames.specs.Cutting.{IsAppended, fragments_of, frame_octets, pieces_from}
+use Rattle.giop_frames.proofs.cutting.put_fragments.Given as goal
+
+abbrev pub invariant-loop-left : goal.invariant-loop-left
+invariant-loop-left l = record {
+  same : l.out.items ++ flat_map frame_octets (fragments_of l.header l.id (pieces_from l.room [] l.left)) ≡ l.fn.out.items ++ flat_map frame_octets (fragments_of l.header l.id (pieces_from l.room [] l.octets));
+  more : IsAppended l.fn.out.items l.out.items;
+  small : 4 + length l.left < 2 ^ 32;
+}
+
+abbrev pub decreases-loop-left : goal.decreases-loop-left
+decreases-loop-left l = length l.left

@@ -1,0 +1,78 @@
+-- Octets to frames (GIOP 9.4.1): where a frame ends, and where a header is refused.
+use Rattle.std.specs.Prelude.{ℕ, ◌+◌, ◌%◌, ◌==◌, ◌&&◌, nat_lt, not, Bool, true, false, List, [], ◌∷◌, ◌++◌, length, take, drop, Option, Some, None, Result, Ok, Err, if◌then◌else◌}
+use Rattle.giop_core.specs.declared.header.Header.{Header}
+use Rattle.giop_core.specs.declared.header.HeaderFault.{HeaderFault}
+use Rattle.giop_core.specs.declared.header.MessageKind.{MessageKind}
+use Rattle.giop_core.specs.declared.header.MessageKind.TheVariants.{Fragment}
+use Rattle.giop_core.specs.declared.header.Version.{Version}
+use Rattle.giop_core.specs.declared.header.Version.TheVariants.{V11, V12}
+use Rattle.giop_core.specs.Headers.{header_of}
+use Rattle.giop_frames.specs.declared.fault.StreamFault.{StreamFault}
+use Rattle.giop_frames.specs.declared.fault.StreamFault.TheVariants.{Header as BadHeader, TooLarge, UnalignedFragment, StrayFragment}
+use Rattle.giop_frames.specs.declared.limits.Limits.{Limits}
+
+-- a header, and the octets after it
+pub record Frame : Type 0 where
+  pub header : Header
+  pub octets : List ℕ
+
+-- how many octets a frame has
+abbrev pub frame_size : Header → ℕ
+frame_size h = 12 + h.size
+
+-- GIOP 9.4.9: in 1.2 each piece but the last ends at a place divisible by 8
+abbrev pub is_unaligned : Version → Header → Bool
+is_unaligned V12 h = h.more && not (frame_size h % 8 == 0)
+is_unaligned _ h = false
+
+-- cut messages of 1.1 are not taken
+abbrev pub is_old_fragment : Version → MessageKind → Bool → Bool
+is_old_fragment V11 Fragment more = true
+is_old_fragment V11 _ more = more
+is_old_fragment _ _ more = false
+
+-- what is judged of a header by itself, under the limits
+abbrev pub admitted : Limits → Header → Result Header StreamFault
+admitted limits h =
+    if nat_lt limits.message (frame_size h) then Err TooLarge else
+    (if is_unaligned h.version h then Err UnalignedFragment else
+    (if is_old_fragment h.version h.kind h.more then Err StrayFragment else Ok h))
+
+abbrev pub judged_header : Limits → Result Header HeaderFault → Result Header StreamFault
+judged_header limits (Err e) = Err (BadHeader e)
+judged_header limits (Ok h) = admitted limits h
+
+-- what octets are that begin where a frame begins: too few, a whole frame, or refused at the header
+pub data Sight : Type 0 where
+  Waiting : Sight
+  Whole : Frame → Sight
+  Refused : StreamFault → Sight
+
+abbrev pub under_header : List ℕ → Result Header StreamFault → Sight
+under_header b (Err e) = Refused e
+under_header b (Ok h) = if nat_lt (length b) (frame_size h) then Waiting else Whole (record { header = h; octets = drop 12 b })
+
+unfoldable pub sight : Limits → List ℕ → Sight
+sight limits b = if nat_lt (length b) 12 then Waiting else under_header b (judged_header limits (header_of (take 12 b)))
+
+-- a stream as frames, then a rest that is no whole frame, and the fault of a header, if one is refused
+pub record Split : Type 0 where
+  pub frames : List Frame
+  pub rest : List ℕ
+  pub fault : Option StreamFault
+
+abbrev pub after_frame : Frame → Split → Split
+after_frame f s = record s { frames = f ∷ s.frames }
+
+-- octet by octet: each one goes to those that wait, until they are a frame
+abbrev pub split_from : Limits → List ℕ → List ℕ → Split
+split_from limits waiting [] = record { frames = []; rest = waiting; fault = None }
+split_from limits waiting (x ∷ xs) =
+    elim (sight limits (waiting ++ x ∷ [])) [
+      | Waiting ↦ split_from limits (waiting ++ x ∷ []) xs
+      | Whole f ↦ after_frame f (split_from limits [] xs)
+      | Refused e ↦ record { frames = []; rest = waiting ++ x ∷ []; fault = Some e }
+    ]
+
+unfoldable pub split : Limits → List ℕ → Split
+split limits s = split_from limits [] s

@@ -1,0 +1,12 @@
+pub mod Frames
+pub mod Fragments
+pub mod Parts
+pub mod Streams
+pub mod Code
+pub mod Standing
+pub mod Splitting
+pub mod Positions
+pub mod Laws
+pub mod Cutting
+pub mod Feeding
+pub mod CutLaws

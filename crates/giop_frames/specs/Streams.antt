@@ -1,0 +1,72 @@
+-- Whole streams: their messages, each with the place where it completes, and their first fault.
+use Rattle.std.specs.Prelude.{◌≡◌, ℕ, ◌+◌, List, [], ◌∷◌, ◌++◌, length, Option, Some, None}
+use Rattle.giop_frames.specs.declared.fault.StreamFault.{StreamFault}
+use Rattle.giop_frames.specs.declared.limits.Limits.{Limits}
+use Rattle.giop_frames.specs.Frames.{Frame, split}
+use Rattle.giop_frames.specs.Fragments.{Bad, Quiet, Done, begun, judged, partials_in}
+use Rattle.giop_frames.specs.Parts.{Piece, IsDistinct, part_in}
+
+-- a message, joined, and the number of octets of the stream up to its end
+pub record Told : Type 0 where
+  pub place : ℕ
+  pub message : Frame
+
+-- frames as messages: the messages, the first fault, and all frames before it, the latest first
+pub record Reading : Type 0 where
+  pub messages : List Told
+  pub fault : Option StreamFault
+  pub earlier : List Frame
+
+-- how many octets frames take
+abbrev pub place_after : List Frame → ℕ
+place_after [] = 0
+place_after (f ∷ earlier) = place_after earlier + (12 + length f.octets)
+
+abbrev pub after_message : Told → Reading → Reading
+after_message m r = record r { messages = m ∷ r.messages }
+
+-- frames after those earlier ones, and after them the fault of a header, if there is one
+abbrev pub reading_from : Limits → List Frame → Option StreamFault → List Frame → Reading
+reading_from limits earlier last [] = record { messages = []; fault = last; earlier = earlier }
+reading_from limits earlier last (f ∷ fs) =
+    elim (judged limits earlier f) [
+      | Bad e ↦ record { messages = []; fault = Some e; earlier = earlier }
+      | Quiet ↦ reading_from limits (f ∷ earlier) last fs
+      | Done m ↦ after_message (record { place = place_after (f ∷ earlier); message = m }) (reading_from limits (f ∷ earlier) last fs)
+    ]
+
+abbrev pub reading_of : Limits → List ℕ → Reading
+reading_of limits s = reading_from limits [] (split limits s).fault (split limits s).frames
+
+-- the messages of a stream before its first fault
+unfoldable pub messages_of : Limits → List ℕ → List Told
+messages_of limits s = (reading_of limits s).messages
+
+-- the first fault of a stream
+unfoldable pub fault_of : Limits → List ℕ → Option StreamFault
+fault_of limits s = (reading_of limits s).fault
+
+-- the octets of a stream after its last whole frame
+unfoldable pub rest_of : Limits → List ℕ → List ℕ
+rest_of limits s = (split limits s).rest
+
+-- the frames of a stream before its first fault, the latest first
+unfoldable pub frames_of : Limits → List ℕ → List Frame
+frames_of limits s = (reading_of limits s).earlier
+
+-- these are the cut messages that are begun after those frames
+pub record Follows (parts : List Piece) (earlier : List Frame) : Type 0 where
+  pub each : (i : ℕ) → part_in parts i ≡ begun earlier i
+  pub count : length parts ≡ partials_in earlier
+  pub distinct : IsDistinct parts
+
+-- these octets and these partial messages are what is left of a stream without a fault
+pub record Stands (limits : Limits) (pending : List ℕ) (parts : List Piece) (s : List ℕ) : Type 0 where
+  pub faultless : fault_of limits s ≡ None
+  pub waiting : pending ≡ rest_of limits s
+  pub partial : Follows parts (frames_of limits s)
+
+-- the fault of a stream s with more octets, and no message before it
+pub record Faults (limits : Limits) (s c : List ℕ) (e : StreamFault) : Type 0 where
+  pub is : fault_of limits (s ++ c) ≡ Some e
+  pub same : messages_of limits (s ++ c) ≡ messages_of limits s

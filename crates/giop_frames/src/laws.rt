@@ -1,0 +1,26 @@
+//! Laws over the definitions: each is what a function with an empty body ensures.
+
+ghost use Rattle.giop_frames.specs.CutLaws.{CutIsReadAgain};
+ghost use Rattle.giop_frames.specs.Laws.{BegunByPosition, ByPositionIsBegun, RestsHaveNoFrame, SplitsAreTheOnes, StreamsSplit};
+
+/// A stream in which no header is refused is its frames and a rest, and no others.
+pub fn streams_are_frames()
+    ensures split { StreamsSplit }
+    ensures only { SplitsAreTheOnes }
+    ensures rest { RestsHaveNoFrame }
+{}
+
+/// A Fragment belongs to the last first piece of its request id, where no end and no cancel stands between,
+/// and what has come of that message is that piece with the data of the Fragments since.
+pub fn looking_back_is_by_positions()
+    ensures found { BegunByPosition }
+    ensures only { ByPositionIsBegun }
+{}
+
+/// A message that can be cut is read again from what `fragments` makes of it, alone and whole, where no
+/// message of its request id is begun and one more may be, and it reads within the limit.
+pub fn cut_messages_are_read_again()
+    ensures { CutIsReadAgain }
+{
+    giop_core::laws::headers_are_read_again();
+}

@@ -1,0 +1,5 @@
+//! Streams written out in octets, and what they give.
+
+mod cutting;
+mod samples;
+mod streams;
