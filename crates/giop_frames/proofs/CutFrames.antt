@@ -50,7 +50,7 @@ length-digits : (order : Order) (x : ℕ) → length (digits_of order 4 x) ≡ 4
 length-digits Big x = refl
 length-digits Little x = refl
 
-length-header : (h : Header) → length (header_octets h) ≡ 12
+pub length-header : (h : Header) → length (header_octets h) ≡ 12
 length-header h = omega (arith, length-digits h.order h.size)
 
 pub frame-again : HeadersAreReadAgain → (limits : Limits) (f : Frame) → f.header.version ≡ V12 → can_be_cut V12 f.header.kind ≡ true → f.header.size ≡ length f.octets → 12 + length f.octets ≤ limits.message
@@ -133,7 +133,7 @@ cut-can Fragment e = absurd cc
 
 -- a message of theirs that reads has its request id
 
-abbrev too_few : Result Content MessageFault
+abbrev pub too_few : Result Content MessageFault
 too_few = Err (Cdr (record { kind = Short; at = 12 }))
 
 cut-short : (k : MessageKind) (order : Order) (x : List ℕ) → is_cut_kind V12 k ≡ true → length x < 4 → message_of V12 k order x ≡ too_few
@@ -168,7 +168,7 @@ pub judged-opening : (limits : Limits) (h : List Frame) (f : Frame) → role_of 
 judged-opening limits h f is long none room =
     judged-role limits (begun h (id_of f)) (partials_in h) f Opens is long ∙ opens-quiet limits (begun h (id_of f)) (partials_in h) f (ap (λ (o : Option Partial). is_some o) none) room
 
-whole-done : (f : Frame) → IsOk (content_of f.header f.octets) → judged_whole f ≡ Done f
+pub whole-done : (f : Frame) → IsOk (content_of f.header f.octets) → judged_whole f ≡ Done f
 whole-done f ok = elim (content_of f.header f.octets) as (λ r. IsOk r → on_content f r ≡ Done f) [ Err e ↦ λ k. absurd cc | Ok m ↦ λ k. refl ] ok
 
 pub judged-uncut : (limits : Limits) (h : List Frame) (f : Frame) → role_of f.header ≡ Uncut → 4 ≤ length f.octets → begun h (id_of f) ≡ None → IsOk (content_of f.header f.octets) → judged limits h f ≡ Done f

@@ -19,3 +19,4 @@ pub mod Stays
 pub mod Feeds
 pub mod CutFrames
 pub mod Rejoins
+pub mod Whole

@@ -14,7 +14,7 @@ use Rattle.giop_core.specs.Messages.{message_of}
 use Rattle.giop_frames.specs.declared.fault.StreamFault.{StreamFault}
 use Rattle.giop_frames.specs.declared.limits.Limits.{Limits}
 use Rattle.giop_frames.specs.declared.role.Role.TheVariants.{Opens, Carries, Uncut}
-use Rattle.giop_frames.specs.CutLaws.{CutIsReadAgain, under}
+use Rattle.giop_frames.specs.ReadAgain.{Completes, CutIsReadAgain, under}
 use Rattle.giop_frames.specs.Cutting.{cut_octets, first_piece, fragment_of, fragments_of, frame_octets, is_cut_kind, is_cuttable, is_cuttable_under, pieces_from}
 use Rattle.giop_frames.specs.Fragments.{Done, Partial, Quiet, begun, content_of, continued_by, data_of, id_of, is_same_order, judged, partials_in, role_in, role_in_12, role_of}
 use Rattle.giop_frames.specs.Frames.{Frame, Split, frame_size, split, split_from}
@@ -33,11 +33,8 @@ use Rattle.giop_frames.proofs.Standing.{rest-more}
 use Rattle.giop_frames.proofs.Tables.{begun-same}
 
 -- one message, told behind the frames it ends with
-abbrev one_told : List Frame → Frame → Reading
+abbrev pub one_told : List Frame → Frame → Reading
 one_told e m = record { messages = record { place = place_after e; message = m } ∷ []; fault = None; earlier = e }
-
-abbrev Completes : Limits → List ℕ → List ℕ → Frame → Type 0
-Completes limits s c m = (messages_of limits (s ++ c) ≡ messages_of limits s ++ record { place = length (s ++ c); message = m } ∷ []) × (fault_of limits (s ++ c) ≡ None) × (rest_of limits (s ++ c) ≡ [])
 
 finished : (limits : Limits) (x : List ℕ) (ms : List Told) (e : List Frame) (m : Frame) → reading_of limits x ≡ after_messages ms (one_told e m) → rest_of limits x ≡ []
     → (messages_of limits x ≡ ms ++ record { place = length x; message = m } ∷ []) × (fault_of limits x ≡ None) × (rest_of limits x ≡ [])
@@ -66,7 +63,7 @@ module _ (limits : Limits) (s : List ℕ) (n : fault_of limits s ≡ None) (none
   unfolding split
   rest-none c fs is = rest-more limits s c n ∙ ap (λ (w : List ℕ). (split_from limits w c).rest) none ∙ ap (λ (t : Split). t.rest) (only_splits limits c fs [] is (nothing-waits limits))
 
-  completes : (c : List ℕ) (fs e : List Frame) (m : Frame) → Splits limits c fs [] → reading_from limits (frames_of limits s) None fs ≡ one_told e m → Completes limits s c m
+  pub completes : (c : List ℕ) (fs e : List Frame) (m : Frame) → Splits limits c fs [] → reading_from limits (frames_of limits s) None fs ≡ one_told e m → Completes limits s c m
   completes c fs e m is told = finished limits (s ++ c) (messages_of limits s) e m (reading-more c fs is ∙ ap (after_messages (messages_of limits s)) told) (rest-none c fs is)
 
 -- the Fragments of what is left, by how much it is

@@ -9,4 +9,4 @@ pub mod Positions
 pub mod Laws
 pub mod Cutting
 pub mod Feeding
-pub mod CutLaws
+pub mod ReadAgain

@@ -1,7 +1,7 @@
 //! Laws over the definitions: each is what a function with an empty body ensures.
 
-ghost use Rattle.giop_frames.specs.CutLaws.{CutIsReadAgain};
 ghost use Rattle.giop_frames.specs.Laws.{BegunByPosition, ByPositionIsBegun, RestsHaveNoFrame, SplitsAreTheOnes, StreamsSplit};
+ghost use Rattle.giop_frames.specs.ReadAgain.{CutIsReadAgain, WrittenIsReadAgain};
 
 /// A stream in which no header is refused is its frames and a rest, and no others.
 pub fn streams_are_frames()
@@ -16,6 +16,14 @@ pub fn looking_back_is_by_positions()
     ensures found { BegunByPosition }
     ensures only { ByPositionIsBegun }
 {}
+
+/// A whole message that is written is read again from a stream, alone and whole, where it reads within the
+/// limit and no message of its request id is begun.
+pub fn written_messages_are_read_again()
+    ensures { WrittenIsReadAgain }
+{
+    giop_core::laws::headers_are_read_again();
+}
 
 /// A message that can be cut is read again from what `fragments` makes of it, alone and whole, where no
 /// message of its request id is begun and one more may be, and it reads within the limit.
