@@ -16,8 +16,6 @@ mod script;
 mod server;
 mod settings;
 mod stream;
-#[cfg(test)]
-mod tests;
 
 use settings::{SettingError, settings};
 use std::process::ExitCode;
