@@ -46,7 +46,7 @@ module _ (limits : Limits) (octets : List ℕ) (k n : ℕ) (a b : Standing) (sam
   pub stands_on : StandsFor b (take (k + n) octets)
   stands_on = subst (StandsFor b) (taken_more k n octets) (stands before)
 
-  told_on : messages_of limits (take (k + n) octets) ≡ messages_of limits (take k octets) ++ told_at (length (take (k + n) octets)) b.message
+  pub told_on : messages_of limits (take (k + n) octets) ≡ messages_of limits (take k octets) ++ told_at (length (take (k + n) octets)) b.message
   told_on =
       subst (λ xs. messages_of limits xs ≡ messages_of limits (take k octets) ++ told_at (length xs) b.message) (taken_more k n octets)
       (subst (λ l. messages_of l (take k octets ++ take n (drop k octets)) ≡ messages_of l (take k octets) ++ told_at (length (take k octets ++ take n (drop k octets))) b.message) same (told before))
@@ -63,9 +63,9 @@ module _ (limits : Limits) (octets : List ℕ) (k n : ℕ) (a b : Standing) (sam
       let none : length (messages_of limits (take k octets)) + 0 ≡ length (messages_of limits (take k octets)) = omega arith in
       ap length told_on ∙ length-append (messages_of limits (take k octets)) (told_at at b.message) ∙ ap (λ m. length (messages_of limits (take k octets)) + length (told_at at m)) is ∙ none
 
-pub one_lent : (P : Frame → Type 0) (m : Option Frame) → IsSomeAnd m P → (f : Frame) × (m ≡ Some f)
+pub one_lent : (P : Frame → Type 0) (m : Option Frame) → IsSomeAnd m P → (f : Frame) × (m ≡ Some f) × P f
 one_lent P None h = absurd h
-one_lent P (Some f) h = (f, refl)
+one_lent P (Some f) h = (f, refl, h)
 
 -- how a stream ends that is refused
 pub refused : (limits : Limits) (octets : List ℕ) (k : ℕ) (a : Standing) (e : StreamFault) (messages : ℕ) → a.limits ≡ limits → e ≢ fault.Memory

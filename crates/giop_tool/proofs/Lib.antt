@@ -4,3 +4,4 @@ pub mod Questions
 pub mod Lines
 pub mod Replies
 pub mod Endings
+pub mod Printing

@@ -9,4 +9,6 @@ pub mod Standing
 pub mod Script
 pub mod Settings
 pub mod ReferenceLines
+pub mod MessageLines
 pub mod StreamEnds
+pub mod StreamLines

@@ -1,9 +1,13 @@
 //! A stream of GIOP messages in hexadecimal digits: its messages, and how it ends.
 
-ghost use Rattle.std.specs.Prelude.{◌≡◌, ◌≢◌, IfOk};
+ghost use Rattle.std.specs.Prelude.{◌≡◌, ◌≢◌, IfOk, OnOk};
+ghost use Rattle.std.specs.Io.KnownBytes.{Appends};
+ghost use Rattle.giop_core.specs.Lent.{content_of};
 ghost use Rattle.giop_frames.specs.declared.fault.StreamFault.TheVariants.{Memory};
 ghost use Rattle.giop_tool.specs.declared.stream.Ending.TheVariants.{Fault};
+ghost use Rattle.giop_tool.specs.MessageLines.{message_lines};
 ghost use Rattle.giop_tool.specs.StreamEnds.{IsEnding};
+ghost use Rattle.giop_tool.specs.StreamLines.{printed, stream_lines};
 
 use crate::messages::put_message;
 use crate::run::Stop;
@@ -68,12 +72,15 @@ fn print_message<W: Write>(
     message: Message,
     is_shown: bool,
     out: &mut W,
-) -> Result<(), Stop> {
-    if is_shown {
-        let mut lines = String::new(alloc);
-        put_message(alloc, message, &mut lines)?;
-        out.write_all(lines.as_bytes())?;
+) -> Result<(), Stop>
+    ensures { OnOk result (Appends (W.contents out.old) (W.contents out.new) (printed is_shown (message_lines message.entry.version message.entry.order (content_of message.entry.part)))) }
+{
+    if !is_shown {
+        return Ok(());
     }
+    let mut lines = String::new(alloc);
+    put_message(alloc, message, &mut lines)?;
+    out.write_all(lines.as_bytes())?;
     Ok(())
 }
 
@@ -105,7 +112,8 @@ fn read_stream<W: Write>(
     is_shown: bool,
     out: &mut W,
 ) -> Result<(usize, Ending), Stop>
-    ensures { IfOk result (λ r. IsEnding limits octets.now r.0 r.1) }
+    ensures ending { IfOk result (λ r. IsEnding limits octets.now r.0 r.1) }
+    ensures shown { OnOk result (Appends (W.contents out.old) (W.contents out.new) (printed is_shown (stream_lines limits octets.now))) }
 {
     let mut assembler = Assembler::new(alloc, limits);
     let mut messages = 0;
