@@ -12,8 +12,12 @@ that nothing changed and that the same call then gave what it is to give, or wit
 where growth N came before the call. At least one run must end with `refused`; of a call whose name
 ends in `without_growth` none may.
 
-The last run, in which nothing is refused, must end as with ample memory. Each input and each call
-counts as one case. The last line is 'N passed, M failed'.
+A pair: the calls X_once/SAMPLE and X_a_hundred_times/SAMPLE. The least N at which no growth is refused
+must be the same for both, since what is done again keeps the room that it took. A call with one of these
+endings must have its other.
+
+The last run, in which nothing is refused, must end as with ample memory. Each input, each call and each
+pair counts as one case. The last line is 'N passed, M failed'.
 """
 import itertools
 import os
@@ -56,6 +60,10 @@ INPUTS = [
     ("an unknown word", ["swim"], b""),
     ("help", ["--help"], b""),
 ]
+
+# how the names of the two suites of a pair end
+ONCE = "_once"
+A_HUNDRED_TIMES = "_a_hundred_times"
 
 # how a call ends: the status, the standard output and the standard error
 DONE = (0, b"done\n", b"")
@@ -117,8 +125,11 @@ def fault_of_input(program, words, given):
     return None, f"{number - 1} growths refused in turn"
 
 
-def fault_of_call(program, name):
-    """What is wrong with the runs of one call, or None; and what was seen."""
+def fault_of_call(program, name, least):
+    """What is wrong with the runs of one call, or None; and what was seen.
+
+    The least number at which no growth is refused is noted in `least` where nothing is wrong.
+    """
     ample = program.run(0, [name])
     if ample.end != DONE:
         return f"with nothing refused it ended with {ample.end!r}", ""
@@ -133,7 +144,29 @@ def fault_of_call(program, name):
             return f"{refused} growths of the call were refused", ""
     elif not refused:
         return "no growth of the call was refused", ""
+    least[name] = number
     return None, f"{number - 1} growths refused in turn, {refused} of them in the call"
+
+
+def fault_of_pair(_program, once, often, least):
+    """What is wrong with the least numbers of the two calls of a pair, or None; and what was seen."""
+    if once not in least or often not in least:
+        return "one of its two calls is missing or fails", ""
+    if least[once] != least[often]:
+        return f"growth {least[once]} is the first to meet no refusal once, {least[often]} a hundred times", ""
+    return None, f"growth {least[once]} is the first to meet no refusal, once and a hundred times"
+
+
+def pairs_of(names):
+    """What the names of a pair begin with, and the two names, for each pair of which a call is named."""
+    pairs = {}
+    for name in names:
+        suite, sample = name.split("/")
+        for ending in (ONCE, A_HUNDRED_TIMES):
+            if suite.endswith(ending):
+                begin = suite[:-len(ending)]
+                pairs[f"{begin}/{sample}"] = (f"{begin}{ONCE}/{sample}", f"{begin}{A_HUNDRED_TIMES}/{sample}")
+    return pairs
 
 
 def calls_of(program):
@@ -147,7 +180,10 @@ def main():
     with tempfile.TemporaryDirectory() as folder:
         program = Program(sys.argv[-1], folder)
         if sys.argv[1:-1] == ["--calls"]:
-            cases = [(name, fault_of_call, (name,)) for name in calls_of(program)]
+            names, least = calls_of(program), {}
+            cases = [(name, fault_of_call, (name, least)) for name in names]
+            cases += [(f"the pair {pair}", fault_of_pair, (once, often, least))
+                      for pair, (once, often) in pairs_of(names).items()]
         else:
             cases = [(name, fault_of_input, (words, given)) for name, words, given in INPUTS]
         if not cases:

@@ -36,9 +36,9 @@ abbrev pub locate_statuses : List (List ℕ)
 locate_statuses = codes "UNKNOWN_OBJECT" ∷ codes "OBJECT_HERE" ∷ codes "OBJECT_FORWARD"
     ∷ codes "OBJECT_FORWARD_PERM" ∷ codes "LOC_SYSTEM_EXCEPTION" ∷ codes "LOC_NEEDS_ADDRESSING_MODE" ∷ []
 
--- the name at a place, counted from 0
+-- the name at a place, counted from 0, or a question mark
 abbrev pub name_at : List (List ℕ) → ℕ → List ℕ
-name_at names place = get_or names place (codes "?")
+name_at names place = get_or names place (0x3f ∷ [])
 
 abbrev pub target_text : Addressed → List ℕ
 target_text (by_key key) = concat (codes "key " ∷ digits_of key ∷ [])

@@ -4,12 +4,15 @@ ghost use Rattle.std.specs.Prelude.{◌≡◌, ◌++◌, codes, IfSome};
 
 use crate::clients::ClientWriting;
 use crate::copying::Copying;
+use crate::cutting::Cutting;
+use crate::feeding::Feeding;
 use crate::message_suites::MESSAGE_SUITES;
 use crate::messages::MessageWriting;
 use crate::profiles::{ProfileReading, ProfileWriting};
 use crate::reading::{ListReading, Reading};
 use crate::references::{Parsing, Printing, ReferenceReading, ReferenceWriting};
 use crate::samples::Sample;
+use crate::stream_suites::STREAM_SUITES;
 use crate::suites::{Call, SUITES, Suite};
 use crate::trial::{Ending, Miss, tried};
 use crate::writing::{ListWriting, Writing};
@@ -23,6 +26,9 @@ pub fn print_names<W: Write>(out: &mut W) -> io::Result<()> {
         suite.print_names(out)?;
     }
     for suite in &MESSAGE_SUITES {
+        suite.print_names(out)?;
+    }
+    for suite in &STREAM_SUITES {
         suite.print_names(out)?;
     }
     Ok(())
@@ -39,7 +45,8 @@ fn suite_in(suites: &'static [Suite], name: &str) -> Option<&'static Suite>
 fn suite_named(name: &str) -> Option<&'static Suite>
     ensures { IfSome result (λ suite. suite.now.name.now ≡ name.now) }
 {
-    suite_in(&SUITES, name).or(suite_in(&MESSAGE_SUITES, name))
+    let lower = suite_in(&SUITES, name).or(suite_in(&MESSAGE_SUITES, name));
+    lower.or(suite_in(&STREAM_SUITES, name))
 }
 
 /// The sample of that name.
@@ -92,6 +99,10 @@ impl Case {
                 tried(alloc, &mut MessageWriting::new(alloc, sample, room)?)
             }
             Call::WriteClient(room) => tried(alloc, &mut ClientWriting::new(alloc, sample, room)?),
+            Call::Feed(times, size) => {
+                tried(alloc, &mut Feeding::new(alloc, sample, times, size))
+            }
+            Call::Cut(room) => tried(alloc, &mut Cutting::new(alloc, sample, room)?),
         };
         Ok(ending?)
     }

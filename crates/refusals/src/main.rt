@@ -1,15 +1,17 @@
-//! The program `refusals`: calls of `cdr_core`, `ior_core` and `giop_core` that take memory, each
-//! made by name.
+//! The program `refusals`: calls of `cdr_core`, `ior_core`, `giop_core` and `giop_frames` that take
+//! memory, each made by name.
 //!
 //! A case is one call on fixed inputs. Where memory for it is refused, the program looks whether
 //! everything is as it was, and makes the same call again. What the calls give is compared with
-//! octets and texts written out in `samples` and `message_samples`. It is run under a `malloc` that
-//! refuses one growth.
+//! octets and texts written out in `samples`, `message_samples` and `stream_samples`. It is run under
+//! a `malloc` that refuses one growth.
 #![tactic(auto)]
 
 mod cases;
 mod clients;
 mod copying;
+mod cutting;
+mod feeding;
 mod message_samples;
 mod message_suites;
 mod messages;
@@ -21,6 +23,8 @@ mod run;
 mod samples;
 mod shapes;
 mod sizes;
+mod stream_samples;
+mod stream_suites;
 mod suites;
 mod text;
 mod trial;

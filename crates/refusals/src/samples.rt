@@ -27,6 +27,8 @@ pub enum Gives {
     Value(&'static str),
     /// A fault behind a part for which memory was taken.
     Fault(Fault),
+    /// The octets of the frames that a message is cut into.
+    Frames(&'static [u8]),
 }
 
 /// "abc".

@@ -37,6 +37,10 @@ pub enum Call {
     WriteMessage(Room),
     /// `write_ft` into a vector with such room.
     WriteClient(Room),
+    /// An assembler that is fed so many times, in pieces of as many octets.
+    Feed(u32, usize),
+    /// `fragments` into a vector with such room.
+    Cut(Room),
 }
 
 /// A call, and the samples on which it is made.

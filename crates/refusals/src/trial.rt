@@ -23,6 +23,9 @@ pub enum Wrong {
     /// It reads another number of octets.
     #[error("length")]
     Length,
+    /// It holds more octets than it may.
+    #[error("held")]
+    Held,
     /// It leaves other octets in the vector.
     #[error("octets")]
     Octets,
