@@ -15,8 +15,6 @@ pub mod parts;
 pub mod putting;
 pub mod reading;
 pub mod refusal;
-#[cfg(test)]
-mod tests;
 pub mod wish;
 pub mod writing;
 

@@ -13,8 +13,6 @@ mod part;
 mod role;
 mod settling;
 mod table;
-#[cfg(test)]
-mod tests;
 
 pub use assembler::Assembler;
 pub use cutting::{fragments, is_cuttable};

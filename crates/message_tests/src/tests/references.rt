@@ -1,25 +1,9 @@
-//! Targets: keys, profiles and references, what they lend, and the object keys that they name.
+//! Targets, the object keys that they name, and references.
 
-use super::said::{
-    Aim, Asked, Row, Said, assert_fault, assert_rows, assert_target, octets_in, whole,
-};
-use crate::{Message, MessageFault, Part, ReplyWish, Target, Version};
-use cdr_core::Order;
+use super::said::{Aim, is_target, octets_in, target_in};
+use giop_core::Target;
 use std::process::Abort;
 use std::test::Fail;
-
-/// The target of a LocateRequest.
-pub(super) fn target_in<'m>(rt: &impl Abort, octets: &'m [u8]) -> Target<'m> {
-    match whole(rt, octets) {
-        Ok(
-            Message {
-                part: Part::LocateRequest(_, target),
-                ..
-            },
-        ) => target,
-        _ => rt.abort(),
-    }
-}
 
 /// The digits of a LocateRequest, its target, and the key that it names.
 type Naming = (&'static str, Aim, Option<&'static [u8]>);
@@ -28,14 +12,14 @@ fn assert_names(rt: &(impl Abort + AllocGlobal), rows: &[Naming]) -> Result<(), 
     for (text, aim, key) in rows {
         let octets = octets_in(rt, text)?;
         let target = target_in(rt, &octets);
-        assert_target(rt, &target, aim);
+        assert!(rt; is_target(&target, aim), "{text}");
         assert_eq!(rt; target.object_key(), *key, "{text}");
     }
     Ok(())
 }
 
 // By key alone in 1.0 and 1.1, and by its disposition in 1.2.
-const KEYS: [Naming; 5] = [
+static KEYS: [Naming; 5] = [
     (
         "47494f50 01000003 0000000b 00000001 00000003 6b6579",
         Aim::Key(b"key"),
@@ -63,11 +47,6 @@ const KEYS: [Naming; 5] = [
     ),
 ];
 
-#[test]
-fn targets_by_key(rt: HostRuntime) -> Result<(), Fail> {
-    assert_names(&rt, &KEYS)
-}
-
 // IIOP 1.2, host 127.0.0.1, port 2809, key `c`, no components.
 pub(super) const COUNTER: &[u8] = &[
     0, 1, 2, 0, 0, 0, 0, 10, b'1', b'2', b'7', b'.', b'0', b'.', b'0', b'.', b'1', 0, 0x0a, 0xf9,
@@ -80,7 +59,7 @@ pub(super) const LITTLE: &[u8] = &[
 ];
 
 // The tag of IIOP names the key of its profile, whatever the order of the message.
-const PROFILES: [Naming; 6] = [
+static PROFILES: [Naming; 6] = [
     (
         "47494f50 01020003 00000030 00000002 00010000 00000000 00000020 00010200 0000000a \
          3132372e302e302e3100 0af9 00000001 63000000 00000000",
@@ -119,14 +98,9 @@ const PROFILES: [Naming; 6] = [
     ),
 ];
 
-#[test]
-fn targets_by_profile(rt: HostRuntime) -> Result<(), Fail> {
-    assert_names(&rt, &PROFILES)
-}
-
 // No octets; a byte order that is none; another major version; a key past the end; no components
 // in 1.1.
-const UNREADABLE: [Naming; 5] = [
+static UNREADABLE: [Naming; 5] = [
     (
         "47494f50 01020003 00000010 00000002 00010000 00000000 00000000",
         Aim::Profile(0, &[]),
@@ -178,17 +152,12 @@ const UNREADABLE: [Naming; 5] = [
     ),
 ];
 
-#[test]
-fn profiles_that_do_not_read(rt: HostRuntime) -> Result<(), Fail> {
-    assert_names(&rt, &UNREADABLE)
-}
-
 // A profile of tag 1, and one of IIOP.
 pub(super) const PAIR: &[(u32, &[u8])] = &[(1, &[0xaa, 0xbb]), (0, LITTLE)];
 
 // The number chooses among the profiles, from 0. Past them it names nothing; nor does it in the nil
 // reference.
-const REFERENCES: [Naming; 6] = [
+static REFERENCES: [Naming; 6] = [
     (
         "47494f50 01020003 0000003f 00000002 0002eeee 00000000 00000002 5800 eeee 00000002 00000001 \
          00000002 aabb eeee 00000000 00000013 01010000 02000000 6800 0100 03000000 6b6579",
@@ -227,9 +196,24 @@ const REFERENCES: [Naming; 6] = [
 ];
 
 #[test]
-fn targets_by_reference(rt: HostRuntime) -> Result<(), Fail> {
+fn targets_name_object_keys(rt: HostRuntime) -> Result<(), Fail> {
+    assert_names(&rt, &KEYS)?;
+    assert_names(&rt, &PROFILES)?;
+    assert_names(&rt, &UNREADABLE)?;
     assert_names(&rt, &REFERENCES)
 }
+
+// The numbers of profiles, and what stands there.
+static NUMBERED: [(u32, Option<(u32, &[u8])>); 8] = [
+    (2, Some((5, &[2, 3]))),
+    (0, Some((5, &[1]))),
+    (1, Some((6, &[]))),
+    (3, None),
+    (4, None),
+    (0x0100_0000, None),
+    (u32::MAX, None),
+    (2, Some((5, &[2, 3]))),
+];
 
 // Behind the reference stands what would read as one more profile.
 #[test]
@@ -244,100 +228,9 @@ fn profiles_of_a_reference_by_number(rt: HostRuntime) -> Result<(), Fail> {
     let Target::Reference(0, reference) = &target else {
         rt.abort()
     };
-    assert_eq!(rt; reference.type_id(), b"X/".as_slice());
-    assert_eq!(rt; reference.count(), 3);
-    for (index, wanted) in [
-        (2, Some((5, [2, 3].as_slice()))),
-        (0, Some((5, &[1]))),
-        (1, Some((6, &[]))),
-        (3, None),
-        (4, None),
-        (0x0100_0000, None),
-        (u32::MAX, None),
-        (2, Some((5, &[2, 3]))),
-    ] {
-        assert_eq!(rt; reference.profile(index), wanted, "{index}");
-    }
-    Ok(())
-}
-
-const BY_PROFILE: Said = Said::Request(Asked {
-    id: 7,
-    wish: ReplyWish::Full,
-    target: Aim::Profile(0, LITTLE),
-    operation: b"go",
-    contexts: &[],
-    body: (64, &[0xff]),
-});
-
-const BY_REFERENCE: Said = Said::Request(Asked {
-    id: 7,
-    wish: ReplyWish::Full,
-    target: Aim::Reference(1, b"X", PAIR),
-    operation: b"go",
-    contexts: &[],
-    body: (96, &[0xff]),
-});
-
-// The operation stands behind a target of any length.
-const REQUESTS: [Row; 4] = [
-    (
-        Version::V12,
-        Order::Big,
-        "47494f50 01020000 00000035 00000007 03000000 0001eeee 00000000 00000013 01010000 02000000 \
-         6800 0100 03000000 6b6579 ee 00000003 676f00 ee 00000000 ff",
-        BY_PROFILE,
-    ),
-    (
-        Version::V12,
-        Order::Little,
-        "47494f50 01020100 35000000 07000000 03000000 0100eeee 00000000 13000000 01010000 02000000 \
-         6800 0100 03000000 6b6579 ee 03000000 676f00 ee 00000000 ff",
-        BY_PROFILE,
-    ),
-    (
-        Version::V12,
-        Order::Big,
-        "47494f50 01020000 00000055 00000007 03000000 0002eeee 00000001 00000002 5800 eeee 00000002 \
-         00000001 00000002 aabb eeee 00000000 00000013 01010000 02000000 6800 0100 03000000 6b6579 \
-         ee 00000003 676f00 ee 00000000 eeeeeeee ff",
-        BY_REFERENCE,
-    ),
-    (
-        Version::V12,
-        Order::Little,
-        "47494f50 01020100 55000000 07000000 03000000 0200eeee 01000000 02000000 5800 eeee 02000000 \
-         01000000 02000000 aabb eeee 00000000 13000000 01010000 02000000 6800 0100 03000000 6b6579 \
-         ee 03000000 676f00 ee 00000000 eeeeeeee ff",
-        BY_REFERENCE,
-    ),
-];
-
-#[test]
-fn requests_by_profile_and_by_reference(rt: HostRuntime) -> Result<(), Fail> {
-    assert_rows(&rt, &REQUESTS)
-}
-
-#[test]
-fn other_dispositions(rt: HostRuntime) -> Result<(), Fail> {
-    for (order, length, dispositions) in [
-        (
-            "00",
-            "0000000d",
-            ["0003", "0004", "0100", "0200", "8000", "ffff"],
-        ),
-        (
-            "01",
-            "0d000000",
-            ["0300", "0400", "0001", "0002", "0080", "ffff"],
-        ),
-    ] {
-        for disposition in dispositions {
-            let text = format!(in rt.alloc();
-                "47494f50 0102{order}03 {length} 00000001 {disposition}0000 00000001 63"
-            )?;
-            assert_fault(&rt, &text, MessageFault::BadAddressing(16))?;
-        }
+    assert!(rt; reference.type_id() == b"X/".as_slice() && reference.count() == 3);
+    for (index, wanted) in &NUMBERED {
+        assert_eq!(rt; reference.profile(*index), *wanted, "{index}");
     }
     Ok(())
 }

@@ -1,19 +1,15 @@
 //! Requests as they are written in each version and both orders, and that they read again.
 
-ghost use Rattle.cdr_core.specs.View.{values_of};
-ghost use Rattle.cdr_core.specs.Writing.{AreWritable};
-
-use super::requests::RETRIED;
-use super::said::{Aim, Asked, Row, Said, assert_octets, assert_written, octets_in};
-use super::targets::{LITTLE, PAIR, target_in};
-use crate::{ReplyWish, Target, Version, write_ft, write_request};
-use cdr_core::{Order, Val};
-use std::process::Abort;
+use super::put::{Values, assert_sent, assert_turned};
+use super::references::{LITTLE, PAIR};
+use super::said::{Aim, Asked, Row, Said, octets_in};
+use cdr_core::Order;
+use giop_core::{ReplyWish, Version};
 use std::test::Fail;
 
 // Two contexts, of which the second is empty; a key of five octets; and an octet and an unsigned
 // short as the body, directly behind the empty principal.
-const EARLY: [Row; 4] = [
+static EARLY: [Row; 4] = [
     (
         Version::V10,
         Order::Big,
@@ -54,7 +50,7 @@ const EARLY_SAID: Said = Said::Request(Asked {
 });
 
 // The same in 1.2, whose contexts stand last; four octets lie between them and the body.
-const LATE: [Row; 2] = [
+static LATE: [Row; 2] = [
     (
         Version::V12,
         Order::Big,
@@ -84,34 +80,8 @@ const LATE_SAID: Said = Said::Request(Asked {
 
 const CONTEXTS: &[(u32, &[u8])] = &[(1, &[0, 0xab, 0xcd]), (7, &[])];
 
-/// Asserts that the same Request is written so in each version and order.
-fn assert_each(rt: &(impl Abort + AllocGlobal), rows: &[Row]) -> Result<(), Fail> {
-    for row in rows {
-        let mut out = Vec::new(rt.alloc());
-        write_request(
-            row.0,
-            row.1,
-            0x0102_0304,
-            ReplyWish::Full,
-            &Target::Key(b"keys!"),
-            b"go",
-            CONTEXTS,
-            &[Val::Octet(10), Val::UShort(0x0b0b)],
-            &mut out,
-        )?;
-        assert_written(rt, &out, row)?;
-    }
-    Ok(())
-}
-
-#[test]
-fn requests_are_written(rt: HostRuntime) -> Result<(), Fail> {
-    assert_each(&rt, &EARLY)?;
-    assert_each(&rt, &LATE)
-}
-
 // A request without a reply whose fields end at 44, and no gap behind them.
-const BARE: [Row; 4] = [
+static BARE: [Row; 4] = [
     (
         Version::V10,
         Order::Big,
@@ -160,61 +130,24 @@ const LATE_BARE: Said = Said::Request(Asked {
     body: (48, &[]),
 });
 
-/// Asserts that a request without a reply is written so with that body.
-fn assert_bare(rt: &(impl Abort + AllocGlobal), row: &Row, body: &[Val]) -> Result<(), Fail>
-    requires { AreWritable (values_of body.now) }
-{
-    let mut out = Vec::new(rt.alloc());
-    write_request(
-        row.0,
-        row.1,
-        20,
-        ReplyWish::None,
-        &Target::Key(b"c"),
-        b"get",
-        &[],
-        body,
-        &mut out,
-    )?;
-    assert_written(rt, &out, row)
-}
-
-// A struct without members has no octets.
-#[test]
-fn no_gap_is_written_behind_a_request_without_a_body(rt: HostRuntime) -> Result<(), Fail> {
-    for row in &BARE {
-        assert_bare(&rt, row, &[])?;
-        let empty = Val::Struct(Vec::new(rt.alloc()));
-        assert_bare(&rt, row, &[empty])?;
-    }
-    Ok(())
-}
-
 // A wish for an empty reply; and fields that end at 48, behind which the body stands directly.
-#[test]
-fn wishes_and_bodies_of_1_2(rt: HostRuntime) -> Result<(), Fail> {
-    let mut out = Vec::new(rt.alloc());
-    write_request(
-        Version::V12,
-        Order::Big,
-        20,
-        ReplyWish::Empty,
-        &Target::Key(b"c"),
-        b"four!",
-        &[],
-        &[Val::Octet(10)],
-        &mut out,
-    )?;
-    assert_octets(
-        &rt,
-        &out,
-        "47494f50 01020000 00000025 00000014 01 000000 0000 0000 00000001 63 000000 00000006 \
-         666f7572 2100 0000 00000000 0a",
-    )
-}
+static WITHOUT_RESULT: [Row; 1] = [(
+    Version::V12,
+    Order::Big,
+    "47494f50 01020000 00000025 00000014 01 000000 0000 0000 00000001 63 000000 00000006 \
+     666f7572 2100 0000 00000000 0a",
+    Said::Request(Asked {
+        id: 20,
+        wish: ReplyWish::Empty,
+        target: Aim::Key(b"c"),
+        operation: b"four!",
+        contexts: &[],
+        body: (48, &[10]),
+    }),
+)];
 
 // The operation stands behind a target of any length, with three octets between them.
-const BY_PROFILE: [Row; 2] = [
+static BY_PROFILE: [Row; 2] = [
     (
         Version::V12,
         Order::Big,
@@ -240,33 +173,74 @@ const PROFILE_SAID: Said = Said::Request(Asked {
     body: (64, &[0xff]),
 });
 
-/// Asserts that a request of 1.2 for that target is written so.
-fn assert_aimed(rt: &(impl Abort + AllocGlobal), row: &Row, target: &Target) -> Result<(), Fail> {
-    let mut out = Vec::new(rt.alloc());
-    write_request(
+// One request, that may be sent again, of 1.2, 1.0 and 1.1.
+static RETRIED: [Row; 3] = [
+    (
         Version::V12,
-        row.1,
-        7,
-        ReplyWish::Full,
-        target,
-        b"go",
-        &[],
-        &[Val::Octet(0xff)],
-        &mut out,
-    )?;
-    assert_written(rt, &out, row)
-}
+        Order::Big,
+        "47494f50 01020000 00000048 00000005 03000000 00000000 00000001 63000000 00000004 61646400 \
+         00000001 0000000d 00000018 00000000 00000002 41000000 00000001 00000000 00000064 \
+         00000000 00000007",
+        Said::Request(Asked {
+            id: 5,
+            wish: ReplyWish::Full,
+            target: Aim::Key(b"c"),
+            operation: b"add",
+            contexts: RETRIED_CONTEXTS,
+            body: (80, &[0, 0, 0, 7]),
+        }),
+    ),
+    (
+        Version::V10,
+        Order::Big,
+        "47494f50 01000000 00000044 00000001 0000000d 00000018 00000000 00000002 41000000 00000001 \
+         00000000 00000064 00000006 01000000 00000001 63000000 00000004 61646400 00000000 00000007",
+        Said::Request(Asked {
+            id: 6,
+            wish: ReplyWish::Full,
+            target: Aim::Key(b"c"),
+            operation: b"add",
+            contexts: RETRIED_CONTEXTS,
+            body: (76, &[0, 0, 0, 7]),
+        }),
+    ),
+    (
+        Version::V11,
+        Order::Big,
+        "47494f50 01010000 00000044 00000001 0000000d 00000018 00000000 00000002 41000000 00000001 \
+         00000000 00000064 00000006 01000000 00000001 63000000 00000004 61646400 00000000 00000007",
+        Said::Request(Asked {
+            id: 6,
+            wish: ReplyWish::Full,
+            target: Aim::Key(b"c"),
+            operation: b"add",
+            contexts: RETRIED_CONTEXTS,
+            body: (76, &[0, 0, 0, 7]),
+        }),
+    ),
+];
 
+const RETRIED_CONTEXTS: &[(u32, &[u8])] = &[(
+    13,
+    &[
+        0, 0, 0, 0, 0, 0, 0, 2, 0x41, 0, 0, 0, 0, 0, 0, 1, 0, 0, 0, 0, 0, 0, 0, 0x64,
+    ],
+)];
+
+// A struct without members has no octets, so no gap stands before it.
 #[test]
-fn requests_by_profile_are_written(rt: HostRuntime) -> Result<(), Fail> {
-    for row in &BY_PROFILE {
-        assert_aimed(&rt, row, &Target::Profile(0, LITTLE))?;
-    }
-    Ok(())
+fn requests_are_written(rt: HostRuntime) -> Result<(), Fail> {
+    assert_sent(&rt, Values::Pair, &EARLY)?;
+    assert_sent(&rt, Values::Pair, &LATE)?;
+    assert_sent(&rt, Values::Nothing, &BARE)?;
+    assert_sent(&rt, Values::Empty, &BARE)?;
+    assert_sent(&rt, Values::Octet(10), &WITHOUT_RESULT)?;
+    assert_sent(&rt, Values::Octet(0xff), &BY_PROFILE)?;
+    assert_sent(&rt, Values::Long(7), &RETRIED)
 }
 
 // The reference of a message of the other order, whose gaps are not 0.
-const BY_REFERENCE: [(&str, Row); 2] = [
+static BY_REFERENCE: [(&str, Row); 2] = [
     (
         "47494f50 01020103 3f000000 02000000 0200eeee 01000000 02000000 5800 eeee 02000000 01000000 \
          02000000 aabb eeee 00000000 13000000 01010000 02000000 6800 0100 03000000 6b6579",
@@ -305,36 +279,8 @@ const REFERENCE_SAID: Said = Said::Request(Asked {
 #[test]
 fn requests_by_reference_are_written(rt: HostRuntime) -> Result<(), Fail> {
     for (read, row) in &BY_REFERENCE {
-        let octets = octets_in(&rt, read)?;
-        let target = target_in(&rt, &octets);
-        assert_aimed(&rt, row, &target)?;
+        let source = octets_in(&rt, read)?;
+        assert_turned(&rt, Values::Octet(0xff), row, &source)?;
     }
     Ok(())
-}
-
-/// Asserts that `add` of 7 with the context of client `A` is written so.
-fn assert_retried(rt: &(impl Abort + AllocGlobal), id: u32, row: &Row) -> Result<(), Fail> {
-    let mut client = Vec::new(rt.alloc());
-    write_ft(row.1, b"A", 1, 100, &mut client)?;
-    let mut out = Vec::new(rt.alloc());
-    write_request(
-        row.0,
-        row.1,
-        id,
-        ReplyWish::Full,
-        &Target::Key(b"c"),
-        b"add",
-        &[(13, client.as_slice())],
-        &[Val::Long(7)],
-        &mut out,
-    )?;
-    assert_written(rt, &out, row)
-}
-
-#[test]
-fn requests_that_are_sent_again_are_written(rt: HostRuntime) -> Result<(), Fail> {
-    let [late, first, second] = &RETRIED;
-    assert_retried(&rt, 5, late)?;
-    assert_retried(&rt, 6, first)?;
-    assert_retried(&rt, 6, second)
 }

@@ -1,5 +1,0 @@
-//! Streams written out in octets, and what they give.
-
-mod cutting;
-mod samples;
-mod streams;
