@@ -6,9 +6,9 @@ use Rattle.giop_core.specs.declared.header.Header.{Header}
 use Rattle.giop_frames.specs.declared.limits.Limits.{Limits}
 use Rattle.giop_frames.specs.declared.part.Part.{Part}
 use Rattle.giop_frames.specs.Parts.{Piece}
-use Rattle.giop_frames.specs.Standing.{parts_held}
+use Rattle.giop_frames.specs.Standing.{frame_held, parts_held}
 use Rattle.giop_frames.specs.Streams.{Stands}
-use Rattle.giop_frames.specs.Code.{AreShort, AreWithin, HasRoom, IsKept, IsSound, pending_at, pieces}
+use Rattle.giop_frames.specs.Code.{AreShort, AreWithin, HasRoom, IsKept, IsSound, message_at, pending_at, pieces}
 use Rattle.giop_frames.proofs.Bounds.{waiting-within}
 use Rattle.giop_frames.proofs.Rooms.{room-nothing, room-waits}
 use Rattle.giop_frames.proofs.Standing.{stands-empty}
@@ -38,6 +38,10 @@ held-more ps i d h = ap (λ (qs : List Part). parts_held (pieces qs)) (drop_more
 pub frame-within : (limits : Limits) (complete : Option Header) (b : List ℕ) (room : ℕ) → HasRoom limits (pending_at complete b) room → IsKept limits complete b → length b ≤ limits.message
 frame-within limits None b room space kept = waiting-within limits b (room-waits limits b room space)
 frame-within limits (Some h) b room space kept = kept.within
+
+pub frame-held : (limits : Limits) (complete : Option Header) (b : List ℕ) (room : ℕ) → HasRoom limits (pending_at complete b) room → IsKept limits complete b → frame_held (message_at complete b) (pending_at complete b) ≤ limits.message
+frame-held limits None b room space kept = frame-within limits None b room space kept
+frame-held limits (Some h) b room space kept = omega (arith, length-drop 12 b, kept.headed, kept.within)
 
 pub held-all : (limits : Limits) (complete : Option Header) (b : List ℕ) (room : ℕ) (ps : List Piece) (n m : ℕ) → n ≡ length b → m ≡ parts_held ps → HasRoom limits (pending_at complete b) room → IsKept limits complete b → AreWithin limits ps
     → n + m ≤ (limits.partials + 1) * limits.message

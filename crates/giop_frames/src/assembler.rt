@@ -3,7 +3,7 @@
 ghost use Rattle.std.specs.Prelude.{◌≡◌, ◌+◌, ◌*◌, ◌<◌, ◌≤◌, ◌++◌, List, [], ℕ, length, take, false, None, Err, IfOk, IfErr, IsSomeAnd, OnErr, OnOk, MatchResult, MatchOption, IsTrue};
 ghost use Rattle.giop_frames.specs.Code.{AreWithin, HasRoom, IsKept, IsStep, pending_at, pieces};
 ghost use Rattle.giop_frames.specs.Fragments.{partials_in};
-ghost use Rattle.giop_frames.specs.Standing.{IsFault, IsLent, StandsFor, octets_held, parts_held, told_at};
+ghost use Rattle.giop_frames.specs.Standing.{IsFault, IsLent, StandsFor, frame_held, octets_held, parts_held, told_at};
 ghost use Rattle.giop_frames.specs.Streams.{Stands, frames_of, messages_of, rest_of};
 
 use crate::fault::StreamFault;
@@ -241,6 +241,9 @@ impl Assembler {
     pub fn held(&self) -> usize
         ensures octets { result ≡ octets_held self.now }
         ensures bound { result ≤ (self.now.limits.partials + 1) * self.now.limits.message }
+        // the frame or the message that is lent is within the limit, and so is each message that is begun
+        ensures frame { frame_held self.now.message self.now.pending ≤ self.now.limits.message }
+        ensures parts { AreWithin self.now.limits self.now.parts }
     {
         self.frame.len() + parts_held(&self.limits, self.parts.as_slice())
     }
