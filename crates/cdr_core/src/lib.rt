@@ -10,8 +10,6 @@ pub mod fault;
 pub mod laws;
 pub mod order;
 pub mod reading;
-#[cfg(test)]
-mod tests;
 pub mod types;
 pub mod values;
 pub mod writer;

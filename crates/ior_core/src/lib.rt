@@ -10,8 +10,6 @@ pub mod laws;
 pub mod profile;
 pub mod reference;
 pub mod tagged;
-#[cfg(test)]
-mod tests;
 pub mod text;
 
 pub use error::IorError;

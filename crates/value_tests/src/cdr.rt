@@ -1,0 +1,11 @@
+//! The octets of values.
+
+mod checking;
+mod cursor;
+mod faults;
+mod forms;
+mod lists;
+mod octets;
+mod samples;
+mod spelling;
+mod writer;

@@ -1,0 +1,141 @@
+//! References and profiles as constants, of which the tables are made.
+
+use ior_core::{IiopProfile, Ior, IorError, Tagged};
+use std::alloc::{AllocError, Global};
+use std::process::Abort;
+
+/// A tag, and the digits of its octets.
+pub type Row = (u32, &'static str);
+
+/// A type, and profiles.
+pub type Reference = (&'static str, &'static [Row]);
+
+/// A profile of IIOP.
+pub struct Iiop {
+    pub minor: u8,
+    pub host: &'static str,
+    pub port: u16,
+    pub key: &'static [u8],
+    pub components: &'static [Row],
+}
+
+/// The reference to nothing.
+pub const NIL: Reference = ("", &[]);
+
+/// The type of a counter.
+pub const COUNTER: &str = "IDL:Counter:1.0";
+
+/// Its profile in big order: 2809 is 0x0af9.
+pub const BIG: &str = "00010200 0000000a 3132372e302e302e3100 0af9 00000001 63000000 00000000";
+
+/// Its profile in little order, with two components.
+pub const WITH_COMPONENTS: &str = "01010200 0a000000 3132372e302e302e3100 f90a 01000000 63000000 \
+    02000000 00000000 08000000 0100000000545441 01000000 1c000000 \
+    01000000010001000100000001000105090101000100000009010100";
+
+/// A profile of 1.0 in little order: 21011 is 0x5213.
+pub const WITHOUT_COMPONENTS: &str = "01010000 0a000000 3132372e302e302e3100 1352 01000000 63";
+
+/// A text and one behind it, without their spaces.
+fn joined(alloc: Global, front: &str, text: &str) -> Result<String, AllocError> {
+    let mut all = String::from_str(alloc, front)?;
+    for part in text.split(' ') {
+        all.push_str(part)?;
+    }
+    Ok(all)
+}
+
+/// A text, and one behind it from which the spaces are taken.
+pub fn text(rt: &(impl Abort + AllocGlobal), front: &str, text: &str) -> String {
+    joined(rt.alloc(), front, text).expect(rt, "memory")
+}
+
+/// The octets that digits give, and digits behind them, between which spaces may stand.
+pub fn octets(rt: &(impl Abort + AllocGlobal), front: &str, behind: &str) -> Vec<u8> {
+    let front = text(rt, "", front);
+    let digits = text(rt, front.as_str(), behind);
+    let Ok(octets) = hex::decode(rt.alloc(), digits.as_bytes()) else {
+        panic!(rt; "{digits}")
+    };
+    octets
+}
+
+/// Tags with their octets.
+fn list(rt: &(impl Abort + AllocGlobal), rows: &[Row]) -> Vec<Tagged> {
+    let mut all = Vec::new(rt.alloc());
+    for (tag, digits) in rows {
+        let octets = octets(rt, "", digits);
+        let result = all.push(Tagged { tag: *tag, octets });
+        assert!(rt; result.is_ok());
+    }
+    all
+}
+
+/// The reference.
+pub fn reference(rt: &(impl Abort + AllocGlobal), (type_id, profiles): &Reference) -> Ior {
+    Ior {
+        type_id: Vec::from_slice(rt.alloc(), type_id.as_bytes()).expect(rt, "memory"),
+        profiles: list(rt, profiles),
+    }
+}
+
+/// The profile.
+pub fn profile(rt: &(impl Abort + AllocGlobal), iiop: &Iiop) -> IiopProfile {
+    IiopProfile {
+        minor: iiop.minor,
+        host: Vec::from_slice(rt.alloc(), iiop.host.as_bytes()).expect(rt, "memory"),
+        port: iiop.port,
+        object_key: Vec::from_slice(rt.alloc(), iiop.key).expect(rt, "memory"),
+        components: list(rt, iiop.components),
+    }
+}
+
+/// Tells whether the tags and their octets are equal.
+fn are_alike(found: &[Tagged], wanted: &[Tagged]) -> bool {
+    if found.len() != wanted.len() {
+        return false;
+    }
+    for (one, other) in found.iter().zip(wanted) {
+        if one.tag != other.tag || one.octets.as_slice() != other.octets.as_slice() {
+            return false;
+        }
+    }
+    true
+}
+
+/// Tells whether two references are equal.
+pub fn is_same(found: &Ior, wanted: &Ior) -> bool {
+    found.type_id.as_slice() == wanted.type_id.as_slice()
+        && are_alike(&found.profiles, &wanted.profiles)
+}
+
+/// Tells whether two profiles are equal.
+pub fn is_same_profile(found: &IiopProfile, wanted: &IiopProfile) -> bool {
+    found.minor == wanted.minor
+        && found.host.as_slice() == wanted.host.as_slice()
+        && found.port == wanted.port
+        && found.object_key.as_slice() == wanted.object_key.as_slice()
+        && are_alike(&found.components, &wanted.components)
+}
+
+/// Tells whether two reasons are the same.
+pub fn is_reason(found: &IorError, wanted: &IorError) -> bool {
+    match (found, wanted) {
+        (IorError::BadDigit(a), IorError::BadDigit(b)) => a == b,
+        (IorError::Cdr(a), IorError::Cdr(b)) => a == b,
+        (IorError::NoPrefix, IorError::NoPrefix)
+        | (IorError::OddDigits, IorError::OddDigits)
+        | (IorError::BadMajor, IorError::BadMajor)
+        | (IorError::Memory, IorError::Memory) => true,
+        _ => false,
+    }
+}
+
+/// Asserts that the octets, which stand at a place, are in the output behind three others.
+pub fn assert_behind(rt: &impl Abort, out: &[u8], wanted: &[u8], digits: &str, at: u32) {
+    let Some((front, written)) = out.split_at_checked(3) else {
+        panic!(rt; "{digits} at {at}")
+    };
+    assert!(rt; front == [7, 8, 9].as_slice(), "{digits} at {at}");
+    assert!(rt; written == wanted, "{digits} at {at}");
+}
