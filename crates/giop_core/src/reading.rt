@@ -6,7 +6,7 @@ ghost use Rattle.giop_core.specs.declared.header.Version.TheVariants.{V10, V11, 
 ghost use Rattle.giop_core.specs.Calls.{Shows};
 ghost use Rattle.giop_core.specs.Content as content;
 ghost use Rattle.giop_core.specs.Content.{wish_by, wish_if};
-ghost use Rattle.giop_core.specs.Lent.{addressed_by, content_of, reply_of, request_of, rest_of};
+ghost use Rattle.giop_core.specs.Lent.{addressed_by, content_of, rest_of};
 ghost use Rattle.giop_core.specs.Messages.{message_of};
 
 use crate::fault::MessageFault;
@@ -54,9 +54,12 @@ fn body_at<'m>(cursor: &Cursor<'m>, order: Order) -> Body<'m>
     }
 }
 
+/// A Request of 1.0. Each reader of a Request or a Reply makes the whole message in its place, since to
+/// move one costs as much as to read it.
 #[tactic(auto, unfolding(crate::specs::Messages::message_of, crate::specs::Rows::row, crate::specs::Content::content), using(crate::proofs::Again::addressed_again, crate::proofs::Again::items_again))]
-fn request_10(order: Order, octets: &[u8]) -> Result<Request<'_>, MessageFault>
-    ensures { Shows request_of result (message_of V10 kind.Request order octets.now) }
+fn request_10(order: Order, octets: &[u8]) -> Result<Message<'_>, MessageFault>
+    ensures shows { Shows (λ m. content_of m.part) result (message_of V10 kind.Request order octets.now) }
+    ensures same { IfOk result (λ m. (m.version ≡ V10) × (m.order ≡ order)) }
 {
     let mut cursor = Cursor::new(octets, order, BEHIND_HEADER);
     let contexts = read_contexts(&mut cursor)?;
@@ -65,19 +68,24 @@ fn request_10(order: Order, octets: &[u8]) -> Result<Request<'_>, MessageFault>
     let key = cursor.octets()?;
     let operation = cursor.string()?;
     let _principal = cursor.octets()?;
-    Ok(Request {
-        request_id,
-        reply: wish_if(expected),
-        target: Target::Key(key),
-        operation,
-        contexts,
-        body: body_at(&cursor, order),
+    Ok(Message {
+        version: Version::V10,
+        order,
+        part: Part::Request(Request {
+            request_id,
+            reply: wish_if(expected),
+            target: Target::Key(key),
+            operation,
+            contexts,
+            body: body_at(&cursor, order),
+        }),
     })
 }
 
 #[tactic(auto, unfolding(crate::specs::Messages::message_of, crate::specs::Rows::row, crate::specs::Content::content), using(crate::proofs::Again::addressed_again, crate::proofs::Again::items_again))]
-fn request_11(order: Order, octets: &[u8]) -> Result<Request<'_>, MessageFault>
-    ensures { Shows request_of result (message_of V11 kind.Request order octets.now) }
+fn request_11(order: Order, octets: &[u8]) -> Result<Message<'_>, MessageFault>
+    ensures shows { Shows (λ m. content_of m.part) result (message_of V11 kind.Request order octets.now) }
+    ensures same { IfOk result (λ m. (m.version ≡ V11) × (m.order ≡ order)) }
 {
     let mut cursor = Cursor::new(octets, order, BEHIND_HEADER);
     let contexts = read_contexts(&mut cursor)?;
@@ -87,19 +95,24 @@ fn request_11(order: Order, octets: &[u8]) -> Result<Request<'_>, MessageFault>
     let key = cursor.octets()?;
     let operation = cursor.string()?;
     let _principal = cursor.octets()?;
-    Ok(Request {
-        request_id,
-        reply: wish_if(expected),
-        target: Target::Key(key),
-        operation,
-        contexts,
-        body: body_at(&cursor, order),
+    Ok(Message {
+        version: Version::V11,
+        order,
+        part: Part::Request(Request {
+            request_id,
+            reply: wish_if(expected),
+            target: Target::Key(key),
+            operation,
+            contexts,
+            body: body_at(&cursor, order),
+        }),
     })
 }
 
 #[tactic(auto, unfolding(crate::specs::Messages::message_of, crate::specs::Rows::row, crate::specs::Content::content), using(crate::proofs::Again::addressed_again, crate::proofs::Again::items_again))]
-fn request_12(order: Order, octets: &[u8]) -> Result<Request<'_>, MessageFault>
-    ensures { Shows request_of result (message_of V12 kind.Request order octets.now) }
+fn request_12(order: Order, octets: &[u8]) -> Result<Message<'_>, MessageFault>
+    ensures shows { Shows (λ m. content_of m.part) result (message_of V12 kind.Request order octets.now) }
+    ensures same { IfOk result (λ m. (m.version ≡ V12) × (m.order ≡ order)) }
 {
     let mut cursor = Cursor::new(octets, order, BEHIND_HEADER);
     let request_id = cursor.ulong()?;
@@ -109,18 +122,23 @@ fn request_12(order: Order, octets: &[u8]) -> Result<Request<'_>, MessageFault>
     let operation = cursor.string()?;
     let contexts = read_contexts(&mut cursor)?;
     cursor.align(8);
-    Ok(Request {
-        request_id,
-        reply: wish_by(flags),
-        target,
-        operation,
-        contexts,
-        body: body_at(&cursor, order),
+    Ok(Message {
+        version: Version::V12,
+        order,
+        part: Part::Request(Request {
+            request_id,
+            reply: wish_by(flags),
+            target,
+            operation,
+            contexts,
+            body: body_at(&cursor, order),
+        }),
     })
 }
 
-fn request(version: Version, order: Order, octets: &[u8]) -> Result<Request<'_>, MessageFault>
-    ensures { Shows request_of result (message_of version kind.Request order octets.now) }
+fn request(version: Version, order: Order, octets: &[u8]) -> Result<Message<'_>, MessageFault>
+    ensures shows { Shows (λ m. content_of m.part) result (message_of version kind.Request order octets.now) }
+    ensures same { IfOk result (λ m. (m.version ≡ version) × (m.order ≡ order)) }
 {
     match version {
         Version::V10 => request_10(order, octets),
@@ -130,44 +148,55 @@ fn request(version: Version, order: Order, octets: &[u8]) -> Result<Request<'_>,
 }
 
 #[tactic(auto, unfolding(crate::specs::Messages::message_of, crate::specs::Rows::row, crate::specs::Content::content), using(crate::proofs::Again::addressed_again, crate::proofs::Again::items_again))]
-fn reply_10(order: Order, octets: &[u8]) -> Result<Reply<'_>, MessageFault>
-    ensures { Shows reply_of result (message_of V10 kind.Reply order octets.now) }
+fn reply_10(version: Version, order: Order, octets: &[u8]) -> Result<Message<'_>, MessageFault>
+    ensures shows { Shows (λ m. content_of m.part) result (message_of V10 kind.Reply order octets.now) }
+    ensures same { IfOk result (λ m. (m.version ≡ version) × (m.order ≡ order)) }
 {
     let mut cursor = Cursor::new(octets, order, BEHIND_HEADER);
     let contexts = read_contexts(&mut cursor)?;
     let request_id = cursor.ulong()?;
     let status = cursor.ordinal(4)?;
-    Ok(Reply {
-        request_id,
-        status,
-        contexts,
-        body: body_at(&cursor, order),
+    Ok(Message {
+        version,
+        order,
+        part: Part::Reply(Reply {
+            request_id,
+            status,
+            contexts,
+            body: body_at(&cursor, order),
+        }),
     })
 }
 
 #[tactic(auto, unfolding(crate::specs::Messages::message_of, crate::specs::Rows::row, crate::specs::Content::content), using(crate::proofs::Again::addressed_again, crate::proofs::Again::items_again))]
-fn reply_12(order: Order, octets: &[u8]) -> Result<Reply<'_>, MessageFault>
-    ensures { Shows reply_of result (message_of V12 kind.Reply order octets.now) }
+fn reply_12(order: Order, octets: &[u8]) -> Result<Message<'_>, MessageFault>
+    ensures shows { Shows (λ m. content_of m.part) result (message_of V12 kind.Reply order octets.now) }
+    ensures same { IfOk result (λ m. (m.version ≡ V12) × (m.order ≡ order)) }
 {
     let mut cursor = Cursor::new(octets, order, BEHIND_HEADER);
     let request_id = cursor.ulong()?;
     let status = cursor.ordinal(6)?;
     let contexts = read_contexts(&mut cursor)?;
     cursor.align(8);
-    Ok(Reply {
-        request_id,
-        status,
-        contexts,
-        body: body_at(&cursor, order),
+    Ok(Message {
+        version: Version::V12,
+        order,
+        part: Part::Reply(Reply {
+            request_id,
+            status,
+            contexts,
+            body: body_at(&cursor, order),
+        }),
     })
 }
 
 #[tactic(auto, using(crate::proofs::Shared::reply_11))]
-fn reply(version: Version, order: Order, octets: &[u8]) -> Result<Reply<'_>, MessageFault>
-    ensures { Shows reply_of result (message_of version kind.Reply order octets.now) }
+fn reply(version: Version, order: Order, octets: &[u8]) -> Result<Message<'_>, MessageFault>
+    ensures shows { Shows (λ m. content_of m.part) result (message_of version kind.Reply order octets.now) }
+    ensures same { IfOk result (λ m. (m.version ≡ version) × (m.order ≡ order)) }
 {
     match version {
-        Version::V10 | Version::V11 => reply_10(order, octets),
+        Version::V10 | Version::V11 => reply_10(version, order, octets),
         Version::V12 => reply_12(order, octets),
     }
 }
@@ -264,35 +293,41 @@ fn fragment(
     }
 }
 
-/// What octets behind a header of that kind, version and order say.
+/// The message of a kind, a version and an order that octets behind a header are.
 #[tactic(auto, using(crate::proofs::Shared::cancel_any, crate::proofs::Shared::close_any, crate::proofs::Shared::error_any))]
-fn part(
+fn message_of_kind(
     kind: MessageKind,
     version: Version,
     order: Order,
     octets: &[u8],
-) -> Result<Part<'_>, MessageFault>
-    ensures { Shows content_of result (message_of version kind order octets.now) }
+) -> Result<Message<'_>, MessageFault>
+    ensures shows { Shows (λ m. content_of m.part) result (message_of version kind order octets.now) }
+    ensures same { IfOk result (λ m. (m.version ≡ version) × (m.order ≡ order)) }
 {
-    match kind {
-        MessageKind::Request => Ok(Part::Request(request(version, order, octets)?)),
-        MessageKind::Reply => Ok(Part::Reply(reply(version, order, octets)?)),
-        MessageKind::CancelRequest => Ok(Part::Cancel(cancel(order, octets)?)),
+    let part = match kind {
+        MessageKind::Request => return request(version, order, octets),
+        MessageKind::Reply => return reply(version, order, octets),
+        MessageKind::CancelRequest => Part::Cancel(cancel(order, octets)?),
         MessageKind::LocateRequest => {
             let (request_id, target) = locate(version, order, octets)?;
-            Ok(Part::LocateRequest(request_id, target))
+            Part::LocateRequest(request_id, target)
         }
         MessageKind::LocateReply => {
             let (request_id, status, body) = locate_reply(version, order, octets)?;
-            Ok(Part::LocateReply(request_id, status, body))
+            Part::LocateReply(request_id, status, body)
         }
-        MessageKind::CloseConnection => Ok(Part::Close),
-        MessageKind::MessageError => Ok(Part::Error),
+        MessageKind::CloseConnection => Part::Close,
+        MessageKind::MessageError => Part::Error,
         MessageKind::Fragment => {
             let (request_id, data) = fragment(version, order, octets)?;
-            Ok(Part::Fragment(request_id, data))
+            Part::Fragment(request_id, data)
         }
-    }
+    };
+    Ok(Message {
+        version,
+        order,
+        part,
+    })
 }
 
 /// The message that the octets behind a header are, or the first fault in them.
@@ -303,10 +338,5 @@ pub fn read_message<'m>(header: &Header, octets: &'m [u8]) -> Result<Message<'m>
     ensures shows { Shows (λ m. content_of m.part) result (message_of header.now.version header.now.kind header.now.order octets.now) }
     ensures same { IfOk result (λ m. (m.version ≡ header.now.version) × (m.order ≡ header.now.order)) }
 {
-    let part = part(header.kind, header.version, header.order, octets)?;
-    Ok(Message {
-        version: header.version,
-        order: header.order,
-        part,
-    })
+    message_of_kind(header.kind, header.version, header.order, octets)
 }
