@@ -3,6 +3,7 @@
 use super::frame_samples::{CANCEL, FIRST, LAST, LITTLE_FIRST, LITTLE_LAST, MIDDLE, WHOLE};
 use cdr_core::{Fault, Kind};
 use giop_core::{MessageFault, Part};
+use giop_frames::feeding::feed_all;
 use giop_frames::{Assembler, Limits, StreamFault};
 use std::alloc::Global;
 use std::process::Abort;
@@ -174,6 +175,22 @@ fn assert_rows(rt: &(impl Abort + AllocGlobal), size: usize) {
 fn streams_give_the_same_in_pieces_of_any_size(rt: HostRuntime) {
     for size in &SIZES {
         assert_rows(&rt, *size);
+    }
+}
+
+/// Tells whether frames that are fed as a list of pieces give that.
+fn gives_at_once(alloc: Global, row: &Row) -> bool {
+    let mut assembler = Assembler::new(alloc, LIMITS);
+    let fed = feed_all(&mut assembler, row.frames);
+    fed.messages == row.messages as u128 && fed.fault == row.fault
+}
+
+#[test]
+fn lists_of_pieces_give_the_same(rt: HostRuntime) {
+    let mut number: usize = 0;
+    for row in &ROWS {
+        assert!(rt; gives_at_once(rt.alloc(), row), "row {number}");
+        number = number.saturating_add(1);
     }
 }
 
