@@ -1,14 +1,1 @@
-pub mod Counter
-pub mod Locate
-pub mod Answer
-pub mod Event
-pub mod History
-pub mod Output
-pub mod Layout
-pub mod Standing
-pub mod Script
 pub mod Settings
-pub mod ReferenceLines
-pub mod MessageLines
-pub mod StreamEnds
-pub mod StreamLines

@@ -1,27 +1,39 @@
-//! The program `giop`: a server of one counter, driven by a script of events.
-//!
-//! It reads the script on standard input, plays its events on a server, and prints the octets that
-//! are written on each connection. It also shows the reference that a text is.
+//! The program `giop`: what its words ask for is done on its standard streams.
 #![tactic(auto)]
 
-mod counter;
-mod events;
-mod laws;
-mod locate;
-mod messages;
-mod play;
-mod reference;
-mod run;
-mod script;
-mod server;
 mod settings;
-mod stream;
 
+use giop_run::{Setting, run};
 use settings::{SettingError, settings};
 use std::process::ExitCode;
 use std::{env, io};
 
-/// Does what the words ask for.
+/// Does what a setting asks for on the standard streams, and gives the exit status.
+fn done(rt: &HostRuntime, setting: &Setting) -> u8 {
+    run(
+        rt.alloc(),
+        setting,
+        &mut rt.stdin(),
+        &mut rt.stdout(),
+        &mut rt.stderr(),
+    )
+}
+
+/// Says why words are refused, and gives the exit status.
+fn refused(rt: &HostRuntime, error: &SettingError) -> io::Result<u8> {
+    match error {
+        SettingError::Words(error) => {
+            error.print(rt)?;
+            Ok(error.exit_code() as u8)
+        }
+        SettingError::Memory => {
+            eprintln!(rt; "memory")?;
+            Ok(1)
+        }
+    }
+}
+
+/// Does what the words behind the program's name ask for.
 fn status_of(rt: &HostRuntime) -> io::Result<u8> {
     let alloc = rt.alloc();
     let words: Vec<String> = env::args(rt)?.collect(alloc)?;
@@ -30,21 +42,8 @@ fn status_of(rt: &HostRuntime) -> io::Result<u8> {
         texts.push(word.as_str())?;
     }
     match settings(alloc, texts.as_slice()) {
-        Ok(setting) => Ok(run::run(
-            alloc,
-            &setting,
-            &mut rt.stdin(),
-            &mut rt.stdout(),
-            &mut rt.stderr(),
-        )),
-        Err(SettingError::Words(error)) => {
-            error.print(rt)?;
-            Ok(error.exit_code() as u8)
-        }
-        Err(SettingError::Memory) => {
-            eprintln!(rt; "memory")?;
-            Ok(1)
-        }
+        Ok(setting) => Ok(done(rt, &setting)),
+        Err(error) => refused(rt, &error),
     }
 }
 

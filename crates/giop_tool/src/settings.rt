@@ -5,20 +5,8 @@ ghost use Rattle.giop_tool.specs.Settings.{IsNoWantOfMemory};
 
 use clap::error::ErrorKind;
 use clap::{Arg, ArgAction, ArgMatches, Command};
+use giop_run::Setting;
 use std::alloc::{AllocError, Global};
-
-/// What the program is to do.
-#[derive(Clone, Copy, Debug, PartialEq, Eq)]
-pub enum Setting<'a> {
-    /// Play the script on standard input.
-    Play,
-    /// Show the messages of the stream on standard input.
-    Show,
-    /// Tell how the stream on standard input ends.
-    Check,
-    /// Show the reference that the text is.
-    Ior(&'a str),
-}
 
 /// Why the words were refused.
 #[derive(Debug, Drop)]
@@ -72,15 +60,24 @@ fn ior_command<'a>(alloc: Global) -> Result<Command<'a>, AllocError> {
         .arg(text)
 }
 
-/// The whole command line.
-fn command<'a>(alloc: Global) -> Result<Command<'a>, AllocError> {
+/// `giop` without a subcommand.
+fn base_command<'a>(alloc: Global) -> Command<'a> {
     Command::new(alloc, "giop")
         .about("A GIOP server of one counter. Without a subcommand it plays a script")
         .no_binary_name(true)
-        .subcommand(play_command(alloc))?
+}
+
+/// The subcommands over a stream.
+fn with_streams<'a>(alloc: Global, command: Command<'a>) -> Result<Command<'a>, AllocError> {
+    command
         .subcommand(show_command(alloc))?
-        .subcommand(check_command(alloc))?
-        .subcommand(ior_command(alloc)?)
+        .subcommand(check_command(alloc))
+}
+
+/// The whole command line.
+fn command<'a>(alloc: Global) -> Result<Command<'a>, AllocError> {
+    let command = base_command(alloc).subcommand(play_command(alloc))?;
+    with_streams(alloc, command)?.subcommand(ior_command(alloc)?)
 }
 
 /// What words that were taken ask for.

@@ -1,0 +1,14 @@
+pub mod Counter
+pub mod Locate
+pub mod Answer
+pub mod Event
+pub mod History
+pub mod Output
+pub mod Layout
+pub mod Standing
+pub mod Script
+pub mod ReferenceLines
+pub mod MessageLines
+pub mod Digits
+pub mod StreamEnds
+pub mod StreamLines

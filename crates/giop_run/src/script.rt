@@ -1,0 +1,87 @@
+//! The script of events, a line for each.
+
+ghost use Rattle.std.specs.Prelude.{IfErr};
+ghost use Rattle.giop_run.specs.Script.{CountsFromOne};
+
+use crate::events::Event;
+use hex::FromHexError;
+use std::alloc::{AllocError, Global};
+
+/// Why a script was not read.
+#[derive(Clone, Copy, Debug, PartialEq, Eq)]
+pub enum ScriptError {
+    /// The line with that number, counted from 1, is no event.
+    BadLine(u64),
+    /// Memory ran out.
+    Memory,
+}
+
+/// A line that is no event, or want of memory.
+#[derive(Clone, Copy, Debug, PartialEq, Eq)]
+enum LineError {
+    Bad,
+    Memory,
+}
+
+/// A number in decimal digits alone.
+fn number(word: &str) -> Result<u64, LineError> {
+    if !word.bytes().all(|b| b.is_ascii_digit()) {
+        return Err(LineError::Bad);
+    }
+    word.parse().map_err(|_| LineError::Bad)
+}
+
+/// Octets in hexadecimal digits of either case, at least one octet.
+fn octets(alloc: Global, word: &str) -> Result<Vec<u8>, LineError> {
+    if word.is_empty() {
+        return Err(LineError::Bad);
+    }
+    match hex::decode(alloc, word) {
+        Ok(octets) => Ok(octets),
+        Err(FromHexError::OutOfMemory) => Err(LineError::Memory),
+        Err(_) => Err(LineError::Bad),
+    }
+}
+
+/// The piece in the words `C M HEX`.
+fn piece(alloc: Global, words: &str) -> Result<Event, LineError> {
+    let (connection, words) = words.split_once(' ').ok_or(LineError::Bad)?;
+    let (moment, digits) = words.split_once(' ').ok_or(LineError::Bad)?;
+    let connection = number(connection)?;
+    let moment = number(moment)?;
+    Ok(Event::Piece(connection, moment, octets(alloc, digits)?))
+}
+
+/// The event in a line.
+fn event(alloc: Global, line: &str) -> Result<Event, LineError> {
+    let (word, words) = line.split_once(' ').ok_or(LineError::Bad)?;
+    match word {
+        "open" => Ok(Event::Opened(number(words)?)),
+        "bytes" => piece(alloc, words),
+        "close" => Ok(Event::Close(number(words)?)),
+        "lost" => Ok(Event::Lost(number(words)?)),
+        _ => Err(LineError::Bad),
+    }
+}
+
+/// The events of a script, in order.
+///
+/// A line is `open C`, `bytes C M HEX`, `close C` or `lost C`, with one space between words: C is
+/// the number of a connection and M a moment, both in decimal digits, and HEX octets in hexadecimal
+/// digits. A CR before the LF is dropped. Empty lines and lines that begin with `#` are passed over.
+pub fn read_script(alloc: Global, script: &str) -> Result<Vec<Event>, ScriptError>
+    ensures { IfErr result CountsFromOne }
+{
+    let mut events = Vec::new(alloc);
+    for (i, line) in script.lines().enumerate() {
+        if line.is_empty() || line.starts_with('#') {
+            continue;
+        }
+        match event(alloc, line) {
+            Ok(event) => events.push(event).map_err(|_| ScriptError::Memory)?,
+            Err(LineError::Bad) => return Err(ScriptError::BadLine(i as u64 + 1)),
+            Err(LineError::Memory) => return Err(ScriptError::Memory),
+        }
+    }
+    Ok(events)
+}

@@ -1,4 +1,0 @@
-use Rattle.giop_tool.proofs.reference.put_component.Goals as goal
-
-pub returns : goal.returns
-returns c = rw (← c.deref.ensures.value, ← c.in_ok-digits.ensures) c.write.ensures.bytes
