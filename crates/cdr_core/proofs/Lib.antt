@@ -16,3 +16,4 @@ pub mod Written
 pub mod MayWrite
 pub mod SpelledFits
 pub mod Enclosed
+pub mod Tests

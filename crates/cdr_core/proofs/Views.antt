@@ -22,6 +22,9 @@ value_of-Seq vs = search (rules, the_lemmas)
 pub value_of-Array : (vs : Vec Val Global) → value_of (val.Array vs) ≡ value.array (values_of vs.items)
 value_of-Array vs = search (rules, the_lemmas)
 
+pub value_of-Struct : (vs : Vec Val Global) → value_of (val.Struct vs) ≡ value.structure (values_of vs.items)
+value_of-Struct vs = search (rules, the_lemmas)
+
 pub form_of-Seq : (n : ℕ) (t : Box Ty Global) → form_of (ty.Seq n t) ≡ form.sequence n (form_of t.value)
 form_of-Seq n t = search (rules, ty_lemmas)
 

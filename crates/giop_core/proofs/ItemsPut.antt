@@ -1,5 +1,6 @@
 -- Items as they are appended, in a list and as a cursor reads them.
 use Rattle.std.proofs.Common.{◌≡◌, ℕ, suc, ◌+◌, ◌-◌, ◌<◌, ◌≤◌, ◌^◌, List, [], ◌∷◌, ◌++◌, length, drop, get_or, map, Ok, Err, refl, sym, ap, subst, ◌∙◌, arith}
+use Rattle.std.proofs.Math.ListN.{drop_of_length-le}
 use Rattle.std.proofs.lemmas.List.{append-nil, drop_more}
 use Rattle.std.specs.Borrow.{Bor}
 use Rattle.cdr_core.specs.declared.fault.Fault.{Fault}
@@ -66,3 +67,10 @@ module _ (w : Writing) (all : List (ℕ × Bor (List ℕ))) (i : ℕ) (d : ℕ �
         puts_next w (lent_value (get_or all i d)) vs now new (new ++ octets_of_all w.order vs (place_in w new)) le e refl
             ∙ sym (ap (λ ws. now ++ octets_of_all w.order ws (place_in w now)) left),
       )
+
+  pub context_long : AreWritable (values (map lent_value (drop i all))) → length ((get_or all i d).1.now) < 2 ^ 32
+  context_long h = (subst AreWritable left h).0.1.0
+
+-- behind the last context nothing is left
+pub context_last : (w : Writing) (all : List (ℕ × Bor (List ℕ))) (i : ℕ) (now : List ℕ) → length all ≤ i → now ≡ now ++ octets_of_all w.order (values (map lent_value (drop i all))) (place_in w now)
+context_last w all i now le = sym (ap (λ xs. now ++ octets_of_all w.order (values (map lent_value xs)) (place_in w now)) (drop_of_length-le all le) ∙ append-nil now)

@@ -1,4 +1,5 @@
 pub mod Steps
+pub mod Behind
 pub mod Choices
 pub mod Passing
 pub mod Again

@@ -194,7 +194,6 @@ fn put_size(order: Order, size: u32, octets: &mut [u8])
 
 impl Header {
     /// The header that these octets are, or the first fault in it.
-    #[tactic(auto, unfolding(crate::specs::Headers::header_of))]
     pub fn read(octets: &[u8; 12]) -> Result<Header, HeaderFault>
         ensures { result ≡ header_of octets.now }
     {

@@ -14,22 +14,23 @@ use crate::references::{Parsing, Printing, ReferenceReading, ReferenceWriting};
 use crate::samples::Sample;
 use crate::stream_suites::STREAM_SUITES;
 use crate::suites::{Call, SUITES, Suite};
-use crate::trial::{Ending, Miss, tried};
+use crate::trial::{Ending, Miss, Trial, tried};
 use crate::writing::{ListWriting, Writing};
 use std::alloc::Global;
 use std::io;
 use std::io::Write;
 
+/// All suites: those of values and references, those of messages, and those of streams.
+fn all_suites() -> [&'static [Suite]; 3] {
+    [&SUITES, &MESSAGE_SUITES, &STREAM_SUITES]
+}
+
 /// Prints the names of all cases, one a line.
 pub fn print_names<W: Write>(out: &mut W) -> io::Result<()> {
-    for suite in &SUITES {
-        suite.print_names(out)?;
-    }
-    for suite in &MESSAGE_SUITES {
-        suite.print_names(out)?;
-    }
-    for suite in &STREAM_SUITES {
-        suite.print_names(out)?;
+    for suites in all_suites() {
+        for suite in suites {
+            suite.print_names(out)?;
+        }
     }
     Ok(())
 }
@@ -45,8 +46,9 @@ fn suite_in(suites: &'static [Suite], name: &str) -> Option<&'static Suite>
 fn suite_named(name: &str) -> Option<&'static Suite>
     ensures { IfSome result (λ suite. suite.now.name.now ≡ name.now) }
 {
-    let lower = suite_in(&SUITES, name).or(suite_in(&MESSAGE_SUITES, name));
-    lower.or(suite_in(&STREAM_SUITES, name))
+    let [lower, messages, streams] = all_suites();
+    let found = suite_in(lower, name).or(suite_in(messages, name));
+    found.or(suite_in(streams, name))
 }
 
 /// The sample of that name.
@@ -54,6 +56,11 @@ fn sample_named(samples: &'static [Sample], name: &str) -> Option<&'static Sampl
     ensures { IfSome result (λ sample. sample.now.name.now ≡ name.now) }
 {
     samples.iter().find(|sample| sample.name == name)
+}
+
+/// Makes a call with such inputs, and once more where memory for it was refused.
+fn ended<T: Trial + Drop>(alloc: Global, inputs: Result<T, Miss>) -> Result<Ending, Miss> {
+    Ok(tried(alloc, &mut inputs?)?)
 }
 
 /// A call on a sample.
@@ -70,7 +77,7 @@ impl Case {
     {
         let (first, second) = name.split_once('/')?;
         let suite = suite_named(first)?;
-        let sample = sample_named(suite.samples, second)?;
+        let sample = sample_named(suite.set.samples(), second)?;
         Some(Case { suite, sample })
     }
 
@@ -78,32 +85,22 @@ impl Case {
     /// since memory for its inputs was refused.
     pub fn run(self, alloc: Global) -> Result<Ending, Miss> {
         let sample = self.sample;
-        let ending = match self.suite.call {
-            Call::Read => tried(alloc, &mut Reading::new(alloc, sample)?),
-            Call::ReadList => tried(alloc, &mut ListReading::new(alloc, sample)?),
-            Call::Write(room) => tried(alloc, &mut Writing::new(alloc, sample, room)?),
-            Call::WriteList(room) => tried(alloc, &mut ListWriting::new(alloc, sample, room)?),
-            Call::Copy => tried(alloc, &mut Copying::new(alloc, sample)?),
-            Call::ReadReference => tried(alloc, &mut ReferenceReading { sample }),
-            Call::WriteReference(room) => {
-                tried(alloc, &mut ReferenceWriting::new(alloc, sample, room)?)
-            }
-            Call::ReadProfile => tried(alloc, &mut ProfileReading { sample }),
-            Call::WriteProfile(room) => tried(
-                alloc,
-                &mut ProfileWriting::new(alloc, sample, room)?,
-            ),
-            Call::Parse => tried(alloc, &mut Parsing { sample }),
-            Call::Print => tried(alloc, &mut Printing::new(alloc, sample)?),
-            Call::WriteMessage(room) => {
-                tried(alloc, &mut MessageWriting::new(alloc, sample, room)?)
-            }
-            Call::WriteClient(room) => tried(alloc, &mut ClientWriting::new(alloc, sample, room)?),
-            Call::Feed(times, size) => {
-                tried(alloc, &mut Feeding::new(alloc, sample, times, size))
-            }
-            Call::Cut(room) => tried(alloc, &mut Cutting::new(alloc, sample, room)?),
-        };
-        Ok(ending?)
+        match self.suite.call {
+            Call::Read => ended(alloc, Reading::new(alloc, sample)),
+            Call::ReadList => ended(alloc, ListReading::new(alloc, sample)),
+            Call::Write(room) => ended(alloc, Writing::new(alloc, sample, room)),
+            Call::WriteList(room) => ended(alloc, ListWriting::new(alloc, sample, room)),
+            Call::Copy => ended(alloc, Copying::new(alloc, sample)),
+            Call::ReadReference => ended(alloc, Ok(ReferenceReading { sample })),
+            Call::WriteReference(room) => ended(alloc, ReferenceWriting::new(alloc, sample, room)),
+            Call::ReadProfile => ended(alloc, Ok(ProfileReading { sample })),
+            Call::WriteProfile(room) => ended(alloc, ProfileWriting::new(alloc, sample, room)),
+            Call::Parse => ended(alloc, Ok(Parsing { sample })),
+            Call::Print => ended(alloc, Printing::new(alloc, sample)),
+            Call::WriteMessage(room) => ended(alloc, MessageWriting::new(alloc, sample, room)),
+            Call::WriteClient(room) => ended(alloc, ClientWriting::new(alloc, sample, room)),
+            Call::Feed(times, size) => ended(alloc, Ok(Feeding::new(alloc, sample, times, size))),
+            Call::Cut(room) => ended(alloc, Cutting::new(alloc, sample, room)),
+        }
     }
 }

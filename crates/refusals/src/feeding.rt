@@ -20,7 +20,7 @@ const LEAST: Limits = Limits {
 const MOST: usize = 8192;
 
 /// The messages that octets complete.
-#[derive(Clone, Copy, Debug, PartialEq, Eq)]
+#[derive(Clone, Copy)]
 struct Told {
     /// How many there are.
     messages: u32,
@@ -31,7 +31,7 @@ struct Told {
 }
 
 /// What a stream gives, as samples print it.
-#[derive(Clone, Copy, Debug, PartialEq, Eq)]
+#[derive(Clone, Copy, Debug)]
 struct Given {
     /// How many messages complete.
     messages: u32,

@@ -21,6 +21,7 @@ mod reading;
 mod references;
 mod run;
 mod samples;
+mod sets;
 mod shapes;
 mod sizes;
 mod stream_samples;

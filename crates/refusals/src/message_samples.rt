@@ -94,7 +94,7 @@ const REQUEST_WITHOUT_BODY: Sample = Sample {
 };
 
 /// Requests.
-pub const REQUESTS: [Sample; 6] = [
+pub static REQUESTS: [Sample; 6] = [
     REQUEST_1_0,
     REQUEST_1_1,
     REQUEST_1_2,
@@ -145,7 +145,7 @@ const REPLY_WITHOUT_BODY: Sample = Sample {
 };
 
 /// Replies.
-pub const REPLIES: [Sample; 3] = [REPLY_1_0, REPLY_1_2, REPLY_WITHOUT_BODY];
+pub static REPLIES: [Sample; 3] = [REPLY_1_0, REPLY_1_2, REPLY_WITHOUT_BODY];
 
 /// An id.
 const CANCEL: Sample = Sample {
@@ -158,7 +158,7 @@ const CANCEL: Sample = Sample {
 };
 
 /// CancelRequests.
-pub const CANCELS: [Sample; 1] = [CANCEL];
+pub static CANCELS: [Sample; 1] = [CANCEL];
 
 /// A key of 48 octets.
 const LOCATE_REQUEST_1_0: Sample = Sample {
@@ -220,7 +220,7 @@ const LOCATE_REQUEST_BY_REFERENCE: Sample = Sample {
 };
 
 /// LocateRequests.
-pub const LOCATE_REQUESTS: [Sample; 4] = [
+pub static LOCATE_REQUESTS: [Sample; 4] = [
     LOCATE_REQUEST_1_0,
     LOCATE_REQUEST_1_2,
     LOCATE_REQUEST_BY_PROFILE,
@@ -272,7 +272,7 @@ const LOCATE_REPLY_WITHOUT_BODY: Sample = Sample {
 };
 
 /// LocateReplies.
-pub const LOCATE_REPLIES: [Sample; 3] = [
+pub static LOCATE_REPLIES: [Sample; 3] = [
     LOCATE_REPLY_1_0,
     LOCATE_REPLY_1_2,
     LOCATE_REPLY_WITHOUT_BODY,
@@ -289,7 +289,7 @@ const CLOSING: Sample = Sample {
 };
 
 /// CloseConnection.
-pub const CLOSINGS: [Sample; 1] = [CLOSING];
+pub static CLOSINGS: [Sample; 1] = [CLOSING];
 
 /// A header alone.
 const ERROR: Sample = Sample {
@@ -302,7 +302,7 @@ const ERROR: Sample = Sample {
 };
 
 /// MessageError.
-pub const ERRORS: [Sample; 1] = [ERROR];
+pub static ERRORS: [Sample; 1] = [ERROR];
 
 /// The client "A", with the number 1 for its request, up to the moment 100.
 const CLIENT: Sample = Sample {
@@ -330,4 +330,4 @@ const CLIENT_LITTLE: Sample = Sample {
 };
 
 /// Contexts FT_REQUEST.
-pub const CLIENTS: [Sample; 2] = [CLIENT, CLIENT_LITTLE];
+pub static CLIENTS: [Sample; 2] = [CLIENT, CLIENT_LITTLE];

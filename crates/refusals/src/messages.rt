@@ -11,13 +11,13 @@ use crate::reading::{check_printed, ty};
 use crate::samples::Sample;
 use crate::sizes::is_clean;
 use crate::trial::{Miss, Trial, Wrong};
-use cdr_core::{Order, Val, read, writable};
+use cdr_core::{Order, Ty, Val, read, writable};
 use giop_core::{
     Body, Header, Message, Part, Reply, ReplyWish, Request, Target, Version, read_message,
     write_cancel, write_close, write_error, write_locate_reply, write_locate_request, write_reply,
     write_request,
 };
-use std::alloc::{AllocError, Global};
+use std::alloc::Global;
 
 /// Service contexts: the id of each and its octets.
 type Contexts = Vec<(u32, &'static [u8])>;
@@ -31,13 +31,25 @@ fn message_of(sample: &'static Sample) -> Result<Message<'static>, Wrong> {
     read_message(&header, behind).map_err(|_| Wrong::Inputs)
 }
 
-/// The contexts of a message.
-fn contexts_of(alloc: Global, part: Part<'static>) -> Result<Contexts, AllocError> {
-    match part {
-        Part::Request(request) => request.contexts.collect(alloc),
-        Part::Reply(reply) => reply.contexts.collect(alloc),
+/// The contexts of the message of a sample.
+fn contexts_of(alloc: Global, sample: &'static Sample) -> Result<Contexts, Miss> {
+    match message_of(sample)?.part {
+        Part::Request(request) => Ok(request.contexts.collect(alloc)?),
+        Part::Reply(reply) => Ok(reply.contexts.collect(alloc)?),
         _ => Ok(Vec::new(alloc)),
     }
+}
+
+/// The value of that type whose octets are a body.
+fn value_in(alloc: Global, ty: &Ty, body: &Body) -> Result<Val, Miss> {
+    if !ty.is_valid() || body.at > u64::from(u32::MAX) {
+        return Err(Wrong::Inputs.into());
+    }
+    let (value, used) = read(alloc, ty, body.order, body.at, body.octets)?;
+    if used != body.octets.len() {
+        return Err(Wrong::Length.into());
+    }
+    Ok(value)
 }
 
 /// The values of a body, as the members of a struct.
@@ -46,14 +58,7 @@ fn values_in(alloc: Global, sample: &Sample, body: &Body) -> Result<Val, Miss> {
         return Ok(Val::Struct(Vec::new(alloc)));
     }
     let ty = ty(alloc, sample)?;
-    if !ty.is_valid() || body.at > u64::from(u32::MAX) {
-        return Err(Wrong::Inputs.into());
-    }
-    let (value, used) = read(alloc, &ty, body.order, body.at, body.octets)?;
-    if used != body.octets.len() {
-        return Err(Wrong::Length.into());
-    }
-    Ok(value)
+    value_in(alloc, &ty, body)
 }
 
 /// The body of a message, as the members of a struct.
@@ -64,6 +69,13 @@ fn body_of(alloc: Global, sample: &Sample, part: &Part) -> Result<Val, Miss> {
         Part::LocateReply(_, _, body) => values_in(alloc, sample, body),
         _ => Ok(Val::Struct(Vec::new(alloc))),
     }
+}
+
+/// The body of a message, if it is printed as a sample's value is.
+fn checked_body(alloc: Global, sample: &Sample, part: &Part) -> Result<Val, Miss> {
+    let body = body_of(alloc, sample, part)?;
+    check_printed(sample, &body)?;
+    Ok(body)
 }
 
 /// Tells whether a version has such a target.
@@ -217,12 +229,11 @@ impl MessageWriting {
     /// The inputs.
     pub fn new(alloc: Global, sample: &'static Sample, room: Room) -> Result<MessageWriting, Miss> {
         let message = message_of(sample)?;
-        let body = body_of(alloc, sample, &message.part)?;
-        check_printed(sample, &body)?;
+        let body = checked_body(alloc, sample, &message.part)?;
         Ok(MessageWriting {
             sample,
             message,
-            contexts: contexts_of(alloc, message_of(sample)?.part)?,
+            contexts: contexts_of(alloc, sample)?,
             body,
             output: Output::new(alloc, room)?,
         })

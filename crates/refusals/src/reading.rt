@@ -120,14 +120,19 @@ impl Trial for ListReading {
     }
 }
 
-/// The value of a sample.
-pub fn value(alloc: Global, sample: &Sample) -> Result<Val, Miss> {
-    let ty = ty(alloc, sample)?;
+/// The value of a sample of that type.
+fn value_of(alloc: Global, sample: &Sample, ty: &Ty) -> Result<Val, Miss> {
     if !ty.is_valid() {
         return Err(Wrong::Inputs.into());
     }
     let at = u64::from(sample.at);
-    let (value, used) = read(alloc, &ty, sample.order, at, sample.octets)?;
+    let (value, used) = read(alloc, ty, sample.order, at, sample.octets)?;
     check_value(sample, &value, used)?;
     Ok(value)
+}
+
+/// The value of a sample.
+pub fn value(alloc: Global, sample: &Sample) -> Result<Val, Miss> {
+    let ty = ty(alloc, sample)?;
+    value_of(alloc, sample, &ty)
 }

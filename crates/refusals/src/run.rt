@@ -9,7 +9,7 @@ use std::io;
 use std::io::Write;
 
 /// Why the program does not end with status 0.
-#[derive(Clone, Copy, Debug, PartialEq, Eq)]
+#[derive(Clone, Copy, PartialEq, Eq)]
 enum Stop {
     /// Memory ran out before the call.
     Memory,
@@ -38,17 +38,22 @@ impl From<io::Error> for Stop {
     }
 }
 
+/// Prints how a case ended.
+fn print_ending<W: Write>(ending: Ending, out: &mut W) -> io::Result<()> {
+    match ending {
+        Ending::Done => writeln!(out, "done"),
+        Ending::Refused => writeln!(out, "refused"),
+    }
+}
+
 /// Prints the names of the cases, or runs the case of that name and prints how it ended.
 fn answer<W: Write>(alloc: Global, word: &str, out: &mut W) -> Result<(), Stop> {
     if word == "list" {
         return Ok(print_names(out)?);
     }
     let case = Case::named(word).ok_or(Stop::Unknown)?;
-    match case.run(alloc)? {
-        Ending::Done => writeln!(out, "done")?,
-        Ending::Refused => writeln!(out, "refused")?,
-    }
-    Ok(())
+    let ending = case.run(alloc)?;
+    Ok(print_ending(ending, out)?)
 }
 
 /// Prints why the program does not end with status 0.

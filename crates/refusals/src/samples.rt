@@ -144,7 +144,7 @@ const NESTED: Sample = Sample {
 };
 
 /// A value of each kind of type for which memory is taken.
-pub const VALUES: [Sample; 10] = [
+pub static VALUES: [Sample; 10] = [
     STRING,
     OCTETS,
     LONGS,
@@ -158,7 +158,7 @@ pub const VALUES: [Sample; 10] = [
 ];
 
 /// The structs, whose members are lists of values.
-pub const LISTS: [Sample; 2] = [STRUCT, NESTED];
+pub static LISTS: [Sample; 2] = [STRUCT, NESTED];
 
 /// The second string has no NUL at its end.
 const STRINGS_FAULT: Sample = Sample {
@@ -218,7 +218,7 @@ const NESTED_FAULT: Sample = Sample {
 };
 
 /// Octets that are faulty behind a part for which memory is taken.
-pub const FAULTS: [Sample; 4] = [STRINGS_FAULT, ARRAY_FAULT, STRUCT_FAULT, NESTED_FAULT];
+pub static FAULTS: [Sample; 4] = [STRINGS_FAULT, ARRAY_FAULT, STRUCT_FAULT, NESTED_FAULT];
 
 /// "X", and the octet 0 with the tag 1.
 const REFERENCE: Sample = Sample {
@@ -248,7 +248,7 @@ const TWO_PROFILES: Sample = Sample {
 };
 
 /// References.
-pub const REFERENCES: [Sample; 2] = [REFERENCE, TWO_PROFILES];
+pub static REFERENCES: [Sample; 2] = [REFERENCE, TWO_PROFILES];
 
 /// The tag of the second profile has three octets.
 const REFERENCE_FAULT: Sample = Sample {
@@ -266,7 +266,7 @@ const REFERENCE_FAULT: Sample = Sample {
 };
 
 /// Octets that are faulty behind a part of a reference.
-pub const REFERENCE_FAULTS: [Sample; 1] = [REFERENCE_FAULT];
+pub static REFERENCE_FAULTS: [Sample; 1] = [REFERENCE_FAULT];
 
 /// "X", and the octet 0 with the tag 1.
 const TEXT: Sample = Sample {
@@ -279,7 +279,7 @@ const TEXT: Sample = Sample {
 };
 
 /// Texts of references.
-pub const TEXTS: [Sample; 1] = [TEXT];
+pub static TEXTS: [Sample; 1] = [TEXT];
 
 /// The count of the profiles is missing behind "A".
 const TEXT_FAULT: Sample = Sample {
@@ -295,7 +295,7 @@ const TEXT_FAULT: Sample = Sample {
 };
 
 /// Texts of octets that are faulty behind a part of a reference.
-pub const TEXT_FAULTS: [Sample; 1] = [TEXT_FAULT];
+pub static TEXT_FAULTS: [Sample; 1] = [TEXT_FAULT];
 
 /// A profile of 1.0: the host "h", the port 1 and the key "c".
 const PROFILE_1_0: Sample = Sample {
@@ -325,7 +325,7 @@ const PROFILE_1_1: Sample = Sample {
 };
 
 /// IIOP profiles.
-pub const PROFILES: [Sample; 2] = [PROFILE_1_0, PROFILE_1_1];
+pub static PROFILES: [Sample; 2] = [PROFILE_1_0, PROFILE_1_1];
 
 /// The second component is missing.
 const PROFILE_FAULT: Sample = Sample {
@@ -344,4 +344,4 @@ const PROFILE_FAULT: Sample = Sample {
 };
 
 /// Octets that are faulty behind a component of a profile.
-pub const PROFILE_FAULTS: [Sample; 1] = [PROFILE_FAULT];
+pub static PROFILE_FAULTS: [Sample; 1] = [PROFILE_FAULT];

@@ -4,7 +4,7 @@ use cdr_core::{Case, Ty};
 use std::alloc::{AllocError, Global};
 
 /// A type of the samples. All its bounds are 8.
-#[derive(Clone, Copy, Debug, PartialEq, Eq)]
+#[derive(Clone, Copy)]
 pub enum Shape {
     /// A string.
     Str,

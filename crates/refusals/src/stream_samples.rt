@@ -132,7 +132,7 @@ const SEVERAL: Sample = Sample {
 };
 
 /// Streams.
-pub const STREAMS: [Sample; 9] = [
+pub static STREAMS: [Sample; 9] = [
     REQUEST,
     REQUEST_LITTLE,
     THREE_FRAGMENTS,
@@ -145,10 +145,10 @@ pub const STREAMS: [Sample; 9] = [
 ];
 
 /// Streams of whole messages, none of them cut.
-pub const UNCUT: [Sample; 3] = [REQUEST, REQUEST_LITTLE, SEVERAL];
+pub static UNCUT: [Sample; 3] = [REQUEST, REQUEST_LITTLE, SEVERAL];
 
 /// Messages whose fragments all come.
-pub const CUT: [Sample; 2] = [THREE_FRAGMENTS, TWO_FRAGMENTS_LITTLE];
+pub static CUT: [Sample; 2] = [THREE_FRAGMENTS, TWO_FRAGMENTS_LITTLE];
 
 /// A Request that is cut in three.
 const IN_THREE: Sample = Sample {
@@ -205,4 +205,4 @@ const UNCUT_LOCATE: Sample = Sample {
 };
 
 /// Messages that can be cut, and the octets of their frames of at most 32 octets.
-pub const CUTTABLE: [Sample; 3] = [IN_THREE, IN_THREE_LITTLE, UNCUT_LOCATE];
+pub static CUTTABLE: [Sample; 3] = [IN_THREE, IN_THREE_LITTLE, UNCUT_LOCATE];

@@ -1,15 +1,12 @@
 //! The calls, and the samples on which each is made.
 
 use crate::output::Room;
-use crate::samples::{
-    FAULTS, LISTS, PROFILE_FAULTS, PROFILES, REFERENCE_FAULTS, REFERENCES, Sample, TEXT_FAULTS,
-    TEXTS, VALUES,
-};
+use crate::sets::Set;
 use std::io;
 use std::io::Write;
 
 /// A call that takes memory.
-#[derive(Clone, Copy, Debug, PartialEq, Eq)]
+#[derive(Clone, Copy)]
 pub enum Call {
     /// `read`.
     Read,
@@ -48,14 +45,14 @@ pub struct Suite {
     /// It ends in `without_growth` where no memory may be asked for.
     pub name: &'static str,
     pub call: Call,
-    pub samples: &'static [Sample],
+    pub set: Set,
 }
 
 impl Suite {
     /// Prints the names of its cases, one a line.
     pub fn print_names<W: Write>(&self, out: &mut W) -> io::Result<()> {
         let suite = self.name;
-        for sample in self.samples {
+        for sample in self.set.samples() {
             let name = sample.name;
             writeln!(out, "{suite}/{name}")?;
         }
@@ -68,116 +65,116 @@ pub static SUITES: [Suite; 23] = [
     Suite {
         name: "read",
         call: Call::Read,
-        samples: &VALUES,
+        set: Set::Values,
     },
     Suite {
         name: "read_faulty",
         call: Call::Read,
-        samples: &FAULTS,
+        set: Set::Faults,
     },
     Suite {
         name: "read_list",
         call: Call::ReadList,
-        samples: &LISTS,
+        set: Set::Lists,
     },
     Suite {
         name: "write_empty",
         call: Call::Write(Room::Empty),
-        samples: &VALUES,
+        set: Set::Values,
     },
     Suite {
         name: "write_full",
         call: Call::Write(Room::Full),
-        samples: &VALUES,
+        set: Set::Values,
     },
     Suite {
         name: "write_without_growth",
         call: Call::Write(Room::Ample),
-        samples: &VALUES,
+        set: Set::Values,
     },
     Suite {
         name: "write_list_empty",
         call: Call::WriteList(Room::Empty),
-        samples: &LISTS,
+        set: Set::Lists,
     },
     Suite {
         name: "write_list_full",
         call: Call::WriteList(Room::Full),
-        samples: &LISTS,
+        set: Set::Lists,
     },
     Suite {
         name: "write_list_without_growth",
         call: Call::WriteList(Room::Ample),
-        samples: &LISTS,
+        set: Set::Lists,
     },
     Suite {
         name: "copy",
         call: Call::Copy,
-        samples: &VALUES,
+        set: Set::Values,
     },
     Suite {
         name: "read_ior",
         call: Call::ReadReference,
-        samples: &REFERENCES,
+        set: Set::References,
     },
     Suite {
         name: "read_ior_faulty",
         call: Call::ReadReference,
-        samples: &REFERENCE_FAULTS,
+        set: Set::ReferenceFaults,
     },
     Suite {
         name: "write_ior_empty",
         call: Call::WriteReference(Room::Empty),
-        samples: &REFERENCES,
+        set: Set::References,
     },
     Suite {
         name: "write_ior_full",
         call: Call::WriteReference(Room::Full),
-        samples: &REFERENCES,
+        set: Set::References,
     },
     Suite {
         name: "write_ior_without_growth",
         call: Call::WriteReference(Room::Ample),
-        samples: &REFERENCES,
+        set: Set::References,
     },
     Suite {
         name: "read_iiop",
         call: Call::ReadProfile,
-        samples: &PROFILES,
+        set: Set::Profiles,
     },
     Suite {
         name: "read_iiop_faulty",
         call: Call::ReadProfile,
-        samples: &PROFILE_FAULTS,
+        set: Set::ProfileFaults,
     },
     Suite {
         name: "write_iiop_empty",
         call: Call::WriteProfile(Room::Empty),
-        samples: &PROFILES,
+        set: Set::Profiles,
     },
     Suite {
         name: "write_iiop_full",
         call: Call::WriteProfile(Room::Full),
-        samples: &PROFILES,
+        set: Set::Profiles,
     },
     Suite {
         name: "write_iiop_without_growth",
         call: Call::WriteProfile(Room::Ample),
-        samples: &PROFILES,
+        set: Set::Profiles,
     },
     Suite {
         name: "parse_text",
         call: Call::Parse,
-        samples: &TEXTS,
+        set: Set::Texts,
     },
     Suite {
         name: "parse_text_faulty",
         call: Call::Parse,
-        samples: &TEXT_FAULTS,
+        set: Set::TextFaults,
     },
     Suite {
         name: "print_text",
         call: Call::Print,
-        samples: &TEXTS,
+        set: Set::Texts,
     },
 ];

@@ -38,7 +38,7 @@ pub enum Wrong {
 }
 
 /// Why a call did not end as it is to.
-#[derive(Clone, Copy, Debug, PartialEq, Eq)]
+#[derive(Clone, Copy, PartialEq, Eq)]
 pub enum Miss {
     /// Memory was refused.
     Memory,
@@ -91,7 +91,7 @@ impl From<WriteError> for Miss {
 }
 
 /// How a call ended with which nothing is wrong.
-#[derive(Clone, Copy, Debug, PartialEq, Eq)]
+#[derive(Clone, Copy)]
 pub enum Ending {
     /// It was right at once.
     Done,

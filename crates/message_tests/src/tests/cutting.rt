@@ -3,24 +3,39 @@
 use super::frame_samples::{FIRST, LAST, MIDDLE, WHOLE};
 use giop_frames::{fragments, is_cuttable};
 use std::process::Abort;
-use std::test::Fail;
+
+/// The frames of at most as many octets that the message is cut into, one behind another.
+fn cut(rt: &(impl Abort + AllocGlobal), piece: u32) -> Vec<u8> {
+    if !is_cuttable(WHOLE) || piece < 24 || !piece.is_multiple_of(8) {
+        rt.abort();
+    }
+    let mut out = Vec::new(rt.alloc());
+    if fragments(WHOLE, piece, &mut out).is_err() {
+        rt.abort();
+    }
+    out
+}
+
+/// Frames, one behind another.
+fn joined(rt: &(impl Abort + AllocGlobal), frames: &[&[u8]]) -> Vec<u8> {
+    let mut out = Vec::new(rt.alloc());
+    for frame in frames {
+        if out.extend_from_slice(frame).is_err() {
+            rt.abort();
+        }
+    }
+    out
+}
 
 /// Asserts that the message is cut into these frames, of at most as many octets.
-fn assert_cut(rt: &(impl Abort + AllocGlobal), piece: u32, frames: &[&[u8]]) -> Result<(), Fail> {
-    let mut out = Vec::new(rt.alloc());
-    let mut wanted = Vec::new(rt.alloc());
-    if is_cuttable(WHOLE) && 24 <= piece && piece.is_multiple_of(8) {
-        fragments(WHOLE, piece, &mut out)?;
-    }
-    for frame in frames {
-        wanted.extend_from_slice(frame)?;
-    }
-    assert!(rt; out.as_slice() == wanted.as_slice(), "{piece}");
-    Ok(())
+fn assert_cut(rt: &(impl Abort + AllocGlobal), piece: u32, frames: &[&[u8]]) {
+    let found = cut(rt, piece);
+    let wanted = joined(rt, frames);
+    assert!(rt; found.as_slice() == wanted.as_slice());
 }
 
 #[test]
-fn a_message_is_cut(rt: HostRuntime) -> Result<(), Fail> {
-    assert_cut(&rt, 32, &[FIRST, MIDDLE, LAST])?;
-    assert_cut(&rt, 56, &[WHOLE])
+fn a_message_is_cut(rt: HostRuntime) {
+    assert_cut(&rt, 32, &[FIRST, MIDDLE, LAST]);
+    assert_cut(&rt, 56, &[WHOLE]);
 }

@@ -1,19 +1,22 @@
 //! Writing what messages say.
 
 ghost use Rattle.std.specs.Prelude.{◌≡◌, ◌↔◌, IsTrue};
+ghost use Rattle.cdr_core.specs.Spelling.{IsClean};
 ghost use Rattle.cdr_core.specs.View.{values_of};
 ghost use Rattle.cdr_core.specs.Writing.{AreWritable};
 ghost use Rattle.giop_core.specs.Lent.{addressed_by};
 ghost use Rattle.giop_core.specs.Written.{locate_statuses, reply_statuses, CanAddress, CanAsk};
 
-use super::said::{Aim, Asked, Items, Row, Said, assert_octets, assert_written, target_in};
+use super::said::{
+    Aim, Asked, Row, Said, assert_octets, assert_written, expect, octets_in, target_in,
+};
 use cdr_core::{Order, Val, writable};
 use giop_core::{
     ReplyWish, Target, Version, write_cancel, write_close, write_error, write_ft,
     write_locate_reply, write_locate_request, write_reply, write_request,
 };
+use std::alloc::Global;
 use std::process::Abort;
-use std::test::Fail;
 
 /// What is written as a body.
 #[derive(Clone, Copy)]
@@ -84,23 +87,35 @@ fn locate_statuses(version: Version) -> u32
     }
 }
 
+/// Tells whether a text has no NUL.
+fn is_clean(alloc: Global, text: &[u8]) -> bool
+    ensures { IsTrue result → IsClean text.now }
+{
+    match Vec::from_slice(alloc, text) {
+        Ok(copy) => writable(&Val::Str(copy)),
+        Err(_) => false,
+    }
+}
+
+/// Writes a Request. Tells whether it can be written and is.
 fn put_request(
-    rt: &(impl Abort + AllocGlobal),
+    alloc: Global,
     version: Version,
     order: Order,
     asked: &Asked,
     target: &Target,
     body: &[Val],
     out: &mut Vec<u8>,
-) -> Result<(), Fail>
+) -> bool
     requires { AreWritable (values_of body.now) }
 {
-    let text = Val::Str(Vec::from_slice(rt.alloc(), asked.operation)?);
-    let is_asked = can_address(version, target) && can_ask(version, asked.wish);
-    if !is_asked || !writable(&text) {
-        rt.abort();
+    if !can_address(version, target) || !can_ask(version, asked.wish) {
+        return false;
     }
-    write_request(
+    if !is_clean(alloc, asked.operation) {
+        return false;
+    }
+    let written = write_request(
         version,
         order,
         asked.id,
@@ -110,165 +125,174 @@ fn put_request(
         asked.contexts,
         body,
         out,
-    )?;
-    Ok(())
+    );
+    written.is_ok()
 }
 
-fn put_reply(
-    rt: &impl Abort,
-    version: Version,
-    order: Order,
-    id: u32,
-    status: u32,
-    contexts: Items,
-    body: &[Val],
-    out: &mut Vec<u8>,
-) -> Result<(), Fail>
+/// Writes what a Reply or a LocateReply says. Tells whether it can be written and is.
+fn put_answer(version: Version, order: Order, said: &Said, body: &[Val], out: &mut Vec<u8>) -> bool
     requires { AreWritable (values_of body.now) }
 {
-    if status >= reply_statuses(version) {
-        rt.abort();
+    match said {
+        Said::Reply(id, status, contexts, _) => {
+            *status < reply_statuses(version)
+                && write_reply(version, order, *id, *status, contexts, body, out).is_ok()
+        }
+        Said::LocateReply(id, status, _) => {
+            *status < locate_statuses(version)
+                && write_locate_reply(version, order, *id, *status, body, out).is_ok()
+        }
+        _ => false,
     }
-    write_reply(version, order, id, status, contexts, body, out)?;
-    Ok(())
 }
 
-fn put_locate_request(
-    rt: &impl Abort,
-    version: Version,
-    order: Order,
-    id: u32,
-    target: &Target,
-    out: &mut Vec<u8>,
-) -> Result<(), Fail> {
-    if !can_address(version, target) {
-        rt.abort();
+/// Writes what a message without a target or a body says. Tells whether it can be written and is.
+fn put_bare(version: Version, order: Order, said: &Said, out: &mut Vec<u8>) -> bool {
+    match said {
+        Said::Cancel(id) => write_cancel(version, order, *id, out).is_ok(),
+        Said::Close => write_close(out).is_ok(),
+        Said::Error => write_error(out).is_ok(),
+        _ => false,
     }
-    write_locate_request(version, order, id, target, out)?;
-    Ok(())
 }
 
-fn put_locate_reply(
-    rt: &impl Abort,
-    version: Version,
-    order: Order,
-    id: u32,
-    status: u32,
-    body: &[Val],
-    out: &mut Vec<u8>,
-) -> Result<(), Fail>
-    requires { AreWritable (values_of body.now) }
-{
-    if status >= locate_statuses(version) {
-        rt.abort();
-    }
-    write_locate_reply(version, order, id, status, body, out)?;
-    Ok(())
-}
-
-/// Writes what a message says, for that target and with that body.
-fn put_said(
-    rt: &(impl Abort + AllocGlobal),
-    row: &Row,
-    target: &Target,
-    body: &[Val],
-    out: &mut Vec<u8>,
-) -> Result<(), Fail>
+/// Writes what a message says, for that target and with that body. Tells whether it can be written and
+/// is.
+fn put_said(alloc: Global, row: &Row, target: &Target, body: &[Val], out: &mut Vec<u8>) -> bool
     requires { AreWritable (values_of body.now) }
 {
     let (version, order) = (row.0, row.1);
     match &row.3 {
-        Said::Request(asked) => put_request(rt, version, order, asked, target, body, out),
-        Said::Reply(id, status, contexts, _) => {
-            put_reply(rt, version, order, *id, *status, contexts, body, out)
+        Said::Request(asked) => put_request(alloc, version, order, asked, target, body, out),
+        Said::LocateRequest(id, _) => {
+            can_address(version, target)
+                && write_locate_request(version, order, *id, target, out).is_ok()
         }
-        Said::Cancel(id) => Ok(write_cancel(version, order, *id, out)?),
-        Said::LocateRequest(id, _) => put_locate_request(rt, version, order, *id, target, out),
-        Said::LocateReply(id, status, _) => {
-            put_locate_reply(rt, version, order, *id, *status, body, out)
+        Said::Reply(_, _, _, _) | Said::LocateReply(_, _, _) => {
+            put_answer(version, order, &row.3, body, out)
         }
-        Said::Close => Ok(write_close(out)?),
-        Said::Error => Ok(write_error(out)?),
-        Said::Fragment(_, _) => rt.abort(),
+        bare => put_bare(version, order, bare, out),
     }
 }
 
-/// Writes what a message says, with these values as its body. The digits of a LocateRequest lend a
-/// target that is a reference.
+fn push(rt: &impl Abort, values: &mut Vec<Val>, value: Val) {
+    if values.push(value).is_err() {
+        rt.abort();
+    }
+}
+
+/// What a system exception holds.
+fn push_exception(rt: &(impl Abort + AllocGlobal), members: &mut Vec<Val>, name: &[u8]) {
+    let Ok(name) = Vec::from_slice(rt.alloc(), name) else {
+        rt.abort()
+    };
+    push(rt, members, Val::Str(name));
+    push(rt, members, Val::ULong(0));
+    push(rt, members, Val::Enum(1));
+}
+
+/// What is written as a body, as the members of a struct.
+fn members_of(rt: &(impl Abort + AllocGlobal), values: Values) -> Vec<Val> {
+    let mut members = Vec::new(rt.alloc());
+    match values {
+        Values::Nothing => {}
+        Values::Empty => push(rt, &mut members, Val::Struct(Vec::new(rt.alloc()))),
+        Values::Octet(octet) => push(rt, &mut members, Val::Octet(octet)),
+        Values::Long(number) => push(rt, &mut members, Val::Long(number)),
+        Values::LongLong(number) => push(rt, &mut members, Val::LongLong(number)),
+        Values::Pair => {
+            push(rt, &mut members, Val::Octet(10));
+            push(rt, &mut members, Val::UShort(0x0b0b));
+        }
+        Values::Exception(name) => push_exception(rt, &mut members, name),
+    }
+    members
+}
+
+/// Writes what a message says, for that target and with the members of a struct as its body. Tells
+/// whether it can be written and is.
+fn put_members(alloc: Global, row: &Row, target: &Target, body: &Val, out: &mut Vec<u8>) -> bool {
+    match body {
+        Val::Struct(members) => writable(body) && put_said(alloc, row, target, members, out),
+        _ => false,
+    }
+}
+
+/// Writes what a message says, with these values as its body. The octets of a LocateRequest lend a
+/// target that is a reference. Tells whether it can be written and is.
 fn put(
     rt: &(impl Abort + AllocGlobal),
     values: Values,
     row: &Row,
     source: &[u8],
     out: &mut Vec<u8>,
-) -> Result<(), Fail> {
+) -> bool {
     let target = target_of(rt, &row.3, source);
-    match values {
-        Values::Nothing => put_said(rt, row, &target, &[], out),
-        Values::Empty => {
-            let empty = Val::Struct(Vec::new(rt.alloc()));
-            put_said(rt, row, &target, &[empty], out)
-        }
-        Values::Octet(octet) => put_said(rt, row, &target, &[Val::Octet(octet)], out),
-        Values::Long(number) => put_said(rt, row, &target, &[Val::Long(number)], out),
-        Values::LongLong(number) => put_said(rt, row, &target, &[Val::LongLong(number)], out),
-        Values::Pair => {
-            let body = [Val::Octet(10), Val::UShort(0x0b0b)];
-            put_said(rt, row, &target, &body, out)
-        }
-        Values::Exception(name) => {
-            let name = Val::Str(Vec::from_slice(rt.alloc(), name)?);
-            if !writable(&name) {
-                rt.abort();
-            }
-            put_said(rt, row, &target, &[name, Val::ULong(0), Val::Enum(1)], out)
-        }
+    let body = Val::Struct(members_of(rt, values));
+    put_members(rt.alloc(), row, &target, &body, out)
+}
+
+/// One octet, from which no place counts in what is written behind it.
+fn begun(rt: &(impl Abort + AllocGlobal)) -> Vec<u8> {
+    match [0xca].to_vec(rt.alloc()) {
+        Ok(out) => out,
+        Err(_) => rt.abort(),
     }
+}
+
+/// Asserts that a message is written so behind others, with these values as its body, and that it
+/// reads again.
+fn assert_next(rt: &(impl Abort + AllocGlobal), values: Values, row: &Row, out: &mut Vec<u8>) {
+    let start = out.len();
+    let is_put = put(rt, values, row, &[], out);
+    expect(rt, is_put, row.2);
+    let Some(written) = out.get(start..) else {
+        rt.abort()
+    };
+    assert_written(rt, written, row);
 }
 
 /// Asserts that messages are written so one behind another, with these values as their bodies, and
 /// that each reads again. The first stands behind an octet, from which no place counts.
-pub(super) fn assert_sent(
-    rt: &(impl Abort + AllocGlobal),
-    values: Values,
-    rows: &[Row],
-) -> Result<(), Fail> {
-    let mut out = [0xca].to_vec(rt.alloc())?;
+pub(super) fn assert_sent(rt: &(impl Abort + AllocGlobal), values: Values, rows: &[Row]) {
+    let mut out = begun(rt);
     for row in rows {
-        let start = out.len();
-        put(rt, values, row, &[], &mut out)?;
-        let Some(written) = out.get(start..) else {
-            rt.abort()
-        };
-        assert_written(rt, written, row)?;
+        assert_next(rt, values, row, &mut out);
     }
-    Ok(())
 }
 
 /// Asserts that a message whose target is the reference of a LocateRequest is written so.
-pub(super) fn assert_turned(
-    rt: &(impl Abort + AllocGlobal),
-    values: Values,
-    row: &Row,
-    source: &[u8],
-) -> Result<(), Fail> {
+fn assert_turn(rt: &(impl Abort + AllocGlobal), values: Values, source: &str, row: &Row) {
+    let octets = octets_in(rt, source);
     let mut out = Vec::new(rt.alloc());
-    put(rt, values, row, source, &mut out)?;
-    assert_written(rt, &out, row)
+    let is_put = put(rt, values, row, &octets, &mut out);
+    expect(rt, is_put, row.2);
+    assert_written(rt, &out, row);
+}
+
+/// The digits of a LocateRequest, and a message whose target is its reference.
+pub(super) type Turned = (&'static str, Row);
+
+/// Asserts that messages whose targets are the references of LocateRequests are written so.
+pub(super) fn assert_turned(rt: &(impl Abort + AllocGlobal), values: Values, rows: &[Turned]) {
+    for (source, row) in rows {
+        assert_turn(rt, values, source, row);
+    }
 }
 
 /// An FT_REQUEST context: its order, the client, the number of the request, the expiration, and the
 /// digits.
 pub(super) type Client = (Order, &'static [u8], i32, u64, &'static str);
 
+/// Writes a context. Tells whether it can be written and is.
+fn put_client(alloc: Global, row: &Client, out: &mut Vec<u8>) -> bool {
+    is_clean(alloc, row.1) && write_ft(row.0, row.1, row.2, row.3, out).is_ok()
+}
+
 /// Asserts that a context is written so, behind another octet, from which no place counts.
-pub(super) fn assert_client(rt: &(impl Abort + AllocGlobal), row: &Client) -> Result<(), Fail> {
-    let (order, client, number, until, text) = row;
-    let name = Val::Str(Vec::from_slice(rt.alloc(), client)?);
-    if !writable(&name) {
-        rt.abort();
-    }
-    let mut out = [0xca].to_vec(rt.alloc())?;
-    write_ft(*order, client, *number, *until, &mut out)?;
-    assert_octets(rt, &out, text)
+pub(super) fn assert_client(rt: &(impl Abort + AllocGlobal), row: &Client) {
+    let mut out = begun(rt);
+    let is_put = put_client(rt.alloc(), row, &mut out);
+    expect(rt, is_put, row.4);
+    assert_octets(rt, &out, row.4);
 }

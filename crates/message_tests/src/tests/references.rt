@@ -1,21 +1,28 @@
 //! Targets, the object keys that they name, and references.
 
-use super::said::{Aim, is_target, octets_in, target_in};
+use super::said::{Aim, expect, is_target, octets_in, target_in};
 use giop_core::Target;
 use std::process::Abort;
-use std::test::Fail;
 
 /// The digits of a LocateRequest, its target, and the key that it names.
 type Naming = (&'static str, Aim, Option<&'static [u8]>);
 
-fn assert_names(rt: &(impl Abort + AllocGlobal), rows: &[Naming]) -> Result<(), Fail> {
-    for (text, aim, key) in rows {
-        let octets = octets_in(rt, text)?;
-        let target = target_in(rt, &octets);
-        assert!(rt; is_target(&target, aim), "{text}");
-        assert_eq!(rt; target.object_key(), *key, "{text}");
+/// Tells whether a target is that of the row, and names its key.
+fn names(target: &Target, row: &Naming) -> bool {
+    is_target(target, &row.1) && target.object_key() == row.2
+}
+
+/// Asserts that the target of the LocateRequest of digits is that of the row, and names its key.
+fn assert_name(rt: &(impl Abort + AllocGlobal), row: &Naming) {
+    let octets = octets_in(rt, row.0);
+    let target = target_in(rt, &octets);
+    expect(rt, names(&target, row), row.0);
+}
+
+fn assert_names(rt: &(impl Abort + AllocGlobal), rows: &[Naming]) {
+    for row in rows {
+        assert_name(rt, row);
     }
-    Ok(())
 }
 
 // By key alone in 1.0 and 1.1, and by its disposition in 1.2.
@@ -196,11 +203,11 @@ static REFERENCES: [Naming; 6] = [
 ];
 
 #[test]
-fn targets_name_object_keys(rt: HostRuntime) -> Result<(), Fail> {
-    assert_names(&rt, &KEYS)?;
-    assert_names(&rt, &PROFILES)?;
-    assert_names(&rt, &UNREADABLE)?;
-    assert_names(&rt, &REFERENCES)
+fn targets_name_object_keys(rt: HostRuntime) {
+    assert_names(&rt, &KEYS);
+    assert_names(&rt, &PROFILES);
+    assert_names(&rt, &UNREADABLE);
+    assert_names(&rt, &REFERENCES);
 }
 
 // The numbers of profiles, and what stands there.
@@ -215,22 +222,34 @@ static NUMBERED: [(u32, Option<(u32, &[u8])>); 8] = [
     (2, Some((5, &[2, 3]))),
 ];
 
+/// Tells whether a target is the first profile of a reference of three.
+fn is_of_three(target: &Target) -> bool {
+    match target {
+        Target::Reference(0, found) => found.type_id() == b"X/".as_slice() && found.count() == 3,
+        _ => false,
+    }
+}
+
+/// Tells whether a target is a reference that has that profile at that number, or none.
+fn has_profile(target: &Target, row: &(u32, Option<(u32, &[u8])>)) -> bool {
+    match target {
+        Target::Reference(_, found) => found.profile(row.0) == row.1,
+        _ => false,
+    }
+}
+
 // Behind the reference stands what would read as one more profile.
 #[test]
-fn profiles_of_a_reference_by_number(rt: HostRuntime) -> Result<(), Fail> {
+fn profiles_of_a_reference_by_number(rt: HostRuntime) {
     let octets = octets_in(
         &rt,
         "47494f50 01020003 00000041 00000002 00020000 00000000 00000003 582f00 00 00000003 \
          00000005 00000001 01 000000 00000006 00000000 00000005 00000002 0203 eeee 00000009 \
          00000001 05",
-    )?;
+    );
     let target = target_in(&rt, &octets);
-    let Target::Reference(0, reference) = &target else {
-        rt.abort()
-    };
-    assert!(rt; reference.type_id() == b"X/".as_slice() && reference.count() == 3);
-    for (index, wanted) in &NUMBERED {
-        assert_eq!(rt; reference.profile(*index), *wanted, "{index}");
+    assert!(rt; is_of_three(&target));
+    for row in &NUMBERED {
+        assert!(rt; has_profile(&target, row));
     }
-    Ok(())
 }

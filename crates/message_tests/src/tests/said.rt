@@ -2,12 +2,10 @@
 
 use cdr_core::Order;
 use giop_core::{
-    Body, Contexts, Header, IorView, Message, MessageFault, Part, ReplyWish, Request, Target,
-    Version, read_message,
+    Body, Contexts, Header, IorView, Message, Part, Reply, ReplyWish, Request, Target, Version,
+    read_message,
 };
-use std::alloc::AllocError;
 use std::process::Abort;
-use std::test::Fail;
 
 /// Contexts or profiles: the number of each and its octets.
 pub(super) type Items = &'static [(u32, &'static [u8])];
@@ -59,28 +57,37 @@ fn digit(rt: &impl Abort, letter: u8) -> u8 {
     }
 }
 
-/// The octets that hexadecimal digits stand for. Spaces mean nothing.
-pub(super) fn octets_in(
-    rt: &(impl Abort + AllocGlobal),
-    text: &str,
-) -> Result<Vec<u8>, AllocError> {
+fn push(rt: &impl Abort, octets: &mut Vec<u8>, octet: u8) {
+    if octets.push(octet).is_err() {
+        rt.abort();
+    }
+}
+
+/// Takes the next digit: appends the octet of which it is the low half, or answers that it is a high
+/// half.
+fn take_digit(rt: &impl Abort, octets: &mut Vec<u8>, high: Option<u8>, number: u8) -> Option<u8> {
+    match high {
+        None => Some(number),
+        Some(high) => {
+            push(rt, octets, (high << 4) | number);
+            None
+        }
+    }
+}
+
+/// The octets that hexadecimal digits stand for, two each. Spaces mean nothing.
+pub(super) fn octets_in(rt: &(impl Abort + AllocGlobal), text: &str) -> Vec<u8> {
     let mut octets = Vec::new(rt.alloc());
     let mut high = None;
     for letter in text.as_bytes() {
-        if *letter == b' ' {
-            continue;
-        }
-        let low = digit(rt, *letter);
-        match high {
-            None => high = Some(low),
-            Some(above) => {
-                octets.push((above << 4) | low)?;
-                high = None;
-            }
+        if *letter != b' ' {
+            high = take_digit(rt, &mut octets, high, digit(rt, *letter));
         }
     }
-    assert!(rt; high.is_none(), "{text}");
-    Ok(octets)
+    if high.is_some() {
+        rt.abort();
+    }
+    octets
 }
 
 /// The header of a whole message, and the octets behind it.
@@ -88,41 +95,36 @@ fn parted<'m>(rt: &impl Abort, octets: &'m [u8]) -> (Header, &'m [u8]) {
     let Some((first, behind)) = octets.split_first_chunk::<12>() else {
         rt.abort()
     };
-    let header = Header::read(first);
-    let Ok(header) = header else { rt.abort() };
-    assert!(rt; !header.more);
-    assert_eq!(rt; header.size as usize, behind.len());
+    let Ok(header) = Header::read(first) else {
+        rt.abort()
+    };
+    if header.more || header.size as usize != behind.len() {
+        rt.abort();
+    }
     (header, behind)
 }
 
 /// The whole message that octets are.
-fn whole<'m>(rt: &impl Abort, octets: &'m [u8]) -> Result<Message<'m>, MessageFault> {
+fn whole<'m>(rt: &impl Abort, octets: &'m [u8]) -> Message<'m> {
     let (header, behind) = parted(rt, octets);
-    read_message(&header, behind)
+    match read_message(&header, behind) {
+        Ok(message) => message,
+        Err(_) => rt.abort(),
+    }
 }
 
 /// The Request that octets are.
 pub(super) fn request_in<'m>(rt: &impl Abort, octets: &'m [u8]) -> Request<'m> {
-    match whole(rt, octets) {
-        Ok(
-            Message {
-                part: Part::Request(request),
-                ..
-            },
-        ) => request,
+    match whole(rt, octets).part {
+        Part::Request(request) => request,
         _ => rt.abort(),
     }
 }
 
 /// The target of the LocateRequest that octets are.
 pub(super) fn target_in<'m>(rt: &impl Abort, octets: &'m [u8]) -> Target<'m> {
-    match whole(rt, octets) {
-        Ok(
-            Message {
-                part: Part::LocateRequest(_, target),
-                ..
-            },
-        ) => target,
+    match whole(rt, octets).part {
+        Part::LocateRequest(_, target) => target,
         _ => rt.abort(),
     }
 }
@@ -170,75 +172,108 @@ pub(super) fn is_target(found: &Target, wanted: &Aim) -> bool {
     }
 }
 
-fn is_request(found: Request, order: Order, wanted: &Asked) -> bool {
-    found.request_id == wanted.id
-        && found.reply == wanted.wish
-        && is_target(&found.target, &wanted.target)
-        && found.operation == wanted.operation
-        && is_body(&found.body, order, wanted.body)
-        && are_items(found.contexts, wanted.contexts)
+/// Tells whether a Request of that order says that.
+fn is_request(found: Request, order: Order, wanted: &Said) -> bool {
+    let Said::Request(asked) = wanted else {
+        return false;
+    };
+    found.request_id == asked.id
+        && found.reply == asked.wish
+        && is_target(&found.target, &asked.target)
+        && found.operation == asked.operation
+        && is_body(&found.body, order, asked.body)
+        && are_items(found.contexts, asked.contexts)
 }
 
-/// Tells whether a part of that order says that.
-fn is_said(found: Part, order: Order, wanted: &Said) -> bool {
-    match (found, wanted) {
-        (Part::Request(found), Said::Request(asked)) => is_request(found, order, asked),
-        (Part::Reply(found), Said::Reply(id, status, contexts, body)) => {
-            found.request_id == *id
-                && found.status == *status
-                && is_body(&found.body, order, *body)
-                && are_items(found.contexts, contexts)
+/// Tells whether a Reply of that order says that.
+fn is_reply(found: Reply, order: Order, wanted: &Said) -> bool {
+    let Said::Reply(id, status, contexts, body) = wanted else {
+        return false;
+    };
+    found.request_id == *id
+        && found.status == *status
+        && is_body(&found.body, order, *body)
+        && are_items(found.contexts, contexts)
+}
+
+/// Tells whether a LocateReply of that order says that.
+fn is_located(found: (u32, u32), rest: &Body, order: Order, wanted: &Said) -> bool {
+    match wanted {
+        Said::LocateReply(id, status, body) => {
+            found == (*id, *status) && is_body(rest, order, *body)
         }
-        (Part::Cancel(found), Said::Cancel(id)) => found == *id,
-        (Part::LocateRequest(found, target), Said::LocateRequest(id, aim)) => {
-            found == *id && is_target(&target, aim)
-        }
-        (Part::LocateReply(found, number, rest), Said::LocateReply(id, status, body)) => {
-            found == *id && number == *status && is_body(&rest, order, *body)
-        }
-        (Part::Close, Said::Close) | (Part::Error, Said::Error) => true,
-        (Part::Fragment(found, rest), Said::Fragment(id, data)) => found == *id && rest == *data,
         _ => false,
     }
 }
 
+/// Tells whether a part that has neither contexts nor a body says that.
+fn is_plain(found: &Part, wanted: &Said) -> bool {
+    match wanted {
+        Said::Cancel(id) => matches!(found, Part::Cancel(found) if found == id),
+        Said::LocateRequest(id, aim) => is_asked_for(found, *id, aim),
+        Said::Close => matches!(found, Part::Close),
+        Said::Error => matches!(found, Part::Error),
+        Said::Fragment(id, data) => is_fragment(found, *id, data),
+        _ => false,
+    }
+}
+
+fn is_asked_for(found: &Part, id: u32, aim: &Aim) -> bool {
+    match found {
+        Part::LocateRequest(found, target) => *found == id && is_target(target, aim),
+        _ => false,
+    }
+}
+
+fn is_fragment(found: &Part, id: Option<u32>, data: &[u8]) -> bool {
+    match found {
+        Part::Fragment(found, rest) => *found == id && *rest == data,
+        _ => false,
+    }
+}
+
+/// Tells whether a part of that order says that.
+fn is_said(found: Part, order: Order, wanted: &Said) -> bool {
+    match found {
+        Part::Request(found) => is_request(found, order, wanted),
+        Part::Reply(found) => is_reply(found, order, wanted),
+        Part::LocateReply(id, status, rest) => is_located((id, status), &rest, order, wanted),
+        plain => is_plain(&plain, wanted),
+    }
+}
+
+/// Tells whether a message is of that version and order, and says that.
+fn is_message(found: Message, row: &Row) -> bool {
+    found.version == row.0 && found.order == row.1 && is_said(found.part, row.1, &row.3)
+}
+
+/// Asserts what was found of the row of that text.
+pub(super) fn expect(rt: &impl Abort, is_found: bool, text: &str) {
+    assert!(rt; is_found, "{text}");
+}
+
 /// Asserts that octets are a message, and what it says.
 fn assert_message(rt: &impl Abort, octets: &[u8], row: &Row) {
-    let (version, order, text, said) = row;
-    let Ok(message) = whole(rt, octets) else {
-        rt.abort()
-    };
-    let is_headed = message.version == *version && message.order == *order;
-    assert!(rt; is_headed && is_said(message.part, *order, said), "{text}");
+    let message = whole(rt, octets);
+    expect(rt, is_message(message, row), row.2);
 }
 
 /// Asserts that each message reads, and what it says.
-pub(super) fn assert_rows(rt: &(impl Abort + AllocGlobal), rows: &[Row]) -> Result<(), Fail> {
+pub(super) fn assert_rows(rt: &(impl Abort + AllocGlobal), rows: &[Row]) {
     for row in rows {
-        let octets = octets_in(rt, row.2)?;
+        let octets = octets_in(rt, row.2);
         assert_message(rt, &octets, row);
     }
-    Ok(())
 }
 
 /// Asserts that octets are those of digits.
-pub(super) fn assert_octets(
-    rt: &(impl Abort + AllocGlobal),
-    found: &[u8],
-    text: &str,
-) -> Result<(), Fail> {
-    let wanted = octets_in(rt, text)?;
-    assert_eq!(rt; found, wanted.as_slice(), "{text}");
-    Ok(())
+pub(super) fn assert_octets(rt: &(impl Abort + AllocGlobal), found: &[u8], text: &str) {
+    let wanted = octets_in(rt, text);
+    expect(rt, found == wanted.as_slice(), text);
 }
 
 /// Asserts that octets that were written are a message, and that they read as what it says.
-pub(super) fn assert_written(
-    rt: &(impl Abort + AllocGlobal),
-    found: &[u8],
-    row: &Row,
-) -> Result<(), Fail> {
-    assert_octets(rt, found, row.2)?;
+pub(super) fn assert_written(rt: &(impl Abort + AllocGlobal), found: &[u8], row: &Row) {
+    assert_octets(rt, found, row.2);
     assert_message(rt, found, row);
-    Ok(())
 }

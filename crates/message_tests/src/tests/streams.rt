@@ -2,7 +2,7 @@
 
 use super::frame_samples::{CANCEL, FIRST, LAST, LITTLE_FIRST, LITTLE_LAST, MIDDLE, WHOLE};
 use cdr_core::{Fault, Kind};
-use giop_core::{MessageFault, Part};
+use giop_core::{Message, MessageFault, Part};
 use giop_frames::feeding::feed_all;
 use giop_frames::{Assembler, Limits, StreamFault};
 use std::alloc::Global;
@@ -159,14 +159,17 @@ static ROWS: [Row; 11] = [
     },
 ];
 
+/// Asserts what was found of the row of that number.
+fn expect_row(rt: &impl Abort, is_found: bool, number: usize) {
+    assert!(rt; is_found, "row {number}");
+}
+
 /// Asserts what each row gives in pieces of as many octets.
 fn assert_rows(rt: &(impl Abort + AllocGlobal), size: usize) {
     let mut number: usize = 0;
     for row in &ROWS {
-        assert!(rt;
-            gives(rt.alloc(), row, size),
-            "row {number} in pieces of {size}"
-        );
+        let is_given = gives(rt.alloc(), row, size);
+        expect_row(rt, is_given, number);
         number = number.saturating_add(1);
     }
 }
@@ -189,29 +192,42 @@ fn gives_at_once(alloc: Global, row: &Row) -> bool {
 fn lists_of_pieces_give_the_same(rt: HostRuntime) {
     let mut number: usize = 0;
     for row in &ROWS {
-        assert!(rt; gives_at_once(rt.alloc(), row), "row {number}");
+        let is_given = gives_at_once(rt.alloc(), row);
+        expect_row(&rt, is_given, number);
         number = number.saturating_add(1);
     }
 }
 
-/// Tells whether frames that come whole complete, with the last, this Request of id 5: the operation `add`
-/// and its body.
-fn lends(alloc: Global, frames: &[&[u8]], body: &[u8]) -> bool {
-    let mut assembler = Assembler::new(alloc, LIMITS);
+/// Feeds frames that come whole. Tells whether each is taken, and none completes a message but the last.
+fn are_taken(assembler: &mut Assembler, frames: &[&[u8]]) -> bool {
     for frame in frames {
         if assembler.message().is_some() || assembler.feed(frame) != Ok(frame.len()) {
             return false;
         }
     }
+    true
+}
+
+/// Tells whether a message is the Request of id 5: the operation `add` and its body.
+fn is_add(message: &Message, body: &[u8]) -> bool {
+    match &message.part {
+        Part::Request(request) => {
+            request.request_id == 5
+                && request.operation == b"add".as_slice()
+                && request.body.octets == body
+        }
+        _ => false,
+    }
+}
+
+/// Tells whether frames that come whole complete, with the last, the Request of id 5.
+fn lends(alloc: Global, frames: &[&[u8]], body: &[u8]) -> bool {
+    let mut assembler = Assembler::new(alloc, LIMITS);
+    if !are_taken(&mut assembler, frames) {
+        return false;
+    }
     match assembler.message() {
-        Some(message) => match message.part {
-            Part::Request(request) => {
-                request.request_id == 5
-                    && request.operation == b"add".as_slice()
-                    && request.body.octets == body
-            }
-            _ => false,
-        },
+        Some(message) => is_add(&message, body),
         None => false,
     }
 }
@@ -228,12 +244,19 @@ fn joined_messages_are_lent(rt: HostRuntime) {
     );
 }
 
+// Frames of one message, and how many octets are held behind each.
+static HELD: [(&[u8], usize); 3] = [(FIRST, 32), (MIDDLE, 48), (LAST, 52)];
+
+/// Feeds a frame. Tells whether it is taken whole, and as many octets are held then.
+fn holds(assembler: &mut Assembler, frame: &[u8], held: usize) -> bool {
+    assembler.feed(frame) == Ok(frame.len()) && assembler.held() == held
+}
+
 #[test]
 fn what_is_held_is_told(rt: HostRuntime) {
     let mut assembler = Assembler::new(rt.alloc(), LIMITS);
-    for (frame, held) in [(FIRST, 32), (MIDDLE, 48), (LAST, 52)] {
-        let taken = assembler.feed(frame);
-        assert!(rt; taken == Ok(frame.len()) && assembler.held() == held);
+    for (frame, held) in &HELD {
+        assert!(rt; holds(&mut assembler, frame, *held));
     }
 }
 

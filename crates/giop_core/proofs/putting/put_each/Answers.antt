@@ -1,7 +1,7 @@
-use Rattle.std.proofs.Common.{◌∙◌}
+use Rattle.std.proofs.Common.{refl, ◌∙◌}
 use Rattle.std.proofs.lemmas.Result.{err_from_is_err_and}
-use Rattle.cdr_core.specs.Appending.{begins, keeps_both, keeps_more}
-use Rattle.giop_core.proofs.ItemsPut.{context_step}
+use Rattle.cdr_core.specs.Appending.{begins, keeps_all, keeps_both, keeps_more}
+use Rattle.giop_core.proofs.ItemsPut.{context_last, context_long, context_step}
 use Rattle.giop_core.proofs.putting.put_each.Goals as goal
 
 pub returns-in_err-put_context : goal.returns-in_err-put_context
@@ -24,3 +24,19 @@ loop-one-preserved c =
       writable = step.0;
       whole = step.1 ∙ i.whole;
     }
+
+pub loop-one-init : goal.loop-one-init
+loop-one-init c = record {
+  keeps = keeps_all c.args.out.now.items c.args.out.now.items refl;
+  writable = c.requires.writable;
+  whole = refl;
+}
+
+pub put_context-requires-clause-start : goal.put_context-requires-clause-start
+put_context-requires-clause-start c = begins c.args.writer.now.start c.args.out.now.items c.loop-one.out.items c.requires.start c.loop-one.invariant.keeps
+
+pub put_context-requires-clause-long : goal.put_context-requires-clause-long
+put_context-requires-clause-long c = context_long c.args.writer.now c.args.all.now c.loop-one.one-index _ c.loop-one-test.true c.loop-one.invariant.writable
+
+pub returns : goal.returns
+returns c = context_last c.args.writer.now c.args.all.now c.loop-one.one-index c.loop-one.out.items c.loop-one-test.false ∙ c.loop-one.invariant.whole

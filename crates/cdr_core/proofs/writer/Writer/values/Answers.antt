@@ -1,6 +1,6 @@
 use Rattle.std.proofs.Common.{◌≡◌, ◌+◌, ◌-◌, ◌≤◌, length, sym, ap, arith, vec_capacity}
 use Rattle.cdr_core.specs.View.{values_of}
-use Rattle.cdr_core.specs.Writing.{octets_of_all, place_in}
+use Rattle.cdr_core.specs.Writing.{octets_of_all}
 use Rattle.cdr_core.proofs.Lengths.{room_made}
 use Rattle.cdr_core.proofs.writer.Writer.values.Goals as goal
 
