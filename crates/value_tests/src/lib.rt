@@ -6,3 +6,5 @@
 mod cdr;
 #[cfg(test)]
 mod ior;
+#[cfg(test)]
+mod rows;

@@ -2,7 +2,9 @@
 
 use super::forms::{Form, Label, Sample, type_of, value_of};
 use super::samples::{CHOICE, DEFAULTED, HI, NONE_AT_5, PAIRS, TWO_PAIRS};
-use cdr_core::{Ty, fits, writable};
+use crate::rows::{assert_at, assert_named};
+use cdr_core::{fits, writable};
+use std::alloc::{AllocError, Global};
 use std::process::Abort;
 
 /// A union of one case.
@@ -16,7 +18,7 @@ macro_rules! one_case {
 type TypeRow = (Form, bool);
 
 /// Counts of types are at least one, and a struct has a member.
-const COUNTS: &[TypeRow] = &[
+static COUNTS: &[TypeRow] = &[
     (Form::Boolean, true),
     (Form::ULongLong, true),
     (Form::Str(0), true),
@@ -34,7 +36,7 @@ const COUNTS: &[TypeRow] = &[
 ];
 
 /// Labels are numbers of the discriminator.
-const LABELS: &[TypeRow] = &[
+static LABELS: &[TypeRow] = &[
     (one_case!(Form::Boolean, 0, Form::Octet), true),
     (one_case!(Form::Boolean, 1, Form::Octet), true),
     (one_case!(Form::Boolean, 2, Form::Octet), false),
@@ -82,7 +84,7 @@ const LABELS: &[TypeRow] = &[
 ];
 
 /// Other types choose nothing, labels are distinct, and members are valid.
-const UNIONS: &[TypeRow] = &[
+static UNIONS: &[TypeRow] = &[
     (one_case!(Form::Octet, 1, Form::Octet), false),
     (one_case!(Form::Str(9), 0, Form::Octet), false),
     (one_case!(Form::Octets(9), 0, Form::Octet), false),
@@ -118,11 +120,16 @@ const UNIONS: &[TypeRow] = &[
     (Form::Union(&Form::Short, &[], None), true),
 ];
 
+/// Tells whether the type is valid or not, as expected.
+fn is_valid_as(alloc: Global, form: &Form, expected: bool) -> Result<bool, AllocError> {
+    Ok(type_of(alloc, form)?.is_valid() == expected)
+}
+
 /// Asserts of each row, counted from 0, whether its type is valid.
 fn assert_valid(rt: &(impl Abort + AllocGlobal), table: &str, rows: &[TypeRow]) {
     for (index, (form, expected)) in rows.iter().enumerate() {
-        let ty = type_of(rt.alloc(), form).expect(rt, "memory");
-        assert!(rt; ty.is_valid() == *expected, "{table}, row {index}");
+        let holds = is_valid_as(rt.alloc(), form, *expected).unwrap_or(false);
+        assert_at(rt, holds, table, index as u64);
     }
 }
 
@@ -134,7 +141,10 @@ fn types_are_valid(rt: HostRuntime) {
 }
 
 /// The name of a form, a type of it, and a value.
-const FORMS: &[(&str, Form, Sample)] = &[
+type FormRow = (&'static str, Form, Sample);
+
+/// Each form once.
+static FORMS: &[FormRow] = &[
     ("boolean", Form::Boolean, Sample::Boolean(true)),
     ("character", Form::Char, Sample::Char(1)),
     ("octet", Form::Octet, Sample::Octet(1)),
@@ -169,32 +179,35 @@ const FORMS: &[(&str, Form, Sample)] = &[
     ),
 ];
 
-/// Asserts whether a value fits the type, which is valid.
-fn assert_fits(
-    rt: &(impl Abort + AllocGlobal),
-    ty: &Ty,
+/// Tells whether the value fits the type, which is valid, or not, as expected.
+fn fits_as(
+    alloc: Global,
+    form: &Form,
     sample: &Sample,
     expected: bool,
-    table: &str,
-    row: usize,
-) {
-    let value = value_of(rt.alloc(), sample).expect(rt, "memory");
-    assert!(rt; ty.is_valid(), "{table}, row {row}");
-    assert!(rt; fits(ty, &value) == expected, "{table}, row {row}");
+) -> Result<bool, AllocError> {
+    let ty = type_of(alloc, form)?;
+    let value = value_of(alloc, sample)?;
+    Ok(ty.is_valid() && fits(&ty, &value) == expected)
+}
+
+/// Each form once.
+fn forms() -> &'static [FormRow] {
+    FORMS
 }
 
 /// Asserts that of the values of all forms the one of that name fits the type.
-fn assert_fits_own(rt: &(impl Abort + AllocGlobal), ty: &Ty, name: &str) {
-    for (row, (other, _, sample)) in FORMS.iter().enumerate() {
-        assert_fits(rt, ty, sample, *other == name, name, row);
+fn assert_fits_own(rt: &(impl Abort + AllocGlobal), form: &Form, name: &str) {
+    for (row, (other, _, sample)) in forms().iter().enumerate() {
+        let holds = fits_as(rt.alloc(), form, sample, *other == name).unwrap_or(false);
+        assert_at(rt, holds, name, row as u64);
     }
 }
 
 #[test]
 fn a_value_fits_its_own_form_alone(rt: HostRuntime) {
-    for (name, form, _) in FORMS {
-        let ty = type_of(rt.alloc(), form).expect(&rt, "memory");
-        assert_fits_own(&rt, &ty, name);
+    for (name, form, _) in forms() {
+        assert_fits_own(&rt, form, name);
     }
 }
 
@@ -220,7 +233,7 @@ const THREE_OCTETS: &[Sample] = &[Sample::Octet(1), Sample::Octet(2), Sample::Oc
 const TEXTS: Sample = Sample::Seq(&[Sample::Str(b"h"), HI]);
 
 /// Lengths and counts are within their bounds.
-const BOUNDS: &[FitRow] = &[
+static BOUNDS: &[FitRow] = &[
     (Form::Str(0), Sample::Str(b""), true),
     (Form::Str(1), HI, false),
     (Form::Str(2), HI, true),
@@ -251,7 +264,7 @@ const BOUNDS: &[FitRow] = &[
 const BOTH: Form = Form::Struct(&[Form::Octet, Form::Enum(2)]);
 
 /// Members fit one by one.
-const MEMBERS: &[FitRow] = &[
+static MEMBERS: &[FitRow] = &[
     (PAIRS, TWO_PAIRS, true),
     (
         BOTH,
@@ -285,7 +298,7 @@ const BY_ORDINAL: Form = Form::Union(
 );
 
 /// A union fits by its labels, and by its default.
-const CHOSEN: &[FitRow] = &[
+static CHOSEN: &[FitRow] = &[
     (
         CHOICE,
         Sample::Union(&Sample::Short(1), Some(&Sample::Octet(9))),
@@ -340,8 +353,8 @@ const CHOSEN: &[FitRow] = &[
 /// Asserts of each row, counted from 0, whether its value fits its type.
 fn assert_each_fits(rt: &(impl Abort + AllocGlobal), table: &str, rows: &[FitRow]) {
     for (row, (form, sample, expected)) in rows.iter().enumerate() {
-        let ty = type_of(rt.alloc(), form).expect(rt, "memory");
-        assert_fits(rt, &ty, sample, *expected, table, row);
+        let holds = fits_as(rt.alloc(), form, sample, *expected).unwrap_or(false);
+        assert_at(rt, holds, table, row as u64);
     }
 }
 
@@ -354,7 +367,7 @@ fn values_fit(rt: HostRuntime) {
 
 /// Values that can be written, also where they fit no type, and values that can't, for a NUL in a
 /// string.
-const WRITABLE: &[(Sample, bool)] = &[
+static WRITABLE: &[(Sample, bool)] = &[
     (Sample::Array(&[Sample::Octet(1), Sample::Short(2)]), true),
     (Sample::Array(&[]), true),
     (Sample::Struct(&[]), true),
@@ -433,28 +446,23 @@ const WRITABLE: &[(Sample, bool)] = &[
     (Sample::Union(&Sample::Str(&[b'h', 0, b'i']), None), false),
 ];
 
-/// Asserts whether the value can be written.
-fn assert_writable(
-    rt: &(impl Abort + AllocGlobal),
-    sample: &Sample,
-    expected: bool,
-    name: &str,
-    row: usize,
-) {
-    let value = value_of(rt.alloc(), sample).expect(rt, "memory");
-    assert!(rt; writable(&value) == expected, "{name}, row {row}");
+/// Tells whether the value can be written or not, as expected.
+fn is_writable_as(alloc: Global, sample: &Sample, expected: bool) -> Result<bool, AllocError> {
+    Ok(writable(&value_of(alloc, sample)?) == expected)
 }
 
 #[test]
 fn values_of_all_forms_are_writable(rt: HostRuntime) {
-    for (row, (name, _, sample)) in FORMS.iter().enumerate() {
-        assert_writable(&rt, sample, true, name, row);
+    for (name, _, sample) in forms() {
+        let holds = is_writable_as(rt.alloc(), sample, true).unwrap_or(false);
+        assert_named(&rt, holds, name);
     }
 }
 
 #[test]
 fn strings_without_a_nul_are_writable(rt: HostRuntime) {
     for (row, (sample, expected)) in WRITABLE.iter().enumerate() {
-        assert_writable(&rt, sample, *expected, "writable", row);
+        let holds = is_writable_as(rt.alloc(), sample, *expected).unwrap_or(false);
+        assert_at(&rt, holds, "writable", row as u64);
     }
 }

@@ -1,5 +1,6 @@
 //! Each call of a cursor: what it gives, where it goes, and that it stays where there is a fault.
 
+use crate::rows::assert_at;
 use cdr_core::Kind::{BadBoolean, BadEnum, InteriorNul, NoTerminator, Short};
 use cdr_core::Order::{Big, Little};
 use cdr_core::{Cursor, Fault, Kind, Order};
@@ -51,7 +52,7 @@ use Step::{Align, At, Gives, Stops};
 type Row = (&'static str, &'static [u8], Order, u32, &'static [Step]);
 
 /// Octets, characters and booleans, and numbers in either order.
-const NUMBERS: &[Row] = &[
+static NUMBERS: &[Row] = &[
     (
         "octets, characters and booleans",
         &[7, b'c', 1, 0, 2],
@@ -180,7 +181,7 @@ const LONG_LONGS: &[u8] = &[
 
 /// Octets and strings, which are lent, a string without its NUL. A length of more octets than are
 /// left is short at the first of them.
-const LENT: &[Row] = &[
+static LENT: &[Row] = &[
     (
         "octets",
         &[9, 9, 9, 2, 0, 0, 0, b'h', 0, 7],
@@ -252,7 +253,7 @@ const LENT: &[Row] = &[
 ];
 
 /// Places past the end, and `align`.
-const PLACES: &[Row] = &[
+static PLACES: &[Row] = &[
     (
         "a place past the end",
         &[1],
@@ -290,60 +291,69 @@ const PLACES: &[Row] = &[
     ),
 ];
 
+/// The number that is found.
+fn number<'a, N: Into<i128>>(found: Result<N, Fault>) -> Result<Part<'a>, Fault> {
+    Ok(Number(found?.into()))
+}
+
 /// What the call gives.
 fn made<'a>(cursor: &mut Cursor<'a>, call: Call) -> Result<Part<'a>, Fault> {
     match call {
-        Call::Octet => Ok(Number(i128::from(cursor.octet()?))),
-        Call::Character => Ok(Number(i128::from(cursor.character()?))),
+        Call::Octet => number(cursor.octet()),
+        Call::Character => number(cursor.character()),
         Call::Boolean => Ok(Truth(cursor.boolean()?)),
-        Call::Short => Ok(Number(i128::from(cursor.short()?))),
-        Call::UShort => Ok(Number(i128::from(cursor.ushort()?))),
-        Call::Long => Ok(Number(i128::from(cursor.long()?))),
-        Call::ULong => Ok(Number(i128::from(cursor.ulong()?))),
-        Call::LongLong => Ok(Number(i128::from(cursor.longlong()?))),
-        Call::ULongLong => Ok(Number(i128::from(cursor.ulonglong()?))),
-        Call::Ordinal(names) => Ok(Number(i128::from(cursor.ordinal(names)?))),
-        Call::Count => Ok(Number(i128::from(cursor.count()?))),
+        Call::Short => number(cursor.short()),
+        Call::UShort => number(cursor.ushort()),
+        Call::Long => number(cursor.long()),
+        Call::ULong => number(cursor.ulong()),
+        Call::LongLong => number(cursor.longlong()),
+        Call::ULongLong => number(cursor.ulonglong()),
+        Call::Ordinal(names) => number(cursor.ordinal(names)),
+        Call::Count => number(cursor.count()),
         Call::Octets => Ok(Octets(cursor.octets()?)),
         Call::Text => Ok(Octets(cursor.string()?)),
     }
 }
 
-/// Goes to the next place that the number divides.
-fn align(rt: &impl Abort, cursor: &mut Cursor, size: u64) {
+/// Goes to the next place that the number divides, where that is 1, 2, 4 or 8, and tells whether.
+fn align(cursor: &mut Cursor, size: u64) -> bool {
     match size {
         1 => cursor.align(1),
         2 => cursor.align(2),
         4 => cursor.align(4),
         8 => cursor.align(8),
-        _ => rt.abort(),
+        _ => return false,
     }
+    true
 }
 
-/// Makes a step, and asserts what it does.
-fn assert_step(rt: &impl Abort, cursor: &mut Cursor, step: &Step, name: &str, index: usize) {
+/// Tells whether the call gives this part, or stops with this fault.
+fn is_found(cursor: &mut Cursor, call: Call, wanted: Result<Part, Fault>) -> bool {
+    made(cursor, call) == wanted
+}
+
+/// Tells whether the cursor stands at the place, before these octets.
+fn is_at(cursor: &Cursor, place: u64, rest: &[u8]) -> bool {
+    cursor.place() == place && cursor.rest() == rest
+}
+
+/// Makes a step, and tells whether it does what it says.
+fn is_made(cursor: &mut Cursor, step: &Step) -> bool {
     match step {
-        Gives(call, part) => {
-            let found = made(cursor, *call);
-            assert!(rt; found == Ok(*part), "{name}, step {index}");
-        }
+        Gives(call, part) => is_found(cursor, *call, Ok(*part)),
         Stops(call, kind, at) => {
             let (kind, at) = (*kind, *at);
-            let found = made(cursor, *call);
-            assert!(rt; found == Err(Fault { kind, at }), "{name}, step {index}");
+            is_found(cursor, *call, Err(Fault { kind, at }))
         }
-        At(place, rest) => {
-            assert_eq!(rt; cursor.place(), *place, "{name}, step {index}");
-            assert_eq!(rt; cursor.rest(), *rest, "{name}, step {index}");
-        }
-        Align(size) => align(rt, cursor, *size),
+        At(place, rest) => is_at(cursor, *place, rest),
+        Align(size) => align(cursor, *size),
     }
 }
 
 /// Makes the steps one after another.
 fn assert_steps(rt: &impl Abort, cursor: &mut Cursor, name: &str, steps: &[Step]) {
     for (index, step) in steps.iter().enumerate() {
-        assert_step(rt, cursor, step, name, index);
+        assert_at(rt, is_made(cursor, step), name, index as u64);
     }
 }
 
@@ -363,7 +373,10 @@ fn parts_are_read_one_after_another(rt: HostRuntime) {
 }
 
 /// What is read, an encapsulation, and the steps in it.
-const ENCAPSULATED: [(&str, &[u8], &[Step]); 2] = [
+type Encapsulated = (&'static str, &'static [u8], &'static [Step]);
+
+/// An encapsulation in either order.
+static ENCAPSULATED: &[Encapsulated] = &[
     (
         "an encapsulation in little order",
         &[1, 9, 2, 0, 3, 0, 0, 0, 0],
@@ -380,30 +393,36 @@ const ENCAPSULATED: [(&str, &[u8], &[Step]); 2] = [
     ),
 ];
 
-#[test]
-fn an_encapsulation_tells_its_order(rt: HostRuntime) {
-    for (name, octets, steps) in ENCAPSULATED {
+/// Makes the steps of each row in its encapsulation.
+fn assert_encapsulated(rt: &impl Abort, rows: &[Encapsulated]) {
+    for (name, octets, steps) in rows {
         let Ok(mut cursor) = Cursor::encapsulated(octets) else {
             rt.abort()
         };
-        assert_steps(&rt, &mut cursor, name, steps);
+        assert_steps(rt, &mut cursor, name, steps);
     }
-    let bad = Cursor::encapsulated(&[2, 0]).err();
-    let kind = BadBoolean;
-    assert!(rt; bad == Some(Fault { kind, at: 0 }));
-    let empty = Cursor::encapsulated(&[]).err();
-    let kind = Short;
-    assert!(rt; empty == Some(Fault { kind, at: 0 }));
+}
+
+/// Tells whether the octets are no encapsulation, by a fault of this kind at the first.
+fn is_none(octets: &[u8], kind: Kind) -> bool {
+    Cursor::encapsulated(octets).err() == Some(Fault { kind, at: 0 })
+}
+
+#[test]
+fn an_encapsulation_tells_its_order(rt: HostRuntime) {
+    assert_encapsulated(&rt, ENCAPSULATED);
+    assert!(rt; is_none(&[2, 0], BadBoolean));
+    assert!(rt; is_none(&[], Short));
 }
 
 /// The steps of the cursor that is forked, up to there.
-const BEFORE: &[Step] = &[Gives(Call::Octet, Number(1))];
+static BEFORE: &[Step] = &[Gives(Call::Octet, Number(1))];
 
 /// The steps of the fork.
-const FORKED: &[Step] = &[At(1, &[9, 2, 0]), Gives(Call::Short, Number(2)), At(4, &[])];
+static FORKED: &[Step] = &[At(1, &[9, 2, 0]), Gives(Call::Short, Number(2)), At(4, &[])];
 
 /// The steps of the cursor from there on.
-const BEHIND: &[Step] = &[At(1, &[9, 2, 0]), Gives(Call::Octet, Number(9))];
+static BEHIND: &[Step] = &[At(1, &[9, 2, 0]), Gives(Call::Octet, Number(9))];
 
 #[test]
 fn a_fork_reads_on_alone(rt: HostRuntime) {

@@ -148,27 +148,32 @@ fn values_of(alloc: Global, samples: &[Sample]) -> Result<Vec<Val>, AllocError> 
     Ok(all)
 }
 
+/// Tells whether the value, which has no parts, is the one of the constant.
+fn is_plain(found: &Val, wanted: &Sample) -> bool {
+    match (found, wanted) {
+        (Val::Boolean(a), Sample::Boolean(b)) => a == b,
+        (Val::Char(a), Sample::Char(b)) | (Val::Octet(a), Sample::Octet(b)) => a == b,
+        (Val::Short(a), Sample::Short(b)) => a == b,
+        (Val::UShort(a), Sample::UShort(b)) => a == b,
+        (Val::Long(a), Sample::Long(b)) => a == b,
+        (Val::ULong(a), Sample::ULong(b)) | (Val::Enum(a), Sample::Enum(b)) => a == b,
+        (Val::LongLong(a), Sample::LongLong(b)) => a == b,
+        (Val::ULongLong(a), Sample::ULongLong(b)) => a == b,
+        (Val::Str(a), Sample::Str(b)) | (Val::Octets(a), Sample::Octets(b)) => a.as_slice() == *b,
+        _ => false,
+    }
+}
+
 /// Tells whether the value is the one of the constant.
 #[cycle(same)]
 pub fn is_value(found: &Val, wanted: &Sample) -> bool {
     match (found, wanted) {
-        (Val::Boolean(a), Sample::Boolean(b)) => a == b,
-        (Val::Char(a), Sample::Char(b)) => a == b,
-        (Val::Octet(a), Sample::Octet(b)) => a == b,
-        (Val::Short(a), Sample::Short(b)) => a == b,
-        (Val::UShort(a), Sample::UShort(b)) => a == b,
-        (Val::Long(a), Sample::Long(b)) => a == b,
-        (Val::ULong(a), Sample::ULong(b)) => a == b,
-        (Val::LongLong(a), Sample::LongLong(b)) => a == b,
-        (Val::ULongLong(a), Sample::ULongLong(b)) => a == b,
-        (Val::Str(a), Sample::Str(b)) | (Val::Octets(a), Sample::Octets(b)) => a.as_slice() == *b,
         (Val::Seq(a), Sample::Seq(b))
         | (Val::Array(a), Sample::Array(b))
         | (Val::Struct(a), Sample::Struct(b)) => are_values(a, b),
-        (Val::Enum(a), Sample::Enum(b)) => a == b,
         (Val::Union(a, None), Sample::Union(b, None)) => is_value(a, b),
         (Val::Union(a, Some(c)), Sample::Union(b, Some(d))) => is_value(a, b) && is_value(c, d),
-        _ => false,
+        _ => is_plain(found, wanted),
     }
 }
 

@@ -1,14 +1,15 @@
 //! Values read and written one after another.
 
 use super::forms::{Form, Sample, are_values, type_of, value_of};
-use super::octets::{Octets, assert_behind, assert_writes};
+use super::octets::{Octets, assert_writes, is_behind};
 use super::samples::{HI, OCTET_AND_ULONG, ONE_AND_TWO};
+use crate::rows::assert_octets;
 use cdr_core::Kind::{BadBoolean, BadEnum, OverBound, Short};
 use cdr_core::Order::{Big, Little};
 use cdr_core::{
     CdrError, Fault, Kind, Ty, Val, end_of_list, read, read_list, writable, write, write_list,
 };
-use std::alloc::Global;
+use std::alloc::{AllocError, Global};
 use std::process::Abort;
 
 /// A struct of types, one of values, octets, and how many of them spell the values.
@@ -31,7 +32,7 @@ const FOUR_SPELLED: &[u8] = &[
 ];
 
 /// What is read.
-const READ: &[Row] = &[
+static READ: &[Row] = &[
     (
         OCTET_AND_ULONG,
         ONE_AND_TWO,
@@ -67,7 +68,7 @@ type BadRow = (Octets, Kind, u64);
 const THREE_TYPES: Form = Form::Struct(&[Form::Boolean, Form::ULong, Form::Enum(2)]);
 
 /// Octets that aren't three such values.
-const BAD: &[BadRow] = &[
+static BAD: &[BadRow] = &[
     ((Big, 2, &[2, 0, 0]), BadBoolean, 2),
     ((Big, 2, &[1, 0, 0, 0]), Short, 4),
     ((Big, 2, &[1, 0, 0, 0, 0, 9, 0, 0, 0, 2]), BadEnum, 8),
@@ -75,7 +76,7 @@ const BAD: &[BadRow] = &[
 
 /// Values that fit no type, and are written all the same: an array of unlike elements, and a union
 /// whose discriminator chooses nothing.
-const WRITTEN: &[(Sample, Octets)] = &[
+static WRITTEN: &[(Sample, Octets)] = &[
     (
         Sample::Array(&[Sample::Octet(1), Sample::ULong(2)]),
         (Big, 0, &[1, 0, 0, 0, 0, 0, 0, 2]),
@@ -86,74 +87,81 @@ const WRITTEN: &[(Sample, Octets)] = &[
     ),
 ];
 
-/// What is read of the octets, by the types of the struct's members.
+/// What is read of the octets by the types of the struct's members, where the struct is valid.
 fn listed(
-    rt: &(impl Abort + AllocGlobal),
+    alloc: Global,
     ty: &Ty,
     (order, at, octets): Octets,
-) -> Result<(Vec<Val>, usize), CdrError> {
-    assert!(rt; ty.is_valid(), "{octets:?} at {at}");
-    let Ty::Struct(types) = ty else {
-        panic!(rt; "{octets:?} at {at}")
-    };
-    read_list(rt.alloc(), types, order, u64::from(at), octets)
+) -> Option<Result<(Vec<Val>, usize), CdrError>> {
+    if !ty.is_valid() {
+        return None;
+    }
+    match ty {
+        Ty::Struct(types) => Some(read_list(alloc, types, order, u64::from(at), octets)),
+        _ => None,
+    }
 }
 
-/// Asserts that the first `used` of the octets are read as the members of the struct.
-fn assert_reads_list(
-    rt: &(impl Abort + AllocGlobal),
-    ty: &Ty,
-    wanted: &Sample,
-    from: Octets,
-    used: usize,
-) {
-    let (_, at, octets) = from;
-    let Sample::Struct(samples) = wanted else {
-        panic!(rt; "{octets:?} at {at}")
+/// Tells whether the first `used` of the octets are read as the members of the struct.
+fn is_list_read(alloc: Global, ty: &Ty, wanted: &Sample, from: Octets, used: usize) -> bool {
+    let Some(Ok((values, length))) = listed(alloc, ty, from) else {
+        return false;
     };
-    let Ok((values, length)) = listed(rt, ty, from) else {
-        panic!(rt; "{octets:?} at {at}")
-    };
-    assert!(rt; are_values(&values, samples), "{octets:?} at {at}");
-    assert!(rt; length == used, "{octets:?} at {at}");
+    match wanted {
+        Sample::Struct(samples) => length == used && are_values(&values, samples),
+        _ => false,
+    }
 }
 
-/// Asserts that the octets are written for the members of the struct, behind another.
-fn assert_writes_list(rt: &(impl Abort + AllocGlobal), value: &Val, to: Octets) {
-    let (order, at, octets) = to;
-    assert!(rt; writable(value), "{octets:?} at {at}");
+/// Tells whether the octets of a row are read as its values.
+fn is_row_read(alloc: Global, (form, wanted, from, used): &Row) -> Result<bool, AllocError> {
+    let ty = type_of(alloc, form)?;
+    Ok(is_list_read(alloc, &ty, wanted, *from, *used))
+}
+
+/// Tells whether the octets are written for the members of the struct, behind another.
+fn is_list_written(alloc: Global, value: &Val, to: Octets) -> Result<bool, AllocError> {
+    let (order, at, _) = to;
+    if !writable(value) {
+        return Ok(false);
+    }
     let Val::Struct(values) = value else {
-        panic!(rt; "{octets:?} at {at}")
+        return Ok(false);
     };
-    let mut out = [7].to_vec(rt.alloc()).expect(rt, "memory");
-    write_list(order, u64::from(at), values, &mut out).expect(rt, "memory");
-    assert_behind(rt, &out, to, end_of_list(u64::from(at), values));
+    let mut out = [7].to_vec(alloc)?;
+    write_list(order, u64::from(at), values, &mut out)?;
+    Ok(is_behind(&out, to, end_of_list(u64::from(at), values)))
 }
 
-/// Asserts what is read of a row, and what is written where all its octets are.
-fn assert_list(rt: &(impl Abort + AllocGlobal), (form, sample, octets, used): &Row) {
-    let ty = type_of(rt.alloc(), form).expect(rt, "memory");
-    assert_reads_list(rt, &ty, sample, *octets, *used);
-    if octets.2.len() == *used {
-        let value = value_of(rt.alloc(), sample).expect(rt, "memory");
-        assert_writes_list(rt, &value, *octets);
+/// Tells whether the octets of a row are written for its values.
+fn is_row_written(alloc: Global, (_, sample, to, _): &Row) -> Result<bool, AllocError> {
+    let value = value_of(alloc, sample)?;
+    is_list_written(alloc, &value, *to)
+}
+
+/// Asserts of each row that it is read, and written where all its octets are.
+fn assert_each_spells(rt: &(impl Abort + AllocGlobal), rows: &[Row]) {
+    for row in rows {
+        let (_, _, (_, at, octets), used) = *row;
+        let is_read = is_row_read(rt.alloc(), row).unwrap_or(false);
+        assert_octets(rt, is_read, octets, at);
+        let is_part = used != octets.len();
+        let is_written = is_part || is_row_written(rt.alloc(), row).unwrap_or(false);
+        assert_octets(rt, is_written, octets, at);
     }
 }
 
 #[test]
 fn values_stand_one_after_another(rt: HostRuntime) {
-    for row in READ {
-        assert_list(&rt, row);
-    }
+    assert_each_spells(&rt, READ);
 }
 
-/// Asserts that the octets are no such values, by their first fault.
-fn assert_stops(rt: &(impl Abort + AllocGlobal), ty: &Ty, from: Octets, fault: Fault) {
-    let (_, at, octets) = from;
-    let Err(CdrError::Bad(found)) = listed(rt, ty, from) else {
-        panic!(rt; "{octets:?} at {at}")
-    };
-    assert!(rt; found == fault, "{octets:?} at {at}");
+/// Tells whether the octets are no such values, by their first fault.
+fn is_list_stopped(alloc: Global, ty: &Ty, from: Octets, fault: Fault) -> bool {
+    match listed(alloc, ty, from) {
+        Some(Err(CdrError::Bad(found))) => found == fault,
+        _ => false,
+    }
 }
 
 #[test]
@@ -161,7 +169,8 @@ fn a_list_stops_at_its_first_fault(rt: HostRuntime) {
     let ty = type_of(rt.alloc(), &THREE_TYPES).expect(&rt, "memory");
     for (from, kind, at) in BAD {
         let (kind, at) = (*kind, *at);
-        assert_stops(&rt, &ty, *from, Fault { kind, at });
+        let holds = is_list_stopped(rt.alloc(), &ty, *from, Fault { kind, at });
+        assert_octets(&rt, holds, from.2, from.1);
     }
 }
 
@@ -173,15 +182,20 @@ fn any_values_are_written_one_after_another(rt: HostRuntime) {
     }
 }
 
+/// Tells whether no octet is read as no value.
+fn is_none_read(alloc: Global) -> bool {
+    match read_list(alloc, &[], Little, 3, &[1, 2]) {
+        Ok((values, used)) => values.is_empty() && used == 0,
+        Err(_) => false,
+    }
+}
+
 #[test]
 fn no_value_takes_no_octets(rt: HostRuntime) {
     let none = Val::Struct(Vec::new(rt.alloc()));
-    assert_writes_list(&rt, &none, (Big, 3, &[]));
-    let Ok((values, used)) = read_list(rt.alloc(), &[], Little, 3, &[1, 2]) else {
-        rt.abort()
-    };
-    assert_eq!(rt; values.len(), 0);
-    assert_eq!(rt; used, 0);
+    let is_written = is_list_written(rt.alloc(), &none, (Big, 3, &[])).unwrap_or(false);
+    assert!(rt; is_written);
+    assert!(rt; is_none_read(rt.alloc()));
 }
 
 /// The octets of a string in little order, where octets in big order spell it.
@@ -194,15 +208,26 @@ fn turned(alloc: Global, octets: &[u8]) -> Result<Vec<u8>, CdrError> {
     Ok(out)
 }
 
+/// Tells whether the octets of the string are turned into these.
+fn is_turned(alloc: Global, octets: &[u8], wanted: &[u8]) -> bool {
+    match turned(alloc, octets) {
+        Ok(out) => out.as_slice() == wanted,
+        Err(_) => false,
+    }
+}
+
+/// Tells whether the octets of the string are over its bound.
+fn is_over_bound(alloc: Global, octets: &[u8]) -> bool {
+    let (kind, at) = (OverBound, 0);
+    match turned(alloc, octets) {
+        Err(CdrError::Bad(found)) => found == Fault { kind, at },
+        _ => false,
+    }
+}
+
 #[test]
 fn a_string_is_turned(rt: HostRuntime) {
-    let Ok(out) = turned(rt.alloc(), &[0, 0, 0, 3, b'h', b'i', 0]) else {
-        rt.abort()
-    };
-    assert_eq!(rt; out.as_slice(), [3, 0, 0, 0, b'h', b'i', 0].as_slice());
-    let Err(CdrError::Bad(found)) = turned(rt.alloc(), &[0, 0, 1, 1, b'h', b'i', 0]) else {
-        rt.abort()
-    };
-    let (kind, at) = (OverBound, 0);
-    assert!(rt; found == Fault { kind, at });
+    let little = &[3, 0, 0, 0, b'h', b'i', 0];
+    assert!(rt; is_turned(rt.alloc(), &[0, 0, 0, 3, b'h', b'i', 0], little));
+    assert!(rt; is_over_bound(rt.alloc(), &[0, 0, 1, 1, b'h', b'i', 0]));
 }

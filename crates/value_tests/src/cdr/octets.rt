@@ -1,11 +1,30 @@
 //! Octets at a place, and what is read from them and written there.
 
 use super::forms::{Sample, is_value};
+use crate::rows::assert_octets;
 use cdr_core::{Order, Ty, Val, end_of, fits, read, writable, write};
+use std::alloc::{AllocError, Global};
 use std::process::Abort;
 
 /// The order of numbers, a place, and octets from that place on.
 pub type Octets = (Order, u32, &'static [u8]);
+
+/// Tells whether the first `used` of the octets are read as the value.
+fn is_read(
+    alloc: Global,
+    ty: &Ty,
+    wanted: &Sample,
+    (order, at, octets): Octets,
+    used: usize,
+) -> bool {
+    if !ty.is_valid() {
+        return false;
+    }
+    let Ok((found, length)) = read(alloc, ty, order, u64::from(at), octets) else {
+        return false;
+    };
+    length == used && is_value(&found, wanted) && fits(ty, &found)
+}
 
 /// Asserts that the first `used` of the octets are read as the value.
 pub fn assert_reads(
@@ -15,30 +34,29 @@ pub fn assert_reads(
     from: Octets,
     used: usize,
 ) {
-    let (order, at, octets) = from;
-    assert!(rt; ty.is_valid(), "{octets:?} at {at}");
-    let Ok((found, length)) = read(rt.alloc(), ty, order, u64::from(at), octets) else {
-        panic!(rt; "{octets:?} at {at}")
-    };
-    assert!(rt; is_value(&found, wanted), "{octets:?} at {at}");
-    assert!(rt; fits(ty, &found), "{octets:?} at {at}");
-    assert_eq!(rt; length, used, "{octets:?} at {at}");
+    let holds = is_read(rt.alloc(), ty, wanted, from, used);
+    assert_octets(rt, holds, from.2, from.1);
 }
 
-/// Asserts that the octets stand in the output behind another, and end at that place.
-pub fn assert_behind(rt: &impl Abort, out: &[u8], to: Octets, end: Option<u64>) {
-    let (_, at, octets) = to;
-    assert!(rt; out.first() == Some(&7), "{octets:?} at {at}");
-    assert!(rt; out.get(1..) == Some(octets), "{octets:?} at {at}");
+/// Tells whether the octets stand in the output behind another, and end at that place.
+pub fn is_behind(out: &[u8], (_, at, octets): Octets, end: Option<u64>) -> bool {
     let wanted = u64::from(at) + octets.len() as u64;
-    assert!(rt; end == Some(wanted), "{octets:?} at {at}");
+    out.first() == Some(&7) && out.get(1..) == Some(octets) && end == Some(wanted)
+}
+
+/// Tells whether the octets are written for the value, behind another.
+fn is_written(alloc: Global, value: &Val, to: Octets) -> Result<bool, AllocError> {
+    let (order, at, _) = to;
+    if !writable(value) {
+        return Ok(false);
+    }
+    let mut out = [7].to_vec(alloc)?;
+    write(order, u64::from(at), value, &mut out)?;
+    Ok(is_behind(&out, to, end_of(u64::from(at), value)))
 }
 
 /// Asserts that the octets are written for the value, behind another.
 pub fn assert_writes(rt: &(impl Abort + AllocGlobal), value: &Val, to: Octets) {
-    let (order, at, octets) = to;
-    assert!(rt; writable(value), "{octets:?} at {at}");
-    let mut out = [7].to_vec(rt.alloc()).expect(rt, "memory");
-    write(order, u64::from(at), value, &mut out).expect(rt, "memory");
-    assert_behind(rt, &out, to, end_of(u64::from(at), value));
+    let holds = is_written(rt.alloc(), value, to).unwrap_or(false);
+    assert_octets(rt, holds, to.2, to.1);
 }

@@ -13,7 +13,7 @@ use std::process::Abort;
 type Row = (Form, Sample, &'static [Octets]);
 
 /// Booleans, characters, octets, numbers and ordinals.
-const NUMBERS: &[Row] = &[
+static NUMBERS: &[Row] = &[
     (
         Form::Boolean,
         Sample::Boolean(false),
@@ -122,7 +122,7 @@ const NUMBERS: &[Row] = &[
 
 /// Strings, octets and sequences: a string counts its NUL, and a sequence without an element has
 /// no gap for one.
-const LISTS: &[Row] = &[
+static LISTS: &[Row] = &[
     (Form::Str(2), HI, HI_SPELLED),
     (Form::Str(u32::MAX), HI, HI_SPELLED),
     (
@@ -188,7 +188,7 @@ const HI_SPELLED: &[Octets] = &[
 ];
 
 /// Arrays and structs, which have no place of their own.
-const STRUCTS: &[Row] = &[
+static STRUCTS: &[Row] = &[
     (
         OCTET_AND_ULONG,
         ONE_AND_TWO,
@@ -221,7 +221,7 @@ const STRUCTS: &[Row] = &[
 ];
 
 /// Unions: the member of the label, the default, or nothing.
-const UNIONS: &[Row] = &[
+static UNIONS: &[Row] = &[
     (
         CHOICE,
         TEN,
@@ -295,7 +295,7 @@ const BY_MOST: Form = Form::Union(
 );
 
 /// Unions by a boolean, by an ordinal and by the outermost numbers.
-const CHOSEN: &[Row] = &[
+static CHOSEN: &[Row] = &[
     (
         BY_BOOLEAN,
         Sample::Union(&Sample::Boolean(true), Some(&Sample::Octet(7))),
@@ -333,7 +333,7 @@ type ReadRow = (Form, Sample, Octets, usize);
 
 /// What is read, and never written: a string of the length 0, and any octets in a gap. What follows
 /// a value is left.
-const READ: &[ReadRow] = &[
+static READ: &[ReadRow] = &[
     (
         Form::Str(0),
         Sample::Str(b""),

@@ -3,6 +3,7 @@
 ghost use Rattle.std.specs.Prelude.{◌≡◌, ◌≤◌, length};
 
 use super::forms::{Sample, value_of};
+use crate::rows::{assert_at, assert_named};
 use cdr_core::Order::{Big, Little};
 use cdr_core::{Order, Val, Writer, writable};
 use std::alloc::AllocError;
@@ -41,7 +42,7 @@ type Row = (
     &'static [Call],
 );
 
-const ROWS: &[Row] = &[
+static ROWS: &[Row] = &[
     (
         "shorts in big order",
         Big,
@@ -227,7 +228,7 @@ fn values(
 ) -> Result<(), AllocError>
     requires { writer.now.start ≤ length out.old.items }
 {
-    let value = value_of(rt.alloc(), sample).expect(rt, "memory");
+    let value = value_of(rt.alloc(), sample)?;
     assert!(rt; writable(&value));
     let Val::Struct(all) = &value else { rt.abort() };
     writer.values(all, out)
@@ -241,10 +242,9 @@ fn octets(rt: &impl Abort, writer: &Writer, all: &[u8], out: &mut Vec<u8>) -> Re
     writer.octets(all, out)
 }
 
-/// Asserts the place of the next octet, and the octets before it.
-fn assert_at(rt: &impl Abort, name: &str, place: u64, out: &[u8], (wanted, octets): (u64, &[u8])) {
-    assert!(rt; place == wanted, "{name}, at {wanted}");
-    assert!(rt; out == octets, "{name}, at {wanted}");
+/// Tells whether the next octet stands at that place, behind these octets.
+fn is_at(place: u64, out: &[u8], wanted: u64, octets: &[u8]) -> bool {
+    place == wanted && out == octets
 }
 
 /// Makes a call, or asserts where the writer stands.
@@ -270,7 +270,7 @@ fn append(
         Values(sample) => values(rt, writer, sample, out),
         Align(size) => align(rt, writer, *size, out),
         At(place, all) => {
-            assert_at(rt, name, writer.place(out), out, (*place, all));
+            assert_at(rt, is_at(writer.place(out), out, *place, all), name, *place);
             Ok(())
         }
     }
@@ -297,7 +297,7 @@ fn append_all(
     for call in *calls {
         assert!(rt; start <= out.len());
         let result = append(rt, name, &writer, call, out);
-        assert!(rt; result.is_ok(), "{name}");
+        assert_named(rt, result.is_ok(), name);
     }
 }
 

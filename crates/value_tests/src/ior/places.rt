@@ -1,12 +1,14 @@
 //! References in the middle of a message: on the alignment of the places there, in either order.
 
-use super::samples::{NIL, Reference, assert_behind, is_same, octets, reference};
+use super::samples::{NIL, Reference, is_behind, is_same, octets, reference};
 use super::writable::can_write;
+use crate::rows::assert_at;
 use cdr_core::Kind::{InteriorNul, NoTerminator, Short};
 use cdr_core::Order::{Big, Little};
 use cdr_core::{Fault, Kind, Order};
+use hex::FromHexError;
 use ior_core::{Ior, IorError, read_ior, write_ior};
-use std::process::Abort;
+use std::alloc::{AllocError, Global};
 
 /// The order of numbers, a place, and the digits of the octets from that place on: those of a gap,
 /// and those behind it.
@@ -27,7 +29,7 @@ const IN_LITTLE: &str =
     "02000000 58000000 02000000 01000000 01000000 aa000000 04030201 03000000 bbccdd";
 
 /// What is written, and read as the same.
-const STANDING: &[Row] = &[
+static STANDING: &[Row] = &[
     (TWO, (Big, 12, "", IN_BIG)),
     (TWO, (Little, 12, "", IN_LITTLE)),
     (TWO, (Big, 13, "000000", IN_BIG)),
@@ -45,7 +47,7 @@ const STANDING: &[Row] = &[
 ];
 
 /// Octets that are read as the reference to nothing, and how many of them are.
-const READ: &[(Place, usize)] = &[
+static READ: &[(Place, usize)] = &[
     ((Big, 12, "", "00000000 00000000 00000001"), 8),
     ((Big, 13, "aabbcc", "00000001 00ddeeff 00000000"), 15),
     ((Little, 14, "aabb", "01000000 00ccddee 00000000 00"), 14),
@@ -53,7 +55,7 @@ const READ: &[(Place, usize)] = &[
 ];
 
 /// Octets that are no reference, and the kind and the place of the first fault.
-const BAD: &[(Place, Kind, u64)] = &[
+static BAD: &[(Place, Kind, u64)] = &[
     ((Big, 13, "", ""), Short, 16),
     ((Little, 14, "0000", "020000"), Short, 16),
     ((Big, 14, "0000", "00000002 58"), Short, 20),
@@ -80,85 +82,103 @@ const BAD: &[(Place, Kind, u64)] = &[
     ),
 ];
 
-/// Asserts that so many of the octets are read as the reference.
-fn assert_reads(
-    rt: &(impl Abort + AllocGlobal),
-    (order, at, gap, digits): Place,
+/// Tells whether so many of the octets are read as the reference.
+fn is_read(
+    alloc: Global,
+    (order, at, _, _): Place,
     octets: &[u8],
     wanted: &Ior,
     used: usize,
-) {
-    let Ok((found, length)) = read_ior(rt.alloc(), order, u64::from(at), octets) else {
-        panic!(rt; "{gap} {digits} at {at}")
+) -> bool {
+    let Ok((found, length)) = read_ior(alloc, order, u64::from(at), octets) else {
+        return false;
     };
-    assert!(rt; is_same(&found, wanted), "{gap} {digits} at {at}");
-    assert!(rt; length == used, "{gap} {digits} at {at}");
+    length == used && is_same(&found, wanted)
 }
 
-/// Asserts that the octets are written for the reference behind others.
-fn assert_writes(
-    rt: &(impl Abort + AllocGlobal),
-    (order, at, gap, digits): Place,
+/// Tells whether the octets are written for the reference behind others.
+fn is_written(
+    alloc: Global,
+    (order, at, _, _): Place,
+    octets: &[u8],
     ior: &Ior,
-    wanted: &[u8],
-) {
-    assert!(rt; can_write(rt, ior), "{gap} {digits} at {at}");
-    let mut out = [7, 8, 9].to_vec(rt.alloc()).expect(rt, "memory");
-    write_ior(order, u64::from(at), ior, &mut out).expect(rt, "memory");
-    assert_behind(rt, &out, wanted, digits, at);
+) -> Result<bool, AllocError> {
+    if !can_write(alloc, ior) {
+        return Ok(false);
+    }
+    let mut out = [7, 8, 9].to_vec(alloc)?;
+    write_ior(order, u64::from(at), ior, &mut out)?;
+    Ok(is_behind(&out, octets))
 }
 
-/// Asserts that the octets are written for the reference, and read as it, also where octets stand
-/// behind them.
-fn assert_stands(rt: &(impl Abort + AllocGlobal), place: Place, ior: &Ior) {
-    let (_, _, gap, digits) = place;
-    let mut octets = octets(rt, gap, digits);
+/// Tells whether the octets are read as the reference, also where octets stand behind them.
+fn is_read_on(
+    alloc: Global,
+    place: Place,
+    octets: &mut Vec<u8>,
+    ior: &Ior,
+) -> Result<bool, AllocError> {
     let used = octets.len();
-    assert_writes(rt, place, ior, &octets);
-    assert_reads(rt, place, &octets, ior, used);
-    octets.push(0xff).expect(rt, "memory");
-    assert_reads(rt, place, &octets, ior, used);
-    octets.push(0xff).expect(rt, "memory");
-    assert_reads(rt, place, &octets, ior, used);
+    for _ in 0..3 {
+        if !is_read(alloc, place, octets, ior, used) {
+            return Ok(false);
+        }
+        octets.push(0xff)?;
+    }
+    Ok(true)
+}
+
+/// Tells whether the octets are written for the reference, and read as it.
+fn stands(alloc: Global, (sample, place): &Row) -> Result<bool, FromHexError> {
+    let ior = reference(alloc, sample)?;
+    let mut octets = octets(alloc, place.2, place.3)?;
+    let is_written = is_written(alloc, *place, &octets, &ior)?;
+    Ok(is_read_on(alloc, *place, &mut octets, &ior)? && is_written)
 }
 
 #[test]
 fn gaps_depend_on_the_place(rt: HostRuntime) {
-    for (sample, place) in STANDING {
-        let ior = reference(&rt, sample);
-        assert_stands(&rt, *place, &ior);
+    for row in STANDING {
+        let (_, at, _, digits) = row.1;
+        let holds = stands(rt.alloc(), row).unwrap_or(false);
+        assert_at(&rt, holds, digits, u64::from(at));
     }
+}
+
+/// Tells whether so many of the octets are read as the reference to nothing.
+fn is_nil(alloc: Global, place: Place, used: usize) -> Result<bool, FromHexError> {
+    let nil = reference(alloc, &NIL)?;
+    let octets = octets(alloc, place.2, place.3)?;
+    Ok(is_read(alloc, place, &octets, &nil, used))
 }
 
 #[test]
 fn what_is_read_counts_the_gaps(rt: HostRuntime) {
-    let nil = reference(&rt, &NIL);
     for (place, used) in READ {
-        let (_, _, gap, digits) = *place;
-        let octets = octets(&rt, gap, digits);
-        assert_reads(&rt, *place, &octets, &nil, *used);
+        let (_, at, _, digits) = *place;
+        let holds = is_nil(rt.alloc(), *place, *used).unwrap_or(false);
+        assert_at(&rt, holds, digits, u64::from(at));
     }
 }
 
-/// Asserts the first fault of the octets.
-fn assert_stops(
-    rt: &(impl Abort + AllocGlobal),
+/// Tells whether the octets are no reference, by their first fault.
+fn is_stopped(
+    alloc: Global,
     (order, at, gap, digits): Place,
-    octets: &[u8],
     fault: Fault,
-) {
-    let Err(IorError::Cdr(found)) = read_ior(rt.alloc(), order, u64::from(at), octets) else {
-        panic!(rt; "{gap} {digits} at {at}")
-    };
-    assert!(rt; found == fault, "{gap} {digits} at {at}");
+) -> Result<bool, FromHexError> {
+    let octets = octets(alloc, gap, digits)?;
+    match read_ior(alloc, order, u64::from(at), &octets) {
+        Err(IorError::Cdr(found)) => Ok(found == fault),
+        _ => Ok(false),
+    }
 }
 
 #[test]
 fn faults_are_told_at_the_place(rt: HostRuntime) {
     for (place, kind, at) in BAD {
-        let (_, _, gap, digits) = *place;
         let (kind, at) = (*kind, *at);
-        let octets = octets(&rt, gap, digits);
-        assert_stops(&rt, *place, &octets, Fault { kind, at });
+        let holds = is_stopped(rt.alloc(), *place, Fault { kind, at }).unwrap_or(false);
+        assert_at(&rt, holds, place.3, at);
     }
 }

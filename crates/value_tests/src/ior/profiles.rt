@@ -1,14 +1,16 @@
 //! Profiles of IIOP: what is read and written of each minor version, and where the gaps stand.
 
 use super::samples::{
-    BIG, Iiop, WITH_COMPONENTS, WITHOUT_COMPONENTS, assert_behind, is_same_profile, octets, profile,
+    BIG, Iiop, WITH_COMPONENTS, WITHOUT_COMPONENTS, is_behind, is_same_profile, octets, profile,
 };
 use super::writable::can_write_profile;
+use crate::rows::assert_named;
+use hex::FromHexError;
 use ior_core::{IiopProfile, iiop_key, read_iiop, write_iiop};
-use std::process::Abort;
+use std::alloc::{AllocError, Global};
 
 /// A profile, and the digits that are written for it.
-const WRITTEN: &[(Iiop, &str)] = &[
+static WRITTEN: &[(Iiop, &str)] = &[
     (FIRST, "00010000 00000002 6800 0001 00000001 63"),
     (
         SECOND,
@@ -100,7 +102,7 @@ const EMPTY: Iiop = Iiop {
 };
 
 /// A profile, and digits that are read as it.
-const READ: &[(Iiop, &str)] = &[
+static READ: &[(Iiop, &str)] = &[
     (FIRST, "01010000 02000000 6800 0100 01000000 63"),
     (FIRST, "000100ff 00000002 6800 0001 00000001 63"),
     // What stands behind the key is ignored.
@@ -177,51 +179,50 @@ const COMPONENTS: &[(u32, &str)] = &[
     ),
 ];
 
-/// Asserts that octets are read as the profile, and that its key is found in them.
-fn assert_reads(
-    rt: &(impl Abort + AllocGlobal),
-    octets: &[u8],
-    wanted: &IiopProfile,
-    digits: &str,
-) {
-    let Ok(found) = read_iiop(rt.alloc(), octets) else {
-        panic!(rt; "{digits}")
+/// Tells whether the octets are read as the profile, and its key is found in them.
+fn is_read(alloc: Global, octets: &[u8], wanted: &IiopProfile) -> bool {
+    let Ok(found) = read_iiop(alloc, octets) else {
+        return false;
     };
-    assert!(rt; is_same_profile(&found, wanted), "{digits}");
-    assert!(rt;
-        iiop_key(octets) == Some(wanted.object_key.as_slice()),
-        "{digits}"
-    );
+    is_same_profile(&found, wanted) && iiop_key(octets) == Some(wanted.object_key.as_slice())
 }
 
-/// Asserts that the octets are written for a profile behind others.
-fn assert_writes(
-    rt: &(impl Abort + AllocGlobal),
-    profile: &IiopProfile,
-    wanted: &[u8],
-    digits: &str,
-) {
-    assert!(rt; can_write_profile(rt, profile), "{digits}");
-    let mut out = [7, 8, 9].to_vec(rt.alloc()).expect(rt, "memory");
-    write_iiop(profile, &mut out).expect(rt, "memory");
-    assert_behind(rt, &out, wanted, digits, 0);
+/// Tells whether the octets are written for the profile behind others.
+fn is_written(alloc: Global, octets: &[u8], profile: &IiopProfile) -> Result<bool, AllocError> {
+    if !can_write_profile(alloc, profile) {
+        return Ok(false);
+    }
+    let mut out = [7, 8, 9].to_vec(alloc)?;
+    write_iiop(profile, &mut out)?;
+    Ok(is_behind(&out, octets))
+}
+
+/// Tells whether the digits are written for the profile, and read as it.
+fn stands(alloc: Global, sample: &Iiop, digits: &str) -> Result<bool, FromHexError> {
+    let profile = profile(alloc, sample)?;
+    let octets = octets(alloc, "", digits)?;
+    Ok(is_written(alloc, &octets, &profile)? && is_read(alloc, &octets, &profile))
 }
 
 #[test]
 fn profiles_are_written_and_read_again(rt: HostRuntime) {
     for (sample, digits) in WRITTEN {
-        let profile = profile(&rt, sample);
-        let octets = octets(&rt, "", digits);
-        assert_writes(&rt, &profile, &octets, digits);
-        assert_reads(&rt, &octets, &profile, digits);
+        let holds = stands(rt.alloc(), sample, digits).unwrap_or(false);
+        assert_named(&rt, holds, digits);
     }
+}
+
+/// Tells whether the digits are read as the profile.
+fn spells(alloc: Global, sample: &Iiop, digits: &str) -> Result<bool, FromHexError> {
+    let wanted = profile(alloc, sample)?;
+    let octets = octets(alloc, "", digits)?;
+    Ok(is_read(alloc, &octets, &wanted))
 }
 
 #[test]
 fn profiles_are_read(rt: HostRuntime) {
     for (sample, digits) in READ {
-        let wanted = profile(&rt, sample);
-        let octets = octets(&rt, "", digits);
-        assert_reads(&rt, &octets, &wanted, digits);
+        let holds = spells(rt.alloc(), sample, digits).unwrap_or(false);
+        assert_named(&rt, holds, digits);
     }
 }

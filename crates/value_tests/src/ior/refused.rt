@@ -1,14 +1,17 @@
 //! Texts that are no reference and octets that are no profile: what is wrong with them, and where.
 
 use super::samples::{is_reason, octets, text};
+use crate::rows::{assert_at, assert_named};
 use cdr_core::Kind::{BadBoolean, InteriorNul, NoTerminator, Short};
 use cdr_core::{Fault, Kind};
+use hex::FromHexError;
 use ior_core::IorError::{BadDigit, BadMajor, NoPrefix, OddDigits};
 use ior_core::{IorError, iiop_key, parse_text, read_iiop};
+use std::alloc::{AllocError, Global};
 use std::process::Abort;
 
 /// Texts that begin with no prefix.
-const WITHOUT_PREFIX: &[(&str, IorError)] = &[
+static WITHOUT_PREFIX: &[(&str, IorError)] = &[
     ("", NoPrefix),
     ("I", NoPrefix),
     ("IOR", NoPrefix),
@@ -31,7 +34,7 @@ const WITHOUT_PREFIX: &[(&str, IorError)] = &[
 ];
 
 /// Texts with an odd number of digits.
-const ODD: &[(&str, IorError)] = &[
+static ODD: &[(&str, IorError)] = &[
     ("IOR:0", OddDigits),
     ("ior:000", OddDigits),
     ("IOR:0000000000000001000000000000000", OddDigits),
@@ -44,7 +47,7 @@ const ODD: &[(&str, IorError)] = &[
 ];
 
 /// Texts with a bad digit, and its place.
-const BAD_DIGITS: &[(&str, IorError)] = &[
+static BAD_DIGITS: &[(&str, IorError)] = &[
     ("IOR:0g", BadDigit(1)),
     ("IOR:g0", BadDigit(0)),
     ("IOR:gg", BadDigit(0)),
@@ -69,7 +72,7 @@ const BAD_DIGITS: &[(&str, IorError)] = &[
 type Bad = (&'static str, Kind, u64);
 
 /// Texts whose octets are no reference: at the byte order, the type or a profile.
-const NO_REFERENCE: &[Bad] = &[
+static NO_REFERENCE: &[Bad] = &[
     ("IOR:", Short, 0),
     ("ior:", Short, 0),
     ("IOR:02", BadBoolean, 0),
@@ -125,7 +128,7 @@ const NO_REFERENCE: &[Bad] = &[
 ];
 
 /// Octets that are no profile, at the head.
-const NO_HEAD: &[Bad] = &[
+static NO_HEAD: &[Bad] = &[
     ("", Short, 0),
     ("02", BadBoolean, 0),
     ("00", Short, 1),
@@ -154,7 +157,7 @@ const NO_HEAD: &[Bad] = &[
 const HEAD: &str = "00010100 00000002 6800 0001 00000001 63";
 
 /// What stands behind that head and is no list of components.
-const NO_COMPONENTS: &[Bad] = &[
+static NO_COMPONENTS: &[Bad] = &[
     // The count.
     ("", Short, 20),
     ("0000", Short, 20),
@@ -176,7 +179,7 @@ const NO_COMPONENTS: &[Bad] = &[
 ];
 
 /// Profiles of another major version.
-const OTHERS: &[(&str, IorError)] = &[
+static OTHERS: &[(&str, IorError)] = &[
     ("00020000 00000002 6800 0001 00000001 63", BadMajor),
     ("00000000 00000002 6800 0001 00000001 63", BadMajor),
     ("01ff0000 02000000 6800 0100 01000000 63", BadMajor),
@@ -191,7 +194,7 @@ const OTHERS: &[(&str, IorError)] = &[
 ];
 
 /// Octets that are no profile of any version: a fault comes before the major version.
-const BEFORE_MAJOR: &[Bad] = &[
+static BEFORE_MAJOR: &[Bad] = &[
     ("0002", Short, 2),
     ("02020000 00000002 6800 0001 00000001 63", BadBoolean, 0),
     ("00020000 00000002 6868 0001 00000001 63", NoTerminator, 9),
@@ -204,13 +207,19 @@ const BEFORE_MAJOR: &[Bad] = &[
     ),
 ];
 
-/// Asserts that a text is refused for that reason.
+/// Tells whether the text is refused for that reason.
+fn is_refused(alloc: Global, sample: &str, wanted: &IorError) -> Result<bool, AllocError> {
+    let text = text(alloc, "", sample)?;
+    match parse_text(alloc, text.as_str()) {
+        Ok(_) => Ok(false),
+        Err(found) => Ok(is_reason(&found, wanted)),
+    }
+}
+
+/// Asserts that the text is refused for that reason.
 fn assert_refused(rt: &(impl Abort + AllocGlobal), sample: &str, wanted: &IorError) {
-    let text = text(rt, "", sample);
-    let Err(found) = parse_text(rt.alloc(), text.as_str()) else {
-        panic!(rt; "{sample}")
-    };
-    assert!(rt; is_reason(&found, wanted), "{sample}");
+    let holds = is_refused(rt.alloc(), sample, wanted).unwrap_or(false);
+    assert_named(rt, holds, sample);
 }
 
 /// Asserts that each text is refused for its reason.
@@ -231,21 +240,27 @@ fn texts_are_refused(rt: HostRuntime) {
     }
 }
 
-/// Asserts that octets are no profile for that reason, and give no key.
-fn assert_no_profile(rt: &(impl Abort + AllocGlobal), head: &str, digits: &str, wanted: &IorError) {
-    let octets = octets(rt, head, digits);
-    let Err(found) = read_iiop(rt.alloc(), &octets) else {
-        panic!(rt; "{head} {digits}")
-    };
-    assert!(rt; is_reason(&found, wanted), "{head} {digits}");
-    assert!(rt; iiop_key(&octets).is_none(), "{head} {digits}");
+/// Tells whether the octets are no profile for that reason, and give no key.
+fn is_no_profile(
+    alloc: Global,
+    head: &str,
+    digits: &str,
+    wanted: &IorError,
+) -> Result<bool, FromHexError> {
+    let octets = octets(alloc, head, digits)?;
+    match read_iiop(alloc, &octets) {
+        Ok(_) => Ok(false),
+        Err(found) => Ok(is_reason(&found, wanted) && iiop_key(&octets).is_none()),
+    }
 }
 
 /// Asserts the first fault of each row behind the head.
 fn assert_each_faulty(rt: &(impl Abort + AllocGlobal), head: &str, rows: &[Bad]) {
     for (digits, kind, at) in rows {
         let (kind, at) = (*kind, *at);
-        assert_no_profile(rt, head, digits, &IorError::Cdr(Fault { kind, at }));
+        let wanted = IorError::Cdr(Fault { kind, at });
+        let holds = is_no_profile(rt.alloc(), head, digits, &wanted).unwrap_or(false);
+        assert_at(rt, holds, digits, at);
     }
 }
 
@@ -255,12 +270,13 @@ fn octets_are_no_profile(rt: HostRuntime) {
     assert_each_faulty(&rt, HEAD, NO_COMPONENTS);
     assert_each_faulty(&rt, "", BEFORE_MAJOR);
     for (digits, wanted) in OTHERS {
-        assert_no_profile(&rt, "", digits, wanted);
+        let holds = is_no_profile(rt.alloc(), "", digits, wanted).unwrap_or(false);
+        assert_named(&rt, holds, digits);
     }
 }
 
 /// Reasons, and how they are printed.
-const REASONS: &[(IorError, &str)] = &[
+static REASONS: &[(IorError, &str)] = &[
     (NoPrefix, "no prefix"),
     (OddDigits, "odd digits"),
     (BadDigit(12), "bad digit at 12"),
@@ -275,10 +291,16 @@ const REASONS: &[(IorError, &str)] = &[
     (IorError::Memory, "memory"),
 ];
 
+/// Tells whether the reason is printed so.
+fn is_printed(alloc: Global, reason: &IorError, wanted: &str) -> Result<bool, AllocError> {
+    let printed = format!(in alloc; "{reason}")?;
+    Ok(printed.as_str() == wanted)
+}
+
 #[test]
 fn reasons_are_printed(rt: HostRuntime) {
     for (reason, wanted) in REASONS {
-        let printed = format!(in rt.alloc(); "{reason}").expect(&rt, "memory");
-        assert_eq!(rt; printed.as_str(), *wanted);
+        let holds = is_printed(rt.alloc(), reason, wanted).unwrap_or(false);
+        assert_named(&rt, holds, wanted);
     }
 }

@@ -1,8 +1,8 @@
 //! References and profiles as constants, of which the tables are made.
 
+use hex::FromHexError;
 use ior_core::{IiopProfile, Ior, IorError, Tagged};
 use std::alloc::{AllocError, Global};
-use std::process::Abort;
 
 /// A tag, and the digits of its octets.
 pub type Row = (u32, &'static str);
@@ -36,8 +36,8 @@ pub const WITH_COMPONENTS: &str = "01010200 0a000000 3132372e302e302e3100 f90a 0
 /// A profile of 1.0 in little order: 21011 is 0x5213.
 pub const WITHOUT_COMPONENTS: &str = "01010000 0a000000 3132372e302e302e3100 1352 01000000 63";
 
-/// A text and one behind it, without their spaces.
-fn joined(alloc: Global, front: &str, text: &str) -> Result<String, AllocError> {
+/// A text, and one behind it from which the spaces are taken.
+pub fn text(alloc: Global, front: &str, text: &str) -> Result<String, AllocError> {
     let mut all = String::from_str(alloc, front)?;
     for part in text.split(' ') {
         all.push_str(part)?;
@@ -45,49 +45,41 @@ fn joined(alloc: Global, front: &str, text: &str) -> Result<String, AllocError> 
     Ok(all)
 }
 
-/// A text, and one behind it from which the spaces are taken.
-pub fn text(rt: &(impl Abort + AllocGlobal), front: &str, text: &str) -> String {
-    joined(rt.alloc(), front, text).expect(rt, "memory")
-}
-
 /// The octets that digits give, and digits behind them, between which spaces may stand.
-pub fn octets(rt: &(impl Abort + AllocGlobal), front: &str, behind: &str) -> Vec<u8> {
-    let front = text(rt, "", front);
-    let digits = text(rt, front.as_str(), behind);
-    let Ok(octets) = hex::decode(rt.alloc(), digits.as_bytes()) else {
-        panic!(rt; "{digits}")
-    };
-    octets
+pub fn octets(alloc: Global, front: &str, behind: &str) -> Result<Vec<u8>, FromHexError> {
+    let front = text(alloc, "", front)?;
+    let digits = text(alloc, front.as_str(), behind)?;
+    hex::decode(alloc, digits.as_bytes())
 }
 
 /// Tags with their octets.
-fn list(rt: &(impl Abort + AllocGlobal), rows: &[Row]) -> Vec<Tagged> {
-    let mut all = Vec::new(rt.alloc());
+fn list(alloc: Global, rows: &[Row]) -> Result<Vec<Tagged>, FromHexError> {
+    let mut all = Vec::new(alloc);
     for (tag, digits) in rows {
-        let octets = octets(rt, "", digits);
-        let result = all.push(Tagged { tag: *tag, octets });
-        assert!(rt; result.is_ok());
+        let octets = octets(alloc, "", digits)?;
+        if all.push(Tagged { tag: *tag, octets }).is_err() {
+            return Err(FromHexError::OutOfMemory);
+        }
     }
-    all
+    Ok(all)
 }
 
 /// The reference.
-pub fn reference(rt: &(impl Abort + AllocGlobal), (type_id, profiles): &Reference) -> Ior {
-    Ior {
-        type_id: Vec::from_slice(rt.alloc(), type_id.as_bytes()).expect(rt, "memory"),
-        profiles: list(rt, profiles),
-    }
+pub fn reference(alloc: Global, (type_id, profiles): &Reference) -> Result<Ior, FromHexError> {
+    let type_id = Vec::from_slice(alloc, type_id.as_bytes())?;
+    let profiles = list(alloc, profiles)?;
+    Ok(Ior { type_id, profiles })
 }
 
 /// The profile.
-pub fn profile(rt: &(impl Abort + AllocGlobal), iiop: &Iiop) -> IiopProfile {
-    IiopProfile {
+pub fn profile(alloc: Global, iiop: &Iiop) -> Result<IiopProfile, FromHexError> {
+    Ok(IiopProfile {
         minor: iiop.minor,
-        host: Vec::from_slice(rt.alloc(), iiop.host.as_bytes()).expect(rt, "memory"),
+        host: Vec::from_slice(alloc, iiop.host.as_bytes())?,
         port: iiop.port,
-        object_key: Vec::from_slice(rt.alloc(), iiop.key).expect(rt, "memory"),
-        components: list(rt, iiop.components),
-    }
+        object_key: Vec::from_slice(alloc, iiop.key)?,
+        components: list(alloc, iiop.components)?,
+    })
 }
 
 /// Tells whether the tags and their octets are equal.
@@ -131,11 +123,10 @@ pub fn is_reason(found: &IorError, wanted: &IorError) -> bool {
     }
 }
 
-/// Asserts that the octets, which stand at a place, are in the output behind three others.
-pub fn assert_behind(rt: &impl Abort, out: &[u8], wanted: &[u8], digits: &str, at: u32) {
-    let Some((front, written)) = out.split_at_checked(3) else {
-        panic!(rt; "{digits} at {at}")
-    };
-    assert!(rt; front == [7, 8, 9].as_slice(), "{digits} at {at}");
-    assert!(rt; written == wanted, "{digits} at {at}");
+/// Tells whether the octets are in the output behind three others.
+pub fn is_behind(out: &[u8], octets: &[u8]) -> bool {
+    match out {
+        [7, 8, 9, written @ ..] => written == octets,
+        _ => false,
+    }
 }

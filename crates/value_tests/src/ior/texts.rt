@@ -4,9 +4,10 @@ use super::samples::{
     BIG, COUNTER, NIL, Reference, WITH_COMPONENTS, WITHOUT_COMPONENTS, is_same, reference, text,
 };
 use super::writable::can_write;
+use crate::rows::{assert_at, assert_named};
+use hex::FromHexError;
 use ior_core::{Ior, object_key, parse_text, print_text};
 use std::alloc::{AllocError, Global};
-use std::process::Abort;
 
 /// Behind the prefix, a reference of which another ORB printed the text.
 const PRINTED_WITH_COMPONENTS: &str =
@@ -60,7 +61,10 @@ const UNTYPED: Reference = ("", &[(5, ""), (0x0102_0304, "ff")]);
 const LETTERS: Reference = ("JKLMNO", &[(0xabcd_ef00, "abcdef")]);
 
 /// A reference, what is written for it behind the prefix, and what is read as it.
-const ROWS: &[(Reference, &str, &[&str])] = &[
+type Row = (Reference, &'static str, &'static [&'static str]);
+
+/// Each way to spell a reference.
+static ROWS: &[Row] = &[
     (
         BIG_COUNTER,
         "000000000000001049444c3a436f756e7465723a312e3000000000010000000000000020\
@@ -133,67 +137,86 @@ const ROWS: &[(Reference, &str, &[&str])] = &[
 ];
 
 /// The prefix in either case of each letter.
-const PREFIXES: &[&str] = &[
+static PREFIXES: &[&str] = &[
     "IOR:", "IOr:", "IoR:", "Ior:", "iOR:", "iOr:", "ioR:", "ior:",
 ];
 
 /// The digits of the reference in either case.
-const DIGITS: &[&str] = &[
+static DIGITS: &[&str] = &[
     "00000000 00000007 4a4b4c4d4e4f00 00 00000001 abcdef00 00000003 abcdef",
     "00000000 00000007 4A4B4C4D4E4F00 00 00000001 ABCDEF00 00000003 ABCDEF",
     "00000000 00000007 4a4B4C4d4e4F00 00 00000001 aBCdEf00 00000003 AbcDeF",
 ];
 
-/// Asserts that a text is read as the reference.
-fn assert_parses(rt: &(impl Abort + AllocGlobal), text: &str, wanted: &Ior) {
-    let Ok(found) = parse_text(rt.alloc(), text) else {
-        panic!(rt; "{text}")
-    };
-    assert!(rt; is_same(&found, wanted), "{text}");
-}
-
-/// Asserts that each text behind the prefix is read as the reference.
-fn assert_each_parses(
-    rt: &(impl Abort + AllocGlobal),
-    prefix: &str,
-    texts: &[&'static str],
-    wanted: &Ior,
-) {
-    for digits in texts {
-        let text = text(rt, prefix, digits);
-        assert_parses(rt, text.as_str(), wanted);
+/// Tells whether the text is read as the reference.
+fn is_read(alloc: Global, text: &str, wanted: &Ior) -> bool {
+    match parse_text(alloc, text) {
+        Ok(found) => is_same(&found, wanted),
+        Err(_) => false,
     }
 }
 
-/// Asserts that the text is written for a reference, and read as that reference again.
-fn assert_prints(rt: &(impl Abort + AllocGlobal), ior: &Ior, wanted: &str) {
-    assert!(rt; can_write(rt, ior), "{wanted}");
-    let printed = print_text(rt.alloc(), ior).expect(rt, "memory");
-    assert!(rt; printed.as_str() == wanted, "{wanted}");
-    assert_parses(rt, wanted, ior);
+/// Tells whether each text behind the prefix is read as the reference.
+fn are_read(
+    alloc: Global,
+    prefix: &str,
+    texts: &[&'static str],
+    wanted: &Ior,
+) -> Result<bool, AllocError> {
+    for digits in texts {
+        let text = text(alloc, prefix, digits)?;
+        if !is_read(alloc, text.as_str(), wanted) {
+            return Ok(false);
+        }
+    }
+    Ok(true)
+}
+
+/// Tells whether the text is written for the reference, and read as that reference again.
+fn is_printed(alloc: Global, ior: &Ior, wanted: &str) -> Result<bool, AllocError> {
+    if !can_write(alloc, ior) {
+        return Ok(false);
+    }
+    let printed = print_text(alloc, ior)?;
+    Ok(printed.as_str() == wanted && is_read(alloc, wanted, ior))
+}
+
+/// Tells of a row whether its text is written, and whether each of its texts is read.
+fn stands(alloc: Global, (sample, written, texts): &Row) -> Result<bool, FromHexError> {
+    let ior = reference(alloc, sample)?;
+    let written = text(alloc, "IOR:", written)?;
+    Ok(is_printed(alloc, &ior, written.as_str())? && are_read(alloc, "IOR:", texts, &ior)?)
 }
 
 #[test]
 fn references_and_their_texts(rt: HostRuntime) {
-    for (sample, written, texts) in ROWS {
-        let ior = reference(&rt, sample);
-        let written = text(&rt, "IOR:", written);
-        assert_prints(&rt, &ior, written.as_str());
-        assert_each_parses(&rt, "IOR:", texts, &ior);
+    for row in ROWS {
+        let holds = stands(rt.alloc(), row).unwrap_or(false);
+        assert_named(&rt, holds, row.1);
     }
+}
+
+/// Tells whether the digits in either case are read behind the prefix.
+fn are_letters(alloc: Global, prefix: &str) -> Result<bool, FromHexError> {
+    let wanted = reference(alloc, &LETTERS)?;
+    Ok(are_read(alloc, prefix, DIGITS, &wanted)?)
 }
 
 #[test]
 fn letters_stand_in_either_case(rt: HostRuntime) {
-    let wanted = reference(&rt, &LETTERS);
     for prefix in PREFIXES {
-        assert_each_parses(&rt, prefix, DIGITS, &wanted);
+        let holds = are_letters(rt.alloc(), prefix).unwrap_or(false);
+        assert_named(&rt, holds, prefix);
     }
 }
 
+/// What stands before the octets of a long key, in the text of a reference with one profile.
+const BEFORE_KEY: &str = "00000000 00000001 00000000 00000001 \
+    00000000 000003d0 00010000 00000002 6800 0001 000003c0";
+
 /// The text of a reference with one profile, whose key is 960 times the octet 2a: 1,000 octets.
-fn long_text(alloc: Global, front: &str) -> Result<String, AllocError> {
-    let mut text = String::from_str(alloc, front)?;
+fn long_text(alloc: Global) -> Result<String, AllocError> {
+    let mut text = text(alloc, "IOR:", BEFORE_KEY)?;
     for _ in 0..960 {
         text.push_str("2a")?;
     }
@@ -210,26 +233,26 @@ fn are_2a(octets: &[u8]) -> bool {
     true
 }
 
+/// Tells whether the reference has a profile with the long key, and no other.
+fn has_long_key(ior: &Ior) -> bool {
+    let Some(key) = object_key(ior, 0) else {
+        return false;
+    };
+    key.len() == 960 && are_2a(key) && object_key(ior, 1).is_none()
+}
+
+/// Tells whether the long text is read, and written for what is read.
+fn is_long_text_read(alloc: Global) -> Result<bool, AllocError> {
+    let text = long_text(alloc)?;
+    let Ok(ior) = parse_text(alloc, text.as_str()) else {
+        return Ok(false);
+    };
+    Ok(text.len() == 2004 && has_long_key(&ior) && is_printed(alloc, &ior, text.as_str())?)
+}
+
 #[test]
 fn a_long_text_is_read_and_written(rt: HostRuntime) {
-    let front = text(
-        &rt,
-        "IOR:",
-        "00000000 00000001 00000000 00000001 \
-        00000000 000003d0 00010000 00000002 6800 0001 000003c0",
-    );
-    let text = long_text(rt.alloc(), front.as_str()).expect(&rt, "memory");
-    assert_eq!(rt; text.len(), 2004);
-    let Ok(ior) = parse_text(rt.alloc(), text.as_str()) else {
-        rt.abort()
-    };
-    assert_prints(&rt, &ior, text.as_str());
-    let Some(key) = object_key(&ior, 0) else {
-        rt.abort()
-    };
-    assert_eq!(rt; key.len(), 960);
-    assert!(rt; are_2a(key));
-    assert!(rt; object_key(&ior, 1).is_none());
+    assert!(rt; is_long_text_read(rt.alloc()).unwrap_or(false));
 }
 
 /// A reference with profiles of other tags before one of IIOP.
@@ -246,7 +269,7 @@ const BAD: Reference = (
 );
 
 /// A reference, an index, and the key in the profile of that index.
-const KEYS: &[(Reference, u32, Option<&[u8]>)] = &[
+static KEYS: &[(Reference, u32, Option<&[u8]>)] = &[
     (BIG_COUNTER, 0, Some(b"c")),
     (BIG_COUNTER, 1, None),
     (COUNTER_WITH, 0, Some(b"c")),
@@ -266,10 +289,21 @@ const KEYS: &[(Reference, u32, Option<&[u8]>)] = &[
     (("X", &[]), 0, None),
 ];
 
+/// Tells whether the profile of that index has the key.
+fn has_key(
+    alloc: Global,
+    sample: &Reference,
+    index: u32,
+    key: Option<&[u8]>,
+) -> Result<bool, FromHexError> {
+    let ior = reference(alloc, sample)?;
+    Ok(object_key(&ior, index) == key)
+}
+
 #[test]
 fn a_key_stands_in_an_iiop_profile_alone(rt: HostRuntime) {
     for (row, (sample, index, key)) in KEYS.iter().enumerate() {
-        let ior = reference(&rt, sample);
-        assert!(rt; object_key(&ior, *index) == *key, "keys, row {row}");
+        let holds = has_key(rt.alloc(), sample, *index, *key).unwrap_or(false);
+        assert_at(&rt, holds, "keys", row as u64);
     }
 }

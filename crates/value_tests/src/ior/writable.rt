@@ -7,7 +7,7 @@ ghost use Rattle.ior_core.specs.View.{ior_value, list_value};
 
 use cdr_core::{Val, writable};
 use ior_core::{IiopProfile, Ior, Tagged};
-use std::process::Abort;
+use std::alloc::Global;
 
 /// Tells whether the octets behind a tag can be written.
 fn is_short(one: &Tagged) -> bool
@@ -30,11 +30,13 @@ fn are_short(all: &[Tagged]) -> bool
 }
 
 /// Tells of a reference with at most three profiles whether it can be written.
-pub fn can_write(rt: &(impl Abort + AllocGlobal), ior: &Ior) -> bool
+pub fn can_write(alloc: Global, ior: &Ior) -> bool
     ensures { IsTrue result → IsWritable (ior_value ior.now) }
 {
-    let type_id = Val::Str(Vec::from_slice(rt.alloc(), &ior.type_id).expect(rt, "memory"));
-    writable(&type_id) && are_short(&ior.profiles)
+    let Ok(type_id) = Vec::from_slice(alloc, &ior.type_id) else {
+        return false;
+    };
+    writable(&Val::Str(type_id)) && are_short(&ior.profiles)
 }
 
 /// Tells whether what stands behind the head of a profile can be written.
@@ -49,10 +51,12 @@ fn can_write_behind(profile: &IiopProfile) -> bool
 }
 
 /// Tells of a profile with at most three components whether it can be written.
-pub fn can_write_profile(rt: &(impl Abort + AllocGlobal), profile: &IiopProfile) -> bool
+pub fn can_write_profile(alloc: Global, profile: &IiopProfile) -> bool
     ensures { IsTrue result → IsWritableProfile profile.now }
 {
-    let host = Val::Str(Vec::from_slice(rt.alloc(), &profile.host).expect(rt, "memory"));
+    let Ok(host) = Vec::from_slice(alloc, &profile.host) else {
+        return false;
+    };
     let is_key_short = profile.object_key.len() <= u32::MAX as usize;
-    writable(&host) && is_key_short && can_write_behind(profile)
+    writable(&Val::Str(host)) && is_key_short && can_write_behind(profile)
 }

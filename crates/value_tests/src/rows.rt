@@ -1,0 +1,18 @@
+//! What is asserted of the rows of the tables.
+
+use std::process::Abort;
+
+/// Asserts what holds of the row of that name.
+pub fn assert_named(rt: &impl Abort, holds: bool, name: &str) {
+    assert!(rt; holds, "{name}");
+}
+
+/// Asserts what holds at a place, or of a row counted from 0, under that name.
+pub fn assert_at(rt: &impl Abort, holds: bool, name: &str, at: u64) {
+    assert!(rt; holds, "{name} at {at}");
+}
+
+/// Asserts what holds of the octets at a place.
+pub fn assert_octets(rt: &impl Abort, holds: bool, octets: &[u8], at: u32) {
+    assert!(rt; holds, "{octets:?} at {at}");
+}
