@@ -1,12 +1,13 @@
 -- How long what is written is, where it ends, and one part behind another.
-use Rattle.std.proofs.Common.{MatchOption, ◌≡◌, ℕ, ◌+◌, ◌-◌, ◌<◌, ◌≤◌, ◌^◌, List, ◌++◌, length, drop, get_or, replicate, Option, Some, None, refl, sym, ap, ◌∙◌, arith, length-append}
+use Rattle.std.proofs.Common.{MatchOption, ◌≡◌, ℕ, ℤ, ◌+◌, ◌-◌, ◌<◌, ◌≤◌, ◌^◌, List, ◌++◌, length, drop, get_or, replicate, Option, Some, None, refl, sym, ap, ◌∙◌, arith, length-append}
 use Rattle.std.proofs.lemmas.List.{length-replicate, drop_more}
 use Rattle.byteorder.specs.Numbers.{length-bytes_high_first, length-bytes_low_first}
 use Rattle.cdr_core.specs.Appending.{appended}
 use Rattle.cdr_core.specs.declared.order.Order.{Order}
 use Rattle.cdr_core.specs.declared.order.Order.TheVariants.{Big, Little}
 use Rattle.cdr_core.specs.declared.values.Val.{Val}
-use Rattle.cdr_core.specs.Numbers.{padding, digits_of}
+use Rattle.cdr_core.specs.Numbers.{padding, bits_of, digits_of}
+use Rattle.cdr_core.specs.Form.{Number, size}
 use Rattle.cdr_core.specs.Value as value
 use Rattle.cdr_core.specs.Value.{Value, Values}
 use Rattle.cdr_core.specs.View.{value_of, values_of}
@@ -18,6 +19,14 @@ digits_length Little n x = length-bytes_low_first 0 n x
 
 pub number_length : (order : Order) (n o x : ℕ) → length (number_octets order n o x) ≡ padding o n + n
 number_length order n o x = omega (arith, length-append (replicate (padding o n) 0) (digits_of order n x), length-replicate {A = ℕ} (padding o n) 0, digits_length order n x)
+
+-- the room for a number
+pub number_room : (order : Order) (kind : Number) (v : Val) (z : ℤ) (at start here : ℕ) (old : List ℕ) (room : ℕ) → value_of v ≡ value.number kind z → here ≡ length old
+    → length old + length (octets_of order (value_of v) (at + (length old - start))) ≤ room → length old + (padding (at + (here - start)) (size kind) + size kind) ≤ room
+number_room order kind v z at start here old room is e le =
+    let o = at + (length old - start) in
+    let w = rw is at le in
+    rw e (omega (arith, w, number_length order (size kind) o (bits_of kind z)))
 
 -- the next of some values
 pub values_next : (all : List Val) (i : ℕ) (v : Val) → i < length all → v ≡ get_or all i v → values_of (drop i all) ≡ value.value (value_of v) (values_of (drop (i + 1) all))

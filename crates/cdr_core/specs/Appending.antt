@@ -34,6 +34,27 @@ kept old new k = rw (k.parts) (take_front old k.more)
 pub begins : (start : ℕ) (old new : List ℕ) → start ≤ length old → Keeps old new → start ≤ length new
 begins start old new le k = omega (arith, le, ap length k.parts, length-append old k.more)
 
+-- appends one after another: what there was stands in front of them, and a writer's start with it
+abbrev pub Stands : ℕ → List ℕ → List ℕ → Type 0
+Stands start old mid = (start ≤ length mid) × Keeps old mid
+
+pub stands : {start : ℕ} {old : List ℕ} → start ≤ length old → Stands start old old
+stands {start} {old} le = (le, keeps_all old old refl)
+
+pub then_stands : {start : ℕ} {old mid new : List ℕ} (more : List ℕ) → Stands start old mid → new ≡ mid ++ more → Stands start old new
+then_stands {start} {old} {mid} {new} more s e =
+    let k : Keeps mid new = record { more = more; parts = e } in
+    (begins start mid new s.0 k, keeps_both old mid new s.1 k)
+
+pub keeps_as : {start : ℕ} {old mid new : List ℕ} → Stands start old mid → new ≡ mid → Keeps old new
+keeps_as {start} {old} {mid} {new} s e = keeps_both old mid new s.1 (keeps_all mid new e)
+
+pub keeps_as_kept : {start : ℕ} {old mid new : List ℕ} → Stands start old mid → Keeps mid new → Keeps old new
+keeps_as_kept {start} {old} {mid} {new} s k = keeps_both old mid new s.1 k
+
+pub keeps_behind : {old mid new : List ℕ} (more : List ℕ) → mid ≡ old ++ more → Keeps mid new → Keeps old new
+keeps_behind {old} {mid} {new} more e k = keeps_both old mid new (record { more = more; parts = e }) k
+
 -- a place behind what was appended
 pub place_behind : (at start : ℕ) (old new : List ℕ) → start ≤ length old → at + (length (old ++ new) - start) ≡ (at + (length old - start)) + length new
 place_behind at start old new le = omega (arith, length-append old new)

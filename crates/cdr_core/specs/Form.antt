@@ -1,5 +1,5 @@
 -- The types of an interface, without where they lie in memory.
-use Rattle.std.specs.Prelude.{ℕ, ℤ}
+use Rattle.std.specs.Prelude.{ℕ, ℤ, ⊤}
 
 -- the whole numbers, by their names in an interface (CDR 9.3.1)
 pub data Number : Type 0 where
@@ -46,3 +46,10 @@ mutual
     otherwise_nothing : Cases
     otherwise : Form → Cases
     labelled : ℤ → Form → Cases → Cases
+
+-- a boolean, a number or an enumeration
+abbrev pub IsBasic : Form → Type 0
+IsBasic boolean = ⊤
+IsBasic (number kind) = ⊤
+IsBasic (enumeration n) = ⊤
+IsBasic _ = ⊥

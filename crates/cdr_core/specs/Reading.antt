@@ -147,3 +147,9 @@ unfoldable mutual
 abbrev pub union_at : Form → Order → ℤ → ℕ → List ℕ → Read Values
 union_at (form.union d cs) order l o octets = chosen_at cs order l o octets
 union_at _ order l o octets = Ok (value.no_values, o, octets)
+
+-- a union of a discriminator, with the member that it chooses
+abbrev pub united_at : Form → Order → Value → ℕ → List ℕ → Read Value
+united_at t order d o octets = do
+  m ← union_at t order (label d) o octets
+  Ok (value.union d m.0, m.1, m.2)

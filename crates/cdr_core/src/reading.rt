@@ -3,16 +3,17 @@
 ghost use Rattle.std.specs.Prelude.{⊤, ◌≡◌, ◌<◌, ◌^◌, ◌++◌, List, ℕ, length};
 ghost use Rattle.std.specs.Ordering.{int_eq};
 ghost use Rattle.cdr_core.specs.Answering.{Answers, ListAnswers, ListReads, Reads};
-ghost use Rattle.cdr_core.specs.Cursor.{GivesUnlessMemory};
+ghost use Rattle.cdr_core.specs.Cursor.{Gives, GivesUnlessMemory};
 ghost use Rattle.cdr_core.specs.Fitting.{AreValid, IsValid};
-ghost use Rattle.cdr_core.specs.Reading.{each_at, members_at, union_at, value_at};
+ghost use Rattle.cdr_core.specs.Form.{octets, sequence, string, IsBasic};
+ghost use Rattle.cdr_core.specs.Reading.{each_at, members_at, union_at, united_at, value_at};
 ghost use Rattle.cdr_core.specs.Spelling.{Spells, SpellsMembers};
 ghost use Rattle.cdr_core.specs.Value.{label, Value, Values};
 ghost use Rattle.cdr_core.specs.Wanting.{MayStore, MayWant};
 ghost use Rattle.cdr_core.specs.View.{form_of, forms_of, held, value_of, values_of};
 
 use crate::cursor::Cursor;
-use crate::fault::CdrError;
+use crate::fault::{CdrError, Fault};
 use crate::order::Order;
 use crate::types::{Case, Ty};
 use crate::values::Val;
@@ -44,6 +45,44 @@ pub(crate) fn is_labelled(case: &Case, discriminator: &Val) -> bool
     case.label == label_of(discriminator)
 }
 
+/// A value of a basic type: a boolean, a number or the ordinal of an enumeration.
+#[tactic(auto, unfolding(crate::specs::Reading::value_at))]
+fn basic(ty: &Ty, cursor: &mut Cursor) -> Result<Val, Fault>
+    requires { IsBasic (form_of ty.now) }
+    ensures { Gives value_of result (value_at (form_of ty.now) cursor.old.order) cursor.old cursor.new }
+{
+    match ty {
+        Ty::Boolean => cursor.boolean().map(Val::Boolean),
+        Ty::Char => cursor.character().map(Val::Char),
+        Ty::Octet => cursor.octet().map(Val::Octet),
+        Ty::Short => cursor.short().map(Val::Short),
+        Ty::UShort => cursor.ushort().map(Val::UShort),
+        Ty::Long => cursor.long().map(Val::Long),
+        Ty::ULong => cursor.ulong().map(Val::ULong),
+        Ty::LongLong => cursor.longlong().map(Val::LongLong),
+        Ty::Enum(names) => cursor.ordinal(*names).map(Val::Enum),
+        _ => cursor.ulonglong().map(Val::ULongLong),
+    }
+}
+
+/// A string.
+#[tactic(auto, unfolding(crate::specs::Reading::value_at))]
+fn string(alloc: Global, bound: u32, cursor: &mut Cursor) -> Result<Val, CdrError>
+    ensures { GivesUnlessMemory value_of result (value_at (string bound) cursor.old.order) (MayWant (string bound) cursor.old.order) cursor.old cursor.new }
+{
+    let text = cursor.string_within(bound)?;
+    Ok(Val::Str(Vec::from_slice(alloc, text)?))
+}
+
+/// A sequence of octets.
+#[tactic(auto, unfolding(crate::specs::Reading::value_at))]
+fn octets(alloc: Global, bound: u32, cursor: &mut Cursor) -> Result<Val, CdrError>
+    ensures { GivesUnlessMemory value_of result (value_at (octets bound) cursor.old.order) (MayWant (octets bound) cursor.old.order) cursor.old cursor.new }
+{
+    let all = cursor.octets_within(bound)?;
+    Ok(Val::Octets(Vec::from_slice(alloc, all)?))
+}
+
 /// A value of a type.
 #[cycle(reading)]
 #[tactic(auto, unfolding(crate::specs::Reading::value_at))]
@@ -51,33 +90,36 @@ fn value(alloc: Global, ty: &Ty, cursor: &mut Cursor) -> Result<Val, CdrError>
     ensures { GivesUnlessMemory value_of result (value_at (form_of ty.now) cursor.old.order) (MayWant (form_of ty.now) cursor.old.order) cursor.old cursor.new }
 {
     match ty {
-        Ty::Boolean => Ok(Val::Boolean(cursor.boolean()?)),
-        Ty::Char => Ok(Val::Char(cursor.character()?)),
-        Ty::Octet => Ok(Val::Octet(cursor.octet()?)),
-        Ty::Short => Ok(Val::Short(cursor.short()?)),
-        Ty::UShort => Ok(Val::UShort(cursor.ushort()?)),
-        Ty::Long => Ok(Val::Long(cursor.long()?)),
-        Ty::ULong => Ok(Val::ULong(cursor.ulong()?)),
-        Ty::LongLong => Ok(Val::LongLong(cursor.longlong()?)),
-        Ty::ULongLong => Ok(Val::ULongLong(cursor.ulonglong()?)),
-        Ty::Str(bound) => Ok(Val::Str(Vec::from_slice(alloc, cursor.string_within(*bound)?)?)),
-        Ty::Octets(bound) => Ok(Val::Octets(Vec::from_slice(
-            alloc,
-            cursor.octets_within(*bound)?,
-        )?)),
-        Ty::Seq(bound, member) => {
-            let count = cursor.length(0, *bound)?;
-            Ok(Val::Seq(each(alloc, member, count, cursor)?))
-        }
+        Ty::Str(bound) => string(alloc, *bound, cursor),
+        Ty::Octets(bound) => octets(alloc, *bound, cursor),
+        Ty::Seq(bound, member) => sequence(alloc, member, *bound, cursor),
         Ty::Array(count, member) => Ok(Val::Array(each(alloc, member, *count, cursor)?)),
-        Ty::Enum(names) => Ok(Val::Enum(cursor.ordinal(*names)?)),
         Ty::Struct(members) => Ok(Val::Struct(each_of(alloc, members, cursor)?)),
         Ty::Union(discriminator, _, _) => {
             let discriminator = value(alloc, discriminator, cursor)?;
-            let member = chosen(alloc, ty, &discriminator, cursor)?;
-            Ok(Val::Union(Box::new(alloc, discriminator)?, member))
+            union(alloc, ty, discriminator, cursor)
         }
+        _ => Ok(basic(ty, cursor)?),
     }
+}
+
+/// A sequence of values.
+#[cycle(reading)]
+#[tactic(auto, unfolding(crate::specs::Reading::value_at))]
+fn sequence(alloc: Global, ty: &Ty, bound: u32, cursor: &mut Cursor) -> Result<Val, CdrError>
+    ensures { GivesUnlessMemory value_of result (value_at (sequence bound (form_of ty.now)) cursor.old.order) (MayWant (sequence bound (form_of ty.now)) cursor.old.order) cursor.old cursor.new }
+{
+    let count = cursor.length(0, bound)?;
+    Ok(Val::Seq(each(alloc, ty, count, cursor)?))
+}
+
+/// A union of a discriminator, with the member that this chooses.
+#[cycle(reading)]
+fn union(alloc: Global, ty: &Ty, discriminator: Val, cursor: &mut Cursor) -> Result<Val, CdrError>
+    ensures { GivesUnlessMemory value_of result (united_at (form_of ty.now) cursor.old.order (value_of discriminator)) (λ o octets. ⊤) cursor.old cursor.new }
+{
+    let member = chosen(alloc, ty, &discriminator, cursor)?;
+    Ok(Val::Union(Box::new(alloc, discriminator)?, member))
 }
 
 /// So many values of one type. Memory is taken as they are read, and not by their count.

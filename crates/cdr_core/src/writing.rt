@@ -35,6 +35,7 @@ fn behind(place: u64, size: u64, more: u64) -> Option<u64>
 
 /// The place behind the octets that `write` appends for a value at a place, if it is below 2^64.
 #[cycle(measuring)]
+#[tactic(auto, using(crate::proofs::Lengths::number_length))]
 pub fn end_of(place: u64, value: &Val) -> Option<u64>
     ensures ends { (order : Order) → EndsAt result (place + length (octets_of order (value_of value.now) place)) }
     ensures behind { IfSome result (λ end. place ≤ end) }

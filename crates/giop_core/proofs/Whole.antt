@@ -81,6 +81,22 @@ module _ (version : Version) (kind : MessageKind) (order : Order) (start : ℕ) 
       → Adds version kind order (with_body version kind order body (drop (start + 12) old)) r (take start old) new
   body_behind r new h = subst (λ xs. Adds version kind order xs r (take start old) new) octets_behind (subst (λ xs. Adds version kind order (drop (start + 12) bodied) r xs new) octets_before h)
 
+-- a message that is begun: the room for its header, and a writer of what stands behind that
+
+module _ (w : Writing) (order : Order) (old begun : List ℕ) (begins : begun ≡ old ++ replicate 12 0) (is : w ≡ record { order = order; at = 12; start = length begun }) where
+  pub starts_begun : w.start ≤ length begun
+  starts_begun = omega (arith, ap (λ x. x.start) is)
+
+  module _ (start : ℕ) (same : start ≡ length old) where
+    behind_room : length begun ≡ start + 12
+    behind_room = omega (arith, ap length begins, length-append old (replicate {A = ℕ} 12 0), length-replicate {A = ℕ} 12 0, same)
+
+    pub writes_begun : w ≡ record { order = order; at = 12; start = start + 12 }
+    writes_begun = is ∙ ap (λ n. record { order = order; at = 12; start = n }) behind_room
+
+    pub room_begun : {fielded : List ℕ} (more : List ℕ) → fielded ≡ begun ++ more → start + 12 ≤ length fielded
+    room_begun {fielded} more e = omega (arith, ap length e, length-append begun more, behind_room)
+
 -- the fields behind the room for the header
 
 module _ (version : Version) (kind : MessageKind) (order : Order) (fields : List Value) (body : Values) (w : Writing) (old begun fielded : List ℕ)

@@ -117,11 +117,11 @@ fn request_12(order: Order, octets: &[u8]) -> Result<Message<'_>, MessageFault>
     let mut cursor = Cursor::new(octets, order, BEHIND_HEADER);
     let request_id = cursor.ulong()?;
     let flags = cursor.octet()?;
-    let _reserved = read_reserved(&mut cursor)?;
+    let _reserved = read_reserved(&mut cursor)?; // behind the flags of 1.2
     let target = read_target(&mut cursor)?;
     let operation = cursor.string()?;
     let contexts = read_contexts(&mut cursor)?;
-    cursor.align(8);
+    cursor.align(8); // to the body of a Request
     Ok(Message {
         version: Version::V12,
         order,
@@ -174,9 +174,9 @@ fn reply_12(order: Order, octets: &[u8]) -> Result<Message<'_>, MessageFault>
     ensures same { IfOk result (λ m. (m.version ≡ V12) × (m.order ≡ order)) }
 {
     let mut cursor = Cursor::new(octets, order, BEHIND_HEADER);
-    let request_id = cursor.ulong()?;
+    let request_id = cursor.ulong()?; // first in a Reply of 1.2
     let status = cursor.ordinal(6)?;
-    let contexts = read_contexts(&mut cursor)?;
+    let contexts = read_contexts(&mut cursor)?; // last in a Reply of 1.2
     cursor.align(8);
     Ok(Message {
         version: Version::V12,

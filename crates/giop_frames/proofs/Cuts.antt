@@ -66,5 +66,12 @@ appended-more a b c x y = (x.0 ++ y.0, y.1 ∙ ap (λ (z : List ℕ). z ++ y.0) 
 pub appended-by : (a b x : List ℕ) → b ≡ a ++ x → IsAppended a b
 appended-by a b x e = (x, e)
 
+pub appended-none : (a b c : List ℕ) → IsAppended a b → c ≡ b → IsAppended a c
+appended-none a b c x e = (x.0, e ∙ x.1)
+
+pub appended-three : (a b c d x y z : List ℕ) → b ≡ a ++ x → c ≡ b ++ y → d ≡ c ++ z → d ≡ a ++ (x ++ (y ++ z))
+appended-three a b c d x y z e f g =
+    g ∙ ap (λ (w : List ℕ). w ++ z) (f ∙ ap (λ (w : List ℕ). w ++ y) e) ∙ append_assoc (a ++ x) y z ∙ append_assoc a x (y ++ z)
+
 pub kept-more : (out out' x left others whole : List ℕ) → out' ≡ out ++ x → left ≡ x ++ others → out ++ left ≡ whole → out' ++ others ≡ whole
 kept-more out out' x left others whole e is same = ap (λ (y : List ℕ). y ++ others) e ∙ append_assoc out x others ∙ ap (λ (y : List ℕ). out ++ y) (sym is) ∙ same

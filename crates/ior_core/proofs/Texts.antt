@@ -1,18 +1,22 @@
 -- A text, step by step.
-use Rattle.std.proofs.Common.{◌≡◌, ℕ, List, Ok, Err, refl}
+use Rattle.std.proofs.Common.{◌≡◌, ℕ, List, Option, Some, None, Result, Ok, Err, ◌⊎◌, inl, inr, refl, subst}
+use Rattle.std.specs.Bool.{⊤}
+use Rattle.hex.specs.Hex.{decode_of}
+use Rattle.hex.specs.declared.error.FromHexError.{FromHexError}
+use Rattle.hex.specs.declared.error.FromHexError.TheVariants as digits
 use Rattle.cdr_core.specs.declared.fault.CdrError.{CdrError}
 use Rattle.cdr_core.specs.declared.fault.CdrError.TheVariants as errors
 use Rattle.cdr_core.specs.declared.fault.Fault.{Fault}
 use Rattle.cdr_core.specs.declared.order.Order.{Order}
 use Rattle.cdr_core.specs.Cursor.{Fails}
 use Rattle.cdr_core.specs.Encapsulation.{encapsulated, order_at}
-use Rattle.cdr_core.specs.Reading.{◌>>=◌, value_at}
+use Rattle.cdr_core.specs.Reading.{value_at}
 use Rattle.cdr_core.specs.Value.{Value}
 use Rattle.ior_core.specs.declared.error.IorError.{IorError}
 use Rattle.ior_core.specs.declared.error.IorError.TheVariants.{BadDigit, BadMajor, Cdr, Memory, NoPrefix, OddDigits}
 use Rattle.ior_core.specs.Calls.{ior_error}
 use Rattle.ior_core.specs.Grammar.{reference}
-use Rattle.ior_core.specs.Text.{reference_in, text_octets, ReadsText}
+use Rattle.ior_core.specs.Text.{behind_prefix, decoded, digits_in, hex_error, reference_in, text_octets, ReadsText}
 
 module _ (octets : List ℕ) where
   pub order_fails : (f : Fault) → order_at octets ≡ Err f → reference_in octets ≡ Err f
@@ -31,3 +35,36 @@ module _ (octets : List ℕ) where
     pub reference_ends : (text : List ℕ) → text_octets text ≡ Ok octets → (e : CdrError) → Fails e (value_at reference order p rest) → ReadsText text (Err (ior_error e))
     reference_ends text t (errors.Bad f) h = (octets, t, reference_fails f h)
     reference_ends text t errors.Memory h = tt
+
+-- what a text's digits may be refused for
+abbrev IsOfDigits : IorError → Type 0
+IsOfDigits (Cdr f) = ⊥
+IsOfDigits BadMajor = ⊥
+IsOfDigits _ = ⊤
+
+hex_told : (x : FromHexError) → IsOfDigits (hex_error x)
+hex_told (digits.InvalidHexCharacter c i) = tt
+hex_told digits.OddLength = tt
+hex_told digits.InvalidStringLength = tt
+hex_told digits.OutOfMemory = tt
+
+decoded_told : (r : Result (List ℕ) FromHexError) (e : IorError) → decoded r ≡ Err e → IsOfDigits e
+decoded_told (Ok octets) e h = absurd cc
+decoded_told (Err x) e h =
+    let is : hex_error x ≡ e = cc in
+    subst IsOfDigits is (hex_told x)
+
+digits_told : (found : Option (List ℕ)) (e : IorError) → digits_in found ≡ Err e → IsOfDigits e
+digits_told (Some digits) e h = decoded_told (decode_of digits) e h
+digits_told None e h =
+    let is : NoPrefix ≡ e = cc in
+    subst IsOfDigits is tt
+
+pub digits_end : (text : List ℕ) (e : IorError) → (e ≡ Memory) ⊎ (text_octets text ≡ Err e) → ReadsText text (Err e)
+digits_end text e (inl memory) = rw memory tt
+digits_end text (Cdr f) (inr h) = absurd (digits_told (behind_prefix text) (Cdr f) h)
+digits_end text BadMajor (inr h) = absurd (digits_told (behind_prefix text) BadMajor h)
+digits_end text Memory (inr h) = tt
+digits_end text NoPrefix (inr h) = h
+digits_end text OddDigits (inr h) = h
+digits_end text (BadDigit i) (inr h) = h

@@ -103,40 +103,38 @@ chosen-returns-in_err-member-in-Some t c =
     let read = rw (i.same, c.deref.ensures) at c.in_err-member-in-Some.ensures in
     rw (p.1, p.2) (default_fails c.in_err-member-in-Some.field-0.0 c.deref-case-items.result.now c.in-Union.default c.loop-case.case-index c.in-Some.ty c.args.cursor.now.order l c.args.cursor.now.place c.args.cursor.now.rest _ c.loop-case-test.false c.in-Some.is read.0 i.whole, may_any c.in_err-member-in-Some.field-0.0)
 
-pub value-returns-in_ok-each-in-Seq : goal.value-returns-in_ok-each-in-Seq
-value-returns-in_ok-each-in-Seq t c =
-    let a = c.in-Seq in
+pub sequence-returns : goal.sequence-returns
+sequence-returns t c =
     let old = c.args.cursor.now in
     let mid = c.length.new.self in
     let new = c.each.new.cursor in
-    let n = c.in_ok-count-in-Seq.ensures in
-    let read = rw (n.1, c.deref.ensures) at c.in_ok-each-in-Seq.ensures in
-    rw (ap form_of a.is ∙ form_of-Seq a.bound a.member, value_of-Seq)
-    (sequence_reads a.bound (form_of a.member.value) old.order old.place old.rest c.in_ok-count-in-Seq.count mid.place mid.rest (values_of c.in_ok-each-in-Seq.field-0.items) new.place new.rest n.0 read.0, read.1)
+    let n = c.in_ok-count.ensures in
+    let read = rw n.1 at c.in_ok-each.ensures in
+    rw value_of-Seq
+    (sequence_reads c.args.bound (form_of c.args.ty.now) old.order old.place old.rest c.in_ok-count.count mid.place mid.rest (values_of c.in_ok-each.field-0.items) new.place new.rest n.0 read.0, read.1)
 
-pub value-returns-in_err-each-in-Seq : goal.value-returns-in_err-each-in-Seq
-value-returns-in_err-each-in-Seq t c =
-    let p = err_from_is_err_and c.from_residual-in_err-each-in-Seq.result c.from_residual-in_err-each-in-Seq.ensures.1 in
-    let a = c.in-Seq in
+pub sequence-returns-in_err-each : goal.sequence-returns-in_err-each
+sequence-returns-in_err-each t c =
+    let p = err_from_is_err_and c.from_residual-in_err-each.result c.from_residual-in_err-each.ensures.1 in
     let old = c.args.cursor.now in
     let mid = c.length.new.self in
-    let n = c.in_ok-count-in-Seq.ensures in
-    let read = rw (n.1, c.deref.ensures) at c.in_err-each-in-Seq.ensures in
-    rw (p.1, p.2, ap form_of a.is ∙ form_of-Seq a.bound a.member)
-    (sequence_fails c.in_err-each-in-Seq.field-0.0 a.bound (form_of a.member.value) old.order old.place old.rest c.in_ok-count-in-Seq.count mid.place mid.rest n.0 read.0, sequence_wants c.in_err-each-in-Seq.field-0.0 a.bound (form_of a.member.value) old.order old.place old.rest c.in_ok-count-in-Seq.count mid.place mid.rest n.0 read.1)
+    let n = c.in_ok-count.ensures in
+    let read = rw n.1 at c.in_err-each.ensures in
+    rw (p.1, p.2)
+    (sequence_fails c.in_err-each.field-0.0 c.args.bound (form_of c.args.ty.now) old.order old.place old.rest c.in_ok-count.count mid.place mid.rest n.0 read.0, sequence_wants c.in_err-each.field-0.0 c.args.bound (form_of c.args.ty.now) old.order old.place old.rest c.in_ok-count.count mid.place mid.rest n.0 read.1)
 
 pub value-returns-in_ok-each-in-Array : goal.value-returns-in_ok-each-in-Array
 value-returns-in_ok-each-in-Array t c =
     let a = c.in-Array in
     let old = c.args.cursor.now in
-    let new = c.each-in-Array.new.cursor in
+    let new = c.each.new.cursor in
     let read = rw c.deref-in-Array.ensures at c.in_ok-each-in-Array.ensures in
     rw (ap form_of a.is ∙ form_of-Array a.count a.member, value_of-Array)
     (array_reads a.count (form_of a.member.value) old.order old.place old.rest (values_of c.in_ok-each-in-Array.field-0.items) new.place new.rest read.0, read.1)
 
 pub value-returns-in_err-each-in-Array : goal.value-returns-in_err-each-in-Array
 value-returns-in_err-each-in-Array t c =
-    let p = err_from_is_err_and c.from_residual-in_err-each-in-Array.result c.from_residual-in_err-each-in-Array.ensures.1 in
+    let p = err_from_is_err_and c.from_residual.result c.from_residual.ensures.1 in
     let a = c.in-Array in
     let old = c.args.cursor.now in
     let read = rw c.deref-in-Array.ensures at c.in_err-each-in-Array.ensures in

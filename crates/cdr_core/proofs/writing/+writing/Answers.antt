@@ -1,10 +1,12 @@
-use Rattle.std.proofs.Common.{◌≡◌, ◌+◌, ◌-◌, ◌++◌, length, drop, refl, sym, ap, subst, ◌∙◌, arith, length-append}
+use Rattle.std.proofs.Common.{rules, pos, ◌≡◌, ◌+◌, ◌-◌, ◌++◌, length, drop, refl, sym, ap, subst, ◌∙◌, arith, length-append}
 use Rattle.std.proofs.lemmas.List.{append-nil}
+use Rattle.cdr_core.specs.Form as form
 use Rattle.cdr_core.specs.Value as value
 use Rattle.cdr_core.specs.View.{value_of, values_of}
 use Rattle.cdr_core.specs.Writing.{number_octets, octets_of, octets_of_all, AreWritable}
 use Rattle.cdr_core.specs.Appending.{appended}
-use Rattle.cdr_core.proofs.Lengths.{left_over, room_left, values_next}
+use Rattle.cdr_core.specs.declared.values.Val.{the_lemmas}
+use Rattle.cdr_core.proofs.Lengths.{left_over, number_room, room_left, values_next}
 use Rattle.cdr_core.proofs.Views.{count_values_of, value_of-Union}
 use Rattle.cdr_core.proofs.writing.+writing.Goals as goal
 
@@ -54,3 +56,39 @@ put_all-loop-value-preserved t c =
       whole = left_over a.order a.at a.start a.all.now n v old new lt is i.start e ∙ i.whole;
       capacity = omega (arith, i.capacity, c.put.ensures.capacity);
     }
+
+pub put-put_two-requires : goal.put-put_two-requires
+put-put_two-requires t c =
+    let a = c.args in
+    let is : value_of a.value.now ≡ value.number form.short c.in-Short.n = search (rules, the_lemmas) in
+    number_room a.order form.short a.value.now c.in-Short.n a.at a.start c.len.result a.out.now.items _ is (c.len.ensures ∙ a.out.now.ok.0) c.requires.room
+
+pub put-put_two-requires-in-UShort : goal.put-put_two-requires-in-UShort
+put-put_two-requires-in-UShort t c =
+    let a = c.args in
+    let is : value_of a.value.now ≡ value.number form.ushort (pos c.in-UShort.n) = search (rules, the_lemmas) in
+    number_room a.order form.ushort a.value.now (pos c.in-UShort.n) a.at a.start c.len.result a.out.now.items _ is (c.len.ensures ∙ a.out.now.ok.0) c.requires.room
+
+pub put-put_four-requires : goal.put-put_four-requires
+put-put_four-requires t c =
+    let a = c.args in
+    let is : value_of a.value.now ≡ value.number form.long c.in-Long.n = search (rules, the_lemmas) in
+    number_room a.order form.long a.value.now c.in-Long.n a.at a.start c.len.result a.out.now.items _ is (c.len.ensures ∙ a.out.now.ok.0) c.requires.room
+
+pub put-put_four-requires-in-ULong : goal.put-put_four-requires-in-ULong
+put-put_four-requires-in-ULong t c =
+    let a = c.args in
+    let is : value_of a.value.now ≡ value.number form.ulong (pos c.in-ULong.n) = search (rules, the_lemmas) in
+    number_room a.order form.ulong a.value.now (pos c.in-ULong.n) a.at a.start c.len.result a.out.now.items _ is (c.len.ensures ∙ a.out.now.ok.0) c.requires.room
+
+pub put-put_eight-requires : goal.put-put_eight-requires
+put-put_eight-requires t c =
+    let a = c.args in
+    let is : value_of a.value.now ≡ value.number form.longlong c.in-LongLong.n = search (rules, the_lemmas) in
+    number_room a.order form.longlong a.value.now c.in-LongLong.n a.at a.start c.len.result a.out.now.items _ is (c.len.ensures ∙ a.out.now.ok.0) c.requires.room
+
+pub put-put_eight-requires-in-ULongLong : goal.put-put_eight-requires-in-ULongLong
+put-put_eight-requires-in-ULongLong t c =
+    let a = c.args in
+    let is : value_of a.value.now ≡ value.number form.ulonglong (pos c.in-ULongLong.n) = search (rules, the_lemmas) in
+    number_room a.order form.ulonglong a.value.now (pos c.in-ULongLong.n) a.at a.start c.len.result a.out.now.items _ is (c.len.ensures ∙ a.out.now.ok.0) c.requires.room

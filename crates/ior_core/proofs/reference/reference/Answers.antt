@@ -1,0 +1,25 @@
+use Rattle.std.proofs.Common.{◌∙◌}
+use Rattle.std.proofs.lemmas.Result.{err_from_is_err_and}
+use Rattle.cdr_core.specs.Form as form
+use Rattle.cdr_core.specs.Parts.{text}
+use Rattle.ior_core.specs.Grammar.{tagged_list}
+use Rattle.ior_core.proofs.Structures.{member_fails, no_member, second_fails, structure_fails, structure_read, then_members}
+use Rattle.ior_core.proofs.reference.reference.Goals as goal
+
+pub returns-in_err-string : goal.returns-in_err-string
+returns-in_err-string c =
+    let p = err_from_is_err_and c.from_residual.result c.from_residual.ensures.1 in
+    rw (p.1, p.2) (structure_fails (member_fails c.in_err-string.ensures.0), tt)
+
+pub returns-in_err-type_id : goal.returns-in_err-type_id
+returns-in_err-type_id c =
+    let p = err_from_is_err_and c.from_residual-in_err-type_id.result c.from_residual-in_err-type_id.ensures.1 in
+    rw (p.1, p.2) (tt, tt)
+
+pub returns-in_err-profiles : goal.returns-in_err-profiles
+returns-in_err-profiles c =
+    let p = err_from_is_err_and c.from_residual-in_err-profiles.result c.from_residual-in_err-profiles.ensures.1 in
+    rw (p.1, p.2) (second_fails text tagged_list form.no_forms c.args.cursor.now.place c.args.cursor.now.rest c.in_err-profiles.field-0.0 c.in_ok-string.ensures c.in_err-profiles.ensures.0, c.in_err-profiles.ensures.1)
+
+pub returns : goal.returns
+returns c = rw c.in_ok-type_id.ensures.items (structure_read (then_members c.in_ok-string.ensures (then_members c.in_ok-profiles.ensures no_member)), c.in_ok-profiles.ensures.1 ∙ c.in_ok-string.ensures.1)
