@@ -64,6 +64,15 @@ fn event(alloc: Global, line: &str) -> Result<Event, LineError> {
     }
 }
 
+/// Appends the event in a line, unless the line is passed over.
+fn put_event(alloc: Global, line: &str, events: &mut Vec<Event>) -> Result<(), LineError> {
+    if line.is_empty() || line.starts_with('#') {
+        return Ok(());
+    }
+    let event = event(alloc, line)?;
+    events.push(event).map_err(|_| LineError::Memory)
+}
+
 /// The events of a script, in order.
 ///
 /// A line is `open C`, `bytes C M HEX`, `close C` or `lost C`, with one space between words: C is
@@ -74,11 +83,8 @@ pub fn read_script(alloc: Global, script: &str) -> Result<Vec<Event>, ScriptErro
 {
     let mut events = Vec::new(alloc);
     for (i, line) in script.lines().enumerate() {
-        if line.is_empty() || line.starts_with('#') {
-            continue;
-        }
-        match event(alloc, line) {
-            Ok(event) => events.push(event).map_err(|_| ScriptError::Memory)?,
+        match put_event(alloc, line, &mut events) {
+            Ok(()) => {}
             Err(LineError::Bad) => return Err(ScriptError::BadLine(i as u64 + 1)),
             Err(LineError::Memory) => return Err(ScriptError::Memory),
         }

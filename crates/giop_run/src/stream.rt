@@ -1,6 +1,6 @@
 //! A stream of GIOP messages in hexadecimal digits: its messages, and how it ends.
 
-ghost use Rattle.std.specs.Prelude.{◌≡◌, ◌≢◌, ◌↔◌, ◌⊎◌, ℕ, List, Ok, Err, IfErr, IfOk, IsTrue, OnOk};
+ghost use Rattle.std.specs.Prelude.{◌≡◌, ◌≢◌, ◌↔◌, ◌⊎◌, ℕ, List, filter, not, Ok, Err, IfErr, IfOk, IsTrue, OnOk};
 ghost use Rattle.std.specs.Io.KnownBytes.{Appends};
 ghost use Rattle.giop_core.specs.Lent.{content_of};
 ghost use Rattle.giop_frames.specs.declared.fault.StreamFault.TheVariants.{Memory};
@@ -33,6 +33,11 @@ pub enum DigitError {
 }
 
 impl From<AllocError> for DigitError {
+    ghost use Rattle.std.specs.Prelude.{◌≡◌};
+    ghost use Rattle.giop_run.specs.declared.stream.DigitError.TheVariants.{Memory};
+
+    ghost from_gives = { λ _ e. e ≡ Memory };
+
     fn from(_e: AllocError) -> DigitError {
         DigitError::Memory
     }
@@ -60,17 +65,25 @@ fn is_blank(octet: u8) -> bool
     matches!(octet, b' ' | b'\t' | b'\r' | b'\n')
 }
 
+/// A text without its blanks.
+fn without_blanks(alloc: Global, text: &[u8]) -> Result<Vec<u8>, AllocError>
+    ensures { IfOk result (λ kept. kept.items ≡ filter (λ octet. not (digits.is_blank octet)) text.now) }
+{
+    let mut kept = Vec::new(alloc);
+    for octet in text {
+        if !is_blank(*octet) {
+            kept.push(*octet)?;
+        }
+    }
+    Ok(kept)
+}
+
 /// The octets that digits give, blanks between them left out.
 fn octets_of(alloc: Global, text: &[u8]) -> Result<Vec<u8>, DigitError>
     ensures read { IfOk result (λ octets. octets_in text.now ≡ Ok octets.items) }
     ensures refused { IfErr result (λ e. (e ≡ digit.Memory) ⊎ (octets_in text.now ≡ Err e)) }
 {
-    let mut digits = Vec::new(alloc);
-    for octet in text {
-        if !is_blank(*octet) {
-            digits.push(*octet).map_err(|_| DigitError::Memory)?;
-        }
-    }
+    let digits = without_blanks(alloc, text)?;
     Ok(hex::decode(alloc, digits.as_slice())?)
 }
 
