@@ -10,7 +10,7 @@ use std::alloc::{AllocError, Global};
 
 /// Why the words were refused.
 #[derive(Debug, Drop)]
-pub enum SettingError {
+pub(crate) enum SettingError {
     /// The words are not those of the program, or ask for help.
     Words(clap::Error),
     /// Memory ran out.
@@ -98,7 +98,7 @@ fn setting_of<'a>(matches: &ArgMatches<'a>) -> Setting<'a> {
 }
 
 /// What the words after the program's name ask for. No words ask for `play`.
-pub fn settings<'a>(alloc: Global, words: &'a [&'a str]) -> Result<Setting<'a>, SettingError>
+pub(crate) fn settings<'a>(alloc: Global, words: &'a [&'a str]) -> Result<Setting<'a>, SettingError>
     ensures { IfErr result IsNoWantOfMemory }
 {
     let command = command(alloc)?;

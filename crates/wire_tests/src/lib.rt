@@ -1,0 +1,12 @@
+//! Tests of the libraries: octets written out by hand from the standard's rules, and what is read,
+//! written and judged of them. What the program shows of messages stands in tests/rows.
+#![tactic(auto)]
+
+#[cfg(test)]
+mod cdr;
+#[cfg(test)]
+mod ior;
+#[cfg(test)]
+mod messages;
+#[cfg(test)]
+mod rows;
