@@ -4,7 +4,8 @@
 A must-fail edit may hold several changes, each behind a line `# NAME`, and `rt must-fail` refuses it as soon
 as one of the changed functions is not proved. This applies an edit to a copy of the repository, checks the
 crate once, and asks of each changed function that it is not proved. (A function rests on the contracts of
-others alone, so what else is changed doesn't matter to it.) It builds on what `rt check` kept in out/, or
+others alone, so what else is changed doesn't matter to it; but one that calls a function that is not proved
+is not judged, so such a change needs a file of its own.) It builds on what `rt check` kept in out/, or
 proves the crates first.
 """
 import os
