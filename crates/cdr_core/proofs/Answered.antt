@@ -13,7 +13,7 @@ use Rattle.cdr_core.specs.Cursor.{Fails, Wants}
 use Rattle.cdr_core.specs.Wanting.{MayWant}
 use Rattle.cdr_core.specs.Answering.{Answers, ListAnswers, ListReads, Reads}
 use Rattle.cdr_core.specs.Laws.{EitherWay, NotBoth, OneFault}
-use Rattle.cdr_core.specs.Steps.{err_is}
+use Rattle.cdr_core.proofs.Steps.{err_is}
 use Rattle.cdr_core.proofs.Found.{found}
 use Rattle.cdr_core.proofs.Gets.{Gets}
 use Rattle.cdr_core.proofs.Only.{members_only, only}

@@ -11,7 +11,7 @@ use Rattle.cdr_core.specs.Value.{Value, Values, count, label}
 use Rattle.cdr_core.specs.Numbers.{padding, meaning}
 use Rattle.cdr_core.specs.Reading.{◌>>=◌, Read, taken, fault, number_at, whole_at, boolean_at, ordinal_at, length_at, text_at, string_at, octets_at, each_at, value_at, members_at, chosen_at}
 use Rattle.cdr_core.specs.Spelling.{InTurn, IsNumber, IsText, Each, OneOf, Chosen, Spells, SpellsMembers, SpellsChosen, Takes}
-use Rattle.cdr_core.specs.Steps.{bind_ok, needs, ok_is}
+use Rattle.cdr_core.proofs.Steps.{bind_ok, needs, ok_is}
 use Rattle.cdr_core.proofs.Taken.{in_turn_takes, takes_as, nothing_takes, taken_takes, number_takes, single, length_takes, text_takes, each_takes, taken_is}
 
 -- a reader takes what is so

@@ -1,3 +1,8 @@
+pub mod Steps
+pub mod Fields
+pub mod Enclosing
+pub mod Turns
+pub mod Appending
 pub mod Nul
 pub mod Views
 pub mod Loops

@@ -13,7 +13,7 @@ use Rattle.cdr_core.specs.Numbers.{padding, number_of}
 use Rattle.cdr_core.specs.Reading.{◌>>=◌, Read, taken, fault, part_at, number_at, length_at, text_at, to_nul, each_at}
 use Rattle.cdr_core.specs.Spelling.{IsNumber, IsClean, Each, Takes}
 use Rattle.cdr_core.specs.Stopping.{told, After, Lacks, LacksNumber, IsBadLong, StopsBehindLength, StopsInText, StopsInEach}
-use Rattle.cdr_core.specs.Steps.{bind_err, ended_ok, test_failed, last_failed}
+use Rattle.cdr_core.proofs.Steps.{bind_err, ended_ok, test_failed, last_failed}
 use Rattle.cdr_core.proofs.Gets.{Gets, number_gets}
 use Rattle.cdr_core.proofs.Nul.{clean_front, splits, to_nul-append, to_nul-clean}
 use Rattle.cdr_core.proofs.Taken.{length_takes, number_takes, taken_is, text_end}

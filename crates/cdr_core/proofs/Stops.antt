@@ -13,7 +13,7 @@ use Rattle.cdr_core.specs.Numbers.{padding, meaning}
 use Rattle.cdr_core.specs.Reading.{◌>>=◌, Read, taken, fault, number_at, whole_at, boolean_at, ordinal_at, text_at, string_at, octets_at, each_at, value_at, members_at, chosen_at}
 use Rattle.cdr_core.specs.Spelling.{Chosen, Spells}
 use Rattle.cdr_core.specs.Stopping.{told, Lacks, LacksNumber, IsBadBoolean, StopsInText, StopsInEach, Stops, StopsInMembers, StopsInChosen}
-use Rattle.cdr_core.specs.Steps.{bind_err, ended_ok, last_passed}
+use Rattle.cdr_core.proofs.Steps.{bind_err, ended_ok, last_passed}
 use Rattle.cdr_core.proofs.Taken.{number_takes, octet_is, single}
 use Rattle.cdr_core.proofs.Found.{boolean_by, found, some_octets}
 use Rattle.cdr_core.proofs.Gets.{number_gets}

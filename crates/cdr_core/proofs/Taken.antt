@@ -10,7 +10,7 @@ use Rattle.cdr_core.specs.Value.{Value, Values, count}
 use Rattle.cdr_core.specs.Numbers.{padding, number_of}
 use Rattle.cdr_core.specs.Reading.{◌>>=◌, Read, taken, fault, part_at, number_at, length_at, text_at, to_nul, each_at}
 use Rattle.cdr_core.specs.Spelling.{InTurn, IsNumber, IsText, Each, Takes}
-use Rattle.cdr_core.specs.Steps.{bind_ok, guard, guard_ok, ok_is}
+use Rattle.cdr_core.proofs.Steps.{bind_ok, guard, guard_ok, ok_is}
 use Rattle.cdr_core.proofs.Nul.{within, ends}
 
 -- a part, and what stands behind it

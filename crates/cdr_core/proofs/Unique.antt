@@ -4,7 +4,7 @@ use Rattle.std.proofs.lemmas.List.{take_at}
 use Rattle.cdr_core.specs.Reading.{Read, value_at}
 use Rattle.cdr_core.specs.Spelling.{Spells}
 use Rattle.cdr_core.specs.Laws.{OneFront}
-use Rattle.cdr_core.specs.Steps.{ok_is}
+use Rattle.cdr_core.proofs.Steps.{ok_is}
 use Rattle.cdr_core.proofs.Found.{Finds, found}
 use Rattle.cdr_core.proofs.Gets.{Gets}
 use Rattle.cdr_core.proofs.Only.{only}

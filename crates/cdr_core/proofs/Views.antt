@@ -5,7 +5,7 @@ use Rattle.cdr_core.specs.Form as form
 use Rattle.cdr_core.specs.Form.{Form, Forms}
 use Rattle.cdr_core.specs.Value as value
 use Rattle.cdr_core.specs.Value.{Value, Values, count}
-use Rattle.cdr_core.specs.Turns.{values_push, with_last}
+use Rattle.cdr_core.proofs.Turns.{values_push, with_last}
 use Rattle.cdr_core.specs.View.{form_of, value_of, values_of, held}
 use Rattle.cdr_core.specs.declared.types.Ty.{Ty, the_lemmas as ty_lemmas}
 use Rattle.cdr_core.specs.declared.types.Ty.TheVariants as ty

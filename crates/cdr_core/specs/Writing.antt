@@ -64,6 +64,14 @@ pub record Writing : Type 0 where
 abbrev pub place_in : Writing → List ℕ → ℕ
 place_in w out = w.at + (length out - w.start)
 
+-- a value is appended
+abbrev pub Appends : Writing → Value → List ℕ → List ℕ → Type 0
+Appends w v old new = new ≡ old ++ octets_of w.order v (place_in w old)
+
+-- values are appended one after the other
+abbrev pub PutsAll : Writing → Values → List ℕ → List ℕ → Type 0
+PutsAll w vs old new = new ≡ old ++ octets_of_all w.order vs (place_in w old)
+
 -- a value's octets are appended, or nothing
 abbrev pub Puts : {A E : Type 0} → Writing → Value → Result A E → List ℕ → List ℕ → Type 0
 Puts w v (Ok x) old new = new ≡ old ++ octets_of w.order v (place_in w old)

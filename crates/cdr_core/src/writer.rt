@@ -1,7 +1,7 @@
 //! A place in an output, at which parts are written one after another.
 
 ghost use Rattle.std.specs.Prelude.{◌≡◌, ◌≤◌, ◌<◌, ◌+◌, ◌-◌, ◌^◌, ◌++◌, ◌⊎◌, length, replicate, [], ◌∷◌, MatchResult, OnErr, OnOk};
-ghost use Rattle.cdr_core.specs.Appending.{PutsAll};
+ghost use Rattle.cdr_core.specs.Writing.{PutsAll};
 ghost use Rattle.cdr_core.specs.Encapsulation.{byte_order};
 ghost use Rattle.cdr_core.specs.Numbers.{padding};
 ghost use Rattle.cdr_core.specs.Parts.{long_value, octet_value, short_value, ulong_value, ulonglong_value, ushort_value};

@@ -204,7 +204,7 @@ fn put(order: Order, at: u64, start: usize, value: &Val, out: &mut Vec<u8>)
 
 /// Appends a sequence: its count and its elements, for which there is room.
 #[cycle(writing)]
-#[tactic(auto, using(crate::proofs::Views::count_values_of, crate::proofs::Lengths::number_length, crate::specs::Appending::place_behind))]
+#[tactic(auto, using(crate::proofs::Views::count_values_of, crate::proofs::Lengths::number_length, crate::proofs::Appending::place_behind))]
 fn put_sequence(order: Order, at: u64, start: usize, all: &[Val], out: &mut Vec<u8>)
     requires at { at < 2 ^ 32 }
     requires start { start ≤ length out.old.items }

@@ -1,10 +1,11 @@
 -- A value that was appended, and what is appended behind it.
 use Rattle.std.proofs.Common.{ℕ, ◌≤◌, List, [], ◌∷◌, length, Result, Ok, Err, MatchResult}
-use Rattle.cdr_core.specs.Appending.{begins, keeps_all, keeps_both, puts_next, puts_none, Appends, Keeps, PutsAll}
-use Rattle.cdr_core.specs.Steps.{match_as}
+use Rattle.cdr_core.proofs.Appending.{begins, keeps_all, keeps_both, puts_next, puts_none}
+use Rattle.cdr_core.specs.Private.{Keeps}
+use Rattle.cdr_core.specs.Writing.{Appends, PutsAll, octets_of, place_in, Puts, Writing}
+use Rattle.cdr_core.proofs.Steps.{match_as}
 use Rattle.cdr_core.specs.Value as value
 use Rattle.cdr_core.specs.Value.{Value, values}
-use Rattle.cdr_core.specs.Writing.{octets_of, place_in, Puts, Writing}
 
 -- what was appended, or nothing, leaves what there was in front
 pub puts_or_keeps : {A E : Type 0} (w : Writing) (v : Value) (r : Result A E) (old new : List ℕ) → Puts w v r old new → MatchResult r (λ _. Appends w v old new) (λ _. Keeps old new)

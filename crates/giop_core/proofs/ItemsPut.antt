@@ -5,11 +5,11 @@ use Rattle.std.proofs.lemmas.List.{append-nil, drop_more}
 use Rattle.std.specs.Borrow.{Bor}
 use Rattle.cdr_core.specs.declared.fault.Fault.{Fault}
 use Rattle.cdr_core.specs.declared.order.Order.{Order}
-use Rattle.cdr_core.specs.Appending.{puts_next, Appends}
+use Rattle.cdr_core.proofs.Appending.{puts_next}
+use Rattle.cdr_core.specs.Writing.{Appends, octets_of_all, place_in, AreWritable, Writing}
 use Rattle.cdr_core.specs.Reading.{value_at}
 use Rattle.cdr_core.specs.Value as value
 use Rattle.cdr_core.specs.Value.{Values, values}
-use Rattle.cdr_core.specs.Writing.{octets_of_all, place_in, AreWritable, Writing}
 use Rattle.ior_core.specs.Grammar.{tagged}
 use Rattle.giop_core.specs.Items.{item_at, items_in, tagged_value}
 use Rattle.giop_core.specs.Lent.{lent_value}

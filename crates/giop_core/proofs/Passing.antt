@@ -2,12 +2,12 @@
 use Rattle.std.proofs.Common.{◌≡◌, ℕ, zero, suc, ℤ, pos, List, [], ◌∷◌, length, map, Ok, Err, refl, sym, ap, subst, ◌∙◌}
 use Rattle.cdr_core.specs.declared.fault.Fault.{Fault}
 use Rattle.cdr_core.specs.declared.order.Order.{Order}
-use Rattle.cdr_core.specs.Fields.{fields_at, sequence_is, structure_is}
+use Rattle.cdr_core.proofs.Fields.{fields_at, sequence_is, structure_is}
 use Rattle.cdr_core.specs.Form as form
 use Rattle.cdr_core.specs.Parts.{most, raw, ulong, ulong_value}
 use Rattle.cdr_core.specs.Reading.{◌>>=◌, Read, each_at, length_at, number_at, octets_at, value_at, whole_at}
-use Rattle.cdr_core.specs.Steps.{bind_ok, ok_is}
-use Rattle.cdr_core.specs.Turns.{passing}
+use Rattle.cdr_core.proofs.Steps.{bind_ok, ok_is}
+use Rattle.cdr_core.specs.Private.{passing}
 use Rattle.cdr_core.specs.Value as value
 use Rattle.cdr_core.specs.Value.{Value, Values, values}
 use Rattle.cdr_core.specs.View.{forms}

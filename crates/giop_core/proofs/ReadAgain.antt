@@ -5,7 +5,7 @@ use Rattle.std.proofs.lemmas.List.{append-nil, drop_at, length-replicate}
 use Rattle.std.specs.Int.{FitsUnsigned, w32}
 use Rattle.cdr_core.specs.declared.order.Order.{Order}
 use Rattle.cdr_core.specs.Encapsulation.{byte_order}
-use Rattle.cdr_core.specs.Enclosing.{enclosed_only}
+use Rattle.cdr_core.proofs.Enclosing.{enclosed_only}
 use Rattle.cdr_core.specs.Fitting.{AllFit, Fits}
 use Rattle.cdr_core.specs.Form.{Form}
 use Rattle.cdr_core.specs.Laws.{SpelledIsRead, WrittenIsSpelled}
@@ -13,7 +13,7 @@ use Rattle.cdr_core.specs.Numbers.{padding}
 use Rattle.cdr_core.specs.Parts.{long_value, octet, octet_value, raw, short_value, text, ulong, ulong_value, ulonglong_value}
 use Rattle.cdr_core.specs.Reading.{value_at}
 use Rattle.cdr_core.specs.Spelling.{IsClean, Spells}
-use Rattle.cdr_core.specs.Turns.{count_values}
+use Rattle.cdr_core.proofs.Turns.{count_values}
 use Rattle.cdr_core.specs.Value as value
 use Rattle.cdr_core.specs.Value.{Value, Values, count, values}
 use Rattle.cdr_core.specs.Writing.{number_octets, octets_of, octets_of_all}

@@ -1,12 +1,12 @@
 -- What an FT_REQUEST context holds, as it is appended.
 use Rattle.std.proofs.Common.{◌≡◌, ℕ, ◌≤◌, ℤ, List, [], ◌∷◌, ◌++◌, length, Err, refl, ap, arith}
 use Rattle.cdr_core.specs.declared.order.Order.{Order}
-use Rattle.cdr_core.specs.Appending.{enclosed_puts, keeps_all, puts_one, puts_then, Appends}
+use Rattle.cdr_core.proofs.Appending.{enclosed_puts, keeps_all, puts_one, puts_then}
+use Rattle.cdr_core.specs.Writing.{Appends, Writing}
 use Rattle.cdr_core.specs.Encapsulation.{byte_order}
 use Rattle.cdr_core.specs.Parts.{long_value, ulonglong_value}
 use Rattle.cdr_core.specs.Value as value
 use Rattle.cdr_core.specs.Value.{Value, Values, values}
-use Rattle.cdr_core.specs.Writing.{Writing}
 use Rattle.giop_core.specs.declared.refusal.WriteError.{WriteError}
 use Rattle.giop_core.specs.declared.refusal.WriteError.TheVariants.{TooLong, Memory}
 use Rattle.giop_core.specs.Long.{Judges}

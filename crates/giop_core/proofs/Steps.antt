@@ -2,7 +2,7 @@
 use Rattle.std.proofs.Common.{◌≡◌, ℕ, List, [], ◌∷◌, Ok, Err, refl}
 use Rattle.cdr_core.specs.declared.fault.Fault.{Fault}
 use Rattle.cdr_core.specs.declared.order.Order.{Order}
-use Rattle.cdr_core.specs.Fields.{fields_at, structure_is}
+use Rattle.cdr_core.proofs.Fields.{fields_at, structure_is}
 use Rattle.cdr_core.specs.Fitting.{IsValid}
 use Rattle.cdr_core.specs.Form as form
 use Rattle.cdr_core.specs.Form.{Form}

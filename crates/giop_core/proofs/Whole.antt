@@ -3,12 +3,13 @@ use Rattle.std.proofs.Common.{◌≡◌, ◌≢◌, ℕ, zero, suc, ◌+◌, ◌
 use Rattle.std.proofs.lemmas.List.{append-nil, drop-append-le, drop_at, length-drop, length-replicate, take-append-drop, take-append-le, take_at}
 use Rattle.std.specs.declared.alloc.AllocError.{AllocError}
 use Rattle.cdr_core.specs.declared.order.Order.{Order}
-use Rattle.cdr_core.specs.Appending.{keeps_all, place_behind, Keeps, PutsAll}
+use Rattle.cdr_core.proofs.Appending.{keeps_all, place_behind}
+use Rattle.cdr_core.specs.Private.{Keeps}
+use Rattle.cdr_core.specs.Writing.{PutsAll, number_octets, octets_of, octets_of_all, place_in, AreWritable, IsWritable, Puts, Writing}
 use Rattle.cdr_core.specs.Numbers.{digits_of, padding}
 use Rattle.cdr_core.specs.Parts.{ulong_value}
 use Rattle.cdr_core.specs.Value as value
 use Rattle.cdr_core.specs.Value.{Value, Values, no_values, values}
-use Rattle.cdr_core.specs.Writing.{number_octets, octets_of, octets_of_all, place_in, AreWritable, IsWritable, Puts, Writing}
 use Rattle.giop_core.specs.declared.header.MessageKind.{MessageKind}
 use Rattle.giop_core.specs.declared.header.MessageKind.TheVariants as kind
 use Rattle.giop_core.specs.declared.header.Version.{Version}

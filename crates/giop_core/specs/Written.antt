@@ -1,13 +1,13 @@
 -- How a message is written: its fields, its body, and its header.
 use Rattle.std.specs.Prelude.{◌≡◌, ℕ, ◌+◌, ◌<◌, ◌≤◌, ◌^◌, ℤ, pos, Bool, true, false, List, [], ◌∷◌, ◌++◌, length, replicate, Result, Ok, Err, ⊤}
 use Rattle.cdr_core.specs.declared.order.Order.{Order}
-use Rattle.cdr_core.specs.Appending.{Keeps, PutsAll}
+use Rattle.cdr_core.specs.Private.{Keeps}
+use Rattle.cdr_core.specs.Writing.{PutsAll, and_then, octets_of, octets_of_all, Writing}
 use Rattle.cdr_core.specs.Encapsulation.{byte_order}
 use Rattle.cdr_core.specs.Numbers.{padding}
 use Rattle.cdr_core.specs.Parts.{long_value, octet_value, ulong_value, ulonglong_value}
 use Rattle.cdr_core.specs.Value as value
 use Rattle.cdr_core.specs.Value.{Value, Values, values}
-use Rattle.cdr_core.specs.Writing.{and_then, octets_of, octets_of_all, Writing}
 use Rattle.giop_core.specs.declared.header.Header.{Header}
 use Rattle.giop_core.specs.declared.header.MessageKind.{MessageKind}
 use Rattle.giop_core.specs.declared.header.MessageKind.TheVariants.{Request, Reply}

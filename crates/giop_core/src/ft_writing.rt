@@ -1,7 +1,7 @@
 //! Writing the service context of a request that may be sent again (FT_REQUEST).
 
 ghost use Rattle.std.specs.Prelude.{◌≡◌, ◌≤◌, ◌<◌, ◌^◌, ◌++◌, length};
-ghost use Rattle.cdr_core.specs.Appending.{Keeps};
+ghost use Rattle.cdr_core.specs.Private.{Keeps};
 ghost use Rattle.cdr_core.specs.Spelling.{IsClean};
 ghost use Rattle.giop_core.specs.Written.{ft_octets, AddsOctets, WroteOctets};
 

@@ -2,7 +2,7 @@
 
 ghost use Rattle.std.specs.Prelude.{◌≡◌, ◌<◌, length, IfOk};
 ghost use Rattle.cdr_core.specs.Reading.{each_at, value_at};
-ghost use Rattle.cdr_core.specs.Turns.{passing};
+ghost use Rattle.cdr_core.specs.Private.{passing};
 ghost use Rattle.ior_core.specs.Grammar.{reference, tagged};
 ghost use Rattle.giop_core.specs.Calls.{Reads, Tells};
 ghost use Rattle.giop_core.specs.Lent.{contexts_left, contexts_value, lent_value, reference_value, selected_value, target_value, three_value};

@@ -1,9 +1,9 @@
 //! Writing the parts of message headers, each by its type.
 
 ghost use Rattle.std.specs.Prelude.{◌≡◌, ◌≤◌, ◌<◌, ◌^◌, ◌++◌, length, map, MatchResult};
-ghost use Rattle.cdr_core.specs.Appending.{Appends, Keeps, PutsAll};
+ghost use Rattle.cdr_core.specs.Private.{Keeps};
+ghost use Rattle.cdr_core.specs.Writing.{Appends, PutsAll, AreWritable, IsWritable};
 ghost use Rattle.cdr_core.specs.Value.{values};
-ghost use Rattle.cdr_core.specs.Writing.{AreWritable, IsWritable};
 ghost use Rattle.giop_core.specs.Items.{item_at, items_in, list_value, tagged_value};
 ghost use Rattle.giop_core.specs.Lent.{addressed_by, contexts_left, lent_value, reference_value};
 ghost use Rattle.giop_core.specs.Written.{target_of, zeros};

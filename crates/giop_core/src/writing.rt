@@ -1,12 +1,12 @@
 //! Writing messages: each writer appends one whole message, with its size in its header.
 
 ghost use Rattle.std.specs.Prelude.{◌≡◌, ◌≤◌, ◌<◌, ◌+◌, ◌^◌, ◌++◌, [], length, drop, take, map, replicate, MatchResult};
-ghost use Rattle.cdr_core.specs.Appending.{Appends, Keeps};
+ghost use Rattle.cdr_core.specs.Private.{Keeps};
+ghost use Rattle.cdr_core.specs.Writing.{Appends, place_in, AreWritable, IsWritable};
 ghost use Rattle.cdr_core.specs.Spelling.{IsClean};
 ghost use Rattle.cdr_core.specs.Value as value;
 ghost use Rattle.cdr_core.specs.Value.{no_values, values};
 ghost use Rattle.cdr_core.specs.View.{values_of};
-ghost use Rattle.cdr_core.specs.Writing.{place_in, AreWritable, IsWritable};
 ghost use Rattle.cdr_core.specs.declared.order.Order.TheVariants.{Big};
 ghost use Rattle.giop_core.specs.declared.header.MessageKind.TheVariants as kind;
 ghost use Rattle.giop_core.specs.declared.header.Version.TheVariants.{V10, V11, V12};

@@ -1,10 +1,11 @@
 -- What stands where values were appended one after another.
 use Rattle.std.proofs.Common.{◌≡◌, ℕ, ◌≤◌, List, [], ◌∷◌, ◌++◌, length, Result, Ok, Err, MatchResult, arith}
 use Rattle.cdr_core.specs.declared.order.Order.{Order}
-use Rattle.cdr_core.specs.Appending.{keeps_as, puts_one, puts_then, stands, then_stands, Appends, Keeps, PutsAll, Stands}
+use Rattle.cdr_core.proofs.Appending.{keeps_as, puts_one, puts_then, stands, then_stands, Stands}
+use Rattle.cdr_core.specs.Private.{Keeps}
+use Rattle.cdr_core.specs.Writing.{Appends, PutsAll, octets_of, place_in, Puts, Writing}
 use Rattle.cdr_core.specs.Encapsulation.{byte_order}
 use Rattle.cdr_core.specs.Value.{Value, values}
-use Rattle.cdr_core.specs.Writing.{octets_of, place_in, Puts, Writing}
 
 -- where an encapsulation begins
 pub enclosed_stands : {order : Order} {w : Writing} {old begun : List ℕ} → (begun ≡ old ++ byte_order order ∷ []) × (w ≡ record { order = order; at = 1; start = length begun }) → Stands w.start old begun

@@ -8,8 +8,8 @@ use Rattle.ior_core.specs.Calls.{ior_error}
 use Rattle.cdr_core.specs.declared.order.Order.{Order}
 use Rattle.cdr_core.specs.Encapsulation.{encapsulated, order_at}
 use Rattle.cdr_core.specs.Reading.{◌>>=◌, Read, value_at}
-use Rattle.cdr_core.specs.Steps.{ok_is}
-use Rattle.cdr_core.specs.Turns.{passing}
+use Rattle.cdr_core.proofs.Steps.{ok_is}
+use Rattle.cdr_core.specs.Private.{passing}
 use Rattle.cdr_core.specs.Value.{Value}
 use Rattle.ior_core.specs.Grammar.{profile_1_0}
 use Rattle.ior_core.specs.Profiles.{behind_at, body_at, body_of, has_minor_0, head_value, key_of, Body, ReadsProfile}

@@ -5,14 +5,14 @@ use Rattle.hex.specs.Hex.{IsBytes}
 use Rattle.hex.proofs.HexLemmas.{decode_of-encode_lower}
 use Rattle.cdr_core.specs.declared.order.Order.{Order}
 use Rattle.cdr_core.specs.declared.order.Order.TheVariants.{Big, Little}
-use Rattle.cdr_core.specs.Enclosing.{enclosed_found, enclosed_only}
+use Rattle.cdr_core.proofs.Enclosing.{enclosed_found, enclosed_only}
 use Rattle.cdr_core.specs.Encapsulation.{byte_order, IsEncapsulated}
 use Rattle.cdr_core.specs.Fitting.{Fits}
 use Rattle.cdr_core.specs.Laws.{ReadIsSpelled, SpelledIsRead, WrittenIsSpelled}
 use Rattle.cdr_core.specs.Numbers.{AreOctets}
 use Rattle.cdr_core.specs.Reading.{◌>>=◌, Read, value_at}
 use Rattle.cdr_core.specs.Spelling.{InTurn, Spells, Takes}
-use Rattle.cdr_core.specs.Steps.{bind_ok, ok_is}
+use Rattle.cdr_core.proofs.Steps.{bind_ok, ok_is}
 use Rattle.cdr_core.specs.Value as value
 use Rattle.cdr_core.specs.Value.{Value}
 use Rattle.cdr_core.specs.Writing.{octets_of, octets_of_all}

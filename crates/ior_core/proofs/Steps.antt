@@ -1,7 +1,7 @@
 -- Structs and sequences of this grammar, part by part.
 use Rattle.std.proofs.Common.{◌≡◌, ℕ, List, [], ◌∷◌, Ok}
 use Rattle.cdr_core.specs.declared.order.Order.{Order}
-use Rattle.cdr_core.specs.Fields.{fields_at, sequence_is, structure_is}
+use Rattle.cdr_core.proofs.Fields.{fields_at, sequence_is, structure_is}
 use Rattle.cdr_core.specs.Parts.{most, octet, raw, text, ulong, ushort}
 use Rattle.cdr_core.specs.Reading.{◌>>=◌, Read, each_at, length_at, value_at}
 use Rattle.cdr_core.specs.Value as value

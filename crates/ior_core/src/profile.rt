@@ -1,10 +1,10 @@
 //! IIOP profiles.
 
 ghost use Rattle.std.specs.Prelude.{◌≡◌, ◌++◌, ◌<◌, ◌≤◌, ◌^◌, length, option_map, pos, Err, IfOk, MatchResult, OnErr, OnOk, ⊤};
-ghost use Rattle.cdr_core.specs.Appending.{Appends, Keeps, PutsAll};
+ghost use Rattle.cdr_core.specs.Private.{Keeps, passing};
+ghost use Rattle.cdr_core.specs.Writing.{Appends, PutsAll};
 ghost use Rattle.cdr_core.specs.Cursor.{GivesUnlessMemory};
 ghost use Rattle.cdr_core.specs.Reading.{value_at};
-ghost use Rattle.cdr_core.specs.Turns.{passing};
 ghost use Rattle.ior_core.specs.Calls.{GivesOnce};
 ghost use Rattle.ior_core.specs.Grammar.{profile_1_0};
 ghost use Rattle.ior_core.specs.Profiles.{behind_at, behind_value, body_of, head_value, held, iiop_body, is_0, key_of, profile_octets, HasNone, IsWritableProfile, ReadsProfile};

@@ -1,10 +1,10 @@
 //! Object references.
 
 ghost use Rattle.std.specs.Prelude.{◌≡◌, ◌++◌, ◌<◌, ◌≤◌, ◌^◌, length, option_map, MatchResult, OnErr, OnOk, ⊤};
-ghost use Rattle.cdr_core.specs.Appending.{Appends, Keeps};
+ghost use Rattle.cdr_core.specs.Private.{Keeps};
+ghost use Rattle.cdr_core.specs.Writing.{Appends, octets_of, IsWritable};
 ghost use Rattle.cdr_core.specs.Cursor.{GivesUnlessMemory};
 ghost use Rattle.cdr_core.specs.Reading.{value_at};
-ghost use Rattle.cdr_core.specs.Writing.{octets_of, IsWritable};
 ghost use Rattle.ior_core.specs.Calls.{ReadsReference};
 ghost use Rattle.ior_core.specs.Grammar.{reference};
 ghost use Rattle.ior_core.specs.Text.{key_at};

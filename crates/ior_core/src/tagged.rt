@@ -1,12 +1,11 @@
 //! Octets with a tag: tagged profiles and tagged components.
 
 ghost use Rattle.std.specs.Prelude.{◌≡◌, ◌++◌, ◌<◌, ◌≤◌, ◌^◌, length, map, MatchResult, ⊤};
-ghost use Rattle.cdr_core.specs.Appending.{Appends, Keeps, PutsAll};
+ghost use Rattle.cdr_core.specs.Private.{Keeps, passing};
+ghost use Rattle.cdr_core.specs.Writing.{Appends, PutsAll, AreWritable, IsWritable};
 ghost use Rattle.cdr_core.specs.Cursor.{GivesUnlessMemory};
 ghost use Rattle.cdr_core.specs.Reading.{each_at, value_at};
-ghost use Rattle.cdr_core.specs.Turns.{passing};
 ghost use Rattle.cdr_core.specs.Value.{values};
-ghost use Rattle.cdr_core.specs.Writing.{AreWritable, IsWritable};
 ghost use Rattle.ior_core.specs.Calls.{GivesOnce};
 ghost use Rattle.ior_core.specs.Grammar.{tagged, tagged_list};
 ghost use Rattle.ior_core.specs.View.{lent_value, list_value, tagged_value, tagged_values};

@@ -3,7 +3,7 @@ use Rattle.cdr_core.specs.Reading.{chosen_at, each_at, members_at, union_at, val
 use Rattle.cdr_core.specs.Value.{label}
 use Rattle.cdr_core.specs.View.{cases_of, form_of, forms_of, value_of, values_of}
 use Rattle.cdr_core.specs.Wanting.{IsRead}
-use Rattle.cdr_core.specs.Turns.{with_front}
+use Rattle.cdr_core.proofs.Turns.{with_front}
 use Rattle.cdr_core.proofs.reading.+reading.Given as goal
 
 -- what was read so far and what is left give the whole

@@ -4,7 +4,7 @@ use Rattle.cdr_core.specs.Form as form
 use Rattle.cdr_core.specs.Value as value
 use Rattle.cdr_core.specs.View.{value_of, values_of}
 use Rattle.cdr_core.specs.Writing.{number_octets, octets_of, octets_of_all, AreWritable}
-use Rattle.cdr_core.specs.Appending.{appended}
+use Rattle.cdr_core.proofs.Appending.{appended}
 use Rattle.cdr_core.specs.declared.values.Val.{the_lemmas}
 use Rattle.cdr_core.proofs.Lengths.{left_over, number_room, room_left, values_next}
 use Rattle.cdr_core.proofs.Views.{count_values_of, value_of-Union}

@@ -2,7 +2,8 @@ use Rattle.std.proofs.Common.{◌≡◌, [], ◌∷◌, ◌++◌, ◌≤◌, len
 use Rattle.std.proofs.lemmas.Int.{to_z-of_z}
 use Rattle.std.proofs.lemmas.Result.{err_from_is_err_and}
 use Rattle.std.specs.Int.{w32}
-use Rattle.cdr_core.specs.Appending.{begins, keeps_all, keeps_both, keeps_more, Keeps}
+use Rattle.cdr_core.proofs.Appending.{begins, keeps_all, keeps_both, keeps_more}
+use Rattle.cdr_core.specs.Private.{Keeps}
 use Rattle.cdr_core.specs.Encapsulation.{byte_order}
 use Rattle.cdr_core.specs.Writing.{Writing}
 use Rattle.giop_core.specs.Written.{ft_octets}

@@ -1,6 +1,6 @@
 use Rattle.std.proofs.Common.{◌≡◌, ◌-◌}
 use Rattle.cdr_core.specs.Reading.{each_at, value_at}
-use Rattle.cdr_core.specs.Turns.{passing}
+use Rattle.cdr_core.specs.Private.{passing}
 use Rattle.ior_core.specs.Grammar.{tagged}
 use Rattle.giop_core.proofs.parts.pass.Given as goal
 

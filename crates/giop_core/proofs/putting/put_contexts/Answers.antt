@@ -2,11 +2,12 @@ use Rattle.std.proofs.Common.{◌≡◌, ◌++◌, arith, ap, ◌∙◌, length,
 use Rattle.std.proofs.Math.Facts.{Fits-of_lt}
 use Rattle.std.proofs.lemmas.List.{length-map}
 use Rattle.std.specs.Int.{w32}
-use Rattle.cdr_core.specs.Appending.{appended, keeps_both, Keeps, PutsAll}
-use Rattle.cdr_core.specs.Steps.{match_as}
-use Rattle.cdr_core.specs.Turns.{count_values}
+use Rattle.cdr_core.proofs.Appending.{appended, keeps_both}
+use Rattle.cdr_core.specs.Private.{Keeps}
+use Rattle.cdr_core.specs.Writing.{PutsAll, number_octets, octets_of_all, place_in}
+use Rattle.cdr_core.proofs.Steps.{match_as}
+use Rattle.cdr_core.proofs.Turns.{count_values}
 use Rattle.cdr_core.specs.Value.{count, values}
-use Rattle.cdr_core.specs.Writing.{number_octets, octets_of_all, place_in}
 use Rattle.giop_core.specs.Items.{item_at, tagged_value}
 use Rattle.giop_core.proofs.ItemsPut.{lent_items}
 use Rattle.giop_core.proofs.putting.put_contexts.Goals as goal

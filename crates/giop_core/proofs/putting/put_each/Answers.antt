@@ -1,6 +1,6 @@
 use Rattle.std.proofs.Common.{refl, ◌∙◌}
 use Rattle.std.proofs.lemmas.Result.{err_from_is_err_and}
-use Rattle.cdr_core.specs.Appending.{begins, keeps_all, keeps_both, keeps_more}
+use Rattle.cdr_core.proofs.Appending.{begins, keeps_all, keeps_both, keeps_more}
 use Rattle.giop_core.proofs.ItemsPut.{context_last, context_long, context_step}
 use Rattle.giop_core.proofs.putting.put_each.Goals as goal
 

@@ -1,5 +1,5 @@
 use Rattle.std.proofs.Common.{◌≡◌, ◌++◌, drop, map}
-use Rattle.cdr_core.specs.Appending.{Keeps}
+use Rattle.cdr_core.specs.Private.{Keeps}
 use Rattle.cdr_core.specs.Value.{values}
 use Rattle.cdr_core.specs.Writing.{octets_of_all, place_in, AreWritable}
 use Rattle.giop_core.specs.Lent.{lent_value}

@@ -1,6 +1,6 @@
 use Rattle.std.proofs.Common.{ℕ, List, ◌∙◌}
 use Rattle.std.proofs.lemmas.Result.{err_from_is_err_and}
-use Rattle.cdr_core.specs.Appending.{begins, keeps_both, keeps_more}
+use Rattle.cdr_core.proofs.Appending.{begins, keeps_both, keeps_more}
 use Rattle.cdr_core.specs.Writing.{octets_of, place_in}
 use Rattle.giop_core.specs.Items.{tagged_value}
 use Rattle.giop_core.proofs.ItemsPut.{put_last, put_next, put_stopped, writable_next}

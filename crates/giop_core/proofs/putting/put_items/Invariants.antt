@@ -1,5 +1,5 @@
 use Rattle.std.proofs.Common.{◌≡◌, ◌-◌, ◌++◌}
-use Rattle.cdr_core.specs.Appending.{Keeps}
+use Rattle.cdr_core.specs.Private.{Keeps}
 use Rattle.cdr_core.specs.Writing.{octets_of_all, place_in, AreWritable}
 use Rattle.giop_core.proofs.ItemsPut.{item_values}
 use Rattle.giop_core.proofs.putting.put_items.Given as goal

@@ -1,9 +1,10 @@
 use Rattle.std.proofs.Common.{◌≡◌, ◌++◌, arith, ap, ◌∙◌}
-use Rattle.cdr_core.specs.Appending.{appended, keeps_both, Keeps, PutsAll}
-use Rattle.cdr_core.specs.Steps.{match_as}
-use Rattle.cdr_core.specs.Turns.{count_values}
+use Rattle.cdr_core.proofs.Appending.{appended, keeps_both}
+use Rattle.cdr_core.specs.Private.{Keeps}
+use Rattle.cdr_core.specs.Writing.{PutsAll, number_octets, octets_of_all, place_in}
+use Rattle.cdr_core.proofs.Steps.{match_as}
+use Rattle.cdr_core.proofs.Turns.{count_values}
 use Rattle.cdr_core.specs.Value.{count}
-use Rattle.cdr_core.specs.Writing.{number_octets, octets_of_all, place_in}
 use Rattle.giop_core.specs.Items.{tagged_value}
 use Rattle.giop_core.specs.Lent.{contexts_left}
 use Rattle.giop_core.proofs.ItemsPut.{item_values}

@@ -1,7 +1,8 @@
-use Rattle.cdr_core.specs.Appending.{begins, keeps_both, puts_next, puts_none, Appends, Keeps}
-use Rattle.cdr_core.specs.Steps.{match_as}
+use Rattle.cdr_core.proofs.Appending.{begins, keeps_both, puts_next, puts_none}
+use Rattle.cdr_core.specs.Private.{Keeps}
+use Rattle.cdr_core.specs.Writing.{Appends, octets_of, place_in}
+use Rattle.cdr_core.proofs.Steps.{match_as}
 use Rattle.cdr_core.specs.Value as value
-use Rattle.cdr_core.specs.Writing.{octets_of, place_in}
 use Rattle.giop_core.specs.Items.{list_value}
 use Rattle.giop_core.specs.Lent.{contexts_left}
 use Rattle.giop_core.proofs.putting.put_reference.Goals as goal

@@ -1,5 +1,5 @@
 use Rattle.std.proofs.lemmas.Result.{err_from_is_err_and}
-use Rattle.cdr_core.specs.Appending.{keeps_both}
+use Rattle.cdr_core.proofs.Appending.{keeps_both}
 use Rattle.std.proofs.Common.{take}
 use Rattle.cdr_core.specs.View.{values_of}
 use Rattle.giop_core.proofs.Whole.{body_behind, front_kept}

@@ -1,6 +1,6 @@
 use Rattle.std.proofs.Common.{arith}
 use Rattle.std.proofs.lemmas.Result.{err_from_is_err_and}
-use Rattle.cdr_core.specs.Appending.{keeps_all, keeps_behind}
+use Rattle.cdr_core.proofs.Appending.{keeps_all, keeps_behind}
 use Rattle.cdr_core.specs.View.{values_of}
 use Rattle.giop_core.specs.declared.header.MessageKind.TheVariants as kind
 use Rattle.giop_core.specs.Written.{locate_reply_fields}

@@ -1,6 +1,6 @@
 use Rattle.std.proofs.Common.{map, arith}
 use Rattle.std.proofs.lemmas.Result.{err_from_is_err_and}
-use Rattle.cdr_core.specs.Appending.{keeps_all, keeps_behind}
+use Rattle.cdr_core.proofs.Appending.{keeps_all, keeps_behind}
 use Rattle.cdr_core.specs.Value as value
 use Rattle.cdr_core.specs.Value.{no_values}
 use Rattle.cdr_core.specs.View.{values_of}

@@ -1,5 +1,5 @@
 use Rattle.std.proofs.lemmas.Result.{err_from_is_err_and}
-use Rattle.cdr_core.specs.Appending.{enclosed_puts, keeps_all, keeps_as_kept, puts_next, then_stands}
+use Rattle.cdr_core.proofs.Appending.{enclosed_puts, keeps_all, keeps_as_kept, puts_next, then_stands}
 use Rattle.cdr_core.specs.Value as value
 use Rattle.cdr_core.specs.declared.order.Order.TheVariants.{Big}
 use Rattle.ior_core.specs.Profiles.{held, iiop_body}

@@ -1,7 +1,7 @@
 use Rattle.std.proofs.Common.{refl, sym, ap, ◌∙◌}
 use Rattle.std.proofs.lemmas.Result.{err_from_is_err_and}
 use Rattle.cdr_core.specs.Reading.{value_at}
-use Rattle.cdr_core.specs.Turns.{each_done, each_more, each_stops, values_push}
+use Rattle.cdr_core.proofs.Turns.{each_done, each_more, each_stops, values_push}
 use Rattle.ior_core.specs.Grammar.{tagged}
 use Rattle.ior_core.specs.View.{tag_and_octets, tagged_value, tagged_values}
 use Rattle.ior_core.proofs.tagged.each.Goals as goal

@@ -1,6 +1,6 @@
 use Rattle.std.proofs.lemmas.Result.{err_from_is_err_and}
 use Rattle.cdr_core.specs.Reading.{value_at}
-use Rattle.cdr_core.specs.Turns.{pass_done, pass_more, pass_stops}
+use Rattle.cdr_core.proofs.Turns.{pass_done, pass_more, pass_stops}
 use Rattle.ior_core.specs.Grammar.{tagged}
 use Rattle.ior_core.specs.View.{lent_value}
 use Rattle.ior_core.proofs.tagged.pass.Goals as goal

@@ -1,7 +1,7 @@
 use Rattle.std.proofs.Common.{◌++◌, sym, ap, ◌∙◌}
 use Rattle.std.proofs.lemmas.List.{append-nil, drop_all}
 use Rattle.std.proofs.lemmas.Result.{err_from_is_err_and}
-use Rattle.cdr_core.specs.Appending.{begins, keeps_both, keeps_more, list_left, list_next}
+use Rattle.cdr_core.proofs.Appending.{begins, keeps_both, keeps_more, list_left, list_next}
 use Rattle.cdr_core.specs.Writing.{octets_of, octets_of_all, place_in}
 use Rattle.ior_core.specs.View.{tagged_value, tagged_values}
 use Rattle.ior_core.proofs.tagged.put_each.Goals as goal

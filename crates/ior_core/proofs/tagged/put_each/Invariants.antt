@@ -1,5 +1,5 @@
 use Rattle.std.proofs.Common.{◌≡◌, ◌≤◌, ◌++◌, length, drop}
-use Rattle.cdr_core.specs.Appending.{Keeps}
+use Rattle.cdr_core.specs.Private.{Keeps}
 use Rattle.cdr_core.specs.Writing.{octets_of_all, place_in, AreWritable}
 use Rattle.ior_core.specs.View.{tagged_values}
 use Rattle.ior_core.proofs.tagged.put_each.Given as goal

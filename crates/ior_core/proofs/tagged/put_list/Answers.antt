@@ -1,11 +1,12 @@
 use Rattle.std.proofs.Common.{◌≡◌, ◌++◌, arith, sym, ap, ◌∙◌}
 use Rattle.std.proofs.Math.Facts.{Fits-of_lt}
 use Rattle.std.specs.Int.{w32}
-use Rattle.cdr_core.specs.Appending.{appended, keeps_both, keeps_more, Keeps, PutsAll}
-use Rattle.cdr_core.specs.Steps.{match_as}
-use Rattle.cdr_core.specs.Turns.{count_values}
+use Rattle.cdr_core.proofs.Appending.{appended, keeps_both, keeps_more}
+use Rattle.cdr_core.specs.Private.{Keeps}
+use Rattle.cdr_core.specs.Writing.{PutsAll, number_octets, octets_of_all, place_in}
+use Rattle.cdr_core.proofs.Steps.{match_as}
+use Rattle.cdr_core.proofs.Turns.{count_values}
 use Rattle.cdr_core.specs.Value.{count}
-use Rattle.cdr_core.specs.Writing.{number_octets, octets_of_all, place_in}
 use Rattle.ior_core.specs.View.{tagged_value, tagged_values}
 use Rattle.ior_core.proofs.tagged.put_list.Goals as goal
 
