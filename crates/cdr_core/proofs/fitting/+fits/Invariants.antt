@@ -1,8 +1,9 @@
 use Rattle.std.proofs.Common.{◌↔◌, drop}
 use Rattle.cdr_core.specs.View.{form_of, values_of, forms_of, cases_of, held, value_of}
 use Rattle.cdr_core.specs.Value.{label}
-use Rattle.cdr_core.specs.Fitting.{AllFit, Fits, FitsMembers, FitsChosen, HasChosen}
-use Rattle.cdr_core.proofs.checking.+fits.Given as goal
+use Rattle.cdr_core.specs.Private.{HasChosen}
+use Rattle.cdr_core.specs.Fitting.{AllFit, Fits, FitsMembers, FitsChosen}
+use Rattle.cdr_core.proofs.fitting.+fits.Given as goal
 
 abbrev pub invariant-all_fit-loop-value : goal.invariant-all_fit-loop-value
 invariant-all_fit-loop-value l = AllFit (Fits (form_of l.ty)) (values_of l.all) ↔ AllFit (Fits (form_of l.ty)) (values_of (drop l.value-index l.all))

@@ -1,6 +1,6 @@
 use Rattle.std.proofs.Common.{rules}
 use Rattle.cdr_core.specs.declared.types.Ty.{the_lemmas}
-use Rattle.cdr_core.proofs.checking.is_label.Goals as goal
+use Rattle.cdr_core.proofs.validity.is_label.Goals as goal
 
 pub returns-then-label-ge0 : goal.returns-then-label-ge0
 returns-then-label-ge0 c = search (rules, the_lemmas)

@@ -1,5 +1,5 @@
 use Rattle.std.proofs.Common.{◌≡◌, ◌+◌, ◌-◌, ◌≤◌, ◌++◌, length, replicate, vec_capacity}
-use Rattle.cdr_core.proofs.writing.put_zeros.Given as goal
+use Rattle.cdr_core.proofs.numbers.put_zeros.Given as goal
 
 abbrev pub invariant-loop : goal.invariant-loop
 invariant-loop l = record {

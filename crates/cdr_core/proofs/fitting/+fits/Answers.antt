@@ -1,7 +1,8 @@
 use Rattle.std.proofs.Common.{rules, ◌<◌, ◌≤◌, length, sym, ap, ◌∙◌, arith}
 use Rattle.cdr_core.proofs.Tests.{and_not, and_then, case_chosen, case_passed, default_chosen, each_failed, each_held, each_passed, has_chosen, form_of-Boolean, form_of-Char, form_of-Octet, form_of-Short, form_of-UShort, form_of-Long, form_of-ULong, form_of-LongLong, form_of-ULongLong, form_of-Str, form_of-Octets, form_of-Enum, form_of-Struct, form_of-Union, members_failed, members_held, members_passed, same, unfit}
 use Rattle.cdr_core.proofs.Views.{form_of-Array, form_of-Seq, value_of-Array, value_of-Seq, value_of-Struct, value_of-Union}
-use Rattle.cdr_core.specs.Fitting.{AllFit, Fits, FitsChosen, FitsMembers, HasChosen}
+use Rattle.cdr_core.specs.Private.{HasChosen}
+use Rattle.cdr_core.specs.Fitting.{AllFit, Fits, FitsChosen, FitsMembers}
 use Rattle.cdr_core.specs.Form as form
 use Rattle.cdr_core.specs.Value.{label}
 use Rattle.cdr_core.specs.View.{cases_of, form_of, forms_of, held, value_of, values_of}
@@ -9,7 +10,7 @@ use Rattle.cdr_core.specs.declared.types.Case.{the_lemmas as case_lemmas}
 use Rattle.cdr_core.specs.declared.types.Ty.{the_lemmas}
 use Rattle.cdr_core.specs.declared.values.Val.{Val}
 use Rattle.cdr_core.specs.declared.values.Val.{the_lemmas as val_lemmas}
-use Rattle.cdr_core.proofs.checking.+fits.Goals as goal
+use Rattle.cdr_core.proofs.fitting.+fits.Goals as goal
 
 pub all_fit-loop-value-init : goal.all_fit-loop-value-init
 all_fit-loop-value-init t c = same (AllFit (Fits (form_of c.args.ty.now)) (values_of c.args.all.now))

@@ -5,7 +5,7 @@ use Rattle.cdr_core.specs.View.{value_of, values_of}
 use Rattle.cdr_core.specs.Writing.{AreWritable, IsWritable}
 use Rattle.cdr_core.specs.declared.values.Val.{Val}
 use Rattle.cdr_core.specs.declared.values.Val.{the_lemmas}
-use Rattle.cdr_core.proofs.checking.+writable.Goals as goal
+use Rattle.cdr_core.proofs.writing.+writable.Goals as goal
 
 pub are_writable-loop-value-init : goal.are_writable-loop-value-init
 are_writable-loop-value-init t c = same (AreWritable (values_of c.args.all.now))

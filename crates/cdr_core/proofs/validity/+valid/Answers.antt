@@ -2,12 +2,13 @@ use Rattle.std.proofs.Common.{rules, ◌+◌, ap, ◌∙◌}
 use Rattle.std.proofs.lemmas.List.{take_rest}
 use Rattle.cdr_core.proofs.Tests.{cases_default, cases_failed, cases_none, cases_passed, each_failed, each_held, each_passed, has_cases, same}
 use Rattle.cdr_core.proofs.Views.{form_of-Seq}
-use Rattle.cdr_core.specs.Fitting.{AreValid, HasCases, IsValid}
+use Rattle.cdr_core.specs.Private.{HasCases}
+use Rattle.cdr_core.specs.Fitting.{AreValid, IsValid}
 use Rattle.cdr_core.specs.View.{form_of, forms_of}
 use Rattle.cdr_core.specs.declared.types.Case.{the_lemmas as case_lemmas}
 use Rattle.cdr_core.specs.declared.types.Ty.{Ty}
 use Rattle.cdr_core.specs.declared.types.Ty.{the_lemmas}
-use Rattle.cdr_core.proofs.checking.+valid.Goals as goal
+use Rattle.cdr_core.proofs.validity.+valid.Goals as goal
 
 pub are_valid-loop-ty-init : goal.are_valid-loop-ty-init
 are_valid-loop-ty-init t c = same (AreValid (forms_of c.args.types.now))
