@@ -88,8 +88,20 @@ impl<'a> Cursor<'a> {
         ensures { let step = padding self.old.place size in GoesTo self.old self.new (self.old.place + step) (drop step self.old.rest) }
     {
         let (place, rest) = aligned(self.place, self.rest, size);
-        self.place = place;
-        self.rest = rest;
+        self.go_to(place, rest);
+    }
+
+    /// Goes to a place and the octets from there on.
+    #[inline]
+    fn go_to(&mut self, place: u64, rest: &'a [u8])
+        requires { place + length rest.now ≤ 2 ^ 63 + 2 ^ 32 }
+        ensures { GoesTo self.old self.new place rest.now }
+    {
+        *self = Cursor {
+            order: self.order,
+            place,
+            rest,
+        };
     }
 
     /// The octets of a number of that size, after its padding.
@@ -102,9 +114,18 @@ impl<'a> Cursor<'a> {
     {
         let (place, rest) = aligned(self.place, self.rest, size as u64);
         let (octets, place, rest) = split(place, rest, size)?;
-        self.place = place;
-        self.rest = rest;
+        self.go_to(place, rest);
         Ok(octets)
+    }
+
+    /// A number of one octet.
+    #[inline]
+    #[tactic(auto, unfolding(crate::specs::Reading::number_at))]
+    fn one(&mut self) -> Result<u8, Fault>
+        ensures { Gives (λ x. x) result (number_at self.old.order 1) self.old self.new }
+    {
+        let octets = self.part(1)?;
+        Ok(octets[0])
     }
 
     /// A number of two octets, after its padding.
@@ -163,33 +184,31 @@ impl<'a> Cursor<'a> {
 
     /// The next octet.
     #[inline]
-    #[tactic(auto, unfolding(crate::specs::Reading::value_at, crate::specs::Reading::whole_at, crate::specs::Reading::number_at))]
+    #[tactic(auto, unfolding(crate::specs::Reading::value_at, crate::specs::Reading::whole_at))]
     pub fn octet(&mut self) -> Result<u8, Fault>
         ensures { Gives octet_value result (value_at octet self.old.order) self.old self.new }
     {
-        let octets = self.part(1)?;
-        Ok(octets[0])
+        Ok(self.one()?)
     }
 
     /// A character, the next octet.
     #[inline]
-    #[tactic(auto, unfolding(crate::specs::Reading::value_at, crate::specs::Reading::whole_at, crate::specs::Reading::number_at))]
+    #[tactic(auto, unfolding(crate::specs::Reading::value_at, crate::specs::Reading::whole_at))]
     pub fn character(&mut self) -> Result<u8, Fault>
         ensures { Gives char_value result (value_at char self.old.order) self.old self.new }
     {
-        let octets = self.part(1)?;
-        Ok(octets[0])
+        let code = self.one()?;
+        Ok(code)
     }
 
     /// A boolean, an octet that is 0 or 1.
     #[inline]
-    #[tactic(auto, unfolding(crate::specs::Reading::value_at, crate::specs::Reading::boolean_at, crate::specs::Reading::number_at))]
+    #[tactic(auto, unfolding(crate::specs::Reading::value_at, crate::specs::Reading::boolean_at))]
     pub fn boolean(&mut self) -> Result<bool, Fault>
         ensures { Gives value.boolean result (value_at form.boolean self.old.order) self.old self.new }
     {
         let mut next = self.fork();
-        let octets = next.part(1)?;
-        let octet = octets[0];
+        let octet = next.one()?;
         if octet > 1 {
             return Err(Fault {
                 kind: Kind::BadBoolean,
@@ -307,8 +326,7 @@ impl<'a> Cursor<'a> {
         let mut next = self.fork();
         let size = next.length(0, bound)?;
         let (octets, place, rest) = split(next.place, next.rest, size as usize)?;
-        self.place = place;
-        self.rest = rest;
+        self.go_to(place, rest);
         Ok(octets)
     }
 
@@ -321,8 +339,7 @@ impl<'a> Cursor<'a> {
         let mut next = self.fork();
         let size = next.length(1, bound)?;
         let (text, place, rest) = text_of(next.place, next.rest, size as usize)?;
-        self.place = place;
-        self.rest = rest;
+        self.go_to(place, rest);
         Ok(text)
     }
 
