@@ -20,7 +20,7 @@ InRange form.ulong z = FitsUnsigned w32 z
 InRange form.longlong z = FitsSigned w64 z
 InRange form.ulonglong z = FitsUnsigned w64 z
 
--- a type that a discriminator may have: any of IDL's but an octet
+-- a type that IDL allows for a discriminator: a boolean, a character, an enumeration or an integer that is no octet
 abbrev pub IsDiscriminator : Form → Type 0
 IsDiscriminator form.boolean = ⊤
 IsDiscriminator (form.number form.octet) = ⊥

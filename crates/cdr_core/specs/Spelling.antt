@@ -26,7 +26,8 @@ pub record IsNumber (order : Order) (n x o : ℕ) (octets : List ℕ) : Type 0 w
 abbrev pub IsClean : List ℕ → Type 0
 IsClean text = AllByRecursion (λ x. x ≢ 0) text
 
--- CDR 9.3.2.7: the text and one NUL, n octets. This project's own rule: with n = 0 there are no octets, and the text is empty.
+-- CDR 9.3.2.7: the text and one NUL, n octets. With n = 0 there are no octets and the text is empty, this project's own
+-- rule.
 abbrev pub IsText : ℕ → List ℕ → ℕ → List ℕ → Type 0
 IsText n text o octets =
     ((n ≡ 0) × (text ≡ []) × (octets ≡ [])) ⊎ ((n ≡ length text + 1) × IsClean text × (octets ≡ text ++ 0 ∷ []))

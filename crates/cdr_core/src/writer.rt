@@ -1,14 +1,13 @@
 //! Writing part by part.
 
 ghost use Rattle.std.specs.Prelude.{◌≡◌, ◌≤◌, ◌<◌, ◌+◌, ◌-◌, ◌^◌, ◌++◌, ◌⊎◌, length, replicate, [], ◌∷◌, MatchResult, OnErr, OnOk};
-ghost use Rattle.cdr_core.specs.Writing.{PutsAll};
 ghost use Rattle.cdr_core.specs.Encapsulation.{byte_order};
 ghost use Rattle.cdr_core.specs.Numbers.{padding};
 ghost use Rattle.cdr_core.specs.Parts.{long_value, octet_value, short_value, ulong_value, ulonglong_value, ushort_value};
 ghost use Rattle.cdr_core.specs.Spelling.{IsClean};
 ghost use Rattle.cdr_core.specs.Value as value;
 ghost use Rattle.cdr_core.specs.View.{values_of};
-ghost use Rattle.cdr_core.specs.Writing.{place_in, AreWritable, Puts};
+ghost use Rattle.cdr_core.specs.Writing.{place_in, AreWritable, Puts, PutsAll};
 
 use crate::measuring::{end_of_list, needed};
 use crate::numbers::{gap, put_eight, put_four, put_two, put_zeros};
