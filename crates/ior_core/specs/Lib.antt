@@ -5,3 +5,4 @@ pub mod Profiles
 pub mod Keys
 pub mod Text
 pub mod Laws
+pub mod Private

@@ -29,6 +29,7 @@ pub fn written_is_read()
     ensures text { WrittenTextIsRead }
     ensures profile { WrittenProfileIsRead }
 {
+    cdr_core::laws::read_is_spelled();
     cdr_core::laws::spelled_is_read();
     cdr_core::laws::written_is_spelled();
 }

@@ -8,7 +8,9 @@ ghost use Rattle.cdr_core.specs.Reading.{value_at};
 ghost use Rattle.ior_core.specs.Calls.{GivesOnce};
 ghost use Rattle.ior_core.specs.Grammar.{profile_1_0};
 ghost use Rattle.ior_core.specs.Keys.{profile_key};
-ghost use Rattle.ior_core.specs.Profiles.{behind_at, behind_value, body_of, head_value, held, iiop_body, is_0, key_of, profile_octets, HasNone, IsWritableProfile, ReadsProfile};
+ghost use Rattle.ior_core.specs.Private.{components_at, head_value, head_values, is_0};
+ghost use Rattle.ior_core.specs.Profiles.{body_of, components_of, iiop_body, key_of, profile_octets, HasNone, IsWritableProfile, ReadsProfile};
+ghost use Rattle.cdr_core.specs.Value.{values};
 
 use crate::error::IorError;
 use crate::tagged::{Component, pass_list, put_list, read_list};
@@ -43,7 +45,7 @@ impl IiopProfile {
 
 /// Whether a profile of this minor version can be written with these components.
 fn are_components_writable(minor: u8, components: &[Component]) -> bool
-    ensures { IsTrue result ↔ (AreWritable (held (behind_value minor components.now)) × HasNone minor components.now) }
+    ensures { IsTrue result ↔ (AreWritable (values (components_of minor components.now)) × HasNone minor components.now) }
 {
     if minor == 0 {
         return components.is_empty();
@@ -80,9 +82,9 @@ fn read_head<'a>(cursor: &mut Cursor<'a>) -> Result<Head<'a>, Fault>
     })
 }
 
-/// Passes over what stands behind the head of a profile.
-fn pass_behind(minor: u8, cursor: &mut Cursor) -> Result<(), Fault>
-    ensures { GivesOnce (λ u. u) result (λ o octets. passing (behind_at (is_0 (pos minor)) cursor.old.order o octets)) cursor.old cursor.new }
+/// Passes over the components of a profile of a minor version.
+fn pass_components(minor: u8, cursor: &mut Cursor) -> Result<(), Fault>
+    ensures { GivesOnce (λ u. u) result (λ o octets. passing (components_at (is_0 minor) cursor.old.order o octets)) cursor.old cursor.new }
 {
     if minor == 0 {
         return Ok(());
@@ -90,9 +92,13 @@ fn pass_behind(minor: u8, cursor: &mut Cursor) -> Result<(), Fault>
     pass_list(cursor)
 }
 
-/// What stands behind the head of a profile.
-fn read_behind(alloc: Global, minor: u8, cursor: &mut Cursor) -> Result<Vec<Component>, CdrError>
-    ensures gives { GivesUnlessMemory (λ v. behind_value minor v.items) result (behind_at (is_0 (pos minor)) cursor.old.order) (λ o octets. ⊤) cursor.old cursor.new }
+/// The components of a profile of a minor version.
+fn read_components(
+    alloc: Global,
+    minor: u8,
+    cursor: &mut Cursor,
+) -> Result<Vec<Component>, CdrError>
+    ensures gives { GivesUnlessMemory (λ v. values (components_of minor v.items)) result (components_at (is_0 minor) cursor.old.order) (λ o octets. ⊤) cursor.old cursor.new }
     ensures none { IfOk result (λ v. HasNone minor v.items) }
 {
     if minor == 0 {
@@ -108,7 +114,7 @@ fn key_in(octets: &[u8]) -> Result<Option<&[u8]>, Fault>
 {
     let mut cursor = Cursor::encapsulated(octets)?;
     let head = read_head(&mut cursor)?;
-    pass_behind(head.minor, &mut cursor)?;
+    pass_components(head.minor, &mut cursor)?;
     Ok((head.major == 1).then_some(head.object_key))
 }
 
@@ -138,13 +144,13 @@ pub fn profile_key(tag: u32, octets: &[u8]) -> Option<&[u8]>
 /// object key, and from 1.1 on components. What stands behind them is ignored.
 ///
 /// `BadMajor` is told only of octets that read as a profile of another major version.
-#[tactic(auto, using(crate::proofs::Bodies::order_fails, crate::proofs::Bodies::head_fails, crate::proofs::Bodies::behind_fails, crate::proofs::Bodies::body_is))]
+#[tactic(auto, using(crate::proofs::Bodies::order_fails, crate::proofs::Bodies::head_fails, crate::proofs::Bodies::components_fail, crate::proofs::Bodies::body_is))]
 pub fn read_iiop(alloc: Global, octets: &[u8]) -> Result<IiopProfile, IorError>
     ensures { ReadsProfile (body_of octets.now) result }
 {
     let mut cursor = Cursor::encapsulated(octets)?;
     let head = read_head(&mut cursor)?;
-    let components = read_behind(alloc, head.minor, &mut cursor)?;
+    let components = read_components(alloc, head.minor, &mut cursor)?;
     if head.major != 1 {
         return Err(IorError::BadMajor);
     }
@@ -161,7 +167,7 @@ pub fn read_iiop(alloc: Global, octets: &[u8]) -> Result<IiopProfile, IorError>
 fn put_head(writer: &Writer, profile: &IiopProfile, out: &mut Vec<u8>) -> Result<(), AllocError>
     requires start { writer.now.start ≤ length out.old.items }
     requires writable { IsWritableProfile profile.now }
-    ensures { MatchResult result (λ _. Appends writer.now (iiop_body profile.now).0 out.old.items out.new.items) (λ _. Keeps out.old.items out.new.items) }
+    ensures { MatchResult result (λ _. PutsAll writer.now (head_values 1 profile.now.minor profile.now.host.items profile.now.port profile.now.object_key.items) out.old.items out.new.items) (λ _. Keeps out.old.items out.new.items) }
 {
     writer.octet(1, out)?;
     writer.octet(profile.minor, out)?;
@@ -171,11 +177,15 @@ fn put_head(writer: &Writer, profile: &IiopProfile, out: &mut Vec<u8>) -> Result
     Ok(())
 }
 
-/// Appends what stands behind the head of a profile.
-fn put_behind(writer: &Writer, profile: &IiopProfile, out: &mut Vec<u8>) -> Result<(), AllocError>
+/// Appends the components of a profile, where its version has them.
+fn put_components(
+    writer: &Writer,
+    profile: &IiopProfile,
+    out: &mut Vec<u8>,
+) -> Result<(), AllocError>
     requires start { writer.now.start ≤ length out.old.items }
     requires writable { IsWritableProfile profile.now }
-    ensures { MatchResult result (λ _. PutsAll writer.now (held (iiop_body profile.now).1) out.old.items out.new.items) (λ _. Keeps out.old.items out.new.items) }
+    ensures { MatchResult result (λ _. PutsAll writer.now (values (components_of profile.now.minor profile.now.components.items)) out.old.items out.new.items) (λ _. Keeps out.old.items out.new.items) }
 {
     if profile.minor == 0 {
         return Ok(());
@@ -190,7 +200,7 @@ fn put(profile: &IiopProfile, out: &mut Vec<u8>) -> Result<(), AllocError>
 {
     let writer = Writer::encapsulated(Order::Big, out)?;
     put_head(&writer, profile, out)?;
-    put_behind(&writer, profile, out)?;
+    put_components(&writer, profile, out)?;
     Ok(())
 }
 

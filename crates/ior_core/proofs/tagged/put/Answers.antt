@@ -2,7 +2,7 @@ use Rattle.std.proofs.lemmas.Result.{err_from_is_err_and}
 use Rattle.cdr_core.proofs.Appending.{keeps_as, stands, then_stands}
 use Rattle.cdr_core.specs.Parts.{ulong_value}
 use Rattle.cdr_core.specs.Value as value
-use Rattle.ior_core.proofs.Behind.{puts_second}
+use Rattle.ior_core.proofs.Appended.{puts_second}
 use Rattle.ior_core.proofs.tagged.put.Goals as goal
 
 pub ulong-requires : goal.ulong-requires
