@@ -18,10 +18,11 @@ use Rattle.cdr_core.specs.Writing.{octets_of}
 use Rattle.ior_core.specs.Grammar.{profile_1_0, reference}
 use Rattle.ior_core.specs.Laws.{ProfilesAreSpelled, ReferencesAreSpelled, SpelledProfilesAreRead, SpelledReferencesAreRead, WrittenProfileIsRead, WrittenTextIsRead}
 use Rattle.ior_core.specs.Private.{components_at}
-use Rattle.ior_core.specs.Profiles.{body_at, has_minor_0, profile_octets, type_of, type_where, IsBody}
+use Rattle.ior_core.specs.Profiles.{body_at, has_minor_0, type_of, type_where, IsBody}
 use Rattle.ior_core.proofs.Bodies.{profile_parts}
 use Rattle.ior_core.proofs.Structures.{extended}
-use Rattle.ior_core.specs.Text.{decoded, reference_octets}
+use Rattle.ior_core.specs.Text.{decoded}
+use Rattle.ior_core.specs.Writing.{encapsulation_of}
 
 pub references_found : ReadIsSpelled → ReferencesAreSpelled
 references_found found octets v h = enclosed_found found (λ order v. Spells reference order v) (value_at reference) (λ order o octets v p rest h. found reference order o octets v p rest h) octets v h
@@ -76,18 +77,18 @@ are_bytes [] h i = omega arith
 are_bytes (x ∷ xs) h zero = h.0
 are_bytes (x ∷ xs) h (suc i) = are_bytes xs h.1 i
 
-behind_byte_order : (order : Order) (octets : List ℕ) → AreOctets octets → IsBytes (byte_order order ∷ octets)
-behind_byte_order Big octets h = are_bytes (0 ∷ octets) (omega arith, h)
-behind_byte_order Little octets h = are_bytes (1 ∷ octets) (omega arith, h)
+after_byte_order : (order : Order) (octets : List ℕ) → AreOctets octets → IsBytes (byte_order order ∷ octets)
+after_byte_order Big octets h = are_bytes (0 ∷ octets) (omega arith, h)
+after_byte_order Little octets h = are_bytes (1 ∷ octets) (omega arith, h)
 
 pub text_read : SpelledIsRead → WrittenIsSpelled → WrittenTextIsRead
 text_read only written v fits octets =
-    let whole : reference_octets v ≡ byte_order Big ∷ (octets_of Big v 1 ++ []) = ap (λ xs. byte_order Big ∷ xs) (sym (append-nil (octets_of Big v 1))) in
-    let bytes : IsBytes (reference_octets v) = behind_byte_order Big (octets_of Big v 1) octets in
-    (ap decoded (decode_of-encode_lower (reference_octets v) bytes), references_only only (reference_octets v) v (record { order = Big; front = octets_of Big v 1; rest = []; parts = whole; holds = written reference Big v fits 1 }))
+    let whole : encapsulation_of v ≡ byte_order Big ∷ (octets_of Big v 1 ++ []) = ap (λ xs. byte_order Big ∷ xs) (sym (append-nil (octets_of Big v 1))) in
+    let bytes : IsBytes (encapsulation_of v) = after_byte_order Big (octets_of Big v 1) octets in
+    (ap decoded (decode_of-encode_lower (encapsulation_of v) bytes), references_only only (encapsulation_of v) v (record { order = Big; front = octets_of Big v 1; rest = []; parts = whole; holds = written reference Big v fits 1 }))
 
 pub profile_read : ReadIsSpelled → SpelledIsRead → WrittenIsSpelled → WrittenProfileIsRead
 profile_read found only written v fits =
     let front = octets_of Big v 1 in
-    let whole : profile_octets v ≡ byte_order Big ∷ (front ++ []) = ap (λ xs. byte_order Big ∷ xs) (sym (append-nil front)) in
-    profiles_only found only (profile_octets v) v (record { order = Big; front = front; rest = []; parts = whole; holds = written (type_of v) Big v fits 1 })
+    let whole : encapsulation_of v ≡ byte_order Big ∷ (front ++ []) = ap (λ xs. byte_order Big ∷ xs) (sym (append-nil front)) in
+    profiles_only found only (encapsulation_of v) v (record { order = Big; front = front; rest = []; parts = whole; holds = written (type_of v) Big v fits 1 })

@@ -1,17 +1,16 @@
--- IIOP profiles: which octets are one, how they are read, and how one is written.
+-- IIOP profiles: which octets are one, and how they are read.
 use Rattle.std.specs.Prelude.{◌≡◌, ℕ, zero, suc, pos, Bool, false, List, [], ◌∷◌, Option, Some, None, Result, Ok, Err, ⊤, if◌then◌else◌}
 use Rattle.std.specs.Ordering.{int_eq}
 use Rattle.cdr_core.specs.declared.fault.Fault.{Fault}
 use Rattle.cdr_core.specs.declared.order.Order.{Order}
-use Rattle.cdr_core.specs.declared.order.Order.TheVariants.{Big}
-use Rattle.cdr_core.specs.Encapsulation.{byte_order, encapsulated}
+use Rattle.cdr_core.specs.Encapsulation.{encapsulated}
 use Rattle.cdr_core.specs.Form.{Form}
 use Rattle.cdr_core.specs.Parts.{octet_value, ushort_value}
 use Rattle.cdr_core.specs.Reading.{◌>>=◌, Read, value_at}
 use Rattle.cdr_core.specs.Spelling.{Spells}
 use Rattle.cdr_core.specs.Value as value
 use Rattle.cdr_core.specs.Value.{Value, Values, label, values}
-use Rattle.cdr_core.specs.Writing.{octets_of, IsWritable}
+use Rattle.cdr_core.specs.Writing.{IsWritable}
 use Rattle.ior_core.specs.declared.error.IorError.{IorError}
 use Rattle.ior_core.specs.declared.error.IorError.TheVariants.{BadMajor, Cdr, Memory}
 use Rattle.ior_core.specs.declared.profile.IiopProfile.{IiopProfile}
@@ -40,8 +39,8 @@ has_major_1 v = int_eq (label (member 0 v)) (pos 1)
 abbrev pub has_minor_0 : Value → Bool
 has_minor_0 v = int_eq (label (member 1 v)) (pos 0)
 
--- The type of a profile, whether or not its minor version is 0. That each minor version from 1 on has the components
--- of 1.1, and that a profile of another major version is laid out alike, are this project's own rules.
+-- The type of a profile, by whether its minor version is 0. That each other minor version has the components of 1.1,
+-- and that a profile of another major version is laid out alike, are this project's own rules.
 abbrev pub type_where : Bool → Form
 type_where is_minor_0 = if is_minor_0 then profile_1_0 else profile_1_1
 
@@ -52,7 +51,7 @@ type_of v = type_where (has_minor_0 v)
 abbrev pub IsBody : Order → Value → ℕ → List ℕ → Type 0
 IsBody order v o octets = Spells (type_of v) order v o octets
 
--- Read as 1.0 it has its version, and this gives the type.
+-- The members of 1.0, which each profile has, give the version, and with it the type.
 unfoldable pub body_at : Order → ℕ → List ℕ → Read Value
 body_at order o octets = do
   v ← value_at profile_1_0 order o octets
@@ -81,18 +80,14 @@ abbrev pub HasNone : ℕ → List Tagged → Type 0
 HasNone zero components = components ≡ []
 HasNone (suc n) components = ⊤
 
--- What reading a profile gives. That another major version is an error only where the whole profile is valid is this
--- project's own rule.
+-- What reading a profile gives. That BadMajor is reported only where the whole profile is valid apart from its major
+-- version is this project's own rule.
 abbrev pub ReadsProfile : Result Value Fault → Result IiopProfile IorError → Type 0
 ReadsProfile body (Ok p) = (body ≡ Ok (iiop_body p)) × HasNone p.minor p.components.items
 ReadsProfile body (Err (Cdr f)) = body ≡ Err f
 ReadsProfile body (Err BadMajor) = (v : Value) × (body ≡ Ok v) × (has_major_1 v ≡ false)
 ReadsProfile body (Err Memory) = ⊤
 ReadsProfile body (Err _) = ⊥
-
--- A profile as it is written, with zeros for padding. That it is big-endian is this project's own choice.
-abbrev pub profile_octets : Value → List ℕ
-profile_octets v = byte_order Big ∷ octets_of Big v 1
 
 -- what can be written: lengths fit an unsigned long, no NUL stands in the host, and 1.0 has no components
 abbrev pub IsWritableProfile : IiopProfile → Type 0
