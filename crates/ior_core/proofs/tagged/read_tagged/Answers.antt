@@ -1,7 +1,7 @@
 use Rattle.std.proofs.Common.{◌∙◌}
 use Rattle.std.proofs.lemmas.Result.{err_from_is_err_and}
 use Rattle.ior_core.proofs.Structures.{member_fails, no_member, structure_fails, structure_read, then_fails, then_members}
-use Rattle.ior_core.proofs.tagged.lent.Goals as goal
+use Rattle.ior_core.proofs.tagged.read_tagged.Goals as goal
 
 pub returns-in_err-tag : goal.returns-in_err-tag
 returns-in_err-tag c =
