@@ -129,7 +129,7 @@ pub(crate) fn finish(
     body: &[Val],
     out: &mut Vec<u8>,
 ) -> Result<(), WriteError>
-    requires begun { start + 12 ≤ length out.old.items }
+    requires header { start + 12 ≤ length out.old.items }
     requires is { writer.now ≡ record { order = order; at = 12; start = start + 12 } }
     requires writable { AreWritable (values_of body.now) }
     ensures { Adds version kind order (with_body version kind order (values_of body.now) (drop (start + 12) out.old.items)) result (take start out.old.items) out.new.items }
