@@ -61,8 +61,8 @@ rest_at V12 Request order place rest = aligned order place rest
 rest_at V12 Reply order place rest = aligned order place rest
 rest_at _ _ order place rest = directly order place rest
 
--- What the octets after a header say in a version and kind, or the first fault. The body, or the octets after the fields
--- of a message with no body, may be any (own rule for the latter).
+-- What the octets after a header say in a version and kind, or the first fault. Octets after the fields of a message with
+-- no body are ignored (own rule).
 unfoldable pub message_of : Version → MessageKind → Order → List ℕ → Result Content MessageFault
 message_of version kind order octets = do
   x ← fields_at (row version kind) order 12 octets

@@ -1,15 +1,15 @@
 //! Service contexts (CORBA 3.3 Part 2, 7.7): a list of ids with octets, in a message and to be written.
 
-ghost use Rattle.std.specs.Prelude.{◌≡◌, length, ◌<◌, IfOk, ◌≤◌, ◌^◌, map, MatchResult};
-ghost use Rattle.cdr_core.specs.Writing.{IsWritable, Appends, PutsAll, AreWritable};
-ghost use Rattle.giop_core.specs.Items.{contexts_left, item_at, list_value, tagged_value};
-ghost use Rattle.cdr_core.specs.Reading.{each_at, value_at};
-ghost use Rattle.cdr_core.specs.Private.{passing, Keeps};
-ghost use Rattle.ior_core.specs.Grammar.{tagged};
-ghost use Rattle.giop_core.specs.Rows.{contexts};
 ghost use Rattle.std.specs.Iterator.{YieldsFirstBy, item_count};
-ghost use Rattle.giop_core.specs.Private.{Reads, Gives, contexts_value, lent_value, Checks};
+ghost use Rattle.std.specs.Prelude.{◌≡◌, length, ◌<◌, IfOk, ◌≤◌, ◌^◌, map, MatchResult};
+ghost use Rattle.cdr_core.specs.Private.{passing, Keeps};
+ghost use Rattle.cdr_core.specs.Reading.{each_at, value_at};
 ghost use Rattle.cdr_core.specs.Value.{values};
+ghost use Rattle.cdr_core.specs.Writing.{IsWritable, Appends, PutsAll, AreWritable};
+ghost use Rattle.ior_core.specs.Grammar.{tagged};
+ghost use Rattle.giop_core.specs.Items.{contexts_left, item_at, list_value, tagged_value};
+ghost use Rattle.giop_core.specs.Private.{Reads, Gives, contexts_value, lent_value, Checks};
+ghost use Rattle.giop_core.specs.Rows.{contexts};
 
 use crate::error::WriteError;
 use crate::writing::{LONGEST, check_octets};

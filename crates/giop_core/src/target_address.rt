@@ -1,18 +1,18 @@
 //! The target of a Request or LocateRequest (CORBA 3.3 Part 2, 9.4.2: TargetAddress).
 
-ghost use Rattle.std.specs.Prelude.{◌↔◌, IsTrue, ◌≡◌, length, ◌<◌, option_map, slice_get, ◌≤◌, map, MatchResult};
-ghost use Rattle.cdr_core.specs.Writing.{IsWritable, Appends, PutsAll, AreWritable};
-ghost use Rattle.giop_core.specs.Items.{contexts_left, items_in, reference_as, item_at, list_value, tagged_value};
+ghost use Rattle.std.specs.Prelude.{◌↔◌, IsTrue, ◌≡◌, length, option_map, ◌≤◌, map, MatchResult};
 ghost use Rattle.cdr_core.specs.Private.{Keeps};
-ghost use Rattle.ior_core.specs.Grammar.{reference, tagged};
+ghost use Rattle.cdr_core.specs.Value.{values};
+ghost use Rattle.cdr_core.specs.Writing.{IsWritable, Appends, PutsAll, AreWritable};
+ghost use Rattle.ior_core.specs.Grammar.{reference};
+ghost use Rattle.giop_core.specs.Items.{contexts_left, items_in, list_value, tagged_value};
+ghost use Rattle.giop_core.specs.Keys.{key_of_addressed};
 ghost use Rattle.giop_core.specs.Lent.{addressed_by};
 ghost use Rattle.giop_core.specs.Messages.{field_at};
-ghost use Rattle.giop_core.specs.Rows.{contexts, selected, target};
-ghost use Rattle.giop_core.specs.Keys.{key_of_addressed};
 ghost use Rattle.giop_core.specs.Private.{Reads, Gives, reference_value, selected_value, target_value, Checks};
+ghost use Rattle.giop_core.specs.Rows.{selected, target};
 ghost use Rattle.giop_core.specs.Written.{target_in, CanAddress, target_of, key_value};
-ghost use Rattle.cdr_core.specs.Value.{values};
-ghost use Rattle.giop_core.specs.declared.header.Version.TheVariants.{V10, V11, V12};
+ghost use Rattle.giop_core.specs.declared.header.Version.TheVariants.{V10};
 
 use crate::error::{MessageFault, WriteError};
 use crate::header::Version;
