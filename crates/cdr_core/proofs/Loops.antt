@@ -1,4 +1,4 @@
--- Loops that read values one after the other, and the forms that they serve.
+-- Loops that read values one after another: counts, types and cases.
 use Rattle.std.proofs.Common.{◌≡◌, ℕ, ◌+◌, ◌-◌, ◌<◌, ◌≤◌, ℤ, true, false, cond, List, [], length, drop, get_or, Option, Some, None, Box, Global, Ok, refl, sym, ap, subst, ◌∙◌, rules}
 use Rattle.std.proofs.lemmas.List.{drop_more, drop_all}
 use Rattle.std.specs.Ordering.{int_eq}
@@ -12,7 +12,7 @@ use Rattle.cdr_core.specs.Form.{Form, Forms, Cases}
 use Rattle.cdr_core.specs.Value as value
 use Rattle.cdr_core.specs.Value.{Value, Values}
 use Rattle.cdr_core.specs.View.{case_of, cases_of, form_of, forms_of}
-use Rattle.cdr_core.specs.Cursor.{Fails}
+use Rattle.cdr_core.specs.Private.{Fails}
 use Rattle.cdr_core.specs.Reading.{◌>>=◌, Read, chosen_at, each_at, length_at, members_at, value_at}
 use Rattle.cdr_core.proofs.Turns.{each_stops, front-then, joined-none, then, with_front, with_last}
 

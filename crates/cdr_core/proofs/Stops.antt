@@ -1,4 +1,4 @@
--- Of every type, octets stop exactly where the reader fails, and with its fault.
+-- For every type, octets have a fault exactly where the reader fails, and it is the reader's.
 use Rattle.std.proofs.Common.{◌≡◌, ◌≢◌, ℕ, ◌+◌, ◌<◌, ◌≤◌, ℤ, Bool, true, false, cond, ltb, eqb, List, [], ◌∷◌, ◌++◌, Ok, Err, refl, ap, ◌∙◌, arith, inl, inr}
 use Rattle.std.proofs.lemmas.Bool.{ltb-false, le-ltb, eqb-false, ne_eqb}
 use Rattle.std.specs.Ordering.{int_eq}
@@ -12,7 +12,7 @@ use Rattle.cdr_core.specs.Value.{Value, Values, label}
 use Rattle.cdr_core.specs.Numbers.{padding, meaning}
 use Rattle.cdr_core.specs.Reading.{◌>>=◌, Read, taken, fault, number_at, whole_at, boolean_at, ordinal_at, text_at, string_at, octets_at, each_at, value_at, members_at, chosen_at}
 use Rattle.cdr_core.specs.Spelling.{Chosen, Spells}
-use Rattle.cdr_core.specs.Stopping.{told, Lacks, LacksNumber, IsBadBoolean, StopsInText, StopsInEach, Stops, StopsInMembers, StopsInChosen}
+use Rattle.cdr_core.specs.Stopping.{fault_at, Lacks, LacksNumber, IsBadBoolean, StopsInText, StopsInEach, Stops, StopsInMembers, StopsInChosen}
 use Rattle.cdr_core.proofs.Steps.{bind_err, ended_ok, last_passed}
 use Rattle.cdr_core.proofs.Taken.{number_takes, octet_is, single}
 use Rattle.cdr_core.proofs.Found.{boolean_by, found, some_octets}
@@ -20,7 +20,7 @@ use Rattle.cdr_core.proofs.Gets.{number_gets}
 use Rattle.cdr_core.proofs.Only.{alone, only}
 use Rattle.cdr_core.proofs.Stopped.{Fails, Tells, taken_fails, taken_tells, number_fails, number_tells, after_fails, after, bad_long, length_fails, length_tells, each_fails, each_tells, text_fails, text_tells}
 
--- a failure goes over the last step
+-- a failure passes the last step unchanged
 pub ended : {X Y : Type 0} (S : ℕ → List ℕ → Fault → Type 0) (r : ℕ → List ℕ → Read X) (g : X × ℕ × List ℕ → Y × ℕ × List ℕ) → Fails S r → Fails S (λ o octets. r o octets >>= λ x. Ok (g x))
 ended {X} S r g fails o octets f h = ap (λ (t : Read X). t >>= λ x. Ok (g x)) (fails o octets f h)
 
@@ -43,7 +43,7 @@ boolean_tells order o octets f h =
       | inr x ↦ inr (bad x.0.0 x.0.1 x.0.2 x.1 x.2)
     ]
   where
-    by : (c d : Bool) (x q : ℕ) (more : List ℕ) → eqb x 0 ≡ c → eqb x 1 ≡ d → cond {A = Read Bool} c (Ok (false, q, more)) (cond {A = Read Bool} d (Ok (true, q, more)) (fault kind.BadBoolean o)) ≡ Err f → (1 < x) × (f ≡ told kind.BadBoolean o)
+    by : (c d : Bool) (x q : ℕ) (more : List ℕ) → eqb x 0 ≡ c → eqb x 1 ≡ d → cond {A = Read Bool} c (Ok (false, q, more)) (cond {A = Read Bool} d (Ok (true, q, more)) (fault kind.BadBoolean o)) ≡ Err f → (1 < x) × (f ≡ fault_at kind.BadBoolean o)
     by true d x q more e g k = absurd cc
     by false true x q more e g k = absurd cc
     by false false x q more e g k = let a : x ≢ 0 = eqb-false _ _ e in let b : x ≢ 1 = eqb-false _ _ g in (omega arith, cc)
@@ -90,7 +90,7 @@ unfolding ordinal_at
 ordinal_tells order n o octets f h =
     elim (bind_err (number_at order 4 o octets) (λ (x : ℕ × ℕ × List ℕ). cond (ltb x.0 n) (Ok x) (fault kind.BadEnum (o + padding o 4))) f h) [
       | inl e ↦ inl (number_tells order 4 o octets f e)
-      | inr x ↦ (let g = last_passed (ltb x.0.0 n) (told kind.BadEnum (o + padding o 4)) f x.0 x.2 in
+      | inr x ↦ (let g = last_passed (ltb x.0.0 n) (fault_at kind.BadEnum (o + padding o 4)) f x.0 x.2 in
           inr (bad_long (λ y. n ≤ y) kind.BadEnum order o octets x.0.0 x.0.1 x.0.2 f (ltb-false _ _ g.0) g.1 x.1))
     ]
 
