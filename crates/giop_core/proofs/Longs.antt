@@ -11,10 +11,9 @@ use Rattle.cdr_core.specs.Value as value
 use Rattle.cdr_core.specs.Value.{Value, Values, count, values}
 use Rattle.cdr_core.specs.Writing.{number_octets, octets_of, octets_of_all, AreWritable, IsWritable}
 use Rattle.giop_core.specs.Items.{item_at, list_value, tagged_value}
-use Rattle.giop_core.specs.Lent.{lent_value}
-use Rattle.giop_core.specs.declared.refusal.WriteError.{WriteError}
-use Rattle.giop_core.specs.declared.refusal.WriteError.TheVariants.{TooLong, Memory}
-use Rattle.giop_core.specs.Long.{AreLong, IsLong, Judges}
+use Rattle.giop_core.specs.declared.error.WriteError.{WriteError}
+use Rattle.giop_core.specs.declared.error.WriteError.TheVariants.{TooLong, Memory}
+use Rattle.giop_core.specs.Private.{lent_value, AreLong, IsLong, Checks}
 
 pub octets_long : (all : List ℕ) → 2 ^ 32 ≤ length all → IsLong (value.octets all)
 octets_long all le order o = omega (arith, le, length-append (number_octets order 4 o (length all)) all)
@@ -98,7 +97,7 @@ module _ (all : List (ℕ × Bor (List ℕ))) (i : ℕ) (d : ℕ × Bor (List �
       items_long' : IsLong (value.octets (get_or all i d).1.now) → AreLong (value.value (lent_value (get_or all i d)) (values (map lent_value (drop (i + 1) all))))
       items_long' long = first_long (lent_value (get_or all i d)) (values (map lent_value (drop (i + 1) all))) (item_long (item_at (get_or all i d)) long)
 
--- what was judged of the contexts is judged of their items
+-- what was checked of the contexts is checked of their items
 pub all_writable : (all : List (ℕ × Bor (List ℕ))) → length all < 2 ^ 32 → AreWritable (values (map lent_value all)) → IsWritable (list_value (map item_at all))
 all_writable all lt h = (omega (arith, lt, count_values tagged_value (map item_at all), length-map all item_at), subst (λ vs. AreWritable (values vs)) (lent_items all) h)
 
@@ -106,6 +105,6 @@ pub all_long : (all : List (ℕ × Bor (List ℕ))) → AreLong (values (map len
 all_long all long = sequence_long (values (map tagged_value (map item_at all))) (subst (λ vs. AreLong (values vs)) (lent_items all) long)
 
 -- what was too long makes more too long
-pub long_on : (e : WriteError) (v w : Value) → (IsLong v → IsLong w) → Judges {A = Unit {0}} v (Err e) → Judges {A = Unit {0}} w (Err e)
+pub long_on : (e : WriteError) (v w : Value) → (IsLong v → IsLong w) → Checks {A = Unit {0}} v (Err e) → Checks {A = Unit {0}} w (Err e)
 long_on TooLong v w f h = f h
 long_on Memory v w f h = absurd h

@@ -1,11 +1,11 @@
 //! The header of a message (CORBA 3.3 Part 2, 9.4.1).
 
-ghost use Rattle.std.specs.Prelude.{◌≡◌, ◌≤◌, ◌++◌, length, drop, Ok, IsTrue};
-ghost use Rattle.cdr_core.specs.Numbers.{digits_of, number_of};
+ghost use Rattle.std.specs.Prelude.{◌≡◌, Ok, Some, IsTrue};
 ghost use Rattle.giop_core.specs.Headers.{can_be_cut, flags_octet, flags_of, has_kind, has_magic, header_octets, header_of, is_possible, kind_number, kind_of, minor_of, version_of};
+ghost use Rattle.giop_core.specs.Texts.{kind_text, version_text};
 
-use byteorder::{BigEndian, ByteOrder, LittleEndian};
 use cdr_core::Order;
+use std::fmt;
 use thiserror::Error;
 
 /// A version of GIOP: 1.0, 1.1 or 1.2.
@@ -14,6 +14,19 @@ pub enum Version {
     V10,
     V11,
     V12,
+}
+
+/// `1.0`, `1.1` or `1.2`.
+impl fmt::Display for Version {
+    ghost output = { λ version. Some (version_text version) };
+
+    fn fmt<W: fmt::Write>(&self, f: &mut fmt::Formatter<W>) -> fmt::Result {
+        match self {
+            Version::V10 => f.write_str("1.0"),
+            Version::V11 => f.write_str("1.1"),
+            Version::V12 => f.write_str("1.2"),
+        }
+    }
 }
 
 /// A kind of message. 1.0 has no Fragment.
@@ -29,7 +42,25 @@ pub enum MessageKind {
     Fragment,
 }
 
-/// What the twelve octets at the head of a message say.
+/// The name that the standard gives it, as `CancelRequest`.
+impl fmt::Display for MessageKind {
+    ghost output = { λ kind. Some (kind_text kind) };
+
+    fn fmt<W: fmt::Write>(&self, f: &mut fmt::Formatter<W>) -> fmt::Result {
+        match self {
+            MessageKind::Request => f.write_str("Request"),
+            MessageKind::Reply => f.write_str("Reply"),
+            MessageKind::CancelRequest => f.write_str("CancelRequest"),
+            MessageKind::LocateRequest => f.write_str("LocateRequest"),
+            MessageKind::LocateReply => f.write_str("LocateReply"),
+            MessageKind::CloseConnection => f.write_str("CloseConnection"),
+            MessageKind::MessageError => f.write_str("MessageError"),
+            MessageKind::Fragment => f.write_str("Fragment"),
+        }
+    }
+}
+
+/// What the first twelve octets of a message say.
 #[derive(Clone, Copy, Debug, PartialEq, Eq)]
 pub struct Header {
     pub version: Version,
@@ -42,7 +73,7 @@ pub struct Header {
     pub size: u32,
 }
 
-/// Why twelve octets are not a header. Where several apply the first in this order is told.
+/// Why twelve octets are not a header. Where several apply, the first in this order is reported.
 #[derive(Clone, Copy, Debug, PartialEq, Eq, Error)]
 pub enum HeaderFault {
     /// The first four octets are not `GIOP`.
@@ -51,7 +82,8 @@ pub enum HeaderFault {
     /// The version is none of 1.0, 1.1 and 1.2.
     #[error("bad version")]
     BadVersion,
-    /// A bit of the flags that tells nothing is not 0: any but bit 0, and from 1.1 on bit 1.
+    /// A reserved bit of the flags is not 0. Bit 0 is the byte order, and from 1.1 on bit 1 says that
+    /// more fragments follow; all others are reserved.
     #[error("bad flags")]
     BadFlags,
     /// The version has no such message type.
@@ -62,7 +94,7 @@ pub enum HeaderFault {
     BadCut,
 }
 
-/// Tells whether octets begin with `GIOP`.
+/// Whether octets begin with `GIOP`.
 fn has_magic(octets: &[u8; 12]) -> bool
     ensures { result ≡ has_magic octets.now }
 {
@@ -92,7 +124,7 @@ fn minor_of(version: Version) -> u8
     }
 }
 
-/// The byte order that the flags tell, and whether more fragments follow.
+/// What the flags say: the byte order, and whether more fragments follow.
 fn flags_of(version: Version, octet: u8) -> Option<(Order, bool)>
     ensures { result ≡ flags_of version octet }
 {
@@ -105,7 +137,7 @@ fn flags_of(version: Version, octet: u8) -> Option<(Order, bool)>
     }
 }
 
-/// The flags that tell a byte order, and whether more fragments follow.
+/// The flags for a byte order, and for more fragments that follow or not.
 fn flags_octet(order: Order, more: bool) -> u8
     ensures { result ≡ flags_octet order more }
 {
@@ -150,14 +182,14 @@ fn kind_number(kind: MessageKind) -> u8
     }
 }
 
-/// Tells whether a version has a kind.
+/// Whether a version has a kind.
 fn has_kind(version: Version, kind: MessageKind) -> bool
     ensures { result ≡ has_kind version kind }
 {
     !matches!((version, kind), (Version::V10, MessageKind::Fragment))
 }
 
-/// Tells whether a version lets messages of a kind be cut into fragments.
+/// Whether a version lets messages of a kind be cut into fragments.
 fn can_be_cut(version: Version, kind: MessageKind) -> bool
     ensures { result ≡ can_be_cut version kind }
 {
@@ -170,30 +202,11 @@ fn can_be_cut(version: Version, kind: MessageKind) -> bool
     }
 }
 
-/// The number that four octets give.
-fn size_of(order: Order, octets: &[u8]) -> u32
-    requires { 4 ≤ length octets.now }
-    ensures { result ≡ number_of order 4 octets.now }
-{
-    match order {
-        Order::Big => BigEndian::read_u32(octets),
-        Order::Little => LittleEndian::read_u32(octets),
-    }
-}
-
-/// Writes a number over the first four octets.
-fn put_size(order: Order, size: u32, octets: &mut [u8])
-    requires { 4 ≤ length octets.old }
-    ensures { octets.new ≡ digits_of order 4 size ++ drop 4 octets.old }
-{
-    match order {
-        Order::Big => BigEndian::write_u32(octets, size),
-        Order::Little => LittleEndian::write_u32(octets, size),
-    }
-}
-
 impl Header {
-    /// The header that these octets are, or the first fault in it.
+    /// How many octets a header has.
+    pub const LEN: usize = 12;
+
+    /// Reads a header, or finds the first fault in it.
     pub fn read(octets: &[u8; 12]) -> Result<Header, HeaderFault>
         ensures { result ≡ header_of octets.now }
     {
@@ -214,19 +227,19 @@ impl Header {
             order,
             more,
             kind,
-            size: size_of(order, &octets[8..]),
+            size: order.ulong_of(&octets[8..]),
         })
     }
 
-    /// Tells whether there can be such a header: the version has the kind, and lets it be cut where
-    /// more fragments follow.
+    /// Whether there can be such a header: the version has the kind, and lets it be cut where more
+    /// fragments follow.
     pub fn is_possible(&self) -> bool
         ensures { result ≡ is_possible self.now }
     {
         has_kind(self.version, self.kind) && (!self.more || can_be_cut(self.version, self.kind))
     }
 
-    /// The octets of the header.
+    /// The octets of the header, which can be one.
     #[tactic(auto, using(crate::proofs::HeaderLemmas::header_again))]
     pub fn write(&self) -> [u8; 12]
         requires { IsTrue (is_possible self.now) }
@@ -246,7 +259,7 @@ impl Header {
         let flags = flags_octet(self.order, self.more);
         let kind = kind_number(self.kind);
         let mut octets = [b'G', b'I', b'O', b'P', 1, minor, flags, kind, 0, 0, 0, 0];
-        put_size(self.order, self.size, &mut octets[8..]);
+        self.order.put_ulong(self.size, &mut octets[8..]);
         octets
     }
 }

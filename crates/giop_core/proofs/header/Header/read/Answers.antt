@@ -13,7 +13,7 @@ use Rattle.giop_core.specs.Headers.{can_be_cut, flags_of, has_kind, has_magic, h
 use Rattle.giop_core.proofs.header.Header.read.Goals as goal
 use Rattle.giop_core.proofs.header.Header.read.Goals.{else-more-via-then-more+else-not-can_be_cut, else-more-via-else-more}
 
--- where an option has nothing, the fault that is told in its place
+-- where an option has nothing, the fault in its place
 told : {T : Type 0} (d f : HeaderFault) (o : Option T) → ◌≡◌ {A = Result T HeaderFault} (Err d) (ok_or o f) → o ≡ None → d ≡ f
 told d f None e n = cc
 told d f (Some x) e n = absurd cc
@@ -33,7 +33,7 @@ cuts_is_cut false cuts e = refl
 cuts_is_cut true true e = refl
 cuts_is_cut true false e = absurd cc
 
--- the header so far, with what each test or octet told
+-- the header so far, with what each test or octet said
 module _ (octets : List ℕ) where
   bad_magic : has_magic octets ≡ false → header_of octets ≡ Err BadMagic
   unfolding header_of
@@ -132,5 +132,5 @@ returns c =
     let k = sym c.kind_of.ensures ∙ c.in_ok-kind.ensures.ok_part in
     let h = sym c.has_kind.ensures ∙ c.if-not-has_kind.false in
     let cut : (more && not (can_be_cut version kind)) ≡ false = elim c.else-more.branch [ else-more-via-then-more+else-not-can_be_cut w ↦ cuts_is_cut more (can_be_cut version kind) (sym w.can_be_cut.ensures ∙ w.if-not-can_be_cut.false) | else-more-via-else-more w ↦ whole_is_cut more (can_be_cut version kind) w.if-more.false ] in
-    let size = c.size_of.ensures ∙ ap (number_of order 4) (last_four octets c.told-octets) in
-    sym (read_all octets m version v order more f kind k h cut c.size_of.result size)
+    let size = c.ulong_of.ensures ∙ ap (number_of order 4) (last_four octets c.told-octets) in
+    sym (read_all octets m version v order more f kind k h cut c.ulong_of.result size)
