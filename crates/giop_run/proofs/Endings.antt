@@ -1,16 +1,20 @@
 -- A stream as it is fed, from one message to the next.
-use Rattle.std.proofs.Common.{◌≡◌, ◌≢◌, ℕ, zero, suc, ◌+◌, ◌≤◌, List, [], ◌∷◌, ◌++◌, length, take, drop, Option, Some, None, Result, Ok, Err, IfOk, IsSomeAnd, refl, sym, ap, subst, ◌∙◌, arith, append_assoc, length-append}
+use Rattle.std.proofs.Common.{◌≡◌, ◌≢◌, ℕ, zero, suc, ◌+◌, ◌≤◌, ◌<◌, ◌==◌, ◌&&◌, Bool, true, false, if◌then◌else◌, List, [], ◌∷◌, ◌++◌, length, take, drop, Option, Some, None, Result, Ok, Err, IfOk, IsSomeAnd, refl, sym, ap, subst, ◌∙◌, arith, append_assoc, length-append}
+use Rattle.std.proofs.lemmas.Bool.{eqb-true}
 use Rattle.std.proofs.lemmas.List.{drop-take, take-append-drop, take-take}
-use Rattle.giop_run.specs.declared.program.Stop.{Stop}
-use Rattle.giop_run.specs.declared.stream.Ending.{Ending}
-use Rattle.giop_run.specs.declared.stream.Ending.TheVariants.{Fault}
-use Rattle.giop_run.specs.StreamEnds.{IsEnding}
+use Rattle.giop_run.specs.declared.stop.Stop.{Stop}
+use Rattle.giop_run.specs.declared.stream.Ending.TheVariants.{Clean, Rest, Fault}
+use Rattle.giop_run.specs.declared.stream.Summary.{Summary}
+use Rattle.giop_run.specs.Private.{ending_with}
+use Rattle.giop_run.specs.StreamEnds.{IsEnding, IsSummary}
 use Rattle.giop_frames.specs.declared.fault.StreamFault.{StreamFault}
 use Rattle.giop_frames.specs.declared.fault.StreamFault.TheVariants as fault
 use Rattle.giop_frames.specs.declared.limits.Limits.{Limits}
+use Rattle.giop_frames.specs.Fragments.{partials_in}
 use Rattle.giop_frames.specs.Frames.{Frame, split}
 use Rattle.giop_frames.specs.Standing.{told_at, IsFault, Standing, StandsFor}
-use Rattle.giop_frames.specs.Streams.{fault_of, messages_of, Faults, Told}
+use Rattle.giop_frames.specs.Streams.{fault_of, frames_of, messages_of, rest_of, Faults, Told}
+use Rattle.giop_run.proofs.Frames.{and_true}
 
 -- no octets have no message
 pub none_told : (limits : Limits) → length (messages_of limits []) ≡ 0
@@ -77,7 +81,26 @@ refused limits octets k a e messages same not h count =
 
 pub ended : (limits : Limits) (octets : List ℕ) (k : ℕ) (a : Standing) (e : StreamFault) (messages : ℕ) → a.limits ≡ limits
     → IsFault a.limits (take k octets) (drop k octets) e → messages ≡ length (messages_of limits (take k octets))
-    → (r : Result (ℕ × Ending) Stop) → IfOk r (λ x. (x.0 ≡ messages) × (x.1 ≡ Fault e) × (e ≢ fault.Memory)) → IfOk r (λ x. IsEnding limits octets x.0 x.1)
+    → (r : Result Summary Stop) → IfOk r (λ x. (x.messages ≡ messages) × (x.ending ≡ Fault e) × (e ≢ fault.Memory)) → IfOk r (IsSummary limits octets)
 ended limits octets k a e messages same h count (Err stop) is = tt
 ended limits octets k a e messages same h count (Ok x) is =
-    rw (is.0, is.1) (refused limits octets k a e messages same is.2 h count)
+    let f = refused limits octets k a e messages same is.2 h count in
+    (is.0 ∙ f.1, rw is.1 f.0)
+
+-- two numbers that are not both 0
+positive : (a b : ℕ) → (a == 0 && b == 0) ≡ false → 0 < a + b
+positive zero zero e = absurd cc
+positive zero (suc b) e = omega arith
+positive (suc a) b e = omega arith
+
+-- how a stream ends that is not refused
+ending_by : (limits : Limits) (s : List ℕ) (octets partial : ℕ) (b : Bool) → (octets == 0 && partial == 0) ≡ b → fault_of limits s ≡ None → octets ≡ length (rest_of limits s) → partial ≡ partials_in (frames_of limits s)
+    → IsEnding limits s (if b then Clean else Rest octets partial)
+ending_by limits s octets partial true e f o p =
+    let none = and_true (octets == 0) (partial == 0) e in
+    (f, sym o ∙ eqb-true octets 0 none.0, sym p ∙ eqb-true partial 0 none.1)
+ending_by limits s octets partial false e f o p = (f, o, p, positive octets partial e)
+
+pub ended_with : (limits : Limits) (s : List ℕ) (octets partial : ℕ) → fault_of limits s ≡ None → octets ≡ length (rest_of limits s) → partial ≡ partials_in (frames_of limits s)
+    → IsEnding limits s (ending_with octets partial)
+ended_with limits s octets partial = ending_by limits s octets partial (octets == 0 && partial == 0) refl

@@ -10,7 +10,7 @@ use Rattle.giop_core.specs.declared.wish.ReplyWish.{ReplyWish}
 use Rattle.giop_core.specs.declared.wish.ReplyWish.TheVariants as wish
 use Rattle.giop_core.specs.Content.{Addressed, by_key, by_profile, by_reference, Content, request, reply, cancel, locate_request, locate_reply, close, error, fragment}
 use Rattle.giop_core.specs.Ft.{Ft, absent, bad, present, ft_in}
-use Rattle.giop_run.specs.ReferenceLines.{digits_of, shown}
+use Rattle.giop_run.specs.Text.{digits_of, text_of}
 
 abbrev pub version_name : Version → List ℕ
 version_name V10 = codes "1.0"
@@ -56,12 +56,12 @@ context_lines contexts = flat_map context_line contexts
 abbrev pub ft_lines : Ft → List ℕ
 ft_lines absent = []
 ft_lines bad = codes "  ft bad\n"
-ft_lines (present client retention expiration) = concat (codes "  ft client " ∷ shown client ∷ codes " retention " ∷ signed_decimal retention
+ft_lines (present client retention expiration) = concat (codes "  ft client " ∷ text_of client ∷ codes " retention " ∷ signed_decimal retention
     ∷ codes " expiration " ∷ decimal expiration ∷ codes "\n" ∷ [])
 
 abbrev pub request_line : ℕ → ReplyWish → Addressed → List ℕ → List ℕ → List ℕ
 request_line id asked target operation body = concat (codes "Request id " ∷ decimal id ∷ codes " reply " ∷ wish_name asked ∷ codes " " ∷ target_text target
-    ∷ codes " operation " ∷ shown operation ∷ codes " body " ∷ digits_of body ∷ codes "\n" ∷ [])
+    ∷ codes " operation " ∷ text_of operation ∷ codes " body " ∷ digits_of body ∷ codes "\n" ∷ [])
 
 -- the line of an answer behind its kind
 abbrev pub answer_text : ℕ → List ℕ → List ℕ → List ℕ

@@ -1,5 +1,5 @@
 -- The lines that show a stream.
-use Rattle.std.specs.Prelude.{ℕ, Bool, List, [], flat_map, Result, Ok, Err, if◌then◌else◌}
+use Rattle.std.specs.Prelude.{ℕ, List, [], flat_map, Result, Ok, Err}
 use Rattle.cdr_core.specs.declared.order.Order.{Order}
 use Rattle.giop_core.specs.declared.header.Version.{Version}
 use Rattle.giop_core.specs.Content.{Content}
@@ -19,7 +19,3 @@ told_lines t = lines_by t.message.header.version t.message.header.order (content
 -- the lines of a stream's messages
 abbrev pub stream_lines : Limits → List ℕ → List ℕ
 stream_lines limits s = flat_map told_lines (messages_of limits s)
-
--- a text, if it is to be shown
-abbrev pub printed : Bool → List ℕ → List ℕ
-printed is_shown text = if is_shown then text else []

@@ -5,7 +5,7 @@ ghost use Rattle.giop_core.specs.Ft.{ft_seen};
 ghost use Rattle.giop_core.specs.Lent.{addressed_by, content_of, contexts_left, reply_of, request_of};
 ghost use Rattle.giop_run.specs.MessageLines as lines;
 
-use crate::reference::{digits, shown};
+use crate::text::{digits_of, text_of};
 use cdr_core::Order;
 use giop_core::{
     Body, Contexts, FtField, Message, Part, Reply, ReplyWish, Request, Target, Version, ft_request,
@@ -80,11 +80,11 @@ fn put_target(alloc: Global, target: &Target, text: &mut String) -> Result<(), A
 {
     match target {
         Target::Key(key) => {
-            let key = digits(alloc, key)?;
+            let key = digits_of(alloc, key)?;
             write!(text, "key {key}")
         }
         Target::Profile(tag, octets) => {
-            let octets = digits(alloc, octets)?;
+            let octets = digits_of(alloc, octets)?;
             write!(text, "profile {tag} {octets}")
         }
         Target::Reference(index, _) => write!(text, "reference {index}"),
@@ -95,7 +95,7 @@ fn put_target(alloc: Global, target: &Target, text: &mut String) -> Result<(), A
 fn put_context(alloc: Global, id: u32, octets: &[u8], text: &mut String) -> Result<(), AllocError>
     ensures { OnOk result (string_bytes text.new ≡ string_bytes text.old ++ lines.context_line (id, octets.now)) }
 {
-    let octets = digits(alloc, octets)?;
+    let octets = digits_of(alloc, octets)?;
     write!(text, "  context {id} {octets}\n")
 }
 
@@ -121,7 +121,7 @@ fn put_ft(alloc: Global, field: FtField, text: &mut String) -> Result<(), AllocE
             retention_id,
             expiration,
         } => {
-            let client = shown(alloc, client_id)?;
+            let client = text_of(alloc, client_id)?;
             write!(
                 text,
                 "  ft client {client} retention {retention_id} expiration {expiration}\n"
@@ -138,8 +138,8 @@ fn put_request_line(alloc: Global, request: &Request, text: &mut String) -> Resu
     let wish = wish_name(request.reply);
     write!(text, "Request id {id} reply {wish} ")?;
     put_target(alloc, &request.target, text)?;
-    let operation = shown(alloc, request.operation)?;
-    let body = digits(alloc, request.body.octets)?;
+    let operation = text_of(alloc, request.operation)?;
+    let body = digits_of(alloc, request.body.octets)?;
     write!(text, " operation {operation} body {body}\n")
 }
 
@@ -163,7 +163,7 @@ fn put_answer(
 ) -> Result<(), AllocError>
     ensures { OnOk result (string_bytes text.new ≡ string_bytes text.old ++ lines.answer_text id status.now body.now.octets.now) }
 {
-    let body = digits(alloc, body.octets)?;
+    let body = digits_of(alloc, body.octets)?;
     write!(text, "id {id} status {status} body {body}\n")
 }
 

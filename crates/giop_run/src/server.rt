@@ -10,7 +10,8 @@ ghost use Rattle.giop_run.specs.Answer.{reply_to, status_of};
 ghost use Rattle.giop_run.specs.Event.{Opened, Piece, Close, Lost, Event};
 ghost use Rattle.giop_run.specs.History.{is_open};
 ghost use Rattle.giop_run.specs.Locate.{question_of};
-ghost use Rattle.giop_run.specs.Standing.{Changes, Connects, Serves, Stands, link_after};
+ghost use Rattle.giop_run.specs.Private.{Changes, link_after};
+ghost use Rattle.giop_run.specs.Standing.{Connects, Serves, Stands};
 
 use crate::counter::Counter;
 use crate::locate::read_question;
