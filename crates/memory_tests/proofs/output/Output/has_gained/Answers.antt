@@ -2,7 +2,7 @@ use Rattle.std.proofs.Common.{◌≡◌, ◌++◌, List, ℕ, Some, None, ap, sy
 use Rattle.std.proofs.lemmas.Bool.Decides.{Decides-eqb}
 use Rattle.std.proofs.lemmas.List.{append_cancel_left}
 use Rattle.std.proofs.lemmas.Slice.Eq.{slice_eq-Decides, strip_prefix_is}
-use Rattle.refusals.proofs.output.Output.has_gained.Goals as goal
+use Rattle.memory_tests.proofs.output.Output.has_gained.Goals as goal
 
 -- what stands behind the octets from before is compared with the octets
 pub returns-in-Some : goal.returns-in-Some

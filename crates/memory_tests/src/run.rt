@@ -61,7 +61,7 @@ fn tell<E: Write>(stop: Stop, err: &mut E) -> io::Result<()> {
     match stop {
         Stop::Memory => writeln!(err, "memory"),
         Stop::Wrong(wrong) => writeln!(err, "wrong: {wrong}"),
-        Stop::Unknown => writeln!(err, "usage: refusals list | refusals CASE"),
+        Stop::Unknown => writeln!(err, "usage: memory_tests list | memory_tests CASE"),
         Stop::Unwritable => Ok(()),
     }
 }

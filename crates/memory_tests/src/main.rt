@@ -1,4 +1,4 @@
-//! The program `refusals`: calls of `cdr_core`, `ior_core`, `giop_core` and `giop_frames` that take
+//! The program `memory_tests`: calls of `cdr_core`, `ior_core`, `giop_core` and `giop_frames` that take
 //! memory, each made by name.
 //!
 //! A case is one call on fixed inputs. Where memory for it is refused, the program looks whether

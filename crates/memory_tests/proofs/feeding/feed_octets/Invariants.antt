@@ -1,6 +1,6 @@
 use Rattle.std.proofs.Common.{ℕ, ◌-◌, ◌≤◌, ◌++◌, List, length, take}
 use Rattle.giop_frames.specs.Standing.{StandsFor}
-use Rattle.refusals.proofs.feeding.feed_octets.Given as goal
+use Rattle.memory_tests.proofs.feeding.feed_octets.Given as goal
 
 -- the assembler stands for what it stood for, with the octets that were taken
 abbrev pub invariant-loop-taken : goal.invariant-loop-taken

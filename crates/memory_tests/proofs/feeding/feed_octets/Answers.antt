@@ -1,6 +1,6 @@
 use Rattle.std.proofs.Common.{◌≡◌, ◌≤◌, length, arith}
-use Rattle.refusals.proofs.Pieces.{stands_further}
-use Rattle.refusals.proofs.feeding.feed_octets.Goals as goal
+use Rattle.memory_tests.proofs.Pieces.{stands_further}
+use Rattle.memory_tests.proofs.feeding.feed_octets.Goals as goal
 
 pub loop-taken-preserved : goal.loop-taken-preserved
 loop-taken-preserved c =
