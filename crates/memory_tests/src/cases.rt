@@ -2,53 +2,36 @@
 
 ghost use Rattle.std.specs.Prelude.{◌≡◌, ◌++◌, codes, IfSome};
 
-use crate::clients::ClientWriting;
-use crate::copying::Copying;
-use crate::cutting::Cutting;
-use crate::feeding::Feeding;
-use crate::message_suites::MESSAGE_SUITES;
-use crate::messages::MessageWriting;
-use crate::profiles::{ProfileReading, ProfileWriting};
-use crate::reading::{ListReading, Reading};
-use crate::references::{Parsing, Printing, ReferenceReading, ReferenceWriting};
+use crate::calls::{SUITES, Suite};
 use crate::samples::Sample;
-use crate::stream_suites::STREAM_SUITES;
-use crate::suites::{Call, SUITES, Suite};
-use crate::trial::{Ending, Miss, Trial, tried};
-use crate::writing::{ListWriting, Writing};
+use crate::trial::{Ending, Miss};
 use std::alloc::Global;
 use std::io;
 use std::io::Write;
 
-/// All suites: those of values and references, those of messages, and those of streams.
-fn all_suites() -> [&'static [Suite]; 3] {
-    [&SUITES, &MESSAGE_SUITES, &STREAM_SUITES]
-}
-
-/// Prints the names of all cases, one a line.
-pub fn print_names<W: Write>(out: &mut W) -> io::Result<()> {
-    for suites in all_suites() {
-        for suite in suites {
-            suite.print_names(out)?;
-        }
+/// Prints the names of the cases of a suite, one a line.
+fn print_suite<W: Write>(suite: &Suite, out: &mut W) -> io::Result<()> {
+    let first = suite.0;
+    for sample in suite.2 {
+        let second = sample.name;
+        writeln!(out, "{first}/{second}")?;
     }
     Ok(())
 }
 
-/// The suite of that name among some.
-fn suite_in(suites: &'static [Suite], name: &str) -> Option<&'static Suite>
-    ensures { IfSome result (λ suite. suite.now.name.now ≡ name.now) }
-{
-    suites.iter().find(|suite| suite.name == name)
+/// Prints the names of all cases, one a line.
+pub fn print_names<W: Write>(out: &mut W) -> io::Result<()> {
+    for suite in &SUITES {
+        print_suite(suite, out)?;
+    }
+    Ok(())
 }
 
 /// The suite of that name.
 fn suite_named(name: &str) -> Option<&'static Suite>
-    ensures { IfSome result (λ suite. suite.now.name.now ≡ name.now) }
+    ensures { IfSome result (λ suite. suite.now.0.now ≡ name.now) }
 {
-    let [lower, messages, streams] = all_suites();
-    let found = suite_in(lower, name).or(suite_in(messages, name));
-    found.or(suite_in(streams, name))
+    SUITES.iter().find(|suite| suite.0 == name)
 }
 
 /// The sample of that name.
@@ -56,11 +39,6 @@ fn sample_named(samples: &'static [Sample], name: &str) -> Option<&'static Sampl
     ensures { IfSome result (λ sample. sample.now.name.now ≡ name.now) }
 {
     samples.iter().find(|sample| sample.name == name)
-}
-
-/// Makes a call with such inputs, and once more where memory for it was refused.
-fn ended<T: Trial + Drop>(alloc: Global, inputs: Result<T, Miss>) -> Result<Ending, Miss> {
-    Ok(tried(alloc, &mut inputs?)?)
 }
 
 /// A call on a sample.
@@ -73,34 +51,16 @@ pub struct Case {
 impl Case {
     /// The case of that name.
     pub fn named(name: &str) -> Option<Case>
-        ensures { IfSome result (λ c. name.now ≡ c.suite.now.name.now ++ codes "/" ++ c.sample.now.name.now) }
+        ensures { IfSome result (λ c. name.now ≡ c.suite.now.0.now ++ codes "/" ++ c.sample.now.name.now) }
     {
         let (first, second) = name.split_once('/')?;
         let suite = suite_named(first)?;
-        let sample = sample_named(suite.set.samples(), second)?;
+        let sample = sample_named(suite.2, second)?;
         Some(Case { suite, sample })
     }
 
-    /// Makes the call, and once more where memory for it was refused. At `Memory` it was not made,
-    /// since memory for its inputs was refused.
+    /// Makes the call, as `Call::run` does.
     pub fn run(self, alloc: Global) -> Result<Ending, Miss> {
-        let sample = self.sample;
-        match self.suite.call {
-            Call::Read => ended(alloc, Reading::new(alloc, sample)),
-            Call::ReadList => ended(alloc, ListReading::new(alloc, sample)),
-            Call::Write(room) => ended(alloc, Writing::new(alloc, sample, room)),
-            Call::WriteList(room) => ended(alloc, ListWriting::new(alloc, sample, room)),
-            Call::Copy => ended(alloc, Copying::new(alloc, sample)),
-            Call::ReadReference => ended(alloc, Ok(ReferenceReading { sample })),
-            Call::WriteReference(room) => ended(alloc, ReferenceWriting::new(alloc, sample, room)),
-            Call::ReadProfile => ended(alloc, Ok(ProfileReading { sample })),
-            Call::WriteProfile(room) => ended(alloc, ProfileWriting::new(alloc, sample, room)),
-            Call::Parse => ended(alloc, Ok(Parsing { sample })),
-            Call::Print => ended(alloc, Printing::new(alloc, sample)),
-            Call::WriteMessage(room) => ended(alloc, MessageWriting::new(alloc, sample, room)),
-            Call::WriteClient(room) => ended(alloc, ClientWriting::new(alloc, sample, room)),
-            Call::Feed(times, size) => ended(alloc, Ok(Feeding::new(alloc, sample, times, size))),
-            Call::Cut(room) => ended(alloc, Cutting::new(alloc, sample, room)),
-        }
+        self.suite.1.run(alloc, self.sample)
     }
 }
