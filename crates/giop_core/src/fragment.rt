@@ -13,7 +13,7 @@ use crate::message::BEHIND_HEADER;
 use cdr_core::{Cursor, Order};
 
 /// A Fragment (CORBA 3.3 Part 2, 9.4.9): more octets of a message that was cut.
-#[derive(Clone, Copy, Drop)]
+#[derive(Clone, Copy, Debug, Drop)]
 pub struct Fragment<'m> {
     /// The id of the request whose message goes on, which 1.2 alone has.
     pub request_id: Option<u32>,

@@ -12,15 +12,16 @@ ghost use Rattle.cdr_core.specs.Spelling.{IsClean};
 ghost use Rattle.giop_core.specs.Written.{ft_octets, AddsOctets, WroteOctets};
 
 use crate::error::WriteError;
-use crate::service_context::{Contexts, read_tagged};
+use crate::service_context::Contexts;
 use crate::writing::{LONGEST, check_text};
 use cdr_core::{Cursor, Fault, Order, Writer};
+use ior_core::read_tagged;
 
-/// The id of the context FT_REQUEST.
-const FT_REQUEST: u32 = 13;
+/// The id of the service context FT_REQUEST (Fault Tolerant CORBA 23.2.7).
+pub const FT_REQUEST: u32 = 13;
 
 /// What a request's contexts say of its client.
-#[derive(Clone, Copy, Drop)]
+#[derive(Clone, Copy, Debug, Drop)]
 pub enum FtField<'m> {
     /// There is no FT_REQUEST context.
     Absent,

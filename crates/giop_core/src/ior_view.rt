@@ -5,11 +5,12 @@ ghost use Rattle.cdr_core.specs.Writing.{IsWritable};
 ghost use Rattle.giop_core.specs.Facts.{writable_prop};
 ghost use Rattle.giop_core.specs.Items.{contexts_left, item_at, items_in, reference_as};
 
-use crate::service_context::{Contexts, read_tagged};
+use crate::service_context::Contexts;
 use cdr_core::Cursor;
+use ior_core::read_tagged;
 
 /// An object reference in a message.
-#[derive(Drop)]
+#[derive(Debug, Drop)]
 pub struct IorView<'m> {
     pub(crate) type_id: &'m [u8],
     pub(crate) profiles: Contexts<'m>,

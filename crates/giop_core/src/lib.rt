@@ -22,12 +22,14 @@ pub use cancel::{CancelRequest, write_cancel};
 pub use control::{write_close, write_error};
 pub use error::{MessageFault, WriteError};
 pub use fragment::Fragment;
-pub use ft::{FtField, ft_request, write_ft};
+pub use ft::{FT_REQUEST, FtField, ft_request, write_ft};
 pub use header::{Header, HeaderFault, MessageKind, Version};
 pub use ior_view::IorView;
-pub use locate::{LocateReply, LocateRequest, write_locate_reply, write_locate_request};
+pub use locate::{
+    LocateReply, LocateRequest, LocateStatus, write_locate_reply, write_locate_request,
+};
 pub use message::{Body, Content, Message, read_message};
-pub use reply::{Reply, write_reply};
+pub use reply::{Reply, ReplyStatus, write_reply};
 pub use request::{ReplyWish, Request, write_request};
 pub use service_context::Contexts;
 pub use target_address::Target;

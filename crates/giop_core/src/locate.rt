@@ -1,6 +1,6 @@
 //! LocateRequest and LocateReply (CORBA 3.3 Part 2, 9.4.5 and 9.4.6).
 
-ghost use Rattle.std.specs.Prelude.{◌≤◌, ◌<◌, [], length};
+ghost use Rattle.std.specs.Prelude.{◌≡◌, ◌↔◌, Some, IsTrue, ◌≤◌, ◌<◌, [], length};
 ghost use Rattle.giop_core.specs.declared.header.Version.TheVariants.{V10, V11, V12};
 ghost use Rattle.giop_core.specs.Calls.{Shows};
 ghost use Rattle.giop_core.specs.Lent.{locate_request_of, locate_reply_of, addressed_by, rest_of};
@@ -11,6 +11,8 @@ ghost use Rattle.cdr_core.specs.View.{values_of};
 ghost use Rattle.giop_core.specs.Written.{behind_header, locate_reply_fields, locate_request_fields, locate_statuses, reply_fields, request_fields, target_in, Adds, CanAddress, PutsFields, Wrote};
 ghost use Rattle.giop_core.specs.declared.header.MessageKind.TheVariants as kind;
 ghost use Rattle.giop_core.specs.Content as content;
+ghost use Rattle.giop_core.specs.Statuses.{locate_status_number, locate_status_of};
+ghost use Rattle.giop_core.specs.Texts.{locate_status_text};
 
 use crate::error::{MessageFault, WriteError};
 use crate::header::{MessageKind, Version};
@@ -19,20 +21,99 @@ use crate::target_address::{Target, check_target, put_target_in, read_target};
 use crate::writing::{begin, finish};
 use cdr_core::{Cursor, Order, Val, Writer};
 use std::alloc::AllocError;
+use std::fmt;
 
 /// A LocateRequest (CORBA 3.3 Part 2, 9.4.5): where is the object?
-#[derive(Drop)]
+#[derive(Debug, Drop)]
 pub struct LocateRequest<'m> {
     pub request_id: u32,
     pub target: Target<'m>,
 }
 
 /// A LocateReply (CORBA 3.3 Part 2, 9.4.6).
-#[derive(Clone, Copy, Drop)]
+#[derive(Clone, Copy, Debug, Drop)]
 pub struct LocateReply<'m> {
     pub request_id: u32,
+    /// A number that `LocateStatus` names.
     pub status: u32,
     pub body: Body<'m>,
+}
+
+/// The status of a LocateReply (CORBA 3.3 Part 2, 9.4.6).
+#[derive(Clone, Copy, Debug, PartialEq, Eq)]
+pub enum LocateStatus {
+    /// The server does not know the object.
+    UnknownObject,
+    /// The server itself serves the object.
+    ObjectHere,
+    /// The body holds a reference to ask in place of this one.
+    ObjectForward,
+    /// The same for good. Only 1.2 has it.
+    ObjectForwardPerm,
+    /// The body holds a system exception. Only 1.2 has it.
+    SystemException,
+    /// The body holds the addressing that the server wants. Only 1.2 has it.
+    NeedsAddressingMode,
+}
+
+impl LocateStatus {
+    /// The status of a number, or None where no version has it.
+    pub fn from_number(number: u32) -> Option<LocateStatus>
+        ensures { result ≡ locate_status_of number }
+    {
+        match number {
+            0 => Some(LocateStatus::UnknownObject),
+            1 => Some(LocateStatus::ObjectHere),
+            2 => Some(LocateStatus::ObjectForward),
+            3 => Some(LocateStatus::ObjectForwardPerm),
+            4 => Some(LocateStatus::SystemException),
+            5 => Some(LocateStatus::NeedsAddressingMode),
+            _ => None,
+        }
+    }
+
+    /// The number of a status, as a message has it.
+    pub fn number(self) -> u32
+        ensures numbered { result ≡ locate_status_number self }
+        ensures again { locate_status_of result ≡ Some self }
+    {
+        match self {
+            LocateStatus::UnknownObject => 0,
+            LocateStatus::ObjectHere => 1,
+            LocateStatus::ObjectForward => 2,
+            LocateStatus::ObjectForwardPerm => 3,
+            LocateStatus::SystemException => 4,
+            LocateStatus::NeedsAddressingMode => 5,
+        }
+    }
+}
+
+/// The name that the standard gives it, as `UNKNOWN_OBJECT`.
+impl fmt::Display for LocateStatus {
+    ghost output = { λ status. Some (locate_status_text status) };
+
+    fn fmt<W: fmt::Write>(&self, f: &mut fmt::Formatter<W>) -> fmt::Result {
+        match self {
+            LocateStatus::UnknownObject => f.write_str("UNKNOWN_OBJECT"),
+            LocateStatus::ObjectHere => f.write_str("OBJECT_HERE"),
+            LocateStatus::ObjectForward => f.write_str("OBJECT_FORWARD"),
+            LocateStatus::ObjectForwardPerm => f.write_str("OBJECT_FORWARD_PERM"),
+            LocateStatus::SystemException => f.write_str("LOC_SYSTEM_EXCEPTION"),
+            LocateStatus::NeedsAddressingMode => f.write_str("LOC_NEEDS_ADDRESSING_MODE"),
+        }
+    }
+}
+
+impl Version {
+    /// Whether a LocateReply of this version can have the status of this number: 0 to 2 in 1.0 and 1.1, 0 to 5 in 1.2.
+    pub fn has_locate_status(self, status: u32) -> bool
+        ensures { IsTrue result ↔ status < locate_statuses self }
+    {
+        match self {
+            Version::V10 | Version::V11 => status < 3,
+            Version::V12 => status < 6,
+        }
+    }
 }
 
 #[tactic(auto, unfolding(crate::specs::Messages::message_of, crate::specs::Rows::row, crate::specs::Content::content))]

@@ -1,6 +1,11 @@
 //! Messages, lent from their octets: the choice among the kinds.
 
-ghost use Rattle.std.specs.Prelude.{◌≡◌, IfOk};
+ghost use Rattle.std.specs.Prelude.{◌≡◌, ◌<◌, ◌^◌, ◌++◌, ℕ, List, IfOk};
+ghost use Rattle.cdr_core.specs.Fitting.{AreValid};
+ghost use Rattle.cdr_core.specs.Spelling.{SpellsMembers};
+ghost use Rattle.cdr_core.specs.Value.{Values};
+ghost use Rattle.cdr_core.specs.View.{forms_of};
+ghost use Rattle.giop_core.specs.Bodies.{BodyAnswers, BodyReads};
 ghost use Rattle.giop_core.specs.Calls.{Shows};
 ghost use Rattle.giop_core.specs.Lent.{content_of, rest_of};
 ghost use Rattle.giop_core.specs.Messages.{message_of};
@@ -12,17 +17,35 @@ use crate::header::{Header, MessageKind, Version};
 use crate::locate::{LocateReply, LocateRequest, read_locate_reply, read_locate_request};
 use crate::reply::{Reply, read_reply};
 use crate::request::{Request, read_request};
-use cdr_core::{Cursor, Order};
+use cdr_core::{CdrError, Cursor, Order, Ty, Val};
+use std::alloc::Global;
 
 /// The place of the first octet behind a header.
 pub(crate) const BEHIND_HEADER: u64 = 12;
 
 /// The octets of a body, their order, and the place in the message at which they stand.
-#[derive(Clone, Copy, Drop)]
+#[derive(Clone, Copy, Debug, Drop)]
 pub struct Body<'m> {
     pub order: Order,
     pub at: u64,
     pub octets: &'m [u8],
+}
+
+impl<'m> Body<'m> {
+    /// The values of these types that stand one after another at the front of the body, read in its
+    /// order and at its place. Octets after them are ignored.
+    ///
+    /// An error is that of `cdr_core::read_list`: the first fault, whose place counts from the beginning
+    /// of the message, or that an allocation failed.
+    pub fn read(&self, alloc: Global, types: &[Ty]) -> Result<Vec<Val>, CdrError>
+        requires valid { AreValid (forms_of types.now) }
+        requires at { self.now.at < 2 ^ 32 }
+        ensures answers { BodyAnswers (forms_of types.now) (rest_of self.now) result }
+        ensures only { (vs : Values) (front rest : List ℕ) → self.now.octets.now ≡ front ++ rest → SpellsMembers (forms_of types.now) self.now.order vs self.now.at front → BodyReads vs result }
+    {
+        let (values, _) = cdr_core::read_list(alloc, types, self.order, self.at, self.octets)?;
+        Ok(values)
+    }
 }
 
 /// The rest, from where a cursor is.
@@ -37,7 +60,7 @@ pub(crate) fn body_at<'m>(cursor: &Cursor<'m>, order: Order) -> Body<'m>
 }
 
 /// What a message says (CORBA 3.3 Part 2, 9.4.2 to 9.4.9).
-#[derive(Drop)]
+#[derive(Debug, Drop)]
 pub enum Content<'m> {
     Request(Request<'m>),
     Reply(Reply<'m>),
@@ -52,7 +75,7 @@ pub enum Content<'m> {
 }
 
 /// A message, in the version and the order of its header.
-#[derive(Drop)]
+#[derive(Debug, Drop)]
 pub struct Message<'m> {
     pub version: Version,
     pub order: Order,

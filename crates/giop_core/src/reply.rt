@@ -1,6 +1,6 @@
 //! Reply (CORBA 3.3 Part 2, 9.4.3).
 
-ghost use Rattle.std.specs.Prelude.{◌≡◌, IfOk, ◌≤◌, ◌<◌, length, map};
+ghost use Rattle.std.specs.Prelude.{◌↔◌, Some, IsTrue, ◌≡◌, IfOk, ◌≤◌, ◌<◌, length, map};
 ghost use Rattle.giop_core.specs.declared.header.Version.TheVariants.{V10, V11, V12};
 ghost use Rattle.giop_core.specs.Calls.{Shows};
 ghost use Rattle.giop_core.specs.Lent.{content_of};
@@ -11,6 +11,8 @@ ghost use Rattle.cdr_core.specs.View.{values_of};
 ghost use Rattle.giop_core.specs.Items.{item_at};
 ghost use Rattle.giop_core.specs.Written.{behind_header, reply_fields, reply_statuses, Adds, PutsFields, Wrote};
 ghost use Rattle.giop_core.specs.declared.header.MessageKind.TheVariants as kind;
+ghost use Rattle.giop_core.specs.Statuses.{reply_status_number, reply_status_of};
+ghost use Rattle.giop_core.specs.Texts.{reply_status_text};
 
 use crate::error::{MessageFault, WriteError};
 use crate::header::{MessageKind, Version};
@@ -19,14 +21,93 @@ use crate::service_context::{Contexts, check_contexts, put_contexts, read_contex
 use crate::writing::{begin, finish};
 use cdr_core::{Cursor, Order, Val, Writer};
 use std::alloc::AllocError;
+use std::fmt;
 
 /// A Reply (CORBA 3.3 Part 2, 9.4.3).
-#[derive(Drop)]
+#[derive(Debug, Drop)]
 pub struct Reply<'m> {
     pub request_id: u32,
+    /// A number that `ReplyStatus` names.
     pub status: u32,
     pub contexts: Contexts<'m>,
     pub body: Body<'m>,
+}
+
+/// The status of a Reply (CORBA 3.3 Part 2, 9.4.3).
+#[derive(Clone, Copy, Debug, PartialEq, Eq)]
+pub enum ReplyStatus {
+    /// The body holds the results.
+    NoException,
+    /// The body holds an exception that the operation declares.
+    UserException,
+    /// The body holds a system exception.
+    SystemException,
+    /// The body holds a reference to ask in place of this one.
+    LocationForward,
+    /// The same for good. Only 1.2 has it.
+    LocationForwardPerm,
+    /// The body holds the addressing that the server wants. Only 1.2 has it.
+    NeedsAddressingMode,
+}
+
+impl ReplyStatus {
+    /// The status of a number, or None where no version has it.
+    pub fn from_number(number: u32) -> Option<ReplyStatus>
+        ensures { result ≡ reply_status_of number }
+    {
+        match number {
+            0 => Some(ReplyStatus::NoException),
+            1 => Some(ReplyStatus::UserException),
+            2 => Some(ReplyStatus::SystemException),
+            3 => Some(ReplyStatus::LocationForward),
+            4 => Some(ReplyStatus::LocationForwardPerm),
+            5 => Some(ReplyStatus::NeedsAddressingMode),
+            _ => None,
+        }
+    }
+
+    /// The number of a status, as a message has it.
+    pub fn number(self) -> u32
+        ensures numbered { result ≡ reply_status_number self }
+        ensures again { reply_status_of result ≡ Some self }
+    {
+        match self {
+            ReplyStatus::NoException => 0,
+            ReplyStatus::UserException => 1,
+            ReplyStatus::SystemException => 2,
+            ReplyStatus::LocationForward => 3,
+            ReplyStatus::LocationForwardPerm => 4,
+            ReplyStatus::NeedsAddressingMode => 5,
+        }
+    }
+}
+
+/// The name that the standard gives it, as `NO_EXCEPTION`.
+impl fmt::Display for ReplyStatus {
+    ghost output = { λ status. Some (reply_status_text status) };
+
+    fn fmt<W: fmt::Write>(&self, f: &mut fmt::Formatter<W>) -> fmt::Result {
+        match self {
+            ReplyStatus::NoException => f.write_str("NO_EXCEPTION"),
+            ReplyStatus::UserException => f.write_str("USER_EXCEPTION"),
+            ReplyStatus::SystemException => f.write_str("SYSTEM_EXCEPTION"),
+            ReplyStatus::LocationForward => f.write_str("LOCATION_FORWARD"),
+            ReplyStatus::LocationForwardPerm => f.write_str("LOCATION_FORWARD_PERM"),
+            ReplyStatus::NeedsAddressingMode => f.write_str("NEEDS_ADDRESSING_MODE"),
+        }
+    }
+}
+
+impl Version {
+    /// Whether a Reply of this version can have the status of this number: 0 to 3 in 1.0 and 1.1, 0 to 5 in 1.2.
+    pub fn has_reply_status(self, status: u32) -> bool
+        ensures { IsTrue result ↔ status < reply_statuses self }
+    {
+        match self {
+            Version::V10 | Version::V11 => status < 4,
+            Version::V12 => status < 6,
+        }
+    }
 }
 
 #[tactic(auto, unfolding(crate::specs::Messages::message_of, crate::specs::Rows::row, crate::specs::Content::content), using(crate::proofs::Again::addressed_again, crate::proofs::Again::items_again))]

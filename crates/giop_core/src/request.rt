@@ -1,6 +1,6 @@
 //! Request (CORBA 3.3 Part 2, 9.4.2).
 
-ghost use Rattle.std.specs.Prelude.{◌≡◌, IfOk, ◌<◌, length, ◌≤◌, [], map, MatchResult};
+ghost use Rattle.std.specs.Prelude.{◌↔◌, Some, IsTrue, ◌≡◌, IfOk, ◌<◌, length, ◌≤◌, [], map, MatchResult};
 ghost use Rattle.giop_core.specs.declared.header.Version.TheVariants.{V10, V11, V12};
 ghost use Rattle.giop_core.specs.Calls.{Shows, Reads};
 ghost use Rattle.giop_core.specs.Content.{wish_by, wish_if};
@@ -16,6 +16,7 @@ ghost use Rattle.giop_core.specs.Items.{item_at};
 ghost use Rattle.giop_core.specs.Written.{behind_header, flags_of, is_expected, request_fields, Adds, CanAddress, CanAsk, PutsFields, Wrote, zeros};
 ghost use Rattle.giop_core.specs.declared.header.MessageKind.TheVariants as kind;
 ghost use Rattle.cdr_core.specs.Value as value;
+ghost use Rattle.giop_core.specs.Texts.{wish_text};
 
 use crate::error::{MessageFault, WriteError};
 use crate::header::{MessageKind, Version};
@@ -25,9 +26,10 @@ use crate::target_address::{Target, check_target, put_key, put_target, read_targ
 use crate::writing::{begin, check_text, finish};
 use cdr_core::{Cursor, Fault, Order, Val, Writer};
 use std::alloc::AllocError;
+use std::fmt;
 
 /// A Request (CORBA 3.3 Part 2, 9.4.2).
-#[derive(Drop)]
+#[derive(Debug, Drop)]
 pub struct Request<'m> {
     pub request_id: u32,
     pub reply: ReplyWish,
@@ -46,6 +48,32 @@ pub enum ReplyWish {
     Empty,
     /// A reply with its body.
     Full,
+}
+
+/// `none`, `empty` or `full`.
+impl fmt::Display for ReplyWish {
+    ghost output = { λ wish. Some (wish_text wish) };
+
+    fn fmt<W: fmt::Write>(&self, f: &mut fmt::Formatter<W>) -> fmt::Result {
+        match self {
+            ReplyWish::None => f.write_str("none"),
+            ReplyWish::Empty => f.write_str("empty"),
+            ReplyWish::Full => f.write_str("full"),
+        }
+    }
+}
+
+impl Version {
+    /// Whether a request of this version can ask for such a reply. 1.0 and 1.1 can't ask for an empty
+    /// one.
+    pub fn can_ask(self, wish: ReplyWish) -> bool
+        ensures { IsTrue result ↔ CanAsk self wish }
+    {
+        match self {
+            Version::V10 | Version::V11 => !matches!(wish, ReplyWish::Empty),
+            Version::V12 => true,
+        }
+    }
 }
 
 /// The wish that response_flags express.

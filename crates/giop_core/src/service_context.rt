@@ -16,24 +16,14 @@ ghost use Rattle.cdr_core.specs.Value.{values};
 use crate::error::WriteError;
 use crate::writing::{LONGEST, check_octets};
 use cdr_core::{Cursor, Fault, Writer};
+use ior_core::read_tagged;
 use std::alloc::AllocError;
 
 /// The service contexts of a message, one after another: the id of each and its octets.
-#[derive(Drop)]
+#[derive(Debug, Drop)]
 pub struct Contexts<'m> {
     pub(crate) cursor: Cursor<'m>,
     pub(crate) left: u32,
-}
-
-/// An unsigned long and octets.
-#[inline]
-#[tactic(auto, using(crate::proofs::Steps::tagged_is))]
-pub(crate) fn read_tagged<'m>(cursor: &mut Cursor<'m>) -> Result<(u32, &'m [u8]), Fault>
-    ensures { Reads lent_value result tagged cursor.old cursor.new }
-{
-    let tag = cursor.ulong()?;
-    let octets = cursor.octets()?;
-    Ok((tag, octets))
 }
 
 /// Passes over so many of them.

@@ -1,6 +1,6 @@
 //! The target of a Request or LocateRequest (CORBA 3.3 Part 2, 9.4.2: TargetAddress).
 
-ghost use Rattle.std.specs.Prelude.{◌≡◌, length, ◌<◌, option_map, slice_get, ◌≤◌, map, MatchResult};
+ghost use Rattle.std.specs.Prelude.{◌↔◌, IsTrue, ◌≡◌, length, ◌<◌, option_map, slice_get, ◌≤◌, map, MatchResult};
 ghost use Rattle.cdr_core.specs.Writing.{IsWritable, Appends, PutsAll, AreWritable};
 ghost use Rattle.giop_core.specs.Items.{contexts_left, items_in, reference_as, item_at, list_value, tagged_value};
 ghost use Rattle.giop_core.specs.Facts.{writable_prop};
@@ -10,7 +10,7 @@ ghost use Rattle.giop_core.specs.Calls.{Reads, Tells};
 ghost use Rattle.giop_core.specs.Lent.{reference_value, selected_value, target_value, addressed_by};
 ghost use Rattle.giop_core.specs.Messages.{field_at};
 ghost use Rattle.giop_core.specs.Rows.{contexts, selected, target};
-ghost use Rattle.giop_core.specs.Keys.{key_of_addressed, profile_key};
+ghost use Rattle.giop_core.specs.Keys.{key_of_addressed};
 ghost use Rattle.giop_core.specs.Long.{Checks};
 ghost use Rattle.giop_core.specs.Written.{target_in, CanAddress, target_of, key_of};
 ghost use Rattle.cdr_core.specs.Value.{values};
@@ -19,13 +19,14 @@ ghost use Rattle.giop_core.specs.declared.header.Version.TheVariants.{V10, V11, 
 use crate::error::{MessageFault, WriteError};
 use crate::header::Version;
 use crate::ior_view::IorView;
-use crate::service_context::{Contexts, put_tagged, read_contexts, read_tagged};
+use crate::service_context::{Contexts, put_tagged, read_contexts};
 use crate::writing::check_octets;
 use cdr_core::{Cursor, Fault, Writer};
+use ior_core::{profile_key, read_tagged};
 use std::alloc::AllocError;
 
 /// What a request is for (GIOP::TargetAddress).
-#[derive(Drop)]
+#[derive(Debug, Drop)]
 pub enum Target<'m> {
     /// An object key.
     Key(&'m [u8]),
@@ -80,17 +81,16 @@ pub(crate) fn read_target<'m>(cursor: &mut Cursor<'m>) -> Result<Target<'m>, Mes
     Err(MessageFault::BadAddressing(at))
 }
 
-/// The tag of an IIOP profile (CORBA 3.3 Part 2, 7.6.2).
-const TAG_INTERNET_IOP: u32 = 0;
-
-/// The object key in a profile of IIOP that reads.
-fn profile_key(tag: u32, octets: &[u8]) -> Option<&[u8]>
-    ensures { option_map (λ key. key.now) result ≡ profile_key (tag, octets.now) }
-{
-    if tag != TAG_INTERNET_IOP {
-        return None;
+impl Version {
+    /// Whether a request of this version can have such a target. 1.0 and 1.1 have object keys alone.
+    pub fn can_address(self, target: &Target) -> bool
+        ensures { IsTrue result ↔ CanAddress self (addressed_by target.now) }
+    {
+        match self {
+            Version::V10 | Version::V11 => matches!(target, Target::Key(_)),
+            Version::V12 => true,
+        }
     }
-    ior_core::iiop_key(octets)
 }
 
 impl<'m> Target<'m> {
