@@ -5,9 +5,8 @@ ghost use Rattle.std.specs.Prelude.{◌≡◌, ◌++◌};
 use crate::output::{Output, Room};
 use crate::reading::check_printed;
 use crate::samples::Sample;
-use crate::sizes::is_clean;
 use crate::trial::{Miss, Trial, Wrong};
-use cdr_core::{Cursor, Fault};
+use cdr_core::{Cursor, Fault, has_no_nul};
 use giop_core::write_ft;
 use std::alloc::Global;
 
@@ -45,13 +44,13 @@ impl ClientWriting {
 }
 
 impl Trial for ClientWriting {
-    // Behind what the vector had stand the sample's octets.
+    // The sample's octets stand after those from before.
     ghost is_right = { λ w. w.output.out.items ≡ w.output.before.now ++ w.sample.now.octets.now };
 
     fn call(&mut self, _alloc: Global) -> Result<(), Miss> {
         let sample = self.sample;
         let (client_id, retention_id, expiration) = self.client;
-        if !is_clean(client_id) {
+        if !has_no_nul(client_id) {
             return Err(Wrong::Inputs.into());
         }
         let out = &mut self.output.out;

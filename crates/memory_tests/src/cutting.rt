@@ -9,7 +9,7 @@ use giop_frames::{fragments, is_cuttable};
 use std::alloc::Global;
 
 /// How many octets a frame may have.
-const PIECE: u32 = 32;
+const SIZE: u32 = 32;
 
 /// `fragments` of the message of a sample.
 #[derive(Drop)]
@@ -35,14 +35,14 @@ impl Cutting {
 }
 
 impl Trial for Cutting {
-    // Behind what the vector had stand the octets of the frames.
+    // The octets of the frames stand after those from before.
     ghost is_right = { λ c. c.output.out.items ≡ c.output.before.now ++ c.frames.now };
 
     fn call(&mut self, _alloc: Global) -> Result<(), Miss> {
         if !is_cuttable(self.message) {
             return Err(Wrong::Inputs.into());
         }
-        fragments(self.message, PIECE, &mut self.output.out)?;
+        fragments(self.message, SIZE, &mut self.output.out)?;
         if !self.output.has_gained(self.frames) {
             return Err(Wrong::Octets.into());
         }

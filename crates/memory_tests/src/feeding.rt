@@ -6,7 +6,7 @@ ghost use Rattle.giop_frames.specs.Standing.{StandsFor, octets_held};
 use crate::reading::check_printed;
 use crate::samples::Sample;
 use crate::trial::{Miss, Trial, Wrong};
-use giop_core::{Message, Part};
+use giop_core::{Content, Message};
 use giop_frames::{Assembler, Limits, StreamFault};
 use std::alloc::Global;
 
@@ -16,17 +16,17 @@ const LEAST: Limits = Limits {
     partials: 1,
 };
 
-/// How many octets an assembler may hold under these limits: a message, and one that is begun.
+/// How many octets an assembler may hold under these limits: a message and a partial one.
 const MOST: usize = 8192;
 
-/// The messages that octets complete.
+/// What was seen of the messages that octets complete.
 #[derive(Clone, Copy)]
-struct Told {
+struct Seen {
     /// How many there are.
     messages: u32,
     /// The request id of the last, if it has one.
     id: Option<u32>,
-    /// How many octets were held at most behind a call of `feed`.
+    /// The most octets that were held after a call of `feed`.
     most: usize,
 }
 
@@ -39,24 +39,26 @@ struct Given {
     id: Option<u32>,
     /// How many octets there are of the frame that is not whole.
     pending: usize,
-    /// How many messages are begun whose fragments have not all come.
+    /// How many messages are partial.
     partial: usize,
-    /// The fault behind the messages, if there is one.
+    /// The fault after the messages, if there is one.
     fault: Option<StreamFault>,
 }
 
 /// The request id of a message, if it has one.
 fn id_of(message: &Message) -> Option<u32> {
-    match &message.part {
-        Part::Request(request) => Some(request.request_id),
-        Part::Reply(reply) => Some(reply.request_id),
-        Part::Cancel(id) | Part::LocateRequest(id, _) | Part::LocateReply(id, _, _) => Some(*id),
-        Part::Close | Part::Error => None,
-        Part::Fragment(id, _) => *id,
+    match &message.content {
+        Content::Request(request) => Some(request.request_id),
+        Content::Reply(reply) => Some(reply.request_id),
+        Content::Cancel(cancel) => Some(cancel.request_id),
+        Content::LocateRequest(request) => Some(request.request_id),
+        Content::LocateReply(reply) => Some(reply.request_id),
+        Content::Close | Content::Error => None,
+        Content::Fragment(fragment) => fragment.request_id,
     }
 }
 
-impl Told {
+impl Seen {
     /// Notes what a call of `feed` left.
     fn note(&mut self, assembler: &Assembler) {
         self.most = self.most.max(assembler.held());
@@ -67,12 +69,12 @@ impl Told {
     }
 }
 
-/// Feeds octets in pieces of at most as many octets.
+/// Feeds octets in pieces of at most `size` octets.
 fn feed_octets(
     assembler: &mut Assembler,
     octets: &[u8],
     size: usize,
-    told: &mut Told,
+    seen: &mut Seen,
 ) -> Result<(), StreamFault>
     requires some { 0 < size }
     ensures stands { (s : List ℕ) → StandsFor assembler.old s → OnOk result (StandsFor assembler.new (s ++ octets.now)) }
@@ -82,22 +84,22 @@ fn feed_octets(
         let (_, left) = octets.split_at(taken);
         let (piece, _) = left.split_at(size.min(left.len()));
         taken += assembler.feed(piece)?;
-        told.note(assembler);
+        seen.note(assembler);
     }
     Ok(())
 }
 
-/// Feeds the octets of a sample in pieces of as many octets, and compares what they give.
+/// Feeds the octets of a sample in pieces of `size` octets, and compares what they give.
 fn feed_sample(assembler: &mut Assembler, sample: &Sample, size: usize) -> Result<(), Miss> {
-    let mut told = Told {
+    let mut seen = Seen {
         messages: 0,
         id: None,
         most: 0,
     };
-    let end = feed_octets(assembler, sample.octets, size.max(1), &mut told);
+    let end = feed_octets(assembler, sample.octets, size.max(1), &mut seen);
     let given = Given {
-        messages: told.messages,
-        id: told.id,
+        messages: seen.messages,
+        id: seen.id,
         pending: assembler.pending(),
         partial: assembler.partial(),
         fault: end.err(),
@@ -105,13 +107,13 @@ fn feed_sample(assembler: &mut Assembler, sample: &Sample, size: usize) -> Resul
     if given.fault == Some(StreamFault::Memory) {
         return Err(Miss::Memory);
     }
-    if told.most > MOST {
+    if seen.most > MOST {
         return Err(Wrong::Held.into());
     }
     Ok(check_printed(sample, &given)?)
 }
 
-/// Feeds the octets of a sample so many times, and compares what they give each time.
+/// Feeds the octets of a sample that many times, and compares what they give each time.
 fn feed_again(
     assembler: &mut Assembler,
     sample: &Sample,
@@ -124,14 +126,14 @@ fn feed_again(
     Ok(())
 }
 
-/// A new assembler, fed with the octets of a sample so many times, in pieces of as many octets.
+/// A new assembler that is fed the octets of a sample `times` times, in pieces of `size` octets.
 #[derive(Drop)]
 pub struct Feeding {
     sample: &'static Sample,
     times: u32,
     size: usize,
     assembler: Assembler,
-    /// What the assembler answered to one octet more, where memory was refused.
+    /// What the assembler answered to one octet more, after an allocation was refused.
     further: Option<StreamFault>,
 }
 
@@ -148,7 +150,7 @@ impl Feeding {
     }
 }
 
-/// Tells whether an assembler holds no octet and no message, and lends none.
+/// Whether an assembler holds no octet and no message, and lends none.
 fn is_bare(assembler: &Assembler) -> bool
     ensures { IsTrue result ↔ ((octets_held assembler.now ≡ 0) × (length assembler.now.pending ≡ 0) × (length assembler.now.parts ≡ 0) × (assembler.now.message ≡ None)) }
 {
@@ -173,8 +175,8 @@ impl Trial for Feeding {
         Ok(())
     }
 
-    /// What `feed` promises where memory was refused: the assembler has failed, answers so, lends no
-    /// message and holds nothing. The octets are lent, and can't change.
+    /// What `feed` promises after an allocation was refused: each call answers `Failed`, and the assembler
+    /// lends no message and holds nothing. The octets are lent, and can't change.
     fn is_unchanged(&self) -> bool {
         self.further == Some(StreamFault::Failed) && is_bare(&self.assembler)
     }

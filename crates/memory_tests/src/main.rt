@@ -1,19 +1,19 @@
 //! The program `memory_tests`: calls of `cdr_core`, `ior_core`, `giop_core` and `giop_frames` that take
 //! memory, each made by name.
 //!
-//! A case is one call on fixed inputs. Where memory for it is refused, the program looks whether
-//! everything is as it was, and makes the same call again. What the calls give is compared with
-//! octets and texts written out in `samples`, `message_samples` and `stream_samples`. It is run under
-//! a `malloc` that refuses one growth.
+//! A case is one call on fixed inputs. Where an allocation of it is refused, the program checks that
+//! nothing changed, and makes the same call again. What the calls give is compared with octets and
+//! texts written out in `samples`, `message_samples` and `stream_samples`. tests/refused_allocations.py
+//! runs it under a `malloc` that refuses one allocation.
 #![tactic(auto)]
 
+mod calls;
 mod cases;
 mod clients;
 mod copying;
 mod cutting;
 mod feeding;
 mod message_samples;
-mod message_suites;
 mod messages;
 mod output;
 mod profiles;
@@ -21,12 +21,8 @@ mod reading;
 mod references;
 mod run;
 mod samples;
-mod sets;
 mod shapes;
-mod sizes;
 mod stream_samples;
-mod stream_suites;
-mod suites;
 mod text;
 mod trial;
 mod writing;

@@ -4,7 +4,7 @@ use crate::samples::{Gives, Sample};
 use crate::shapes::Shape;
 use cdr_core::Order;
 
-/// A context, and a body directly behind the empty principal.
+/// A context, and a body directly after the empty principal.
 const REQUEST_1_0: Sample = Sample {
     name: "by_key_in_1_0",
     shape: Some(Shape::Struct),
@@ -34,7 +34,7 @@ const REQUEST_1_1: Sample = Sample {
     gives: Gives::Value("Struct([Str([97]), Short(-2), Seq([Str([98, 99])])])"),
 };
 
-/// A wish for an empty reply, a context, and a body behind a gap of five.
+/// A wish for an empty reply, a context, and a body after a gap of five.
 const REQUEST_1_2: Sample = Sample {
     name: "by_key_in_1_2",
     shape: Some(Shape::Struct),
@@ -80,7 +80,7 @@ const REQUEST_BY_REFERENCE: Sample = Sample {
     gives: Gives::Value("Struct([Str([97]), Short(-2), Seq([Str([98, 99])])])"),
 };
 
-/// No reply is wished for, and nothing stands behind the fields.
+/// No reply is wished for, and nothing stands after the fields.
 const REQUEST_WITHOUT_BODY: Sample = Sample {
     name: "without_body",
     shape: None,
@@ -103,7 +103,7 @@ pub static REQUESTS: [Sample; 6] = [
     REQUEST_WITHOUT_BODY,
 ];
 
-/// A context before the id and the status, and a body directly behind them.
+/// A context before the id and the status, and a body directly after them.
 const REPLY_1_0: Sample = Sample {
     name: "in_1_0",
     shape: Some(Shape::Struct),
@@ -117,7 +117,7 @@ const REPLY_1_0: Sample = Sample {
     gives: Gives::Value("Struct([Str([97]), Short(-2), Seq([Str([98, 99])])])"),
 };
 
-/// The same context behind them, and a body at 56.
+/// The same context after them, and a body at 56.
 const REPLY_1_2: Sample = Sample {
     name: "in_1_2",
     shape: Some(Shape::Struct),
@@ -131,7 +131,7 @@ const REPLY_1_2: Sample = Sample {
     gives: Gives::Value("Struct([Str([97]), Short(-2), Seq([Str([98, 99])])])"),
 };
 
-/// A context of one octet, and nothing behind it.
+/// A context of one octet, and nothing after it.
 const REPLY_WITHOUT_BODY: Sample = Sample {
     name: "without_body",
     shape: None,
@@ -176,7 +176,7 @@ const LOCATE_REQUEST_1_0: Sample = Sample {
     gives: Gives::Value("Struct([])"),
 };
 
-/// The same key behind its discriminator.
+/// The same key after its discriminator.
 const LOCATE_REQUEST_1_2: Sample = Sample {
     name: "by_key_in_1_2",
     shape: None,
@@ -227,7 +227,7 @@ pub static LOCATE_REQUESTS: [Sample; 4] = [
     LOCATE_REQUEST_BY_REFERENCE,
 ];
 
-/// Three structs and a union behind the status.
+/// Three structs and a union after the status.
 const LOCATE_REPLY_1_0: Sample = Sample {
     name: "in_1_0",
     shape: Some(Shape::Nested),

@@ -1,21 +1,18 @@
 //! The writers of `giop_core` on the messages of samples.
 
-ghost use Rattle.std.specs.Prelude.{◌≡◌, ◌↔◌, ◌++◌, IsTrue};
+ghost use Rattle.std.specs.Prelude.{◌≡◌, ◌++◌};
 ghost use Rattle.cdr_core.specs.View.{values_of};
 ghost use Rattle.cdr_core.specs.Writing.{AreWritable};
-ghost use Rattle.giop_core.specs.Lent.{addressed_by};
-ghost use Rattle.giop_core.specs.Written.{locate_statuses, reply_statuses, CanAddress, CanAsk};
 
 use crate::output::{Output, Room};
 use crate::reading::{check_printed, ty};
 use crate::samples::Sample;
-use crate::sizes::is_clean;
 use crate::trial::{Miss, Trial, Wrong};
-use cdr_core::{Order, Ty, Val, read, writable};
+use cdr_core::{Order, Ty, Val, has_no_nul, read, writable};
 use giop_core::{
-    Body, Header, Message, Part, Reply, ReplyWish, Request, Target, Version, read_message,
-    write_cancel, write_close, write_error, write_locate_reply, write_locate_request, write_reply,
-    write_request,
+    Body, Content, Header, LocateReply, LocateRequest, Message, Reply, Request, Version,
+    read_message, write_cancel, write_close, write_error, write_locate_reply, write_locate_request,
+    write_reply, write_request,
 };
 use std::alloc::Global;
 
@@ -24,18 +21,18 @@ type Contexts = Vec<(u32, &'static [u8])>;
 
 /// The message of a sample.
 fn message_of(sample: &'static Sample) -> Result<Message<'static>, Wrong> {
-    let Some((first, behind)) = sample.octets.split_first_chunk::<12>() else {
+    let Some((first, after)) = sample.octets.split_first_chunk::<{ Header::LEN }>() else {
         return Err(Wrong::Inputs);
     };
     let header = Header::read(first).map_err(|_| Wrong::Inputs)?;
-    read_message(&header, behind).map_err(|_| Wrong::Inputs)
+    read_message(&header, after).map_err(|_| Wrong::Inputs)
 }
 
 /// The contexts of the message of a sample.
 fn contexts_of(alloc: Global, sample: &'static Sample) -> Result<Contexts, Miss> {
-    match message_of(sample)?.part {
-        Part::Request(request) => Ok(request.contexts.collect(alloc)?),
-        Part::Reply(reply) => Ok(reply.contexts.collect(alloc)?),
+    match message_of(sample)?.content {
+        Content::Request(request) => Ok(request.contexts.collect(alloc)?),
+        Content::Reply(reply) => Ok(reply.contexts.collect(alloc)?),
         _ => Ok(Vec::new(alloc)),
     }
 }
@@ -62,60 +59,20 @@ fn values_in(alloc: Global, sample: &Sample, body: &Body) -> Result<Val, Miss> {
 }
 
 /// The body of a message, as the members of a struct.
-fn body_of(alloc: Global, sample: &Sample, part: &Part) -> Result<Val, Miss> {
-    match part {
-        Part::Request(request) => values_in(alloc, sample, &request.body),
-        Part::Reply(reply) => values_in(alloc, sample, &reply.body),
-        Part::LocateReply(_, _, body) => values_in(alloc, sample, body),
+fn body_of(alloc: Global, sample: &Sample, content: &Content) -> Result<Val, Miss> {
+    match content {
+        Content::Request(request) => values_in(alloc, sample, &request.body),
+        Content::Reply(reply) => values_in(alloc, sample, &reply.body),
+        Content::LocateReply(reply) => values_in(alloc, sample, &reply.body),
         _ => Ok(Val::Struct(Vec::new(alloc))),
     }
 }
 
 /// The body of a message, if it is printed as a sample's value is.
-fn checked_body(alloc: Global, sample: &Sample, part: &Part) -> Result<Val, Miss> {
-    let body = body_of(alloc, sample, part)?;
+fn checked_body(alloc: Global, sample: &Sample, content: &Content) -> Result<Val, Miss> {
+    let body = body_of(alloc, sample, content)?;
     check_printed(sample, &body)?;
     Ok(body)
-}
-
-/// Tells whether a version has such a target.
-fn can_address(version: Version, target: &Target) -> bool
-    ensures { IsTrue result ↔ CanAddress version (addressed_by target.now) }
-{
-    match target {
-        Target::Key(_) => true,
-        Target::Profile(_, _) | Target::Reference(_, _) => version == Version::V12,
-    }
-}
-
-/// Tells whether a version has such a wish.
-fn can_ask(version: Version, wish: ReplyWish) -> bool
-    ensures { IsTrue result ↔ CanAsk version wish }
-{
-    match wish {
-        ReplyWish::None | ReplyWish::Full => true,
-        ReplyWish::Empty => version == Version::V12,
-    }
-}
-
-/// How many statuses a Reply has.
-fn reply_statuses(version: Version) -> u32
-    ensures { result ≡ reply_statuses version }
-{
-    match version {
-        Version::V10 | Version::V11 => 4,
-        Version::V12 => 6,
-    }
-}
-
-/// How many statuses a LocateReply has.
-fn locate_statuses(version: Version) -> u32
-    ensures { result ≡ locate_statuses version }
-{
-    match version {
-        Version::V10 | Version::V11 => 3,
-        Version::V12 => 6,
-    }
 }
 
 /// Writes a Request.
@@ -130,8 +87,8 @@ fn put_request(
     requires { AreWritable (values_of body.now) }
 {
     let (id, wish, operation) = (request.request_id, request.reply, request.operation);
-    let is_asked = can_address(version, &request.target) && can_ask(version, wish);
-    if !is_asked || !is_clean(operation) {
+    let is_asked = version.can_address(&request.target) && version.can_ask(wish);
+    if !is_asked || !has_no_nul(operation) {
         return Err(Wrong::Inputs.into());
     }
     let to = &request.target;
@@ -151,7 +108,7 @@ fn put_reply(
     requires { AreWritable (values_of body.now) }
 {
     let (id, status) = (reply.request_id, reply.status);
-    if status >= reply_statuses(version) {
+    if !version.has_reply_status(status) {
         return Err(Wrong::Inputs.into());
     }
     write_reply(version, order, id, status, contexts, body, out)?;
@@ -162,14 +119,13 @@ fn put_reply(
 fn put_locate_request(
     version: Version,
     order: Order,
-    id: u32,
-    target: &Target,
+    request: &LocateRequest,
     out: &mut Vec<u8>,
 ) -> Result<(), Miss> {
-    if !can_address(version, target) {
+    if !version.can_address(&request.target) {
         return Err(Wrong::Inputs.into());
     }
-    write_locate_request(version, order, id, target, out)?;
+    write_locate_request(version, order, request.request_id, &request.target, out)?;
     Ok(())
 }
 
@@ -177,14 +133,14 @@ fn put_locate_request(
 fn put_locate_reply(
     version: Version,
     order: Order,
-    id: u32,
-    status: u32,
+    reply: &LocateReply,
     body: &[Val],
     out: &mut Vec<u8>,
 ) -> Result<(), Miss>
     requires { AreWritable (values_of body.now) }
 {
-    if status >= locate_statuses(version) {
+    let (id, status) = (reply.request_id, reply.status);
+    if !version.has_locate_status(status) {
         return Err(Wrong::Inputs.into());
     }
     write_locate_reply(version, order, id, status, body, out)?;
@@ -201,17 +157,15 @@ fn put(
     requires { AreWritable (values_of body.now) }
 {
     let (version, order) = (message.version, message.order);
-    match &message.part {
-        Part::Request(request) => put_request(version, order, request, contexts, body, out),
-        Part::Reply(reply) => put_reply(version, order, reply, contexts, body, out),
-        Part::Cancel(id) => Ok(write_cancel(version, order, *id, out)?),
-        Part::LocateRequest(id, target) => put_locate_request(version, order, *id, target, out),
-        Part::LocateReply(id, status, _) => {
-            put_locate_reply(version, order, *id, *status, body, out)
-        }
-        Part::Close => Ok(write_close(out)?),
-        Part::Error => Ok(write_error(out)?),
-        Part::Fragment(_, _) => Err(Wrong::Inputs.into()),
+    match &message.content {
+        Content::Request(request) => put_request(version, order, request, contexts, body, out),
+        Content::Reply(reply) => put_reply(version, order, reply, contexts, body, out),
+        Content::Cancel(cancel) => Ok(write_cancel(version, order, cancel.request_id, out)?),
+        Content::LocateRequest(request) => put_locate_request(version, order, request, out),
+        Content::LocateReply(reply) => put_locate_reply(version, order, reply, body, out),
+        Content::Close => Ok(write_close(out)?),
+        Content::Error => Ok(write_error(out)?),
+        Content::Fragment(_) => Err(Wrong::Inputs.into()),
     }
 }
 
@@ -229,7 +183,7 @@ impl MessageWriting {
     /// The inputs.
     pub fn new(alloc: Global, sample: &'static Sample, room: Room) -> Result<MessageWriting, Miss> {
         let message = message_of(sample)?;
-        let body = checked_body(alloc, sample, &message.part)?;
+        let body = checked_body(alloc, sample, &message.content)?;
         Ok(MessageWriting {
             sample,
             message,
@@ -241,7 +195,7 @@ impl MessageWriting {
 }
 
 impl Trial for MessageWriting {
-    // Behind what the vector had stand the sample's octets.
+    // The sample's octets stand after those from before.
     ghost is_right = { λ w. w.output.out.items ≡ w.output.before.now ++ w.sample.now.octets.now };
 
     fn call(&mut self, _alloc: Global) -> Result<(), Miss> {

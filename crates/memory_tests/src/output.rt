@@ -4,21 +4,21 @@ ghost use Rattle.std.specs.Prelude.{◌≡◌, ◌↔◌, ◌++◌, IfOk, IsTrue
 
 use std::alloc::{AllocError, Global};
 
-/// What stands in a vector before a call, and how much room it has.
+/// What stands in a vector before a call, and how many octets it has reserved.
 #[derive(Clone, Copy)]
 pub enum Room {
-    /// Nothing, and no room.
+    /// Nothing stands in it, and nothing is reserved.
     Empty,
-    /// Octets, and no room for more.
+    /// Octets stand in it, and nothing more is reserved.
     Full,
-    /// Octets, and room for those of each sample.
+    /// Octets stand in it, and those of any sample are reserved.
     Ample,
 }
 
 /// The octets that stand in a vector before a call, if any do.
 const BEFORE: [u8; 3] = [0xca, 0xfe, 1];
 
-/// More octets than `BEFORE`, any sample and the room that a message is begun with have together.
+/// More octets than `BEFORE`, any sample, and what a writer reserves for a short message have together.
 const AMPLE: usize = 256;
 
 /// A vector, and the octets that stood in it before the call.
@@ -45,7 +45,7 @@ impl Output {
         Ok(Output { before, out })
     }
 
-    /// Tells whether these octets stand in the vector behind those from before, and no others.
+    /// Whether these octets, and no others, stand in the vector after those from before.
     pub fn has_gained(&self, octets: &[u8]) -> bool
         ensures { IsTrue result ↔ (self.now.out.items ≡ self.now.before.now ++ octets.now) }
     {

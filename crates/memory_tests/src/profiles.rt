@@ -6,7 +6,6 @@ use crate::output::{Output, Room};
 use crate::reading::check_printed;
 use crate::references::check_error;
 use crate::samples::Sample;
-use crate::sizes::is_profile_writable;
 use crate::trial::{Miss, Trial, Wrong};
 use ior_core::{IiopProfile, read_iiop, write_iiop};
 use std::alloc::Global;
@@ -52,11 +51,11 @@ impl ProfileWriting {
 }
 
 impl Trial for ProfileWriting {
-    // Behind what the vector had stand the sample's octets.
+    // The sample's octets stand after those from before.
     ghost is_right = { λ w. w.output.out.items ≡ w.output.before.now ++ w.sample.now.octets.now };
 
     fn call(&mut self, _alloc: Global) -> Result<(), Miss> {
-        if !is_profile_writable(&self.profile) {
+        if !self.profile.is_writable() {
             return Err(Wrong::Inputs.into());
         }
         write_iiop(&self.profile, &mut self.output.out)?;

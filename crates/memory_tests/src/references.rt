@@ -5,7 +5,6 @@ ghost use Rattle.std.specs.Prelude.{◌≡◌, ◌++◌};
 use crate::output::{Output, Room};
 use crate::reading::{check_printed, check_value};
 use crate::samples::{Gives, Sample};
-use crate::sizes::is_reference_writable;
 use crate::text::is_printed_as;
 use crate::trial::{Miss, Trial, Wrong};
 use ior_core::{Ior, IorError, parse_text, print_text, read_ior, write_ior};
@@ -25,7 +24,7 @@ fn text_of(sample: &Sample) -> Result<&'static str, Wrong> {
     std::str::from_utf8(sample.octets).map_err(|_| Wrong::Inputs)
 }
 
-/// Tells whether a value is that of a sample.
+/// Whether a value is that of a sample.
 pub fn is_that_of<T: Debug>(value: &T, sample: &Sample) -> bool {
     match sample.gives {
         Gives::Value(text) => is_printed_as(value, text),
@@ -79,12 +78,12 @@ impl ReferenceWriting {
 }
 
 impl Trial for ReferenceWriting {
-    // Behind what the vector had stand the sample's octets.
+    // The sample's octets stand after those from before.
     ghost is_right = { λ w. w.output.out.items ≡ w.output.before.now ++ w.sample.now.octets.now };
 
     fn call(&mut self, _alloc: Global) -> Result<(), Miss> {
         let sample = self.sample;
-        if !is_reference_writable(&self.ior) {
+        if !self.ior.is_writable() {
             return Err(Wrong::Inputs.into());
         }
         let out = &mut self.output.out;
@@ -138,7 +137,7 @@ impl Printing {
 
 impl Trial for Printing {
     fn call(&mut self, alloc: Global) -> Result<(), Miss> {
-        if !is_reference_writable(&self.ior) {
+        if !self.ior.is_writable() {
             return Err(Wrong::Inputs.into());
         }
         let text = print_text(alloc, &self.ior)?;

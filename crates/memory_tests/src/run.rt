@@ -57,7 +57,7 @@ fn answer<W: Write>(alloc: Global, word: &str, out: &mut W) -> Result<(), Stop> 
 }
 
 /// Prints why the program does not end with status 0.
-fn tell<E: Write>(stop: Stop, err: &mut E) -> io::Result<()> {
+fn report<E: Write>(stop: Stop, err: &mut E) -> io::Result<()> {
     match stop {
         Stop::Memory => writeln!(err, "memory"),
         Stop::Wrong(wrong) => writeln!(err, "wrong: {wrong}"),
@@ -66,15 +66,15 @@ fn tell<E: Write>(stop: Stop, err: &mut E) -> io::Result<()> {
     }
 }
 
-/// Answers a word, and gives the exit status: 0, or 1 where the call is wrong, memory ran out before
-/// it or the output can't be written, or 2 where no case has that name, which is told to `err`.
+/// Answers a word, and returns the exit status: 0; or 1 where the call is wrong, memory ran out before
+/// it, or the output can't be written; or 2 where no case has that name. The reason goes to `err`.
 pub fn run<W: Write, E: Write>(alloc: Global, word: &str, out: &mut W, err: &mut E) -> u8
     ensures { result ≤ 2 }
 {
     match answer(alloc, word, out) {
         Ok(()) => 0,
         Err(stop) => {
-            let _ = tell(stop, err);
+            let _ = report(stop, err);
             if stop == Stop::Unknown { 2 } else { 1 }
         }
     }

@@ -25,7 +25,7 @@ pub struct Sample {
 pub enum Gives {
     /// The value that `{:?}` prints so.
     Value(&'static str),
-    /// A fault behind a part for which memory was taken.
+    /// A fault after a part for which memory was taken.
     Fault(Fault),
     /// The octets of the frames that a message is cut into.
     Frames(&'static [u8]),
@@ -41,7 +41,7 @@ const STRING: Sample = Sample {
     gives: Gives::Value("Str([97, 98, 99])"),
 };
 
-/// Three octets behind a gap of three.
+/// Three octets after a gap of three.
 const OCTETS: Sample = Sample {
     name: "octets",
     shape: Some(Shape::Octets),
@@ -51,7 +51,7 @@ const OCTETS: Sample = Sample {
     gives: Gives::Value("Octets([7, 8, 9])"),
 };
 
-/// Six longs behind a gap of two, so that their vector grows twice.
+/// Six longs after a gap of two, so that their vector grows twice.
 const LONGS: Sample = Sample {
     name: "longs",
     shape: Some(Shape::Longs),
@@ -217,7 +217,7 @@ const NESTED_FAULT: Sample = Sample {
     }),
 };
 
-/// Octets that are faulty behind a part for which memory is taken.
+/// Octets that are faulty after a part for which memory is taken.
 pub static FAULTS: [Sample; 4] = [STRINGS_FAULT, ARRAY_FAULT, STRUCT_FAULT, NESTED_FAULT];
 
 /// "X", and the octet 0 with the tag 1.
@@ -232,7 +232,7 @@ const REFERENCE: Sample = Sample {
     gives: Gives::Value("Ior { type_id: [88], profiles: [Tagged { tag: 1, octets: [0] }] }"),
 };
 
-/// "X", no octets with the tag 5, and the octet 7 with the tag 1, behind a gap of two.
+/// "X", no octets with the tag 5, and the octet 7 with the tag 1, after a gap of two.
 const TWO_PROFILES: Sample = Sample {
     name: "two_profiles",
     shape: None,
@@ -265,7 +265,7 @@ const REFERENCE_FAULT: Sample = Sample {
     }),
 };
 
-/// Octets that are faulty behind a part of a reference.
+/// Octets that are faulty after a part of a reference.
 pub static REFERENCE_FAULTS: [Sample; 1] = [REFERENCE_FAULT];
 
 /// "X", and the octet 0 with the tag 1.
@@ -281,7 +281,7 @@ const TEXT: Sample = Sample {
 /// Texts of references.
 pub static TEXTS: [Sample; 1] = [TEXT];
 
-/// The count of the profiles is missing behind "A".
+/// The count of the profiles is missing after "A".
 const TEXT_FAULT: Sample = Sample {
     name: "count",
     shape: None,
@@ -294,7 +294,7 @@ const TEXT_FAULT: Sample = Sample {
     }),
 };
 
-/// Texts of octets that are faulty behind a part of a reference.
+/// Texts of octets that are faulty after a part of a reference.
 pub static TEXT_FAULTS: [Sample; 1] = [TEXT_FAULT];
 
 /// A profile of 1.0: the host "h", the port 1 and the key "c".
@@ -343,5 +343,5 @@ const PROFILE_FAULT: Sample = Sample {
     }),
 };
 
-/// Octets that are faulty behind a component of a profile.
+/// Octets that are faulty after a component of a profile.
 pub static PROFILE_FAULTS: [Sample; 1] = [PROFILE_FAULT];

@@ -75,7 +75,7 @@ const FIRST_PIECE: Sample = Sample {
 
 /// A first piece, and twenty octets of a Fragment.
 const BEGUN_FRAME: Sample = Sample {
-    name: "begun_frame",
+    name: "partial_frame",
     shape: None,
     order: Order::Big,
     at: 0,

@@ -3,7 +3,7 @@
 use std::fmt;
 use std::fmt::{Debug, Write};
 
-/// What is left of a text. Writing what it begins with takes that off, and writing all else fails.
+/// What is left of a text. Writing what the text begins with removes that; writing anything else fails.
 #[derive(Drop)]
 struct Left<'a>(&'a str);
 
@@ -18,7 +18,7 @@ impl fmt::Write for Left<'_> {
     }
 }
 
-/// Tells whether `{:?}` prints a value as the text. It takes no memory.
+/// Whether `{:?}` prints a value as the text. It takes no memory.
 pub fn is_printed_as<T: Debug>(value: &T, text: &str) -> bool {
     let mut left = Left(text);
     write!(left, "{value:?}").is_ok() && left.0.is_empty()

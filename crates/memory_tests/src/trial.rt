@@ -1,4 +1,4 @@
-//! One call, and the same call again where memory for it was refused.
+//! One call, and the same call again where an allocation of it was refused.
 
 ghost use Rattle.std.specs.Prelude.{OnOk};
 
@@ -29,18 +29,18 @@ pub enum Wrong {
     /// It leaves other octets in the vector.
     #[error("octets")]
     Octets,
-    /// Something changed while memory was refused.
+    /// Something changed though an allocation was refused.
     #[error("changed")]
     Changed,
-    /// It wants memory once more where none is refused.
+    /// It is out of memory once more where no allocation is refused.
     #[error("refused again")]
     RefusedAgain,
 }
 
-/// Why a call did not end as it is to.
+/// Why a call did not end well.
 #[derive(Clone, Copy, PartialEq, Eq)]
 pub enum Miss {
-    /// Memory was refused.
+    /// An allocation was refused.
     Memory,
     /// Something is wrong.
     Wrong(Wrong),
@@ -53,14 +53,14 @@ impl From<Wrong> for Miss {
     }
 }
 
-/// Want of memory.
+/// Out of memory.
 impl From<AllocError> for Miss {
     fn from(_e: AllocError) -> Miss {
         Miss::Memory
     }
 }
 
-/// Want of memory, or a fault where none is to be.
+/// Out of memory, or a fault where none is wanted.
 impl From<CdrError> for Miss {
     fn from(error: CdrError) -> Miss {
         match error {
@@ -70,7 +70,7 @@ impl From<CdrError> for Miss {
     }
 }
 
-/// Want of memory, or another error where none is to be.
+/// Out of memory, or another error where none is wanted.
 impl From<IorError> for Miss {
     fn from(error: IorError) -> Miss {
         match error {
@@ -80,7 +80,7 @@ impl From<IorError> for Miss {
     }
 }
 
-/// Want of memory, or a message that is too long where none is to be.
+/// Out of memory, or a message that is too long where that is not wanted.
 impl From<WriteError> for Miss {
     fn from(error: WriteError) -> Miss {
         match error {
@@ -90,29 +90,29 @@ impl From<WriteError> for Miss {
     }
 }
 
-/// How a call ended with which nothing is wrong.
+/// How a call ended that is right.
 #[derive(Clone, Copy)]
 pub enum Ending {
     /// It was right at once.
     Done,
-    /// Memory for it was refused, and the same call was right behind that.
+    /// An allocation of it was refused, and the same call was right after that.
     Refused,
 }
 
-/// A call with its inputs and with what it is to give.
+/// A call with its inputs and what it is to give.
 pub trait Trial {
-    /// What holds behind a call that was right.
+    /// What holds after a call that was right.
     ghost is_right: { Self → Type 0 } = { λ _. Unit {0} };
 
     /// Makes the call, and compares what it gives with what it is to give.
     fn call(&mut self, alloc: Global) -> Result<(), Miss>
         ensures { OnOk result (is_right self.new) };
 
-    /// Tells whether what the call was given is as it was before.
+    /// Whether the inputs of the call are as they were before it.
     fn is_unchanged(&self) -> bool;
 }
 
-/// Makes a call, and makes it again where memory for it was refused and nothing changed.
+/// Makes a call, and makes it again where an allocation of it was refused and nothing changed.
 pub fn tried<T: Trial>(alloc: Global, trial: &mut T) -> Result<Ending, Wrong>
     ensures { OnOk result (T.is_right trial.new) }
 {

@@ -29,7 +29,7 @@ impl Writing {
 }
 
 impl Trial for Writing {
-    // Behind what the vector had stand the sample's octets.
+    // The sample's octets stand after those from before.
     ghost is_right = { λ w. w.output.out.items ≡ w.output.before.now ++ w.sample.now.octets.now };
 
     fn call(&mut self, _alloc: Global) -> Result<(), Miss> {
@@ -70,7 +70,7 @@ impl ListWriting {
 }
 
 impl Trial for ListWriting {
-    // Behind what the vector had stand the sample's octets.
+    // The sample's octets stand after those from before.
     ghost is_right = { λ w. w.output.out.items ≡ w.output.before.now ++ w.sample.now.octets.now };
 
     fn call(&mut self, _alloc: Global) -> Result<(), Miss> {

@@ -4,7 +4,7 @@ use Rattle.std.proofs.lemmas.List.{append_cancel_left}
 use Rattle.std.proofs.lemmas.Slice.Eq.{slice_eq-Decides, strip_prefix_is}
 use Rattle.memory_tests.proofs.output.Output.has_gained.Goals as goal
 
--- what stands behind the octets from before is compared with the octets
+-- what stands after the octets from before is compared with the octets
 pub returns-in-Some : goal.returns-in-Some
 returns-in-Some c =
     let before : List ℕ = c.args.self.now.before.now in
