@@ -2,8 +2,8 @@
 
 ghost use Rattle.std.specs.Prelude.{◌≡◌, ◌++◌, codes, IfSome};
 
-use crate::calls::{SUITES, Suite};
 use crate::samples::Sample;
+use crate::suites::{SUITES, Suite};
 use crate::trial::{Ending, Miss};
 use std::alloc::Global;
 use std::io;
@@ -12,7 +12,7 @@ use std::io::Write;
 /// Prints the names of the cases of a suite, one a line.
 fn print_suite<W: Write>(suite: &Suite, out: &mut W) -> io::Result<()> {
     let first = suite.0;
-    for sample in suite.2 {
+    for sample in suite.2.samples() {
         let second = sample.name;
         writeln!(out, "{first}/{second}")?;
     }
@@ -55,7 +55,7 @@ impl Case {
     {
         let (first, second) = name.split_once('/')?;
         let suite = suite_named(first)?;
-        let sample = sample_named(suite.2, second)?;
+        let sample = sample_named(suite.2.samples(), second)?;
         Some(Case { suite, sample })
     }
 

@@ -23,6 +23,7 @@ mod run;
 mod samples;
 mod shapes;
 mod stream_samples;
+mod suites;
 mod text;
 mod trial;
 mod writing;

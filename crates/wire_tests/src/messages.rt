@@ -8,7 +8,6 @@ mod put;
 mod read;
 mod references;
 mod said;
-mod streams;
 mod versions;
 mod written_locates;
 mod written_others;
