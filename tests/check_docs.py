@@ -1,0 +1,117 @@
+#!/usr/bin/env python3
+"""Checks that the documents say what the repository has.
+
+- docs/PROMISES.md names each must-fail edit of each crate, and no other: in the last column of the tables
+  under the crate's heading.
+- Each block of Rust that README.md and docs/GUIDE.md show stands in a file of crates/uses/src.
+- Each relative link of a document, and each path such as `crates/NAME/..` that it gives between backquotes,
+  leads to something that is there.
+
+The last line is 'N passed, M failed'; the status is 0 only where all passed.
+"""
+import os
+import re
+import sys
+
+ROOT = os.path.dirname(os.path.dirname(os.path.abspath(__file__)))
+PROMISES = "docs/PROMISES.md"
+QUOTING = ["README.md", "docs/GUIDE.md"]
+USES = "crates/uses/src"
+LAST_COLUMN = "Edits that the prover refuses"
+
+
+def text_of(name):
+    with open(os.path.join(ROOT, name), encoding="utf-8") as file:
+        return file.read()
+
+
+def edits_named():
+    """The pairs of a crate and an edit that the tables name."""
+    crate, is_table, named = None, False, set()
+    for line in text_of(PROMISES).split("\n"):
+        heading = re.match(r"#+ .*`(\w+)`", line)
+        if heading:
+            crate = heading.group(1)
+        cells = [cell.strip() for cell in line.strip().strip("|").split("|")]
+        if not line.startswith("|"):
+            is_table = False
+        elif cells[-1] == LAST_COLUMN:
+            is_table = True
+        elif is_table:
+            named |= {(crate, edit) for edit in re.findall(r"`(\w+)`", cells[-1])}
+    return named
+
+
+def edits_there():
+    """The pairs of a crate and an edit that has a file."""
+    there = set()
+    for crate in os.listdir(os.path.join(ROOT, "crates")):
+        folder = os.path.join(ROOT, "crates", crate, "must-fail")
+        if os.path.isdir(folder):
+            there |= {(crate, name[:-5]) for name in os.listdir(folder) if name.endswith(".edit")}
+    return there
+
+
+def edits():
+    """A result for each edit: what is wrong with it, or None."""
+    named, there = edits_named(), edits_there()
+    for crate, edit in sorted(named | there, key=str):
+        if (crate, edit) not in there:
+            yield f"{PROMISES}: there is no crates/{crate}/must-fail/{edit}.edit"
+        elif (crate, edit) not in named:
+            yield f"{PROMISES}: crates/{crate}/must-fail/{edit}.edit is not named under `{crate}`"
+        else:
+            yield None
+
+
+def quotes():
+    """A result for each block of Rust that is quoted."""
+    folder = os.path.join(ROOT, USES)
+    sources = [text_of(os.path.join(USES, name)) for name in sorted(os.listdir(folder)) if name.endswith(".rt")]
+    for name in QUOTING:
+        blocks = re.findall(r"^```rust\n(.*?)^```$", text_of(name), re.M | re.S)
+        if not blocks:
+            yield f"{name}: it quotes nothing of {USES}"
+        for block in blocks:
+            is_there = any("\n" + block in "\n" + source for source in sources)
+            yield None if is_there else f"{name}: not in {USES}: {block.split(chr(10))[0]}"
+
+
+def documents():
+    for folder, folders, names in os.walk(ROOT):
+        folders[:] = [f for f in folders if f not in ("out", ".git")]
+        for name in sorted(names):
+            if name.endswith(".md"):
+                yield os.path.relpath(os.path.join(folder, name), ROOT)
+
+
+def links():
+    """A result for each relative link, and for each path between backquotes."""
+    for name in documents():
+        text = text_of(name)
+        for target in re.findall(r"\]\(([^)\s]+)\)", text):
+            if not re.match(r"[a-z]+:|#", target):
+                path = os.path.join(ROOT, os.path.dirname(name), target.split("#")[0])
+                yield None if os.path.exists(path) else f"{name}: the link to {target} leads nowhere"
+        for path in re.findall(r"`((?:crates|tests|docs|examples|bench)/[\w./]+)`", text):
+            is_there = os.path.exists(os.path.join(ROOT, path))
+            yield None if is_there else f"{name}: there is no {path}"
+
+
+def main():
+    passed = failed = 0
+    for part in (edits, quotes, links):
+        results = list(part())
+        if not results:
+            results = [f"nothing was checked of {part.__name__}"]
+        for wrong in results:
+            if wrong is None:
+                passed += 1
+            else:
+                failed += 1
+                print(wrong)
+    print(f"{passed} passed, {failed} failed")
+    return 1 if failed else 0
+
+
+sys.exit(main())
