@@ -1,5 +1,5 @@
 -- Places, padding, and numbers in either order.
-use Rattle.std.specs.Prelude.{ℕ, ◌<◌, ◌-◌, ◌%◌, ℤ, pos, unsigned_abs, List}
+use Rattle.std.specs.Prelude.{ℕ, ◌<◌, ◌-◌, ◌%◌, ℤ, pos, unsigned_abs, List, codes}
 use Rattle.std.specs.List.{AllByRecursion}
 use Rattle.std.specs.Int.{w16, w32, w64, cast_signed, cast_unsigned}
 use Rattle.byteorder.specs.Endian.{big_number, little_number, big_bytes, little_bytes}
@@ -25,6 +25,11 @@ number_of Little n octets = little_number n octets
 abbrev pub digits_of : Order → ℕ → ℕ → List ℕ
 digits_of Big n x = big_bytes n x
 digits_of Little n x = little_bytes n x
+
+-- the name of an order that is printed
+abbrev pub order_text : Order → List ℕ
+order_text Big = codes "big"
+order_text Little = codes "little"
 
 -- CDR 9.3.1.2: the number that the bits x of a kind of number stand for, in two's complement where it has a sign
 abbrev pub meaning : Number → ℕ → ℤ

@@ -14,11 +14,11 @@ use crate::reading::is_labelled;
 use crate::types::{Case, Ty};
 use crate::values::Val;
 
-/// Tells whether no octet is NUL.
-fn is_clean(octets: &[u8]) -> bool
-    ensures { IsTrue result ↔ IsClean octets.now }
+/// Whether no NUL stands in a text: the condition on a string that is written.
+pub fn has_no_nul(text: &[u8]) -> bool
+    ensures { IsTrue result ↔ IsClean text.now }
 {
-    for octet in octets {
+    for octet in text {
         if *octet == 0 {
             return false;
         }
@@ -41,7 +41,7 @@ pub fn writable(value: &Val) -> bool
     ensures { IsTrue result ↔ IsWritable (value_of value.now) }
 {
     match value {
-        Val::Str(text) => text.len() < u32::MAX as usize && is_clean(text),
+        Val::Str(text) => text.len() < u32::MAX as usize && has_no_nul(text),
         Val::Octets(all) => all.len() <= u32::MAX as usize,
         Val::Seq(all) | Val::Array(all) => is_countable(all) && are_writable(all),
         Val::Struct(all) => are_writable(all),
@@ -51,8 +51,9 @@ pub fn writable(value: &Val) -> bool
     }
 }
 
+/// Whether each of the values can be written, the condition of `write_list`: `writable` for all.
 #[cycle(writable)]
-fn are_writable(all: &[Val]) -> bool
+pub fn are_writable(all: &[Val]) -> bool
     ensures { IsTrue result ↔ AreWritable (values_of all.now) }
 {
     for value in all {
@@ -128,8 +129,9 @@ fn valid(ty: &Ty) -> bool
     }
 }
 
+/// Whether each of the types is valid, the condition of `read_list`: `Ty::is_valid` for all.
 #[cycle(valid)]
-fn are_valid(types: &[Ty]) -> bool
+pub fn are_valid(types: &[Ty]) -> bool
     ensures { IsTrue result ↔ AreValid (forms_of types.now) }
 {
     for ty in types {
@@ -204,7 +206,7 @@ fn value_fits(ty: &Ty, value: &Val) -> bool
         (Ty::LongLong, &Val::LongLong(_n)) => true,
         (Ty::ULongLong, &Val::ULongLong(_n)) => true,
         (Ty::Str(bound), Val::Str(text)) => {
-            text.len() <= *bound as usize && text.len() < u32::MAX as usize && is_clean(text)
+            text.len() <= *bound as usize && text.len() < u32::MAX as usize && has_no_nul(text)
         }
         (Ty::Octets(bound), Val::Octets(all)) => all.len() <= *bound as usize,
         (Ty::Seq(bound, member), Val::Seq(all)) => sequence_fits(member, *bound, all),

@@ -40,18 +40,6 @@ fn two_octets(order: Order, octets: &[u8]) -> u16
     }
 }
 
-/// The number that four octets give.
-#[inline]
-fn four_octets(order: Order, octets: &[u8]) -> u32
-    requires { 4 ≤ length octets.now }
-    ensures { result ≡ number_of order 4 octets.now }
-{
-    match order {
-        Order::Big => BigEndian::read_u32(octets),
-        Order::Little => LittleEndian::read_u32(octets),
-    }
-}
-
 /// The number that eight octets give.
 #[inline]
 fn eight_octets(order: Order, octets: &[u8]) -> u64
@@ -141,7 +129,7 @@ fn text_of(place: u64, rest: &[u8], size: usize) -> Result<(&[u8], u64, &[u8]), 
 /// encapsulation, not from that of the slice (CORBA 3.3 Part 2, 9.3.1.1). No call takes memory.
 /// A reading call answers the value and moves behind it, or answers the first `Fault` and moves
 /// nothing.
-#[derive(Drop)]
+#[derive(Debug, Drop)]
 pub struct Cursor<'a> {
     order: Order,
     place: u64,
@@ -245,7 +233,7 @@ impl<'a> Cursor<'a> {
     {
         let order = self.order;
         let octets = self.part(4)?;
-        Ok(four_octets(order, octets))
+        Ok(order.ulong_of(octets))
     }
 
     /// The number in the next eight octets behind their padding.

@@ -15,7 +15,7 @@ pub mod values;
 pub mod writer;
 pub mod writing;
 
-pub use checking::{fits, writable};
+pub use checking::{are_valid, are_writable, fits, has_no_nul, writable};
 pub use cursor::Cursor;
 pub use fault::{CdrError, Fault, Kind};
 pub use order::Order;

@@ -22,7 +22,7 @@ use std::marker::Model;
 ///
 /// Each call appends one part to the output, behind zeros for its padding, as `write` does with the
 /// value of its type, and takes plain or lent data. Where memory runs out the output is as it was.
-#[derive(Drop)]
+#[derive(Debug, Drop)]
 pub struct Writer {
     order: Order,
     at: u64,

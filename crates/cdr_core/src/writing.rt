@@ -118,10 +118,7 @@ pub(crate) fn put_four(order: Order, place: u64, number: u32, out: &mut Vec<u8>)
 {
     put_zeros(gap(place, 4), out);
     let mut octets = [0; 4];
-    match order {
-        Order::Big => BigEndian::write_u32(&mut octets, number),
-        Order::Little => LittleEndian::write_u32(&mut octets, number),
-    }
+    order.put_ulong(number, &mut octets);
     put_octets(&octets, out);
 }
 

@@ -1,13 +1,13 @@
 -- What the value of a lent part says is what the part says.
 use Rattle.std.proofs.Common.{◌≡◌, ℕ, List, [], ◌∷◌, map, refl, ap}
 use Rattle.cdr_core.specs.Value.{values}
-use Rattle.giop_core.specs.declared.items.Contexts.{Contexts}
-use Rattle.giop_core.specs.declared.message.Target.{Target}
-use Rattle.giop_core.specs.declared.message.Target.TheVariants as target
+use Rattle.giop_core.specs.declared.service_context.Contexts.{Contexts}
+use Rattle.giop_core.specs.declared.target_address.Target.{Target}
+use Rattle.giop_core.specs.declared.target_address.Target.TheVariants as target
 use Rattle.giop_core.specs.Content as content
 use Rattle.giop_core.specs.Content.{addressed, all_tagged, items_of}
-use Rattle.giop_core.specs.Items.{tagged_value}
-use Rattle.giop_core.specs.Lent.{addressed_by, contexts_left, contexts_value, target_value}
+use Rattle.giop_core.specs.Items.{contexts_left, tagged_value}
+use Rattle.giop_core.specs.Lent.{addressed_by, contexts_value, target_value}
 
 pub all_again : (xs : List (ℕ × List ℕ)) → all_tagged (values (map tagged_value xs)) ≡ xs
 all_again [] = refl

@@ -12,9 +12,9 @@ use Rattle.cdr_core.specs.Value.{Value, Values, count, values}
 use Rattle.cdr_core.specs.Writing.{number_octets, octets_of, octets_of_all, AreWritable, IsWritable}
 use Rattle.giop_core.specs.Items.{item_at, list_value, tagged_value}
 use Rattle.giop_core.specs.Lent.{lent_value}
-use Rattle.giop_core.specs.declared.refusal.WriteError.{WriteError}
-use Rattle.giop_core.specs.declared.refusal.WriteError.TheVariants.{TooLong, Memory}
-use Rattle.giop_core.specs.Long.{AreLong, IsLong, Judges}
+use Rattle.giop_core.specs.declared.error.WriteError.{WriteError}
+use Rattle.giop_core.specs.declared.error.WriteError.TheVariants.{TooLong, Memory}
+use Rattle.giop_core.specs.Long.{AreLong, IsLong, Checks}
 
 pub octets_long : (all : List ℕ) → 2 ^ 32 ≤ length all → IsLong (value.octets all)
 octets_long all le order o = omega (arith, le, length-append (number_octets order 4 o (length all)) all)
@@ -106,6 +106,6 @@ pub all_long : (all : List (ℕ × Bor (List ℕ))) → AreLong (values (map len
 all_long all long = sequence_long (values (map tagged_value (map item_at all))) (subst (λ vs. AreLong (values vs)) (lent_items all) long)
 
 -- what was too long makes more too long
-pub long_on : (e : WriteError) (v w : Value) → (IsLong v → IsLong w) → Judges {A = Unit {0}} v (Err e) → Judges {A = Unit {0}} w (Err e)
+pub long_on : (e : WriteError) (v w : Value) → (IsLong v → IsLong w) → Checks {A = Unit {0}} v (Err e) → Checks {A = Unit {0}} w (Err e)
 long_on TooLong v w f h = f h
 long_on Memory v w f h = absurd h

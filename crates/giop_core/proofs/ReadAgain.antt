@@ -22,8 +22,8 @@ use Rattle.giop_core.specs.declared.header.MessageKind.{MessageKind}
 use Rattle.giop_core.specs.declared.header.MessageKind.TheVariants as kind
 use Rattle.giop_core.specs.declared.header.Version.{Version}
 use Rattle.giop_core.specs.declared.header.Version.TheVariants.{V10, V11, V12}
-use Rattle.giop_core.specs.declared.wish.ReplyWish.{ReplyWish}
-use Rattle.giop_core.specs.declared.wish.ReplyWish.TheVariants as wish
+use Rattle.giop_core.specs.declared.request.ReplyWish.{ReplyWish}
+use Rattle.giop_core.specs.declared.request.ReplyWish.TheVariants as wish
 use Rattle.giop_core.specs.Content as content
 use Rattle.giop_core.specs.Content.{addressed, content, nth, wish_if, wish_of, Addressed, Content, Rest}
 use Rattle.giop_core.specs.Ft.{ft_by, ft_in}

@@ -7,14 +7,14 @@ use Rattle.cdr_core.specs.Encapsulation.{byte_order}
 use Rattle.cdr_core.specs.Parts.{long_value, ulonglong_value}
 use Rattle.cdr_core.specs.Value as value
 use Rattle.cdr_core.specs.Value.{Value, Values, values}
-use Rattle.giop_core.specs.declared.refusal.WriteError.{WriteError}
-use Rattle.giop_core.specs.declared.refusal.WriteError.TheVariants.{TooLong, Memory}
-use Rattle.giop_core.specs.Long.{Judges}
+use Rattle.giop_core.specs.declared.error.WriteError.{WriteError}
+use Rattle.giop_core.specs.declared.error.WriteError.TheVariants.{TooLong, Memory}
+use Rattle.giop_core.specs.Long.{Checks}
 use Rattle.giop_core.specs.Written.{ft_octets, AddsOctets}
 use Rattle.giop_core.proofs.Longs.{first_long}
 
 module _ (order : Order) (client : List ℕ) (id : ℤ) (expiration : ℕ) (old : List ℕ) where
-  pub ft_judged : (e : WriteError) → Judges {A = Unit {0}} (value.string client) (Err e) → AddsOctets {A = Unit {0}} (ft_octets order client id expiration) (Err e) old old
+  pub ft_judged : (e : WriteError) → Checks {A = Unit {0}} (value.string client) (Err e) → AddsOctets {A = Unit {0}} (ft_octets order client id expiration) (Err e) old old
   ft_judged TooLong long =
       let others = values (long_value id ∷ ulonglong_value expiration ∷ []) in
       (omega (arith, first_long (value.string client) others long order 1), keeps_all old old refl)

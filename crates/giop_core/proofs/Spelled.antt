@@ -7,8 +7,8 @@ use Rattle.cdr_core.specs.Numbers.{padding}
 use Rattle.cdr_core.specs.Reading.{Read, value_at}
 use Rattle.cdr_core.specs.Spelling.{Takes}
 use Rattle.cdr_core.specs.Value.{Value}
-use Rattle.giop_core.specs.declared.fault.MessageFault.{MessageFault}
-use Rattle.giop_core.specs.declared.fault.MessageFault.TheVariants.{BadAddressing}
+use Rattle.giop_core.specs.declared.error.MessageFault.{MessageFault}
+use Rattle.giop_core.specs.declared.error.MessageFault.TheVariants.{BadAddressing}
 use Rattle.giop_core.specs.Content.{Content, content}
 use Rattle.giop_core.specs.Grammar.{SpellsFields}
 use Rattle.giop_core.specs.Laws.{MessagesAreSpelled, SpelledMessagesAreRead}

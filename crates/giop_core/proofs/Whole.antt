@@ -14,13 +14,13 @@ use Rattle.giop_core.specs.declared.header.MessageKind.{MessageKind}
 use Rattle.giop_core.specs.declared.header.MessageKind.TheVariants as kind
 use Rattle.giop_core.specs.declared.header.Version.{Version}
 use Rattle.giop_core.specs.declared.header.Version.TheVariants.{V10, V11, V12}
-use Rattle.giop_core.specs.declared.refusal.WriteError.{WriteError}
-use Rattle.giop_core.specs.declared.refusal.WriteError.TheVariants.{TooLong, Memory}
-use Rattle.giop_core.specs.declared.wish.ReplyWish.{ReplyWish}
+use Rattle.giop_core.specs.declared.error.WriteError.{WriteError}
+use Rattle.giop_core.specs.declared.error.WriteError.TheVariants.{TooLong, Memory}
+use Rattle.giop_core.specs.declared.request.ReplyWish.{ReplyWish}
 use Rattle.giop_core.specs.Content.{nth, Addressed}
 use Rattle.giop_core.specs.Headers.{header_octets}
 use Rattle.giop_core.specs.Items.{list_value}
-use Rattle.giop_core.specs.Long.{AreLong, IsLong, Judges}
+use Rattle.giop_core.specs.Long.{AreLong, IsLong, Checks}
 use Rattle.giop_core.specs.Written.{aligned_octets, behind_gap, behind_header, body_octets, cancel_fields, header_for, locate_request_fields, message_octets, reply_fields, request_fields, target_in, with_body, Adds}
 use Rattle.giop_core.proofs.Longs.{first_long, four, rest_long}
 
@@ -140,7 +140,7 @@ fields_long version kind order fields body long =
     omega (arith, long order 12, length-append front (body_octets version kind order body (12 + length front)))
 
 pub judged_adds : (version : Version) (kind : MessageKind) (order : Order) (fields : List Value) (body : Values) (old : List ℕ) (v : Value) (e : WriteError) → (IsLong v → AreLong (values fields))
-    → Judges {A = Unit {0}} v (Err e) → Adds {A = Unit {0}} version kind order (behind_header version kind order fields body) (Err e) old old
+    → Checks {A = Unit {0}} v (Err e) → Adds {A = Unit {0}} version kind order (behind_header version kind order fields body) (Err e) old old
 judged_adds version kind order fields body old v TooLong long h = (fields_long version kind order fields body (long h), keeps_all old old refl)
 judged_adds version kind order fields body old v Memory long h = absurd h
 

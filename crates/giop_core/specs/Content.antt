@@ -8,8 +8,8 @@ use Rattle.giop_core.specs.declared.header.Version.{Version}
 use Rattle.giop_core.specs.declared.header.Version.TheVariants.{V10, V11, V12}
 use Rattle.giop_core.specs.declared.header.MessageKind.{MessageKind}
 use Rattle.giop_core.specs.declared.header.MessageKind.TheVariants.{Request, Reply, CancelRequest, LocateRequest, LocateReply, CloseConnection, MessageError, Fragment}
-use Rattle.giop_core.specs.declared.wish.ReplyWish.{ReplyWish}
-use Rattle.giop_core.specs.declared.wish.ReplyWish.TheVariants as wish
+use Rattle.giop_core.specs.declared.request.ReplyWish.{ReplyWish}
+use Rattle.giop_core.specs.declared.request.ReplyWish.TheVariants as wish
 
 -- what a message is for: an object by its key, by a profile, or by the chosen one of a reference's profiles
 pub data Addressed : Type 0 where

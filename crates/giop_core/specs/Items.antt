@@ -7,6 +7,7 @@ use Rattle.cdr_core.specs.Value as value
 use Rattle.cdr_core.specs.Value.{Value, values}
 use Rattle.cdr_core.specs.Reading.{Read, value_at}
 use Rattle.ior_core.specs.Grammar.{tagged}
+use Rattle.giop_core.specs.declared.service_context.Contexts.{Contexts}
 use Rattle.giop_core.specs.Content.{tagged_of}
 
 -- a lent item as octets
@@ -22,6 +23,10 @@ items_from (Err f) others = []
 unfoldable pub items_in : Order → ℕ → ℕ → List ℕ → List (ℕ × List ℕ)
 items_in order zero o octets = []
 items_in order (suc n) o octets = items_from (value_at tagged order o octets) (items_in order n)
+
+-- the items that are left in what a message lends
+abbrev pub contexts_left : Contexts → List (ℕ × List ℕ)
+contexts_left c = items_in c.cursor.order c.left c.cursor.place c.cursor.rest
 
 -- items as values
 

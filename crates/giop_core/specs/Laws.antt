@@ -12,7 +12,7 @@ use Rattle.giop_core.specs.declared.header.MessageKind.{MessageKind}
 use Rattle.giop_core.specs.declared.header.MessageKind.TheVariants.{Request, Reply, CancelRequest, LocateRequest, LocateReply}
 use Rattle.giop_core.specs.declared.header.Version.{Version}
 use Rattle.giop_core.specs.declared.header.Version.TheVariants.{V12}
-use Rattle.giop_core.specs.declared.wish.ReplyWish.{ReplyWish}
+use Rattle.giop_core.specs.declared.request.ReplyWish.{ReplyWish}
 use Rattle.giop_core.specs.Content as content
 use Rattle.giop_core.specs.Content.{Addressed, Content, Rest}
 use Rattle.giop_core.specs.Ft.{ft_in, present}

@@ -4,21 +4,22 @@ use Rattle.std.specs.Borrow.{Bor}
 use Rattle.cdr_core.specs.Parts.{long_value, octet_value, short_value, text_value, ulong_value, ulonglong_value}
 use Rattle.cdr_core.specs.Value as value
 use Rattle.cdr_core.specs.Value.{Value, Values, values}
-use Rattle.giop_core.specs.declared.items.Contexts.{Contexts}
-use Rattle.giop_core.specs.declared.items.IorView.{IorView}
-use Rattle.giop_core.specs.declared.message.Target.{Target}
-use Rattle.giop_core.specs.declared.message.Target.TheVariants as target
+use Rattle.giop_core.specs.declared.service_context.Contexts.{Contexts}
+use Rattle.giop_core.specs.declared.ior_view.IorView.{IorView}
+use Rattle.giop_core.specs.declared.target_address.Target.{Target}
+use Rattle.giop_core.specs.declared.target_address.Target.TheVariants as target
 use Rattle.giop_core.specs.declared.message.Body.{Body}
-use Rattle.giop_core.specs.declared.message.Part.{Part}
-use Rattle.giop_core.specs.declared.message.Part.TheVariants as part
-use Rattle.giop_core.specs.declared.message.Request.{Request}
-use Rattle.giop_core.specs.declared.message.Reply.{Reply}
-use Rattle.giop_core.specs.Items.{item_at, items_in, list_value, reference_as, tagged_value}
+use Rattle.giop_core.specs.declared.message.Content.{Content as LentContent}
+use Rattle.giop_core.specs.declared.message.Content.TheVariants as lent
+use Rattle.giop_core.specs.declared.cancel.CancelRequest.{CancelRequest}
+use Rattle.giop_core.specs.declared.locate.LocateRequest.{LocateRequest}
+use Rattle.giop_core.specs.declared.locate.LocateReply.{LocateReply}
+use Rattle.giop_core.specs.declared.fragment.Fragment.{Fragment}
+use Rattle.giop_core.specs.declared.request.Request.{Request}
+use Rattle.giop_core.specs.declared.reply.Reply.{Reply}
+use Rattle.giop_core.specs.Items.{contexts_left, item_at, list_value, reference_as, tagged_value}
 use Rattle.giop_core.specs.Content as content
 use Rattle.giop_core.specs.Content.{Addressed, Rest, Content}
-
-abbrev pub contexts_left : Contexts → List (ℕ × List ℕ)
-contexts_left c = items_in c.cursor.order c.left c.cursor.place c.cursor.rest
 
 -- values that are lent
 
@@ -59,15 +60,27 @@ request_of r = content.request r.request_id r.reply (addressed_by r.target) r.op
 abbrev pub reply_of : Reply → Content
 reply_of r = content.reply r.request_id r.status (contexts_left r.contexts) (rest_of r.body)
 
-abbrev pub content_of : Part → Content
-content_of (part.Request r) = request_of r
-content_of (part.Reply r) = reply_of r
-content_of (part.Cancel id) = content.cancel id
-content_of (part.LocateRequest id t) = content.locate_request id (addressed_by t)
-content_of (part.LocateReply id s b) = content.locate_reply id s (rest_of b)
-content_of part.Close = content.close
-content_of part.Error = content.error
-content_of (part.Fragment id d) = content.fragment id d.now
+abbrev pub cancel_of : CancelRequest → Content
+cancel_of r = content.cancel r.request_id
+
+abbrev pub locate_request_of : LocateRequest → Content
+locate_request_of r = content.locate_request r.request_id (addressed_by r.target)
+
+abbrev pub locate_reply_of : LocateReply → Content
+locate_reply_of r = content.locate_reply r.request_id r.status (rest_of r.body)
+
+abbrev pub fragment_of : Fragment → Content
+fragment_of r = content.fragment r.request_id r.payload.now
+
+abbrev pub content_of : LentContent → Content
+content_of (lent.Request r) = request_of r
+content_of (lent.Reply r) = reply_of r
+content_of (lent.Cancel r) = cancel_of r
+content_of (lent.LocateRequest r) = locate_request_of r
+content_of (lent.LocateReply r) = locate_reply_of r
+content_of lent.Close = content.close
+content_of lent.Error = content.error
+content_of (lent.Fragment r) = fragment_of r
 
 abbrev pub ft_value : Bor (List ℕ) × ℤ × ℕ → Value
 ft_value x = value.structure (values (text_value x.0 ∷ long_value x.1 ∷ ulonglong_value x.2 ∷ []))

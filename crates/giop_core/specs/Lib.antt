@@ -12,3 +12,6 @@ pub mod Headers
 pub mod Written
 pub mod Long
 pub mod Facts
+pub mod Texts
+pub mod Statuses
+pub mod Bodies

@@ -10,8 +10,8 @@ use Rattle.giop_core.specs.declared.header.Version.{Version}
 use Rattle.giop_core.specs.declared.header.Version.TheVariants.{V12}
 use Rattle.giop_core.specs.declared.header.MessageKind.{MessageKind}
 use Rattle.giop_core.specs.declared.header.MessageKind.TheVariants.{Request, Reply}
-use Rattle.giop_core.specs.declared.fault.MessageFault.{MessageFault}
-use Rattle.giop_core.specs.declared.fault.MessageFault.TheVariants.{Cdr, BadAddressing}
+use Rattle.giop_core.specs.declared.error.MessageFault.{MessageFault}
+use Rattle.giop_core.specs.declared.error.MessageFault.TheVariants.{Cdr, BadAddressing}
 use Rattle.giop_core.specs.Rows.{row}
 use Rattle.giop_core.specs.Content.{Content, Rest, content}
 

@@ -13,10 +13,10 @@ use Rattle.giop_core.specs.declared.header.MessageKind.{MessageKind}
 use Rattle.giop_core.specs.declared.header.MessageKind.TheVariants.{Request, Reply}
 use Rattle.giop_core.specs.declared.header.Version.{Version}
 use Rattle.giop_core.specs.declared.header.Version.TheVariants.{V10, V11, V12}
-use Rattle.giop_core.specs.declared.wish.ReplyWish.{ReplyWish}
-use Rattle.giop_core.specs.declared.wish.ReplyWish.TheVariants as wish
-use Rattle.giop_core.specs.declared.refusal.WriteError.{WriteError}
-use Rattle.giop_core.specs.declared.refusal.WriteError.TheVariants.{TooLong, Memory}
+use Rattle.giop_core.specs.declared.request.ReplyWish.{ReplyWish}
+use Rattle.giop_core.specs.declared.request.ReplyWish.TheVariants as wish
+use Rattle.giop_core.specs.declared.error.WriteError.{WriteError}
+use Rattle.giop_core.specs.declared.error.WriteError.TheVariants.{TooLong, Memory}
 use Rattle.giop_core.specs.Content as content
 use Rattle.giop_core.specs.Content.{Addressed}
 use Rattle.giop_core.specs.Headers.{header_octets}

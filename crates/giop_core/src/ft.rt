@@ -1,23 +1,27 @@
-//! The service context of a request that may be sent again (FT_REQUEST).
+//! FT_REQUEST, the service context of a request that may be sent again (Fault Tolerant CORBA 23.2.7).
 
-ghost use Rattle.std.specs.Prelude.{◌≡◌, option_map, MatchResult};
+ghost use Rattle.std.specs.Prelude.{◌≡◌, option_map, ◌<◌};
 ghost use Rattle.cdr_core.specs.Encapsulation.{encapsulated};
 ghost use Rattle.cdr_core.specs.Reading.{value_at};
 ghost use Rattle.giop_core.specs.Calls.{Reads, Shows};
 ghost use Rattle.giop_core.specs.Ft.{first_of, ft_by, ft_in, ft_seen};
-ghost use Rattle.giop_core.specs.Items.{items_in};
-ghost use Rattle.giop_core.specs.Lent.{contexts_left, ft_value};
+ghost use Rattle.giop_core.specs.Items.{contexts_left, items_in};
+ghost use Rattle.giop_core.specs.Lent.{ft_value};
 ghost use Rattle.giop_core.specs.Rows.{ft_request};
+ghost use Rattle.cdr_core.specs.Spelling.{IsClean};
+ghost use Rattle.giop_core.specs.Written.{ft_octets, AddsOctets, WroteOctets};
 
-use crate::items::Contexts;
-use crate::parts::read_tagged;
-use cdr_core::{Cursor, Fault};
+use crate::error::WriteError;
+use crate::service_context::Contexts;
+use crate::writing::{LONGEST, check_text};
+use cdr_core::{Cursor, Fault, Order, Writer};
+use ior_core::read_tagged;
 
-/// The id of the context FT_REQUEST.
-const FT_REQUEST: u32 = 13;
+/// The id of the service context FT_REQUEST (Fault Tolerant CORBA 23.2.7).
+pub const FT_REQUEST: u32 = 13;
 
 /// What a request's contexts say of its client.
-#[derive(Clone, Copy, Drop)]
+#[derive(Clone, Copy, Debug, Drop)]
 pub enum FtField<'m> {
     /// There is no FT_REQUEST context.
     Absent,
@@ -92,4 +96,49 @@ pub fn ft_request<'m>(contexts: &Contexts<'m>) -> FtField<'m>
         None => FtField::Absent,
         Some(octets) => field_in(octets),
     }
+}
+
+/// Appends what such a context holds; where that fails, what there was still stands in front.
+fn put_ft(
+    order: Order,
+    client_id: &[u8],
+    retention_id: i32,
+    expiration: u64,
+    out: &mut Vec<u8>,
+) -> Result<(), WriteError>
+    requires { IsClean client_id.now }
+    ensures { AddsOctets (ft_octets order client_id.now retention_id expiration) result out.old.items out.new.items }
+{
+    check_text(client_id)?;
+    let start = out.len();
+    let writer = Writer::encapsulated(order, out)?;
+    writer.string(client_id, out)?;
+    writer.long(retention_id, out)?;
+    writer.ulonglong(expiration, out)?;
+    if out.len() - start > LONGEST {
+        return Err(WriteError::TooLong);
+    }
+    Ok(())
+}
+
+/// Appends the octets of an FT_REQUEST context (Fault Tolerant CORBA 23.2.7), an encapsulation.
+///
+/// The client has no NUL. The expiration is a number of 100 ns since 15 October 1582. `TooLong` is told
+/// of more than 4,294,967,295 octets. On a refusal `out` is as it was.
+pub fn write_ft(
+    order: Order,
+    client_id: &[u8],
+    retention_id: i32,
+    expiration: u64,
+    out: &mut Vec<u8>,
+) -> Result<(), WriteError>
+    requires { IsClean client_id.now }
+    ensures { WroteOctets (ft_octets order client_id.now retention_id expiration) result out.old.items out.new.items }
+{
+    let start = out.len();
+    let result = put_ft(order, client_id, retention_id, expiration, out);
+    if result.is_err() {
+        out.truncate(start);
+    }
+    result
 }

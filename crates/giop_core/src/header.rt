@@ -1,11 +1,12 @@
 //! The header of a message (CORBA 3.3 Part 2, 9.4.1).
 
-ghost use Rattle.std.specs.Prelude.{◌≡◌, ◌≤◌, ◌++◌, length, drop, Ok, IsTrue};
+ghost use Rattle.std.specs.Prelude.{◌≡◌, ◌≤◌, ◌++◌, length, drop, Ok, Some, IsTrue};
 ghost use Rattle.cdr_core.specs.Numbers.{digits_of, number_of};
 ghost use Rattle.giop_core.specs.Headers.{can_be_cut, flags_octet, flags_of, has_kind, has_magic, header_octets, header_of, is_possible, kind_number, kind_of, minor_of, version_of};
+ghost use Rattle.giop_core.specs.Texts.{kind_text, version_text};
 
-use byteorder::{BigEndian, ByteOrder, LittleEndian};
 use cdr_core::Order;
+use std::fmt;
 use thiserror::Error;
 
 /// A version of GIOP: 1.0, 1.1 or 1.2.
@@ -14,6 +15,19 @@ pub enum Version {
     V10,
     V11,
     V12,
+}
+
+/// `1.0`, `1.1` or `1.2`.
+impl fmt::Display for Version {
+    ghost output = { λ version. Some (version_text version) };
+
+    fn fmt<W: fmt::Write>(&self, f: &mut fmt::Formatter<W>) -> fmt::Result {
+        match self {
+            Version::V10 => f.write_str("1.0"),
+            Version::V11 => f.write_str("1.1"),
+            Version::V12 => f.write_str("1.2"),
+        }
+    }
 }
 
 /// A kind of message. 1.0 has no Fragment.
@@ -27,6 +41,24 @@ pub enum MessageKind {
     CloseConnection,
     MessageError,
     Fragment,
+}
+
+/// The name that the standard gives it, as `CancelRequest`.
+impl fmt::Display for MessageKind {
+    ghost output = { λ kind. Some (kind_text kind) };
+
+    fn fmt<W: fmt::Write>(&self, f: &mut fmt::Formatter<W>) -> fmt::Result {
+        match self {
+            MessageKind::Request => f.write_str("Request"),
+            MessageKind::Reply => f.write_str("Reply"),
+            MessageKind::CancelRequest => f.write_str("CancelRequest"),
+            MessageKind::LocateRequest => f.write_str("LocateRequest"),
+            MessageKind::LocateReply => f.write_str("LocateReply"),
+            MessageKind::CloseConnection => f.write_str("CloseConnection"),
+            MessageKind::MessageError => f.write_str("MessageError"),
+            MessageKind::Fragment => f.write_str("Fragment"),
+        }
+    }
 }
 
 /// What the twelve octets at the head of a message say.
@@ -170,29 +202,10 @@ fn can_be_cut(version: Version, kind: MessageKind) -> bool
     }
 }
 
-/// The number that four octets give.
-fn size_of(order: Order, octets: &[u8]) -> u32
-    requires { 4 ≤ length octets.now }
-    ensures { result ≡ number_of order 4 octets.now }
-{
-    match order {
-        Order::Big => BigEndian::read_u32(octets),
-        Order::Little => LittleEndian::read_u32(octets),
-    }
-}
-
-/// Writes a number over the first four octets.
-fn put_size(order: Order, size: u32, octets: &mut [u8])
-    requires { 4 ≤ length octets.old }
-    ensures { octets.new ≡ digits_of order 4 size ++ drop 4 octets.old }
-{
-    match order {
-        Order::Big => BigEndian::write_u32(octets, size),
-        Order::Little => LittleEndian::write_u32(octets, size),
-    }
-}
-
 impl Header {
+    /// How many octets a header has.
+    pub const LEN: usize = 12;
+
     /// The header that these octets are, or the first fault in it.
     pub fn read(octets: &[u8; 12]) -> Result<Header, HeaderFault>
         ensures { result ≡ header_of octets.now }
@@ -214,7 +227,7 @@ impl Header {
             order,
             more,
             kind,
-            size: size_of(order, &octets[8..]),
+            size: order.ulong_of(&octets[8..]),
         })
     }
 
@@ -246,7 +259,7 @@ impl Header {
         let flags = flags_octet(self.order, self.more);
         let kind = kind_number(self.kind);
         let mut octets = [b'G', b'I', b'O', b'P', 1, minor, flags, kind, 0, 0, 0, 0];
-        put_size(self.order, self.size, &mut octets[8..]);
+        self.order.put_ulong(self.size, &mut octets[8..]);
         octets
     }
 }

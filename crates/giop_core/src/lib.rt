@@ -2,32 +2,34 @@
 //! from their octets, and written.
 #![tactic(auto)]
 
-pub mod fault;
-pub mod ft;
-pub mod ft_writing;
-pub mod header;
-pub mod items;
-pub mod judging;
+mod cancel;
+mod control;
+mod error;
+mod fragment;
+mod ft;
+mod header;
+mod ior_view;
 pub mod laws;
-pub mod lending;
-pub mod message;
-pub mod parts;
-pub mod putting;
-pub mod reading;
-pub mod refusal;
-pub mod wish;
-pub mod writing;
+mod locate;
+mod message;
+mod reply;
+mod request;
+mod service_context;
+mod target_address;
+mod writing;
 
-pub use fault::MessageFault;
-pub use ft::{FtField, ft_request};
-pub use ft_writing::write_ft;
+pub use cancel::{CancelRequest, write_cancel};
+pub use control::{write_close, write_error};
+pub use error::{MessageFault, WriteError};
+pub use fragment::Fragment;
+pub use ft::{FT_REQUEST, FtField, ft_request, write_ft};
 pub use header::{Header, HeaderFault, MessageKind, Version};
-pub use items::{Contexts, IorView};
-pub use message::{Body, Message, Part, Reply, Request, Target};
-pub use reading::read_message;
-pub use refusal::WriteError;
-pub use wish::ReplyWish;
-pub use writing::{
-    write_cancel, write_close, write_error, write_locate_reply, write_locate_request, write_reply,
-    write_request,
+pub use ior_view::IorView;
+pub use locate::{
+    LocateReply, LocateRequest, LocateStatus, write_locate_reply, write_locate_request,
 };
+pub use message::{Body, Content, Message, read_message};
+pub use reply::{Reply, ReplyStatus, write_reply};
+pub use request::{ReplyWish, Request, write_request};
+pub use service_context::Contexts;
+pub use target_address::Target;

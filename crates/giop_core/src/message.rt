@@ -1,70 +1,126 @@
-//! Messages, lent from their octets.
+//! Messages, lent from their octets: the choice among the kinds.
 
-use crate::header::Version;
-use crate::items::{Contexts, IorView};
-use crate::wish::ReplyWish;
-use cdr_core::Order;
+ghost use Rattle.std.specs.Prelude.{◌≡◌, ◌<◌, ◌^◌, ◌++◌, ℕ, List, IfOk};
+ghost use Rattle.cdr_core.specs.Fitting.{AreValid};
+ghost use Rattle.cdr_core.specs.Spelling.{SpellsMembers};
+ghost use Rattle.cdr_core.specs.Value.{Values};
+ghost use Rattle.cdr_core.specs.View.{forms_of};
+ghost use Rattle.giop_core.specs.Bodies.{BodyAnswers, BodyReads};
+ghost use Rattle.giop_core.specs.Calls.{Shows};
+ghost use Rattle.giop_core.specs.Lent.{content_of, rest_of};
+ghost use Rattle.giop_core.specs.Messages.{message_of};
 
-/// What a request is for (GIOP::TargetAddress).
-#[derive(Drop)]
-pub enum Target<'m> {
-    /// An object key.
-    Key(&'m [u8]),
-    /// A profile: its tag and its octets.
-    Profile(u32, &'m [u8]),
-    /// A reference, and the number of the chosen one of its profiles, from 0.
-    Reference(u32, IorView<'m>),
-}
+use crate::cancel::{CancelRequest, read_cancel};
+use crate::error::MessageFault;
+use crate::fragment::{Fragment, read_fragment};
+use crate::header::{Header, MessageKind, Version};
+use crate::locate::{LocateReply, LocateRequest, read_locate_reply, read_locate_request};
+use crate::reply::{Reply, read_reply};
+use crate::request::{Request, read_request};
+use cdr_core::{CdrError, Cursor, Order, Ty, Val};
+use std::alloc::Global;
+
+/// The place of the first octet behind a header.
+pub(crate) const BEHIND_HEADER: u64 = 12;
 
 /// The octets of a body, their order, and the place in the message at which they stand.
-#[derive(Clone, Copy, Drop)]
+#[derive(Clone, Copy, Debug, Drop)]
 pub struct Body<'m> {
     pub order: Order,
     pub at: u64,
     pub octets: &'m [u8],
 }
 
-/// A Request (CORBA 3.3 Part 2, 9.4.2).
-#[derive(Drop)]
-pub struct Request<'m> {
-    pub request_id: u32,
-    pub reply: ReplyWish,
-    pub target: Target<'m>,
-    pub operation: &'m [u8],
-    pub contexts: Contexts<'m>,
-    pub body: Body<'m>,
+impl<'m> Body<'m> {
+    /// The values of these types that stand one after another at the front of the body, read in its
+    /// order and at its place. Octets after them are ignored.
+    ///
+    /// An error is that of `cdr_core::read_list`: the first fault, whose place counts from the beginning
+    /// of the message, or that an allocation failed.
+    pub fn read(&self, alloc: Global, types: &[Ty]) -> Result<Vec<Val>, CdrError>
+        requires valid { AreValid (forms_of types.now) }
+        requires at { self.now.at < 2 ^ 32 }
+        ensures answers { BodyAnswers (forms_of types.now) (rest_of self.now) result }
+        ensures only { (vs : Values) (front rest : List ℕ) → self.now.octets.now ≡ front ++ rest → SpellsMembers (forms_of types.now) self.now.order vs self.now.at front → BodyReads vs result }
+    {
+        let (values, _) = cdr_core::read_list(alloc, types, self.order, self.at, self.octets)?;
+        Ok(values)
+    }
 }
 
-/// A Reply (CORBA 3.3 Part 2, 9.4.3).
-#[derive(Drop)]
-pub struct Reply<'m> {
-    pub request_id: u32,
-    pub status: u32,
-    pub contexts: Contexts<'m>,
-    pub body: Body<'m>,
+/// The rest, from where a cursor is.
+pub(crate) fn body_at<'m>(cursor: &Cursor<'m>, order: Order) -> Body<'m>
+    ensures { rest_of result ≡ record { order = order; place = cursor.now.place; octets = cursor.now.rest } }
+{
+    Body {
+        order,
+        at: cursor.place(),
+        octets: cursor.rest(),
+    }
 }
 
-/// What a message is.
-#[derive(Drop)]
-pub enum Part<'m> {
+/// What a message says (CORBA 3.3 Part 2, 9.4.2 to 9.4.9).
+#[derive(Debug, Drop)]
+pub enum Content<'m> {
     Request(Request<'m>),
     Reply(Reply<'m>),
-    /// The id of the request that is cancelled.
-    Cancel(u32),
-    /// A request's id, and what it asks for.
-    LocateRequest(u32, Target<'m>),
-    /// The id of the request that is answered, the status, and the rest.
-    LocateReply(u32, u32, Body<'m>),
+    Cancel(CancelRequest),
+    LocateRequest(LocateRequest<'m>),
+    LocateReply(LocateReply<'m>),
+    /// CloseConnection, which is its header alone.
     Close,
+    /// MessageError, which is its header alone.
     Error,
-    /// The request id, which 1.2 alone has, and the data behind it.
-    Fragment(Option<u32>, &'m [u8]),
+    Fragment(Fragment<'m>),
 }
 
 /// A message, in the version and the order of its header.
-#[derive(Drop)]
+#[derive(Debug, Drop)]
 pub struct Message<'m> {
     pub version: Version,
     pub order: Order,
-    pub part: Part<'m>,
+    pub content: Content<'m>,
+}
+
+/// The message of a kind, a version and an order that octets behind a header are.
+#[tactic(auto, using(crate::proofs::Shared::cancel_any, crate::proofs::Shared::close_any, crate::proofs::Shared::error_any))]
+fn message_of_kind(
+    kind: MessageKind,
+    version: Version,
+    order: Order,
+    octets: &[u8],
+) -> Result<Message<'_>, MessageFault>
+    ensures shows { Shows (λ m. content_of m.content) result (message_of version kind order octets.now) }
+    ensures same { IfOk result (λ m. (m.version ≡ version) × (m.order ≡ order)) }
+{
+    let content = match kind {
+        MessageKind::Request => return read_request(version, order, octets),
+        MessageKind::Reply => return read_reply(version, order, octets),
+        MessageKind::CancelRequest => Content::Cancel(read_cancel(order, octets)?),
+        MessageKind::LocateRequest => {
+            Content::LocateRequest(read_locate_request(version, order, octets)?)
+        }
+        MessageKind::LocateReply => Content::LocateReply(read_locate_reply(
+            version, order, octets,
+        )?),
+        MessageKind::CloseConnection => Content::Close,
+        MessageKind::MessageError => Content::Error,
+        MessageKind::Fragment => Content::Fragment(read_fragment(version, order, octets)?),
+    };
+    Ok(Message {
+        version,
+        order,
+        content,
+    })
+}
+
+/// The message that the octets behind a header are, or the first fault in them.
+///
+/// The octets are those of the whole message: its header tells no more fragments, and as many octets
+/// as there are. Octets behind the fields of a message that has no body are ignored.
+pub fn read_message<'m>(header: &Header, octets: &'m [u8]) -> Result<Message<'m>, MessageFault>
+    ensures shows { Shows (λ m. content_of m.content) result (message_of header.now.version header.now.kind header.now.order octets.now) }
+    ensures same { IfOk result (λ m. (m.version ≡ header.now.version) × (m.order ≡ header.now.order)) }
+{
+    message_of_kind(header.kind, header.version, header.order, octets)
 }

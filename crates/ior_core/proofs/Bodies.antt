@@ -1,5 +1,5 @@
 -- The body of a profile, step by step.
-use Rattle.std.proofs.Common.{◌≡◌, ℕ, Bool, true, false, List, Option, Some, None, Result, Ok, Err, refl, ap}
+use Rattle.std.proofs.Common.{◌≡◌, ℕ, List, Option, None, Result, Ok, Err, refl, ap}
 use Rattle.cdr_core.specs.declared.fault.CdrError.{CdrError}
 use Rattle.cdr_core.specs.declared.fault.CdrError.TheVariants as errors
 use Rattle.cdr_core.specs.declared.fault.Fault.{Fault}
@@ -7,7 +7,7 @@ use Rattle.cdr_core.specs.Cursor.{Fails}
 use Rattle.ior_core.specs.Calls.{ior_error}
 use Rattle.cdr_core.specs.declared.order.Order.{Order}
 use Rattle.cdr_core.specs.Encapsulation.{encapsulated, order_at}
-use Rattle.cdr_core.specs.Reading.{◌>>=◌, Read, value_at}
+use Rattle.cdr_core.specs.Reading.{Read, value_at}
 use Rattle.cdr_core.proofs.Steps.{ok_is}
 use Rattle.cdr_core.specs.Private.{passing}
 use Rattle.cdr_core.specs.Value.{Value}

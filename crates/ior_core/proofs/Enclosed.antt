@@ -1,25 +1,23 @@
 -- References and profiles in encapsulations are spelled where they are read, and read where they are spelled.
-use Rattle.std.proofs.Common.{◌≡◌, ℕ, zero, suc, ◌+◌, ◌<◌, Bool, true, false, List, [], ◌∷◌, ◌++◌, length, slice_index, Option, Some, None, Ok, refl, sym, ap, subst, ◌∙◌, arith, append_assoc, length-append}
+use Rattle.std.proofs.Common.{◌≡◌, ℕ, zero, suc, ◌+◌, Bool, true, false, List, [], ◌∷◌, ◌++◌, length, Option, Some, None, Ok, refl, sym, ap, subst, ◌∙◌, arith, append_assoc, length-append}
 use Rattle.std.proofs.lemmas.List.{append-nil}
 use Rattle.hex.specs.Hex.{IsBytes}
 use Rattle.hex.proofs.HexLemmas.{decode_of-encode_lower}
 use Rattle.cdr_core.specs.declared.order.Order.{Order}
 use Rattle.cdr_core.specs.declared.order.Order.TheVariants.{Big, Little}
 use Rattle.cdr_core.proofs.Enclosing.{enclosed_found, enclosed_only}
-use Rattle.cdr_core.specs.Encapsulation.{byte_order, IsEncapsulated}
-use Rattle.cdr_core.specs.Fitting.{Fits}
+use Rattle.cdr_core.specs.Encapsulation.{byte_order}
 use Rattle.cdr_core.specs.Laws.{ReadIsSpelled, SpelledIsRead, WrittenIsSpelled}
 use Rattle.cdr_core.specs.Numbers.{AreOctets}
-use Rattle.cdr_core.specs.Reading.{◌>>=◌, Read, value_at}
+use Rattle.cdr_core.specs.Reading.{◌>>=◌, value_at}
 use Rattle.cdr_core.specs.Spelling.{InTurn, Spells, Takes}
 use Rattle.cdr_core.proofs.Steps.{bind_ok, ok_is}
-use Rattle.cdr_core.specs.Value as value
 use Rattle.cdr_core.specs.Value.{Value}
 use Rattle.cdr_core.specs.Writing.{octets_of, octets_of_all}
 use Rattle.ior_core.specs.Grammar.{profile_1_0, reference, tagged_list}
 use Rattle.ior_core.specs.Laws.{FitsBehind, ProfilesAreSpelled, ReferencesAreSpelled, SpelledProfilesAreRead, SpelledReferencesAreRead, WrittenProfileIsRead, WrittenTextIsRead}
 use Rattle.ior_core.specs.Profiles.{behind_at, body_at, has_minor_0, held, profile_octets, Body, IsBehind, IsBody}
-use Rattle.ior_core.specs.Text.{decoded, reference_in, reference_octets, reference_text, text_octets, IsReference}
+use Rattle.ior_core.specs.Text.{decoded, reference_octets}
 
 pub references_found : ReadIsSpelled → ReferencesAreSpelled
 references_found found octets v h = enclosed_found found (λ order v. Spells reference order v) (value_at reference) (λ order o octets v p rest h. found reference order o octets v p rest h) octets v h

@@ -1,5 +1,5 @@
 -- The types of references, as the standard's IDL has them.
-use Rattle.std.specs.Prelude.{List, [], ◌∷◌}
+use Rattle.std.specs.Prelude.{[], ◌∷◌}
 use Rattle.cdr_core.specs.Form as form
 use Rattle.cdr_core.specs.Form.{Form}
 use Rattle.cdr_core.specs.Parts.{most, octet, raw, text, ulong, ushort}

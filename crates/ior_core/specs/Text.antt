@@ -1,5 +1,5 @@
--- The text of a reference, and keys by the index of a profile.
-use Rattle.std.specs.Prelude.{◌≡◌, ℕ, ◌+◌, ◌==◌, ◌||◌, ◌&&◌, Bool, List, [], ◌∷◌, ◌++◌, codes, Option, Some, None, slice_get, Result, Ok, Err, ⊤, if◌then◌else◌}
+-- The text of a reference.
+use Rattle.std.specs.Prelude.{◌≡◌, ℕ, ◌+◌, ◌==◌, ◌||◌, ◌&&◌, Bool, List, ◌∷◌, ◌++◌, codes, Option, Some, None, Result, Ok, Err, ⊤, if◌then◌else◌}
 use Rattle.hex.specs.Hex.{decode_of, encode_lower}
 use Rattle.hex.specs.declared.error.FromHexError.{FromHexError}
 use Rattle.hex.specs.declared.error.FromHexError.TheVariants as digits
@@ -13,9 +13,7 @@ use Rattle.cdr_core.specs.Writing.{octets_of}
 use Rattle.ior_core.specs.declared.error.IorError.{IorError}
 use Rattle.ior_core.specs.declared.error.IorError.TheVariants.{BadDigit, BadMajor, Cdr, Memory, NoPrefix, OddDigits}
 use Rattle.ior_core.specs.declared.reference.Ior.{Ior}
-use Rattle.ior_core.specs.declared.tagged.Tagged.{Tagged}
 use Rattle.ior_core.specs.Grammar.{reference}
-use Rattle.ior_core.specs.Profiles.{body_of, key_of}
 use Rattle.ior_core.specs.View.{ior_value}
 
 -- a letter in either case, given in upper case
@@ -65,15 +63,3 @@ ReadsText text (Err (Cdr f)) = (octets : List ℕ) × (text_octets text ≡ Ok o
 ReadsText text (Err Memory) = ⊤
 ReadsText text (Err BadMajor) = ⊥
 ReadsText text (Err e) = text_octets text ≡ Err e
-
--- IOP 7.6.2: tag 0 is TAG_INTERNET_IOP
-abbrev pub tagged_key : Tagged → Option (List ℕ)
-tagged_key one = if one.tag == 0 then key_of (body_of one.octets.items) else None
-
-abbrev pub key_in : Option Tagged → Option (List ℕ)
-key_in (Some one) = tagged_key one
-key_in None = None
-
--- the key in the profile of an index, counted from 0
-abbrev pub key_at : List Tagged → ℕ → Option (List ℕ)
-key_at all index = key_in (slice_get all index)

@@ -5,15 +5,16 @@
 //! reference is `IOR:` and the hexadecimal digits of an encapsulation (7.6.9).
 #![tactic(auto)]
 
-pub mod error;
+mod error;
 pub mod laws;
-pub mod profile;
-pub mod reference;
-pub mod tagged;
-pub mod text;
+mod profile;
+mod reference;
+mod tagged;
+mod text;
+mod writable;
 
 pub use error::IorError;
-pub use profile::{IiopProfile, iiop_key, read_iiop, write_iiop};
+pub use profile::{IiopProfile, TAG_INTERNET_IOP, iiop_key, profile_key, read_iiop, write_iiop};
 pub use reference::{Ior, object_key, read_ior, write_ior};
-pub use tagged::{Component, Profile, Tagged};
+pub use tagged::{Component, Profile, Tagged, read_tagged};
 pub use text::{parse_text, print_text};

@@ -1,18 +1,23 @@
 //! IIOP profiles.
 
-ghost use Rattle.std.specs.Prelude.{◌≡◌, ◌++◌, ◌<◌, ◌≤◌, ◌^◌, length, option_map, pos, Err, IfOk, MatchResult, OnErr, OnOk, ⊤};
+ghost use Rattle.std.specs.Prelude.{◌≡◌, ◌↔◌, ◌++◌, ◌<◌, ◌≤◌, ◌^◌, length, option_map, pos, Err, IfOk, IsTrue, MatchResult, OnErr, OnOk, ⊤};
 ghost use Rattle.cdr_core.specs.Private.{Keeps, passing};
-ghost use Rattle.cdr_core.specs.Writing.{Appends, PutsAll};
+ghost use Rattle.cdr_core.specs.Writing.{Appends, AreWritable, PutsAll};
 ghost use Rattle.cdr_core.specs.Cursor.{GivesUnlessMemory};
 ghost use Rattle.cdr_core.specs.Reading.{value_at};
 ghost use Rattle.ior_core.specs.Calls.{GivesOnce};
 ghost use Rattle.ior_core.specs.Grammar.{profile_1_0};
+ghost use Rattle.ior_core.specs.Keys.{profile_key};
 ghost use Rattle.ior_core.specs.Profiles.{behind_at, behind_value, body_of, head_value, held, iiop_body, is_0, key_of, profile_octets, HasNone, IsWritableProfile, ReadsProfile};
 
 use crate::error::IorError;
 use crate::tagged::{Component, pass_list, put_list, read_list};
+use crate::writable::{is_length, is_list_writable, is_string_writable};
 use cdr_core::{CdrError, Cursor, Fault, Order, Writer};
 use std::alloc::{AllocError, Global};
+
+/// The tag of an IIOP profile (CORBA 3.3 Part 2, 7.6.2).
+pub const TAG_INTERNET_IOP: u32 = 0;
 
 /// A profile of IIOP 1 (IIOP::ProfileBody_1_0 and _1_1): where an object is reached, and its key. A
 /// profile of 1.0 has no components.
@@ -23,6 +28,27 @@ pub struct IiopProfile {
     pub port: u16,
     pub object_key: Vec<u8>,
     pub components: Vec<Component>,
+}
+
+impl IiopProfile {
+    /// Whether the profile can be written: its host has no NUL, its lengths and the number of its
+    /// components fit an unsigned long, and one of 1.0 has no components.
+    pub fn is_writable(&self) -> bool
+        ensures { IsTrue result ↔ IsWritableProfile self.now }
+    {
+        let has_head = is_string_writable(&self.host) && is_length(self.object_key.len());
+        has_head && are_components_writable(self.minor, &self.components)
+    }
+}
+
+/// Whether a profile of this minor version can be written with these components.
+fn are_components_writable(minor: u8, components: &[Component]) -> bool
+    ensures { IsTrue result ↔ (AreWritable (held (behind_value minor components.now)) × HasNone minor components.now) }
+{
+    if minor == 0 {
+        return components.is_empty();
+    }
+    is_list_writable(components)
 }
 
 /// What a profile of each version has, lent.
@@ -95,6 +121,17 @@ pub fn iiop_key(octets: &[u8]) -> Option<&[u8]>
         Ok(key) => key,
         Err(_) => None,
     }
+}
+
+/// The object key in a profile with this tag and these octets, where the tag is `TAG_INTERNET_IOP`
+/// and `read_iiop` would read the octets. It takes no memory.
+pub fn profile_key(tag: u32, octets: &[u8]) -> Option<&[u8]>
+    ensures { option_map (λ key. key.now) result ≡ profile_key (tag, octets.now) }
+{
+    if tag != TAG_INTERNET_IOP {
+        return None;
+    }
+    iiop_key(octets)
 }
 
 /// The profile of IIOP 1 that the octets are: an encapsulation with a version, a host, a port, an

@@ -1,23 +1,21 @@
 //! Object references.
 
-ghost use Rattle.std.specs.Prelude.{◌≡◌, ◌++◌, ◌<◌, ◌≤◌, ◌^◌, length, option_map, MatchResult, OnErr, OnOk, ⊤};
+ghost use Rattle.std.specs.Prelude.{◌≡◌, ◌↔◌, ◌++◌, ◌<◌, ◌≤◌, ◌^◌, length, option_map, IsTrue, MatchResult, OnErr, OnOk, ⊤};
 ghost use Rattle.cdr_core.specs.Private.{Keeps};
 ghost use Rattle.cdr_core.specs.Writing.{Appends, octets_of, IsWritable};
 ghost use Rattle.cdr_core.specs.Cursor.{GivesUnlessMemory};
 ghost use Rattle.cdr_core.specs.Reading.{value_at};
 ghost use Rattle.ior_core.specs.Calls.{ReadsReference};
 ghost use Rattle.ior_core.specs.Grammar.{reference};
-ghost use Rattle.ior_core.specs.Text.{key_at};
+ghost use Rattle.ior_core.specs.Keys.{key_at};
 ghost use Rattle.ior_core.specs.View.{ior_value};
 
 use crate::error::IorError;
-use crate::profile::iiop_key;
+use crate::profile::profile_key;
 use crate::tagged::{Profile, put_list, read_list};
+use crate::writable::{is_list_writable, is_string_writable};
 use cdr_core::{CdrError, Cursor, Order, Writer};
 use std::alloc::{AllocError, Global};
-
-/// The tag of an IIOP profile (CORBA 3.3 Part 2, 7.6.2).
-const TAG_INTERNET_IOP: u32 = 0;
 
 /// A reference to an object (IOP::IOR): the repository id of its type, and where it is reached. The
 /// nil reference has an empty type and no profiles.
@@ -25,6 +23,16 @@ const TAG_INTERNET_IOP: u32 = 0;
 pub struct Ior {
     pub type_id: Vec<u8>,
     pub profiles: Vec<Profile>,
+}
+
+impl Ior {
+    /// Whether the reference can be written: its type has no NUL, and it, each profile and the
+    /// number of profiles fit an unsigned long.
+    pub fn is_writable(&self) -> bool
+        ensures { IsTrue result ↔ IsWritable (ior_value self.now) }
+    {
+        is_string_writable(&self.type_id) && is_list_writable(&self.profiles)
+    }
 }
 
 /// A reference.
@@ -92,8 +100,5 @@ pub fn object_key(ior: &Ior, index: u32) -> Option<&[u8]>
     ensures { option_map (λ key. key.now) result ≡ key_at ior.now.profiles.items index }
 {
     let profile = ior.profiles.get(index as usize)?;
-    if profile.tag != TAG_INTERNET_IOP {
-        return None;
-    }
-    iiop_key(&profile.octets)
+    profile_key(profile.tag, &profile.octets)
 }

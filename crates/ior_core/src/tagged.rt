@@ -27,10 +27,13 @@ pub type Profile = Tagged;
 /// A component of a profile (IOP::TaggedComponent).
 pub type Component = Tagged;
 
-/// A tag, and octets that are lent.
+/// Reads a tag and its octets, as a tagged profile, a tagged component or a service context has
+/// them, and goes on after them. The octets are lent, and no memory is taken.
+///
+/// At an error it is the first fault, and nothing is said of where the cursor then stands.
 #[inline]
 #[tactic(auto, using(crate::proofs::Steps::tagged_is))]
-fn lent<'a>(cursor: &mut Cursor<'a>) -> Result<(u32, &'a [u8]), Fault>
+pub fn read_tagged<'a>(cursor: &mut Cursor<'a>) -> Result<(u32, &'a [u8]), Fault>
     ensures { GivesOnce lent_value result (value_at tagged cursor.old.order) cursor.old cursor.new }
 {
     let tag = cursor.ulong()?;
@@ -44,7 +47,7 @@ fn each(alloc: Global, count: u32, cursor: &mut Cursor) -> Result<Vec<Tagged>, C
 {
     let mut all = Vec::new(alloc);
     for _ in 0..count {
-        let (tag, octets) = lent(cursor)?;
+        let (tag, octets) = read_tagged(cursor)?;
         let octets = Vec::from_slice(alloc, octets)?;
         all.push(Tagged { tag, octets })?;
     }
@@ -65,7 +68,7 @@ fn pass(count: u32, cursor: &mut Cursor) -> Result<(), Fault>
     ensures { GivesOnce (λ u. u) result (λ o octets. passing (each_at (value_at tagged cursor.old.order) count o octets)) cursor.old cursor.new }
 {
     for _ in 0..count {
-        lent(cursor)?;
+        read_tagged(cursor)?;
     }
     Ok(())
 }

@@ -1,6 +1,5 @@
-use Rattle.std.proofs.Common.{◌≡◌, ◌-◌, ◌+◌, ◌≤◌, length, drop, Ok, ap, sym, arith}
+use Rattle.std.proofs.Common.{arith}
 use Rattle.cdr_core.proofs.Appending.{front_left}
-use Rattle.cdr_core.specs.Reading.{value_at}
 use Rattle.cdr_core.specs.Spelling.{Spells}
 use Rattle.ior_core.specs.Grammar.{reference}
 use Rattle.ior_core.specs.View.{ior_value}

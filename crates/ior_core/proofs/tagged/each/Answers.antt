@@ -1,4 +1,3 @@
-use Rattle.std.proofs.Common.{refl, sym, ap, ◌∙◌}
 use Rattle.std.proofs.lemmas.Result.{err_from_is_err_and}
 use Rattle.cdr_core.specs.Reading.{value_at}
 use Rattle.cdr_core.proofs.Turns.{each_done, each_more, each_stops, values_push}
@@ -17,7 +16,7 @@ pub loop-preserved : goal.loop-preserved
 loop-preserved c =
     let i = c.loop.invariant in
     let read = rw i.order at c.in_ok-tag.ensures in
-    let cursor = c.lent.new.cursor in
+    let cursor = c.read_tagged.new.cursor in
     let v = tag_and_octets c.in_ok-tag.tag c.in_ok-octets.octets.items in
     record {
       order = read.1;

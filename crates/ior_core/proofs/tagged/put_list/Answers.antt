@@ -1,7 +1,7 @@
 use Rattle.std.proofs.Common.{◌≡◌, ◌++◌, arith, sym, ap, ◌∙◌}
 use Rattle.std.proofs.Math.Facts.{Fits-of_lt}
 use Rattle.std.specs.Int.{w32}
-use Rattle.cdr_core.proofs.Appending.{appended, keeps_both, keeps_more}
+use Rattle.cdr_core.proofs.Appending.{appended, keeps_both}
 use Rattle.cdr_core.specs.Private.{Keeps}
 use Rattle.cdr_core.specs.Writing.{PutsAll, number_octets, octets_of_all, place_in}
 use Rattle.cdr_core.proofs.Steps.{match_as}

@@ -132,5 +132,5 @@ returns c =
     let k = sym c.kind_of.ensures ∙ c.in_ok-kind.ensures.ok_part in
     let h = sym c.has_kind.ensures ∙ c.if-not-has_kind.false in
     let cut : (more && not (can_be_cut version kind)) ≡ false = elim c.else-more.branch [ else-more-via-then-more+else-not-can_be_cut w ↦ cuts_is_cut more (can_be_cut version kind) (sym w.can_be_cut.ensures ∙ w.if-not-can_be_cut.false) | else-more-via-else-more w ↦ whole_is_cut more (can_be_cut version kind) w.if-more.false ] in
-    let size = c.size_of.ensures ∙ ap (number_of order 4) (last_four octets c.told-octets) in
-    sym (read_all octets m version v order more f kind k h cut c.size_of.result size)
+    let size = c.ulong_of.ensures ∙ ap (number_of order 4) (last_four octets c.told-octets) in
+    sym (read_all octets m version v order more f kind k h cut c.ulong_of.result size)

@@ -1,0 +1,80 @@
+//! CancelRequest (CORBA 3.3 Part 2, 9.4.4).
+
+ghost use Rattle.std.specs.Prelude.{◌≡◌, ◌<◌, ◌+◌, ◌++◌, MatchResult};
+ghost use Rattle.giop_core.specs.declared.header.Version.TheVariants.{V10};
+ghost use Rattle.giop_core.specs.Calls.{Shows};
+ghost use Rattle.giop_core.specs.Lent.{cancel_of};
+ghost use Rattle.giop_core.specs.Messages.{message_of};
+ghost use Rattle.cdr_core.specs.Private.{Keeps};
+ghost use Rattle.cdr_core.specs.Writing.{Appends};
+ghost use Rattle.cdr_core.specs.Value.{no_values, values};
+ghost use Rattle.giop_core.specs.Written.{behind_header, cancel_fields, message_octets};
+ghost use Rattle.giop_core.specs.declared.header.MessageKind.TheVariants as kind;
+ghost use Rattle.giop_core.specs.Content as content;
+
+use crate::error::MessageFault;
+use crate::header::{Header, MessageKind, Version};
+use crate::message::BEHIND_HEADER;
+use crate::writing::HEADER;
+use cdr_core::{Cursor, Order, Writer};
+use std::alloc::AllocError;
+
+/// A CancelRequest (CORBA 3.3 Part 2, 9.4.4): the reply to a request is no longer wanted.
+#[derive(Clone, Copy, Debug, PartialEq, Eq)]
+pub struct CancelRequest {
+    /// The id of the request that is cancelled.
+    pub request_id: u32,
+}
+
+/// Every version has the same CancelRequest.
+#[tactic(auto, unfolding(crate::specs::Messages::message_of, crate::specs::Rows::row, crate::specs::Content::content))]
+pub(crate) fn read_cancel(order: Order, octets: &[u8]) -> Result<CancelRequest, MessageFault>
+    ensures { Shows cancel_of result (message_of V10 kind.CancelRequest order octets.now) }
+{
+    let mut cursor = Cursor::new(octets, order, BEHIND_HEADER);
+    let request_id = cursor.ulong()?;
+    Ok(CancelRequest { request_id })
+}
+
+/// Appends a CancelRequest; where memory runs out, what there was still stands in front.
+fn append_cancel(
+    version: Version,
+    order: Order,
+    request_id: u32,
+    out: &mut Vec<u8>,
+) -> Result<(), AllocError>
+    ensures { MatchResult result
+        (λ _. out.new.items ≡ out.old.items ++ message_octets version kind.CancelRequest order (behind_header version kind.CancelRequest order (cancel_fields request_id) no_values))
+        (λ _. Keeps out.old.items out.new.items) }
+{
+    let header = Header {
+        version,
+        order,
+        more: false,
+        kind: MessageKind::CancelRequest,
+        size: 4,
+    };
+    out.reserve(HEADER + 4)?;
+    out.extend_from_slice(&header.octets())?;
+    let writer = Writer::new(order, HEADER as u64, out);
+    writer.ulong(request_id, out)
+}
+
+/// Appends a CancelRequest (CORBA 3.3 Part 2, 9.4.4). Where memory runs out `out` is as it was.
+pub fn write_cancel(
+    version: Version,
+    order: Order,
+    request_id: u32,
+    out: &mut Vec<u8>,
+) -> Result<(), AllocError>
+    ensures { MatchResult result
+        (λ _. out.new.items ≡ out.old.items ++ message_octets version kind.CancelRequest order (behind_header version kind.CancelRequest order (cancel_fields request_id) no_values))
+        (λ _. out.new.items ≡ out.old.items) }
+{
+    let start = out.len();
+    let result = append_cancel(version, order, request_id, out);
+    if result.is_err() {
+        out.truncate(start);
+    }
+    result
+}

@@ -1,0 +1,42 @@
+//! CloseConnection and MessageError (CORBA 3.3 Part 2, 9.4.7 and 9.4.8), which are their headers alone.
+
+ghost use Rattle.std.specs.Prelude.{◌≡◌, ◌<◌, ◌+◌, ◌++◌, [], MatchResult};
+ghost use Rattle.cdr_core.specs.Writing.{Appends};
+ghost use Rattle.cdr_core.specs.declared.order.Order.TheVariants.{Big};
+ghost use Rattle.giop_core.specs.declared.header.Version.TheVariants.{V10};
+ghost use Rattle.giop_core.specs.Written.{message_octets};
+ghost use Rattle.giop_core.specs.declared.header.MessageKind.TheVariants as kind;
+
+use crate::header::{Header, MessageKind, Version};
+use cdr_core::Order;
+use std::alloc::AllocError;
+
+/// Appends the header of a message of 1.0 with nothing behind it, in big order.
+fn put_bare(kind: MessageKind, out: &mut Vec<u8>) -> Result<(), AllocError>
+    ensures { MatchResult result (λ _. out.new.items ≡ out.old.items ++ message_octets V10 kind Big []) (λ _. out.new.items ≡ out.old.items) }
+{
+    let header = Header {
+        version: Version::V10,
+        order: Order::Big,
+        more: false,
+        kind,
+        size: 0,
+    };
+    out.extend_from_slice(&header.octets())
+}
+
+/// Appends CloseConnection (CORBA 3.3 Part 2, 9.4.7), as 1.0 has it. Where memory runs out `out` is as
+/// it was.
+pub fn write_close(out: &mut Vec<u8>) -> Result<(), AllocError>
+    ensures { MatchResult result (λ _. out.new.items ≡ out.old.items ++ message_octets V10 kind.CloseConnection Big []) (λ _. out.new.items ≡ out.old.items) }
+{
+    put_bare(MessageKind::CloseConnection, out)
+}
+
+/// Appends MessageError (CORBA 3.3 Part 2, 9.4.8), as 1.0 has it. Where memory runs out `out` is as it
+/// was.
+pub fn write_error(out: &mut Vec<u8>) -> Result<(), AllocError>
+    ensures { MatchResult result (λ _. out.new.items ≡ out.old.items ++ message_octets V10 kind.MessageError Big []) (λ _. out.new.items ≡ out.old.items) }
+{
+    put_bare(MessageKind::MessageError, out)
+}

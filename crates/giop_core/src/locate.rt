@@ -1,0 +1,325 @@
+//! LocateRequest and LocateReply (CORBA 3.3 Part 2, 9.4.5 and 9.4.6).
+
+ghost use Rattle.std.specs.Prelude.{◌≡◌, ◌↔◌, Some, IsTrue, ◌≤◌, ◌<◌, [], length};
+ghost use Rattle.giop_core.specs.declared.header.Version.TheVariants.{V10, V11, V12};
+ghost use Rattle.giop_core.specs.Calls.{Shows};
+ghost use Rattle.giop_core.specs.Lent.{locate_request_of, locate_reply_of, addressed_by, rest_of};
+ghost use Rattle.giop_core.specs.Messages.{message_of};
+ghost use Rattle.cdr_core.specs.Writing.{Appends, AreWritable, IsWritable};
+ghost use Rattle.cdr_core.specs.Value.{no_values, values};
+ghost use Rattle.cdr_core.specs.View.{values_of};
+ghost use Rattle.giop_core.specs.Written.{behind_header, locate_reply_fields, locate_request_fields, locate_statuses, reply_fields, request_fields, target_in, Adds, CanAddress, PutsFields, Wrote};
+ghost use Rattle.giop_core.specs.declared.header.MessageKind.TheVariants as kind;
+ghost use Rattle.giop_core.specs.Content as content;
+ghost use Rattle.giop_core.specs.Statuses.{locate_status_number, locate_status_of};
+ghost use Rattle.giop_core.specs.Texts.{locate_status_text};
+
+use crate::error::{MessageFault, WriteError};
+use crate::header::{MessageKind, Version};
+use crate::message::{BEHIND_HEADER, Body, body_at};
+use crate::target_address::{Target, check_target, put_target_in, read_target};
+use crate::writing::{begin, finish};
+use cdr_core::{Cursor, Order, Val, Writer};
+use std::alloc::AllocError;
+use std::fmt;
+
+/// A LocateRequest (CORBA 3.3 Part 2, 9.4.5): where is the object?
+#[derive(Debug, Drop)]
+pub struct LocateRequest<'m> {
+    pub request_id: u32,
+    pub target: Target<'m>,
+}
+
+/// A LocateReply (CORBA 3.3 Part 2, 9.4.6).
+#[derive(Clone, Copy, Debug, Drop)]
+pub struct LocateReply<'m> {
+    pub request_id: u32,
+    /// A number that `LocateStatus` names.
+    pub status: u32,
+    pub body: Body<'m>,
+}
+
+/// The status of a LocateReply (CORBA 3.3 Part 2, 9.4.6).
+#[derive(Clone, Copy, Debug, PartialEq, Eq)]
+pub enum LocateStatus {
+    /// The server does not know the object.
+    UnknownObject,
+    /// The server itself serves the object.
+    ObjectHere,
+    /// The body holds a reference to ask in place of this one.
+    ObjectForward,
+    /// The same for good. Only 1.2 has it.
+    ObjectForwardPerm,
+    /// The body holds a system exception. Only 1.2 has it.
+    SystemException,
+    /// The body holds the addressing that the server wants. Only 1.2 has it.
+    NeedsAddressingMode,
+}
+
+impl LocateStatus {
+    /// The status of a number, or None where no version has it.
+    pub fn from_number(number: u32) -> Option<LocateStatus>
+        ensures { result ≡ locate_status_of number }
+    {
+        match number {
+            0 => Some(LocateStatus::UnknownObject),
+            1 => Some(LocateStatus::ObjectHere),
+            2 => Some(LocateStatus::ObjectForward),
+            3 => Some(LocateStatus::ObjectForwardPerm),
+            4 => Some(LocateStatus::SystemException),
+            5 => Some(LocateStatus::NeedsAddressingMode),
+            _ => None,
+        }
+    }
+
+    /// The number of a status, as a message has it.
+    pub fn number(self) -> u32
+        ensures numbered { result ≡ locate_status_number self }
+        ensures again { locate_status_of result ≡ Some self }
+    {
+        match self {
+            LocateStatus::UnknownObject => 0,
+            LocateStatus::ObjectHere => 1,
+            LocateStatus::ObjectForward => 2,
+            LocateStatus::ObjectForwardPerm => 3,
+            LocateStatus::SystemException => 4,
+            LocateStatus::NeedsAddressingMode => 5,
+        }
+    }
+}
+
+/// The name that the standard gives it, as `UNKNOWN_OBJECT`.
+impl fmt::Display for LocateStatus {
+    ghost output = { λ status. Some (locate_status_text status) };
+
+    fn fmt<W: fmt::Write>(&self, f: &mut fmt::Formatter<W>) -> fmt::Result {
+        match self {
+            LocateStatus::UnknownObject => f.write_str("UNKNOWN_OBJECT"),
+            LocateStatus::ObjectHere => f.write_str("OBJECT_HERE"),
+            LocateStatus::ObjectForward => f.write_str("OBJECT_FORWARD"),
+            LocateStatus::ObjectForwardPerm => f.write_str("OBJECT_FORWARD_PERM"),
+            LocateStatus::SystemException => f.write_str("LOC_SYSTEM_EXCEPTION"),
+            LocateStatus::NeedsAddressingMode => f.write_str("LOC_NEEDS_ADDRESSING_MODE"),
+        }
+    }
+}
+
+impl Version {
+    /// Whether a LocateReply of this version can have the status of this number: 0 to 2 in 1.0 and 1.1, 0 to 5 in 1.2.
+    pub fn has_locate_status(self, status: u32) -> bool
+        ensures { IsTrue result ↔ status < locate_statuses self }
+    {
+        match self {
+            Version::V10 | Version::V11 => status < 3,
+            Version::V12 => status < 6,
+        }
+    }
+}
+
+#[tactic(auto, unfolding(crate::specs::Messages::message_of, crate::specs::Rows::row, crate::specs::Content::content))]
+fn read_locate_request_10(order: Order, octets: &[u8]) -> Result<LocateRequest<'_>, MessageFault>
+    ensures { Shows locate_request_of result (message_of V10 kind.LocateRequest order octets.now) }
+{
+    let mut cursor = Cursor::new(octets, order, BEHIND_HEADER);
+    let request_id = cursor.ulong()?;
+    let key = cursor.octets()?;
+    Ok(LocateRequest {
+        request_id,
+        target: Target::Key(key),
+    })
+}
+
+#[tactic(auto, unfolding(crate::specs::Messages::message_of, crate::specs::Rows::row, crate::specs::Content::content), using(crate::proofs::Again::addressed_again))]
+fn read_locate_request_12(order: Order, octets: &[u8]) -> Result<LocateRequest<'_>, MessageFault>
+    ensures { Shows locate_request_of result (message_of V12 kind.LocateRequest order octets.now) }
+{
+    let mut cursor = Cursor::new(octets, order, BEHIND_HEADER);
+    let request_id = cursor.ulong()?;
+    let target = read_target(&mut cursor)?;
+    Ok(LocateRequest { request_id, target })
+}
+
+#[tactic(auto, using(crate::proofs::Shared::locate_11))]
+pub(crate) fn read_locate_request(
+    version: Version,
+    order: Order,
+    octets: &[u8],
+) -> Result<LocateRequest<'_>, MessageFault>
+    ensures { Shows locate_request_of result (message_of version kind.LocateRequest order octets.now) }
+{
+    match version {
+        Version::V10 | Version::V11 => read_locate_request_10(order, octets),
+        Version::V12 => read_locate_request_12(order, octets),
+    }
+}
+
+/// Appends the fields of a LocateRequest.
+fn put_locate_request(
+    version: Version,
+    writer: &Writer,
+    request_id: u32,
+    target: &Target,
+    out: &mut Vec<u8>,
+) -> Result<(), AllocError>
+    requires start { writer.now.start ≤ length out.old.items }
+    requires can { CanAddress version (addressed_by target.now) }
+    requires writable { IsWritable (target_in version (addressed_by target.now)) }
+    ensures { PutsFields writer.now (locate_request_fields version request_id (addressed_by target.now)) result out.old.items out.new.items }
+{
+    writer.ulong(request_id, out)?;
+    put_target_in(version, writer, target, out)?;
+    Ok(())
+}
+
+/// Appends a LocateRequest; where that fails, what there was still stands in front.
+fn append_locate_request(
+    version: Version,
+    order: Order,
+    request_id: u32,
+    target: &Target,
+    out: &mut Vec<u8>,
+) -> Result<(), WriteError>
+    requires { CanAddress version (addressed_by target.now) }
+    ensures { Adds version kind.LocateRequest order (behind_header version kind.LocateRequest order (locate_request_fields version request_id (addressed_by target.now)) no_values) result out.old.items out.new.items }
+{
+    check_target(version, target)?;
+    let start = out.len();
+    let writer = begin(order, out)?;
+    put_locate_request(version, &writer, request_id, target, out)?;
+    finish(
+        version,
+        MessageKind::LocateRequest,
+        start,
+        order,
+        &writer,
+        &[],
+        out,
+    )
+}
+
+/// Appends a LocateRequest (CORBA 3.3 Part 2, 9.4.5).
+///
+/// In 1.0 and 1.1 the target is an object key. On a refusal `out` is as it was.
+pub fn write_locate_request(
+    version: Version,
+    order: Order,
+    request_id: u32,
+    target: &Target,
+    out: &mut Vec<u8>,
+) -> Result<(), WriteError>
+    requires { CanAddress version (addressed_by target.now) }
+    ensures { Wrote version kind.LocateRequest order (behind_header version kind.LocateRequest order (locate_request_fields version request_id (addressed_by target.now)) no_values) result out.old.items out.new.items }
+{
+    let start = out.len();
+    let result = append_locate_request(version, order, request_id, target, out);
+    if result.is_err() {
+        out.truncate(start);
+    }
+    result
+}
+
+#[tactic(auto, unfolding(crate::specs::Messages::message_of, crate::specs::Rows::row, crate::specs::Content::content))]
+fn read_locate_reply_10(order: Order, octets: &[u8]) -> Result<LocateReply<'_>, MessageFault>
+    ensures { Shows locate_reply_of result (message_of V10 kind.LocateReply order octets.now) }
+{
+    let mut cursor = Cursor::new(octets, order, BEHIND_HEADER);
+    let request_id = cursor.ulong()?;
+    let status = cursor.ordinal(3)?;
+    Ok(LocateReply {
+        request_id,
+        status,
+        body: body_at(&cursor, order),
+    })
+}
+
+#[tactic(auto, unfolding(crate::specs::Messages::message_of, crate::specs::Rows::row, crate::specs::Content::content))]
+fn read_locate_reply_12(order: Order, octets: &[u8]) -> Result<LocateReply<'_>, MessageFault>
+    ensures { Shows locate_reply_of result (message_of V12 kind.LocateReply order octets.now) }
+{
+    let mut cursor = Cursor::new(octets, order, BEHIND_HEADER);
+    let request_id = cursor.ulong()?;
+    let status = cursor.ordinal(6)?;
+    Ok(LocateReply {
+        request_id,
+        status,
+        body: body_at(&cursor, order),
+    })
+}
+
+#[tactic(auto, using(crate::proofs::Shared::locate_reply_11))]
+pub(crate) fn read_locate_reply(
+    version: Version,
+    order: Order,
+    octets: &[u8],
+) -> Result<LocateReply<'_>, MessageFault>
+    ensures { Shows locate_reply_of result (message_of version kind.LocateReply order octets.now) }
+{
+    match version {
+        Version::V10 | Version::V11 => read_locate_reply_10(order, octets),
+        Version::V12 => read_locate_reply_12(order, octets),
+    }
+}
+
+/// Appends the fields of a LocateReply.
+fn put_locate_reply(
+    writer: &Writer,
+    request_id: u32,
+    status: u32,
+    out: &mut Vec<u8>,
+) -> Result<(), AllocError>
+    requires { writer.now.start ≤ length out.old.items }
+    ensures { PutsFields writer.now (locate_reply_fields request_id status) result out.old.items out.new.items }
+{
+    writer.ulong(request_id, out)?;
+    writer.ulong(status, out)?;
+    Ok(())
+}
+
+/// Appends a LocateReply; where that fails, what there was still stands in front.
+fn append_locate_reply(
+    version: Version,
+    order: Order,
+    request_id: u32,
+    status: u32,
+    body: &[Val],
+    out: &mut Vec<u8>,
+) -> Result<(), WriteError>
+    requires { AreWritable (values_of body.now) }
+    ensures { Adds version kind.LocateReply order (behind_header version kind.LocateReply order (locate_reply_fields request_id status) (values_of body.now)) result out.old.items out.new.items }
+{
+    let start = out.len();
+    let writer = begin(order, out)?;
+    put_locate_reply(&writer, request_id, status, out)?;
+    finish(
+        version,
+        MessageKind::LocateReply,
+        start,
+        order,
+        &writer,
+        body,
+        out,
+    )
+}
+
+/// Appends a LocateReply (CORBA 3.3 Part 2, 9.4.6).
+///
+/// The status is one that the version has. On a refusal `out` is as it was.
+pub fn write_locate_reply(
+    version: Version,
+    order: Order,
+    request_id: u32,
+    status: u32,
+    body: &[Val],
+    out: &mut Vec<u8>,
+) -> Result<(), WriteError>
+    requires status { status < locate_statuses version }
+    requires writable { AreWritable (values_of body.now) }
+    ensures { Wrote version kind.LocateReply order (behind_header version kind.LocateReply order (locate_reply_fields request_id status) (values_of body.now)) result out.old.items out.new.items }
+{
+    let start = out.len();
+    let result = append_locate_reply(version, order, request_id, status, body, out);
+    if result.is_err() {
+        out.truncate(start);
+    }
+    result
+}

@@ -1,0 +1,413 @@
+//! Request (CORBA 3.3 Part 2, 9.4.2).
+
+ghost use Rattle.std.specs.Prelude.{◌↔◌, Some, IsTrue, ◌≡◌, IfOk, ◌<◌, length, ◌≤◌, [], map, MatchResult};
+ghost use Rattle.giop_core.specs.declared.header.Version.TheVariants.{V10, V11, V12};
+ghost use Rattle.giop_core.specs.Calls.{Shows, Reads};
+ghost use Rattle.giop_core.specs.Content.{wish_by, wish_if};
+ghost use Rattle.giop_core.specs.Lent.{addressed_by, content_of, three_value};
+ghost use Rattle.giop_core.specs.Messages.{message_of};
+ghost use Rattle.cdr_core.specs.Private.{Keeps};
+ghost use Rattle.giop_core.specs.Rows.{contexts, reserved, target};
+ghost use Rattle.cdr_core.specs.Writing.{Appends, AreWritable};
+ghost use Rattle.cdr_core.specs.Spelling.{IsClean};
+ghost use Rattle.cdr_core.specs.Value.{values};
+ghost use Rattle.cdr_core.specs.View.{values_of};
+ghost use Rattle.giop_core.specs.Items.{item_at};
+ghost use Rattle.giop_core.specs.Written.{behind_header, flags_of, is_expected, request_fields, Adds, CanAddress, CanAsk, PutsFields, Wrote, zeros};
+ghost use Rattle.giop_core.specs.declared.header.MessageKind.TheVariants as kind;
+ghost use Rattle.cdr_core.specs.Value as value;
+ghost use Rattle.giop_core.specs.Texts.{wish_text};
+
+use crate::error::{MessageFault, WriteError};
+use crate::header::{MessageKind, Version};
+use crate::message::{BEHIND_HEADER, Body, Content, Message, body_at};
+use crate::service_context::{Contexts, check_contexts, put_contexts, read_contexts};
+use crate::target_address::{Target, check_target, put_key, put_target, read_target};
+use crate::writing::{begin, check_text, finish};
+use cdr_core::{Cursor, Fault, Order, Val, Writer};
+use std::alloc::AllocError;
+use std::fmt;
+
+/// A Request (CORBA 3.3 Part 2, 9.4.2).
+#[derive(Debug, Drop)]
+pub struct Request<'m> {
+    pub request_id: u32,
+    pub reply: ReplyWish,
+    pub target: Target<'m>,
+    pub operation: &'m [u8],
+    pub contexts: Contexts<'m>,
+    pub body: Body<'m>,
+}
+
+/// Which reply a request wishes for (CORBA 3.3 Part 2, 9.4.2).
+#[derive(Clone, Copy, Debug, PartialEq, Eq)]
+pub enum ReplyWish {
+    /// No reply.
+    None,
+    /// A reply whose body is empty unless it is an exception.
+    Empty,
+    /// A reply with its body.
+    Full,
+}
+
+/// `none`, `empty` or `full`.
+impl fmt::Display for ReplyWish {
+    ghost output = { λ wish. Some (wish_text wish) };
+
+    fn fmt<W: fmt::Write>(&self, f: &mut fmt::Formatter<W>) -> fmt::Result {
+        match self {
+            ReplyWish::None => f.write_str("none"),
+            ReplyWish::Empty => f.write_str("empty"),
+            ReplyWish::Full => f.write_str("full"),
+        }
+    }
+}
+
+impl Version {
+    /// Whether a request of this version can ask for such a reply. 1.0 and 1.1 can't ask for an empty
+    /// one.
+    pub fn can_ask(self, wish: ReplyWish) -> bool
+        ensures { IsTrue result ↔ CanAsk self wish }
+    {
+        match self {
+            Version::V10 | Version::V11 => !matches!(wish, ReplyWish::Empty),
+            Version::V12 => true,
+        }
+    }
+}
+
+/// The wish that response_flags express.
+fn wish_by(flags: u8) -> ReplyWish
+    ensures { result ≡ wish_by flags }
+{
+    if flags % 2 == 0 {
+        return ReplyWish::None;
+    }
+    if (flags / 2) % 2 == 0 {
+        return ReplyWish::Empty;
+    }
+    ReplyWish::Full
+}
+
+/// The wish for a response that is expected or not.
+fn wish_if(expected: bool) -> ReplyWish
+    ensures { result ≡ wish_if expected }
+{
+    if expected {
+        ReplyWish::Full
+    } else {
+        ReplyWish::None
+    }
+}
+
+/// Three octets that mean nothing.
+#[tactic(auto, using(crate::proofs::Steps::three_reads, crate::proofs::Steps::three_stop_1, crate::proofs::Steps::three_stop_2, crate::proofs::Steps::three_stop_3))]
+fn read_reserved(cursor: &mut Cursor) -> Result<(u8, u8, u8), Fault>
+    ensures { Reads three_value result reserved cursor.old cursor.new }
+{
+    let a = cursor.octet()?;
+    let b = cursor.octet()?;
+    let c = cursor.octet()?;
+    Ok((a, b, c))
+}
+
+/// A Request of 1.0. Each reader of a Request or a Reply makes the whole message in its place, since to
+/// move one costs as much as to read it.
+#[tactic(auto, unfolding(crate::specs::Messages::message_of, crate::specs::Rows::row, crate::specs::Content::content), using(crate::proofs::Again::addressed_again, crate::proofs::Again::items_again))]
+fn read_request_10(order: Order, octets: &[u8]) -> Result<Message<'_>, MessageFault>
+    ensures shows { Shows (λ m. content_of m.content) result (message_of V10 kind.Request order octets.now) }
+    ensures same { IfOk result (λ m. (m.version ≡ V10) × (m.order ≡ order)) }
+{
+    let mut cursor = Cursor::new(octets, order, BEHIND_HEADER);
+    let contexts = read_contexts(&mut cursor)?;
+    let request_id = cursor.ulong()?;
+    let expected = cursor.boolean()?;
+    let key = cursor.octets()?;
+    let operation = cursor.string()?;
+    let _principal = cursor.octets()?;
+    Ok(Message {
+        version: Version::V10,
+        order,
+        content: Content::Request(Request {
+            request_id,
+            reply: wish_if(expected),
+            target: Target::Key(key),
+            operation,
+            contexts,
+            body: body_at(&cursor, order),
+        }),
+    })
+}
+
+#[tactic(auto, unfolding(crate::specs::Messages::message_of, crate::specs::Rows::row, crate::specs::Content::content), using(crate::proofs::Again::addressed_again, crate::proofs::Again::items_again))]
+fn read_request_11(order: Order, octets: &[u8]) -> Result<Message<'_>, MessageFault>
+    ensures shows { Shows (λ m. content_of m.content) result (message_of V11 kind.Request order octets.now) }
+    ensures same { IfOk result (λ m. (m.version ≡ V11) × (m.order ≡ order)) }
+{
+    let mut cursor = Cursor::new(octets, order, BEHIND_HEADER);
+    let contexts = read_contexts(&mut cursor)?;
+    let request_id = cursor.ulong()?;
+    let expected = cursor.boolean()?;
+    let _reserved = read_reserved(&mut cursor)?;
+    let key = cursor.octets()?;
+    let operation = cursor.string()?;
+    let _principal = cursor.octets()?;
+    Ok(Message {
+        version: Version::V11,
+        order,
+        content: Content::Request(Request {
+            request_id,
+            reply: wish_if(expected),
+            target: Target::Key(key),
+            operation,
+            contexts,
+            body: body_at(&cursor, order),
+        }),
+    })
+}
+
+#[tactic(auto, unfolding(crate::specs::Messages::message_of, crate::specs::Rows::row, crate::specs::Content::content), using(crate::proofs::Again::addressed_again, crate::proofs::Again::items_again))]
+fn read_request_12(order: Order, octets: &[u8]) -> Result<Message<'_>, MessageFault>
+    ensures shows { Shows (λ m. content_of m.content) result (message_of V12 kind.Request order octets.now) }
+    ensures same { IfOk result (λ m. (m.version ≡ V12) × (m.order ≡ order)) }
+{
+    let mut cursor = Cursor::new(octets, order, BEHIND_HEADER);
+    let request_id = cursor.ulong()?;
+    let flags = cursor.octet()?;
+    let _reserved = read_reserved(&mut cursor)?; // behind the flags of 1.2
+    let target = read_target(&mut cursor)?;
+    let operation = cursor.string()?;
+    let contexts = read_contexts(&mut cursor)?;
+    cursor.align(8); // to the body of a Request
+    Ok(Message {
+        version: Version::V12,
+        order,
+        content: Content::Request(Request {
+            request_id,
+            reply: wish_by(flags),
+            target,
+            operation,
+            contexts,
+            body: body_at(&cursor, order),
+        }),
+    })
+}
+
+pub(crate) fn read_request(
+    version: Version,
+    order: Order,
+    octets: &[u8],
+) -> Result<Message<'_>, MessageFault>
+    ensures shows { Shows (λ m. content_of m.content) result (message_of version kind.Request order octets.now) }
+    ensures same { IfOk result (λ m. (m.version ≡ version) × (m.order ≡ order)) }
+{
+    match version {
+        Version::V10 => read_request_10(order, octets),
+        Version::V11 => read_request_11(order, octets),
+        Version::V12 => read_request_12(order, octets),
+    }
+}
+
+/// Whether a response is expected, as 1.0 and 1.1 tell it.
+fn is_expected(wish: ReplyWish) -> bool
+    ensures { result ≡ is_expected wish }
+{
+    match wish {
+        ReplyWish::None => false,
+        ReplyWish::Empty | ReplyWish::Full => true,
+    }
+}
+
+/// The response_flags that express a wish.
+fn flags_of(wish: ReplyWish) -> u8
+    ensures { result ≡ flags_of wish }
+{
+    match wish {
+        ReplyWish::None => 0,
+        ReplyWish::Empty => 1,
+        ReplyWish::Full => 3,
+    }
+}
+
+/// What is written for an octet that means nothing.
+const RESERVED: u8 = 0;
+
+/// Appends three octets that mean nothing.
+fn put_reserved(writer: &Writer, out: &mut Vec<u8>) -> Result<(), AllocError>
+    requires { writer.now.start ≤ length out.old.items }
+    ensures { MatchResult result (λ _. Appends writer.now zeros out.old.items out.new.items) (λ _. Keeps out.old.items out.new.items) }
+{
+    writer.octet(RESERVED, out)?;
+    writer.octet(RESERVED, out)?;
+    writer.octet(RESERVED, out)
+}
+
+/// Appends the principal of a Request of 1.0 and 1.1, which is empty.
+fn put_principal(writer: &Writer, out: &mut Vec<u8>) -> Result<(), AllocError>
+    requires { writer.now.start ≤ length out.old.items }
+    ensures { MatchResult result (λ _. Appends writer.now (value.octets []) out.old.items out.new.items) (λ _. Keeps out.old.items out.new.items) }
+{
+    writer.octets(&[], out)
+}
+
+/// Appends the fields of a Request of 1.0.
+fn put_request_10(
+    writer: &Writer,
+    request_id: u32,
+    wish: ReplyWish,
+    target: &Target,
+    operation: &[u8],
+    contexts: &[(u32, &[u8])],
+    out: &mut Vec<u8>,
+) -> Result<(), AllocError>
+    requires start { writer.now.start ≤ length out.old.items }
+    requires can { CanAddress V10 (addressed_by target.now) }
+    requires writable { AreWritable (values (request_fields V10 request_id wish (addressed_by target.now) operation.now (map item_at contexts.now))) }
+    ensures { PutsFields writer.now (request_fields V10 request_id wish (addressed_by target.now) operation.now (map item_at contexts.now)) result out.old.items out.new.items }
+{
+    put_contexts(writer, contexts, out)?;
+    writer.ulong(request_id, out)?;
+    writer.boolean(is_expected(wish), out)?;
+    put_key(writer, target, out)?;
+    writer.string(operation, out)?;
+    put_principal(writer, out)?;
+    Ok(())
+}
+
+/// Appends the fields of a Request of 1.1.
+fn put_request_11(
+    writer: &Writer,
+    request_id: u32,
+    wish: ReplyWish,
+    target: &Target,
+    operation: &[u8],
+    contexts: &[(u32, &[u8])],
+    out: &mut Vec<u8>,
+) -> Result<(), AllocError>
+    requires start { writer.now.start ≤ length out.old.items }
+    requires can { CanAddress V11 (addressed_by target.now) }
+    requires writable { AreWritable (values (request_fields V11 request_id wish (addressed_by target.now) operation.now (map item_at contexts.now))) }
+    ensures { PutsFields writer.now (request_fields V11 request_id wish (addressed_by target.now) operation.now (map item_at contexts.now)) result out.old.items out.new.items }
+{
+    put_contexts(writer, contexts, out)?;
+    writer.ulong(request_id, out)?;
+    writer.boolean(is_expected(wish), out)?;
+    put_reserved(writer, out)?;
+    put_key(writer, target, out)?;
+    writer.string(operation, out)?;
+    put_principal(writer, out)?;
+    Ok(())
+}
+
+/// Appends the fields of a Request of 1.2.
+fn put_request_12(
+    writer: &Writer,
+    request_id: u32,
+    wish: ReplyWish,
+    target: &Target,
+    operation: &[u8],
+    contexts: &[(u32, &[u8])],
+    out: &mut Vec<u8>,
+) -> Result<(), AllocError>
+    requires start { writer.now.start ≤ length out.old.items }
+    requires writable { AreWritable (values (request_fields V12 request_id wish (addressed_by target.now) operation.now (map item_at contexts.now))) }
+    ensures { PutsFields writer.now (request_fields V12 request_id wish (addressed_by target.now) operation.now (map item_at contexts.now)) result out.old.items out.new.items }
+{
+    writer.ulong(request_id, out)?;
+    writer.octet(flags_of(wish), out)?;
+    put_reserved(writer, out)?;
+    put_target(writer, target, out)?;
+    writer.string(operation, out)?;
+    put_contexts(writer, contexts, out)?;
+    Ok(())
+}
+
+/// Appends the fields of a Request.
+fn put_request(
+    version: Version,
+    writer: &Writer,
+    request_id: u32,
+    wish: ReplyWish,
+    target: &Target,
+    operation: &[u8],
+    contexts: &[(u32, &[u8])],
+    out: &mut Vec<u8>,
+) -> Result<(), AllocError>
+    requires start { writer.now.start ≤ length out.old.items }
+    requires can { CanAddress version (addressed_by target.now) }
+    requires writable { AreWritable (values (request_fields version request_id wish (addressed_by target.now) operation.now (map item_at contexts.now))) }
+    ensures { PutsFields writer.now (request_fields version request_id wish (addressed_by target.now) operation.now (map item_at contexts.now)) result out.old.items out.new.items }
+{
+    match version {
+        Version::V10 => put_request_10(writer, request_id, wish, target, operation, contexts, out),
+        Version::V11 => put_request_11(writer, request_id, wish, target, operation, contexts, out),
+        Version::V12 => put_request_12(writer, request_id, wish, target, operation, contexts, out),
+    }
+}
+
+/// Appends a Request; where that fails, what there was still stands in front.
+fn append_request(
+    version: Version,
+    order: Order,
+    request_id: u32,
+    wish: ReplyWish,
+    target: &Target,
+    operation: &[u8],
+    contexts: &[(u32, &[u8])],
+    body: &[Val],
+    out: &mut Vec<u8>,
+) -> Result<(), WriteError>
+    requires can { CanAddress version (addressed_by target.now) }
+    requires clean { IsClean operation.now }
+    requires writable { AreWritable (values_of body.now) }
+    ensures { Adds version kind.Request order (behind_header version kind.Request order (request_fields version request_id wish (addressed_by target.now) operation.now (map item_at contexts.now)) (values_of body.now)) result out.old.items out.new.items }
+{
+    check_target(version, target)?;
+    check_text(operation)?;
+    check_contexts(contexts)?;
+    let start = out.len();
+    let writer = begin(order, out)?;
+    put_request(
+        version, &writer, request_id, wish, target, operation, contexts, out,
+    )?;
+    finish(
+        version,
+        MessageKind::Request,
+        start,
+        order,
+        &writer,
+        body,
+        out,
+    )
+}
+
+/// Appends a Request (CORBA 3.3 Part 2, 9.4.2), whose principal is empty.
+///
+/// The operation has no NUL. In 1.0 and 1.1 the target is an object key, and no empty reply can be
+/// asked for. On a refusal `out` is as it was.
+pub fn write_request(
+    version: Version,
+    order: Order,
+    request_id: u32,
+    wish: ReplyWish,
+    target: &Target,
+    operation: &[u8],
+    contexts: &[(u32, &[u8])],
+    body: &[Val],
+    out: &mut Vec<u8>,
+) -> Result<(), WriteError>
+    requires target { CanAddress version (addressed_by target.now) }
+    requires wish { CanAsk version wish }
+    requires clean { IsClean operation.now }
+    requires writable { AreWritable (values_of body.now) }
+    ensures { Wrote version kind.Request order (behind_header version kind.Request order (request_fields version request_id wish (addressed_by target.now) operation.now (map item_at contexts.now)) (values_of body.now)) result out.old.items out.new.items }
+{
+    let start = out.len();
+    let result = append_request(
+        version, order, request_id, wish, target, operation, contexts, body, out,
+    );
+    if result.is_err() {
+        out.truncate(start);
+    }
+    result
+}
