@@ -4,6 +4,7 @@
 - docs/PROMISES.md names each must-fail edit of each crate, and no other: in the last column of the tables
   under the crate's heading.
 - Each block of Rust that README.md and docs/GUIDE.md show stands in a file of crates/uses/src.
+- docs/ARCHITECTURE.md names each crate, with the libraries that it stands on.
 - Each relative link of a document, and each path such as `crates/NAME/..` that it gives between backquotes,
   leads to something that is there.
 
@@ -17,6 +18,8 @@ ROOT = os.path.dirname(os.path.dirname(os.path.abspath(__file__)))
 PROMISES = "docs/PROMISES.md"
 QUOTING = ["README.md", "docs/GUIDE.md"]
 USES = "crates/uses/src"
+ARCHITECTURE = "docs/ARCHITECTURE.md"
+FOUR = "`cdr_core`, `ior_core`, `giop_core`, `giop_frames`"
 LAST_COLUMN = "Edits that the prover refuses"
 
 
@@ -77,6 +80,19 @@ def quotes():
             yield None if is_there else f"{name}: not in {USES}: {block.split(chr(10))[0]}"
 
 
+def crates():
+    """A result for each crate of crates.txt: whether its row names it, and each library or 'the four libraries'."""
+    rows = re.findall(r"^\| `(\w+)` \|.*\| (.*?) \|$", text_of(ARCHITECTURE), re.M)
+    for line in text_of("crates.txt").split("\n"):
+        crate, _, libraries = line.split("#")[0].partition(":")
+        if not crate.strip():
+            continue
+        cells = [cell.replace("the four libraries", FOUR) for name, cell in rows if name == crate.split()[0]]
+        wanted = set(libraries.split())
+        is_named = bool(cells) and set(re.findall(r"`(\w+)`", cells[0])) == wanted
+        yield None if is_named else f"{ARCHITECTURE}: no row of {crate} with {' '.join(sorted(wanted))}"
+
+
 def documents():
     for folder, folders, names in os.walk(ROOT):
         folders[:] = [f for f in folders if f not in ("out", ".git")]
@@ -100,7 +116,7 @@ def links():
 
 def main():
     passed = failed = 0
-    for part in (edits, quotes, links):
+    for part in (edits, quotes, crates, links):
         results = list(part())
         if not results:
             results = [f"nothing was checked of {part.__name__}"]

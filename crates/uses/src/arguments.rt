@@ -4,8 +4,8 @@ ghost use Rattle.std.specs.Prelude.{IfOk};
 ghost use Rattle.cdr_core.specs.Fitting.{AreValid};
 ghost use Rattle.cdr_core.specs.View.{forms_of};
 
-use cdr_core::{CdrError, Ty, Val, read_list};
-use giop_core::{Body, Part};
+use cdr_core::{CdrError, Ty, Val};
+use giop_core::Content;
 use giop_frames::{Assembler, Limits, StreamFault};
 use std::alloc::{AllocError, Global};
 use thiserror::Error;
@@ -19,6 +19,9 @@ pub enum DecodeError {
     Body(#[from] CdrError),
 }
 
+/// The places at which a body can be read are below this number.
+const PLACES: u64 = 1 << 32;
+
 /// The types of the arguments of
 ///
 /// ```idl
@@ -31,16 +34,6 @@ pub fn publish_types(alloc: Global) -> Result<Vec<Ty>, AllocError>
     let quote = Ty::Struct(vec![in alloc; Ty::Str(u32::MAX), Ty::LongLong]?);
     let quotes = Ty::Seq(u32::MAX, Box::new(alloc, quote)?);
     Ok(vec![in alloc; quotes, Ty::Boolean]?)
-}
-
-fn read_body(alloc: Global, body: &Body, types: &[Ty]) -> Result<Vec<Val>, CdrError>
-    requires { AreValid (forms_of types.now) }
-{
-    if body.at > 0xffff_ffff {
-        return Ok(Vec::new(alloc));
-    }
-    let (values, _) = read_list(alloc, types, body.order, body.at, body.octets)?;
-    Ok(values)
 }
 
 /// The arguments of the first request in a stream, read by their types. None where there is no request.
@@ -59,8 +52,10 @@ pub fn first_arguments(
         let Some(message) = assembler.message() else {
             break;
         };
-        if let Part::Request(request) = message.part {
-            return Ok(Some(read_body(alloc, &request.body, types)?));
+        if let Content::Request(request) = message.content
+            && request.body.at < PLACES
+        {
+            return Ok(Some(request.body.read(alloc, types)?));
         }
     }
     Ok(None)

@@ -3,7 +3,7 @@
 ghost use Rattle.std.specs.Prelude.{◌≡◌, length, IfOk};
 ghost use Rattle.giop_frames.specs.Streams.{messages_of};
 
-use giop_core::{Message, Part};
+use giop_core::{Content, Message};
 use giop_frames::{Assembler, Limits, StreamFault};
 use std::alloc::{AllocError, Global};
 
@@ -17,7 +17,7 @@ pub struct Capture {
 
 /// Notes the operation of a message, if it is a request.
 fn note(alloc: Global, message: &Message, operations: &mut Vec<Vec<u8>>) -> Result<(), AllocError> {
-    if let Part::Request(request) = &message.part {
+    if let Content::Request(request) = &message.content {
         operations.push(Vec::from_slice(alloc, request.operation)?)?;
     }
     Ok(())

@@ -1,10 +1,7 @@
 //! Take a reference apart: where its object is reached.
 
-use ior_core::{IiopProfile, IorError, parse_text, read_iiop};
+use ior_core::{IiopProfile, IorError, TAG_INTERNET_IOP, parse_text, read_iiop};
 use std::alloc::Global;
-
-/// The tag of an IIOP profile.
-const TAG_INTERNET_IOP: u32 = 0;
 
 /// The first IIOP profile of a reference that is given as text, `IOR:` and hexadecimal digits: its host,
 /// its port and its object key. None where the reference has no such profile, as the nil reference.

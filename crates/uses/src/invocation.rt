@@ -4,12 +4,9 @@ ghost use Rattle.std.specs.Prelude.{◌≡◌, ◌≤◌, ◌%◌};
 ghost use Rattle.cdr_core.specs.Spelling.{IsClean};
 
 use cdr_core::{Order, Val};
-use giop_core::{ReplyWish, Target, Version, WriteError, write_ft, write_request};
+use giop_core::{FT_REQUEST, ReplyWish, Target, Version, WriteError, write_ft, write_request};
 use giop_frames::{fragments, is_cuttable};
 use std::alloc::{AllocError, Global};
-
-/// The id of the context FT_REQUEST.
-const FT_REQUEST: u32 = 13;
 
 /// What names a request over all its transmissions, and until when it may be sent again, in units of
 /// 100 ns since 15 October 1582. The client's id has no NUL.

@@ -2,12 +2,7 @@
 
 ghost use Rattle.std.specs.Prelude.{◌≡◌, ◌⊎◌, IfOk, IsTrue, OnErr};
 
-use giop_core::{Message, Part, WriteError, write_locate_reply};
-
-/// The statuses of a LocateReply (CORBA 3.3 Part 2, 9.4.6).
-const UNKNOWN_OBJECT: u32 = 0;
-
-const OBJECT_HERE: u32 = 1;
+use giop_core::{Content, LocateStatus, Message, WriteError, write_locate_reply};
 
 /// Appends the LocateReply to a LocateRequest: whether the object of its target is the one of this key.
 /// False where the message is no LocateRequest; nothing is written then.
@@ -19,19 +14,19 @@ pub fn answer_locate(
     ensures other { IfOk result (λ is_written. IsTrue is_written ⊎ (out.new.items ≡ out.old.items)) }
     ensures err { OnErr result (out.new.items ≡ out.old.items) }
 {
-    let Part::LocateRequest(request_id, target) = &message.part else {
+    let Content::LocateRequest(request) = &message.content else {
         return Ok(false);
     };
-    let status = if target.object_key() == Some(object_key) {
-        OBJECT_HERE
+    let status = if request.target.object_key() == Some(object_key) {
+        LocateStatus::ObjectHere
     } else {
-        UNKNOWN_OBJECT
+        LocateStatus::UnknownObject
     };
     write_locate_reply(
         message.version,
         message.order,
-        *request_id,
-        status,
+        request.request_id,
+        status.number(),
         &[],
         out,
     )?;
