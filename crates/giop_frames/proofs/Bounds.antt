@@ -8,15 +8,20 @@ use Rattle.giop_core.specs.Headers.{header_of}
 use Rattle.giop_frames.specs.declared.fault.StreamFault.{StreamFault}
 use Rattle.giop_frames.specs.declared.fault.StreamFault.TheVariants.{Header as BadHeader, TwiceStarted, TooManyPartial, TooLarge, MixedOrder, UnalignedFragment, StrayFragment}
 use Rattle.giop_frames.specs.declared.limits.Limits.{Limits}
-use Rattle.giop_frames.specs.declared.role.Role.{Role}
-use Rattle.giop_frames.specs.declared.role.Role.TheVariants.{Opens, Carries, Ends, Drops, Uncut, Apart}
+use Rattle.giop_frames.specs.declared.reassembly.Role.{Role}
+use Rattle.giop_frames.specs.declared.reassembly.Role.TheVariants.{Opens, Carries, Ends, Drops, Uncut, Apart}
 use Rattle.giop_frames.specs.Frames.{Frame, Waiting, Whole, Refused, admitted, frame_size, is_old_fragment, is_unaligned, judged_header, sight, under_header}
-use Rattle.giop_frames.specs.Fragments.{Partial, Verdict, Bad, Quiet, Done, begun_by, content_of, continued_by, data_of, has_id, id_of, is_same_order, joined, judged_as, judged_by, judged_fragment, judged_whole, on_content, role_of}
-use Rattle.giop_frames.specs.Parts.{Piece, carried, part_in, parts_after, parts_as, without}
-use Rattle.giop_frames.specs.Code.{AreShort, AreWithin, IsError, framed}
+use Rattle.giop_frames.specs.Fragments.{Partial, Verdict, Bad, Quiet, Done, opened_by, content_of, continued_by, payload_of, has_id, id_of, is_same_order, joined, judged_as, judged_by, joinable, judged_carried, judged_ended, judged_whole, on_content, role_of}
+use Rattle.giop_frames.specs.Streams.{Entry, part_in}
+use Rattle.giop_frames.specs.Private.{carried, parts_after, parts_as, without}
+use Rattle.giop_frames.specs.Standing.{AreShort, AreWithin, OnFault, framed}
 use Rattle.giop_frames.proofs.Sights.{sight-long, sight-short, until, until-waiting, until-whole}
 use Rattle.giop_frames.proofs.Tables.{IsFine, length-without, without-none, without-other, without-same}
 use Rattle.giop_frames.proofs.Deciding.{test_eq, test_le, test_lt}
+
+-- a fault of a stream
+abbrev pub IsError : StreamFault → Type 0
+IsError e = OnFault e (Unit {0})
 
 -- a header that is admitted
 
@@ -114,17 +119,35 @@ says-content limits f (Ok m) is within = (within, subst IsOk is refl)
 says-whole : (limits : Limits) (f : Frame) → 12 + length f.octets ≤ limits.message → Says limits (judged_whole f)
 says-whole limits f within = says-content limits f (content_of f.header f.octets) refl within
 
-says-fragment : (limits : Limits) (f : Frame) (before : Option Partial) (then_is : Partial → Verdict) → ((p : Partial) → 12 + length (p.octets ++ data_of f) ≤ limits.message → Says limits (then_is p)) → Says limits (judged_fragment limits f before then_is)
-says-fragment limits f None then_is says = tt
-says-fragment limits f (Some p) then_is says =
-    says-cond limits (not (is_same_order p.header.order f.header.order)) MixedOrder _ tt
-    (elim (test_lt limits.message (12 + length (p.octets ++ data_of f))) [ inl t ↦ rw t.0 tt | inr t ↦ rw t.0 (says p t.1) ])
+-- what can be joined is within the limit
+
+abbrev Joins : Limits → Frame → Result Partial StreamFault → Type 0
+Joins limits f (Err e) = IsError e
+Joins limits f (Ok p) = 12 + length (p.octets ++ payload_of f) ≤ limits.message
+
+joins-cond : (limits : Limits) (f : Frame) (b : Bool) (e : StreamFault) (r : Result Partial StreamFault) → IsError e → Joins limits f r → Joins limits f (cond b (Err e) r)
+joins-cond limits f true e r err joins = err
+joins-cond limits f false e r err joins = joins
+
+joins : (limits : Limits) (f : Frame) (before : Option Partial) → Joins limits f (joinable limits f before)
+joins limits f None = tt
+joins limits f (Some p) =
+    joins-cond limits f (not (is_same_order p.header.order f.header.order)) MixedOrder _ tt
+    (elim (test_lt limits.message (12 + length (p.octets ++ payload_of f))) [ inl t ↦ rw t.0 tt | inr t ↦ rw t.0 t.1 ])
+
+says-carried : (limits : Limits) (f : Frame) (r : Result Partial StreamFault) → Joins limits f r → Says limits (judged_carried r)
+says-carried limits f (Err e) j = j
+says-carried limits f (Ok p) j = tt
+
+says-ended : (limits : Limits) (f : Frame) (r : Result Partial StreamFault) → Joins limits f r → Says limits (judged_ended f r)
+says-ended limits f (Err e) j = j
+says-ended limits f (Ok p) j = says-whole limits (joined p f) j
 
 says-as : (r : Role) (limits : Limits) (before : Option Partial) (n : ℕ) (f : Frame) → 12 + length f.octets ≤ limits.message → Says limits (judged_as r limits before n f)
 unfolding judged_as
 says-as Opens limits before n f within = says-cond limits (is_some before) TwiceStarted _ tt (says-cond limits (nat_le limits.partials n) TooManyPartial Quiet tt tt)
-says-as Carries limits before n f within = says-fragment limits f before (λ p. Quiet) (λ p k. tt)
-says-as Ends limits before n f within = says-fragment limits f before (λ p. judged_whole (joined p f)) (λ p k. says-whole limits (joined p f) k)
+says-as Carries limits before n f within = says-carried limits f (joinable limits f before) (joins limits f before)
+says-as Ends limits before n f within = says-ended limits f (joinable limits f before) (joins limits f before)
 says-as Drops limits before n f within = says-whole limits f within
 says-as Uncut limits before n f within = says-cond limits (is_some before) TwiceStarted _ tt (says-whole limits f within)
 says-as Apart limits before n f within = says-whole limits f within
@@ -144,7 +167,7 @@ done-reads limits before n f m within j = judged-says limits before n f (Done m)
 
 -- partial messages stay within the limits
 
-short-without : (limits : Limits) (i : ℕ) (ps : List Piece) → AreShort limits ps → AreShort limits (without i ps)
+short-without : (limits : Limits) (i : ℕ) (ps : List Entry) → AreShort limits ps → AreShort limits (without i ps)
 short-without limits i [] s = s
 short-without limits i (p ∷ ps) s =
     elim (test_eq p.id i) [
@@ -152,40 +175,44 @@ short-without limits i (p ∷ ps) s =
       | inr t ↦ rw (without-other i p ps t.1) (s.0, short-without limits i ps s.1)
     ]
 
-short-push : (limits : Limits) (ps : List Piece) (q : Piece) → AreShort limits ps → 12 + length q.part.octets ≤ limits.message → AreShort limits (ps ++ q ∷ [])
+short-push : (limits : Limits) (ps : List Entry) (q : Entry) → AreShort limits ps → 12 + length q.part.octets ≤ limits.message → AreShort limits (ps ++ q ∷ [])
 short-push limits [] q s h = (h, tt)
 short-push limits (p ∷ ps) q s h = (s.0, short-push limits ps q s.1 h)
 
-count-without : (i : ℕ) (ps : List Piece) (o : Option Partial) → part_in ps i ≡ o → length (without i ps) ≤ length ps
+count-without : (i : ℕ) (ps : List Entry) (o : Option Partial) → part_in ps i ≡ o → length (without i ps) ≤ length ps
 count-without i ps None e = omega (arith, ap length (without-none i ps e))
 count-without i ps (Some p) e = omega (arith, length-without i ps p e)
 
-within-without : (limits : Limits) (i : ℕ) (ps : List Piece) → AreWithin limits ps → AreWithin limits (without i ps)
+within-without : (limits : Limits) (i : ℕ) (ps : List Entry) → AreWithin limits ps → AreWithin limits (without i ps)
 within-without limits i ps w = record { count = omega (arith, w.count, count-without i ps (part_in ps i) refl); each = short-without limits i ps w.each }
 
 fine-cond : (b : Bool) (e : StreamFault) (v : Verdict) → IsFine (cond b (Bad e) v) → (b ≡ false) × IsFine v
 fine-cond true e v fine = absurd fine
 fine-cond false e v fine = (refl, fine)
 
-within-carried : (limits : Limits) (ps : List Piece) (f : Frame) (before : Option Partial) → part_in ps (id_of f) ≡ before → AreWithin limits ps → IsFine (judged_fragment limits f before (λ p. Quiet)) → AreWithin limits (carried ps f before)
+fine-size : (a b : Bool) (p : Partial) → IsFine (judged_carried (cond a (Err MixedOrder) (cond b (Err TooLarge) (Ok p)))) → b ≡ false
+fine-size true b p fine = absurd fine
+fine-size false true p fine = absurd fine
+fine-size false false p fine = refl
+
+within-carried : (limits : Limits) (ps : List Entry) (f : Frame) (before : Option Partial) → part_in ps (id_of f) ≡ before → AreWithin limits ps → IsFine (judged_carried (joinable limits f before)) → AreWithin limits (carried ps f before)
 within-carried limits ps f None e w fine = w
 within-carried limits ps f (Some p) e w fine =
-    let order = fine-cond (not (is_same_order p.header.order f.header.order)) MixedOrder _ fine in
-    let size = fine-cond (nat_lt limits.message (12 + length (p.octets ++ data_of f))) TooLarge Quiet order.1 in
-    let less : 12 + length (p.octets ++ data_of f) ≤ limits.message = elim (test_lt limits.message (12 + length (p.octets ++ data_of f))) [ inl t ↦ absurd (let k = size.0 in cc) | inr t ↦ t.1 ] in
-    let q : Piece = record { id = id_of f; part = continued_by f p } in
+    let size = fine-size (not (is_same_order p.header.order f.header.order)) (nat_lt limits.message (12 + length (p.octets ++ payload_of f))) p fine in
+    let less : 12 + length (p.octets ++ payload_of f) ≤ limits.message = elim (test_lt limits.message (12 + length (p.octets ++ payload_of f))) [ inl t ↦ absurd (let k = size in cc) | inr t ↦ t.1 ] in
+    let q : Entry = record { id = id_of f; part = continued_by f p } in
     record {
       count = omega (arith, w.count, length-without (id_of f) ps p e, length-append (without (id_of f) ps) (q ∷ []));
       each = short-push limits (without (id_of f) ps) q (short-without limits (id_of f) ps w.each) less;
     }
 
-within-as : (r : Role) (limits : Limits) (ps : List Piece) (f : Frame) → 12 + length f.octets ≤ limits.message → AreWithin limits ps → IsFine (judged_as r limits (part_in ps (id_of f)) (length ps) f) → AreWithin limits (parts_as r ps f)
+within-as : (r : Role) (limits : Limits) (ps : List Entry) (f : Frame) → 12 + length f.octets ≤ limits.message → AreWithin limits ps → IsFine (judged_as r limits (part_in ps (id_of f)) (length ps) f) → AreWithin limits (parts_as r ps f)
 unfolding judged_as parts_as
 within-as Opens limits ps f size w fine =
     let new = fine-cond (is_some (part_in ps (id_of f))) TwiceStarted _ fine in
     let few = fine-cond (nat_le limits.partials (length ps)) TooManyPartial Quiet new.1 in
     let less : length ps < limits.partials = elim (test_le limits.partials (length ps)) [ inl t ↦ absurd (let k = few.0 in cc) | inr t ↦ t.1 ] in
-    let q : Piece = record { id = id_of f; part = begun_by f } in
+    let q : Entry = record { id = id_of f; part = opened_by f } in
     record { count = omega (arith, less, length-append ps (q ∷ [])); each = short-push limits ps q w.each size }
 within-as Carries limits ps f size w fine = within-carried limits ps f (part_in ps (id_of f)) refl w fine
 within-as Ends limits ps f size w fine = within-without limits (id_of f) ps w
@@ -193,7 +220,7 @@ within-as Drops limits ps f size w fine = within-without limits (id_of f) ps w
 within-as Uncut limits ps f size w fine = w
 within-as Apart limits ps f size w fine = w
 
-pub within-step : (limits : Limits) (ps : List Piece) (f : Frame) → 12 + length f.octets ≤ limits.message → AreWithin limits ps → IsFine (judged_by limits (part_in ps (id_of f)) (length ps) f) → AreWithin limits (parts_after ps f)
+pub within-step : (limits : Limits) (ps : List Entry) (f : Frame) → 12 + length f.octets ≤ limits.message → AreWithin limits ps → IsFine (judged_by limits (part_in ps (id_of f)) (length ps) f) → AreWithin limits (parts_after ps f)
 unfolding judged_by
 within-step limits ps f size w fine =
     within-as (role_of f.header) limits ps f size w (fine-cond (has_id (role_of f.header) && nat_lt (length f.octets) 4) _ (judged_as (role_of f.header) limits (part_in ps (id_of f)) (length ps) f) fine).1

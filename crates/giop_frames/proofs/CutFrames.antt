@@ -21,10 +21,10 @@ use Rattle.giop_core.specs.Headers.{can_be_cut, header_octets, header_of, is_pos
 use Rattle.giop_core.specs.Messages.{message_of}
 use Rattle.giop_core.specs.Rows.{row}
 use Rattle.giop_frames.specs.declared.limits.Limits.{Limits}
-use Rattle.giop_frames.specs.declared.role.Role.{Role}
-use Rattle.giop_frames.specs.declared.role.Role.TheVariants.{Opens, Carries, Ends, Uncut}
+use Rattle.giop_frames.specs.declared.reassembly.Role.{Role}
+use Rattle.giop_frames.specs.declared.reassembly.Role.TheVariants.{Opens, Carries, Ends, Uncut}
 use Rattle.giop_frames.specs.Cutting.{frame_octets, is_cut_kind}
-use Rattle.giop_frames.specs.Fragments.{Done, Partial, Quiet, begun, data_of, has_id, id_of, is_same_order, joined, judged, judged_as, judged_by, judged_whole, on_content, partials_in, role_in_12, role_of, content_of}
+use Rattle.giop_frames.specs.Fragments.{Done, Partial, Quiet, partial_of, payload_of, has_id, id_of, is_same_order, joined, judged, judged_as, judged_by, judged_carried, judged_ended, judged_whole, on_content, partials_in, role_in_12, role_of, content_of}
 use Rattle.giop_frames.specs.Frames.{Frame, admitted, frame_size}
 use Rattle.giop_frames.specs.Splitting.{IsFrame, Splits}
 use Rattle.giop_frames.proofs.Deciding.{test_lt}
@@ -164,29 +164,29 @@ judged-role : (limits : Limits) (before : Option Partial) (n : ℕ) (f : Frame) 
 unfolding judged_by
 judged-role limits before n f r is long = rw (and-false (has_id (role_of f.header)) (nat_lt (length f.octets) 4) (le-ltb (length f.octets) 4 long)) (ap (λ (x : Role). judged_as x limits before n f) is)
 
-pub judged-opening : (limits : Limits) (h : List Frame) (f : Frame) → role_of f.header ≡ Opens → 4 ≤ length f.octets → begun h (id_of f) ≡ None → partials_in h < limits.partials → judged limits h f ≡ Quiet
-judged-opening limits h f is long none room =
-    judged-role limits (begun h (id_of f)) (partials_in h) f Opens is long ∙ opens-quiet limits (begun h (id_of f)) (partials_in h) f (ap (λ (o : Option Partial). is_some o) none) room
+pub judged-opening : (limits : Limits) (h : List Frame) (f : Frame) → role_of f.header ≡ Opens → 4 ≤ length f.octets → partial_of h (id_of f) ≡ None → partials_in h < limits.partials → judged limits h f ≡ Quiet
+judged-opening limits h f is long none free =
+    judged-role limits (partial_of h (id_of f)) (partials_in h) f Opens is long ∙ opens-quiet limits (partial_of h (id_of f)) (partials_in h) f (ap (λ (o : Option Partial). is_some o) none) free
 
 pub whole-done : (f : Frame) → IsOk (content_of f.header f.octets) → judged_whole f ≡ Done f
 whole-done f ok = elim (content_of f.header f.octets) as (λ r. IsOk r → on_content f r ≡ Done f) [ Err e ↦ λ k. absurd cc | Ok m ↦ λ k. refl ] ok
 
-pub judged-uncut : (limits : Limits) (h : List Frame) (f : Frame) → role_of f.header ≡ Uncut → 4 ≤ length f.octets → begun h (id_of f) ≡ None → IsOk (content_of f.header f.octets) → judged limits h f ≡ Done f
+pub judged-uncut : (limits : Limits) (h : List Frame) (f : Frame) → role_of f.header ≡ Uncut → 4 ≤ length f.octets → partial_of h (id_of f) ≡ None → IsOk (content_of f.header f.octets) → judged limits h f ≡ Done f
 unfolding judged_as
 judged-uncut limits h f is long none ok =
-    judged-role limits (begun h (id_of f)) (partials_in h) f Uncut is long ∙ ap (λ (o : Option Partial). judged_as Uncut limits o (partials_in h) f) none ∙ whole-done f ok
+    judged-role limits (partial_of h (id_of f)) (partials_in h) f Uncut is long ∙ ap (λ (o : Option Partial). judged_as Uncut limits o (partials_in h) f) none ∙ whole-done f ok
 
-pub judged-carrying : (limits : Limits) (h : List Frame) (f : Frame) (p : Partial) → role_of f.header ≡ Carries → 4 ≤ length f.octets → begun h (id_of f) ≡ Some p → is_same_order p.header.order f.header.order ≡ true
-    → 12 + length (p.octets ++ data_of f) ≤ limits.message → judged limits h f ≡ Quiet
+pub judged-carrying : (limits : Limits) (h : List Frame) (f : Frame) (p : Partial) → role_of f.header ≡ Carries → 4 ≤ length f.octets → partial_of h (id_of f) ≡ Some p → is_same_order p.header.order f.header.order ≡ true
+    → 12 + length (p.octets ++ payload_of f) ≤ limits.message → judged limits h f ≡ Quiet
 unfolding judged_as
 judged-carrying limits h f p is long some order within =
-    judged-role limits (begun h (id_of f)) (partials_in h) f Carries is long ∙ ap (λ (o : Option Partial). judged_as Carries limits o (partials_in h) f) some ∙ fits limits f p (λ q. Quiet) order within
+    judged-role limits (partial_of h (id_of f)) (partials_in h) f Carries is long ∙ ap (λ (o : Option Partial). judged_as Carries limits o (partials_in h) f) some ∙ ap judged_carried (fits limits f p order within)
 
-pub judged-ending : (limits : Limits) (h : List Frame) (f : Frame) (p : Partial) → role_of f.header ≡ Ends → 4 ≤ length f.octets → begun h (id_of f) ≡ Some p → is_same_order p.header.order f.header.order ≡ true
-    → 12 + length (p.octets ++ data_of f) ≤ limits.message → IsOk (content_of (joined p f).header (joined p f).octets) → judged limits h f ≡ Done (joined p f)
+pub judged-ending : (limits : Limits) (h : List Frame) (f : Frame) (p : Partial) → role_of f.header ≡ Ends → 4 ≤ length f.octets → partial_of h (id_of f) ≡ Some p → is_same_order p.header.order f.header.order ≡ true
+    → 12 + length (p.octets ++ payload_of f) ≤ limits.message → IsOk (content_of (joined p f).header (joined p f).octets) → judged limits h f ≡ Done (joined p f)
 unfolding judged_as
 judged-ending limits h f p is long some order within ok =
-    judged-role limits (begun h (id_of f)) (partials_in h) f Ends is long ∙ ap (λ (o : Option Partial). judged_as Ends limits o (partials_in h) f) some ∙ fits limits f p (λ q. judged_whole (joined q f)) order within ∙ whole-done (joined p f) ok
+    judged-role limits (partial_of h (id_of f)) (partials_in h) f Ends is long ∙ ap (λ (o : Option Partial). judged_as Ends limits o (partials_in h) f) some ∙ ap (judged_ended f) (fits limits f p order within) ∙ whole-done (joined p f) ok
 
 pub same-order : (order : Order) → is_same_order order order ≡ true
 same-order Big = refl

@@ -5,18 +5,13 @@ use Rattle.std.proofs.lemmas.List.{append-nil, map-append, take-append-drop, tak
 use Rattle.std.proofs.lemmas.List.Folds.{concat-append}
 use Rattle.giop_core.specs.declared.message.Message.{Message}
 use Rattle.giop_frames.specs.declared.fault.StreamFault.{StreamFault}
-use Rattle.giop_frames.specs.declared.fault.StreamFault.TheVariants.{Header as BadHeader, TooLarge, UnalignedFragment, StrayFragment, TwiceStarted, TooManyPartial, Body, MixedOrder, Memory, Failed}
 use Rattle.giop_frames.specs.declared.limits.Limits.{Limits}
-use Rattle.giop_frames.specs.Feeding.{IsEnded, IsFirst, IsTold}
+use Rattle.giop_frames.specs.Feeding.{Counts, IsCounted, IsEnded, IsFirst}
 use Rattle.giop_frames.specs.Frames.{Frame}
-use Rattle.giop_frames.specs.Standing.{IsFault, IsLent, Standing, StandsFor, told_at}
+use Rattle.giop_frames.specs.Standing.{IsFault, IsLent, Standing, StandsFor, completed_at}
 use Rattle.giop_frames.specs.Streams.{Faults, fault_of, messages_of}
-use Rattle.giop_frames.proofs.Stepping.{take-further}
+use Rattle.giop_frames.proofs.Stepping.{on-fault, on-fault_both, take-further}
 use Rattle.giop_frames.proofs.Stays.{fault-stays, messages-stay}
-
--- how many messages come with octets c after s
-abbrev pub Counts : Limits → ℕ → List ℕ → List ℕ → Type 0
-Counts limits n s c = length (messages_of limits (s ++ c)) ≡ length (messages_of limits s) + n
 
 pub counts-further : (limits : Limits) (m n : ℕ) (s b c x : List ℕ) → b ++ c ≡ x → Counts limits m s b → Counts limits n (s ++ b) c → Counts limits (m + n) s x
 counts-further limits m n s b c x is first second =
@@ -25,18 +20,18 @@ counts-further limits m n s b c x is first second =
 
 -- a message that is lent is one more
 
-one-told : (p : ℕ) (m : Option Frame) → is_some m ≡ true → length (told_at p m) ≡ 1
-one-told p None e = absurd cc
-one-told p (Some m) e = refl
+one-completed : (p : ℕ) (m : Option Frame) → is_some m ≡ true → length (completed_at p m) ≡ 1
+one-completed p None e = absurd cc
+one-completed p (Some m) e = refl
 
-none-told : (p : ℕ) (m : Option Frame) → m ≡ None → length (told_at p m) ≡ 0
-none-told p m e = ap (λ (o : Option Frame). length (told_at p o)) e
+none-completed : (p : ℕ) (m : Option Frame) → m ≡ None → length (completed_at p m) ≡ 0
+none-completed p m e = ap (λ (o : Option Frame). length (completed_at p o)) e
 
-pub counts-lent : (limits : Limits) (s c : List ℕ) (m : Option Frame) → is_some m ≡ true → messages_of limits (s ++ c) ≡ messages_of limits s ++ told_at (length (s ++ c)) m → Counts limits 1 s c
-counts-lent limits s c m e is = omega (arith, ap length is, length-append (messages_of limits s) (told_at (length (s ++ c)) m), one-told (length (s ++ c)) m e)
+pub counts-lent : (limits : Limits) (s c : List ℕ) (m : Option Frame) → is_some m ≡ true → messages_of limits (s ++ c) ≡ messages_of limits s ++ completed_at (length (s ++ c)) m → Counts limits 1 s c
+counts-lent limits s c m e is = omega (arith, ap length is, length-append (messages_of limits s) (completed_at (length (s ++ c)) m), one-completed (length (s ++ c)) m e)
 
-pub counts-unlent : (limits : Limits) (s c : List ℕ) (m : Option Frame) → m ≡ None → messages_of limits (s ++ c) ≡ messages_of limits s ++ told_at (length (s ++ c)) m → Counts limits 0 s c
-counts-unlent limits s c m e is = omega (arith, ap length is, length-append (messages_of limits s) (told_at (length (s ++ c)) m), none-told (length (s ++ c)) m e)
+pub counts-unlent : (limits : Limits) (s c : List ℕ) (m : Option Frame) → m ≡ None → messages_of limits (s ++ c) ≡ messages_of limits s ++ completed_at (length (s ++ c)) m → Counts limits 0 s c
+counts-unlent limits s c m e is = omega (arith, ap length is, length-append (messages_of limits s) (completed_at (length (s ++ c)) m), none-completed (length (s ++ c)) m e)
 
 -- the fault of what is left of a piece
 
@@ -45,45 +40,18 @@ module _ (limits : Limits) (s b c x : List ℕ) (is : b ++ c ≡ x) where
   all = append_assoc s b c ∙ ap (λ (y : List ℕ). s ++ y) is
 
   pub first-in : (e : StreamFault) → IsFault limits (s ++ b) c e → IsFirst e limits (s ++ x)
-  first-in (BadHeader h) f = subst (λ (y : List ℕ). fault_of limits y ≡ Some (BadHeader h)) all f.is
-  first-in TooLarge f = subst (λ (y : List ℕ). fault_of limits y ≡ Some TooLarge) all f.is
-  first-in UnalignedFragment f = subst (λ (y : List ℕ). fault_of limits y ≡ Some UnalignedFragment) all f.is
-  first-in StrayFragment f = subst (λ (y : List ℕ). fault_of limits y ≡ Some StrayFragment) all f.is
-  first-in TwiceStarted f = subst (λ (y : List ℕ). fault_of limits y ≡ Some TwiceStarted) all f.is
-  first-in TooManyPartial f = subst (λ (y : List ℕ). fault_of limits y ≡ Some TooManyPartial) all f.is
-  first-in (Body m) f = subst (λ (y : List ℕ). fault_of limits y ≡ Some (Body m)) all f.is
-  first-in MixedOrder f = subst (λ (y : List ℕ). fault_of limits y ≡ Some MixedOrder) all f.is
-  first-in Memory f = tt
-  first-in Failed f = absurd f
+  first-in e f = on-fault e (Faults limits (s ++ b) c e) (fault_of limits (s ++ x) ≡ Some e) (λ g. subst (λ (y : List ℕ). fault_of limits y ≡ Some e) all g.is) f
 
-  same-told : (e : StreamFault) (n : ℕ) → Counts limits n s b → Faults limits (s ++ b) c e → Counts limits n s x
-  same-told e n k f = omega (arith, k, ap length f.same, ap (λ (y : List ℕ). length (messages_of limits y)) all)
+  same-count : (e : StreamFault) (n : ℕ) → Counts limits n s b → Faults limits (s ++ b) c e → Counts limits n s x
+  same-count e n k f = omega (arith, k, ap length f.same, ap (λ (y : List ℕ). length (messages_of limits y)) all)
 
-  pub told-in : (e : StreamFault) (n : ℕ) → Counts limits n s b → IsFault limits (s ++ b) c e → IsTold (Some e) limits n s x
-  told-in (BadHeader h) n k f = same-told (BadHeader h) n k f
-  told-in TooLarge n k f = same-told TooLarge n k f
-  told-in UnalignedFragment n k f = same-told UnalignedFragment n k f
-  told-in StrayFragment n k f = same-told StrayFragment n k f
-  told-in TwiceStarted n k f = same-told TwiceStarted n k f
-  told-in TooManyPartial n k f = same-told TooManyPartial n k f
-  told-in (Body m) n k f = same-told (Body m) n k f
-  told-in MixedOrder n k f = same-told MixedOrder n k f
-  told-in Memory n k f = tt
-  told-in Failed n k f = absurd f
+  pub counted-in : (e : StreamFault) (n : ℕ) → Counts limits n s b → IsFault limits (s ++ b) c e → IsCounted (Some e) limits n s x
+  counted-in e n k f = on-fault e (Faults limits (s ++ b) c e) (Counts limits n s x) (same-count e n k) f
 
--- a fault with octets behind it
+-- a fault with octets after it
 
 first-with : (e : StreamFault) (limits : Limits) (s c : List ℕ) → IsFirst e limits s → IsFirst e limits (s ++ c)
-first-with (BadHeader h) limits s c f = fault-stays limits s c (BadHeader h) f
-first-with TooLarge limits s c f = fault-stays limits s c TooLarge f
-first-with UnalignedFragment limits s c f = fault-stays limits s c UnalignedFragment f
-first-with StrayFragment limits s c f = fault-stays limits s c StrayFragment f
-first-with TwiceStarted limits s c f = fault-stays limits s c TwiceStarted f
-first-with TooManyPartial limits s c f = fault-stays limits s c TooManyPartial f
-first-with (Body m) limits s c f = fault-stays limits s c (Body m) f
-first-with MixedOrder limits s c f = fault-stays limits s c MixedOrder f
-first-with Memory limits s c f = tt
-first-with Failed limits s c f = absurd f
+first-with e limits s c f = on-fault e (fault_of limits s ≡ Some e) (fault_of limits (s ++ c) ≡ Some e) (fault-stays limits s c e) f
 
 pub ended-with : (o : Option StreamFault) (limits : Limits) (a : Standing) (s b c x : List ℕ) → is_some o ≡ true → b ++ c ≡ x → IsEnded o limits a (s ++ b) → IsEnded o limits a (s ++ x)
 ended-with None limits a s b c x e is k = absurd cc
@@ -96,36 +64,18 @@ counts-with d limits n s b c x is f k =
     let all : (s ++ b) ++ c ≡ s ++ x = append_assoc s b c ∙ ap (λ (y : List ℕ). s ++ y) is in
     omega (arith, k, ap length (messages-stay limits (s ++ b) c d f), ap (λ (y : List ℕ). length (messages_of limits y)) all)
 
-told-by : (d : StreamFault) (limits : Limits) (n : ℕ) (s b c x : List ℕ) → b ++ c ≡ x → IsFirst d limits (s ++ b) → IsTold (Some d) limits n s b → IsTold (Some d) limits n s x
-told-by (BadHeader h) limits n s b c x is f k = counts-with (BadHeader h) limits n s b c x is f k
-told-by TooLarge limits n s b c x is f k = counts-with TooLarge limits n s b c x is f k
-told-by UnalignedFragment limits n s b c x is f k = counts-with UnalignedFragment limits n s b c x is f k
-told-by StrayFragment limits n s b c x is f k = counts-with StrayFragment limits n s b c x is f k
-told-by TwiceStarted limits n s b c x is f k = counts-with TwiceStarted limits n s b c x is f k
-told-by TooManyPartial limits n s b c x is f k = counts-with TooManyPartial limits n s b c x is f k
-told-by (Body m) limits n s b c x is f k = counts-with (Body m) limits n s b c x is f k
-told-by MixedOrder limits n s b c x is f k = counts-with MixedOrder limits n s b c x is f k
-told-by Memory limits n s b c x is f k = tt
-told-by Failed limits n s b c x is f k = absurd f
+counted-by : (d : StreamFault) (limits : Limits) (n : ℕ) (s b c x : List ℕ) → b ++ c ≡ x → IsFirst d limits (s ++ b) → IsCounted (Some d) limits n s b → IsCounted (Some d) limits n s x
+counted-by d limits n s b c x is f k = on-fault_both d (fault_of limits (s ++ b) ≡ Some d) (Counts limits n s b) (Counts limits n s x) (counts-with d limits n s b c x is) f k
 
-pub told-with : (o : Option StreamFault) (limits : Limits) (a : Standing) (n : ℕ) (s b c x : List ℕ) → is_some o ≡ true → b ++ c ≡ x → IsEnded o limits a (s ++ b) → IsTold o limits n s b → IsTold o limits n s x
-told-with None limits a n s b c x e is f k = absurd cc
-told-with (Some d) limits a n s b c x e is f k = told-by d limits n s b c x is f k
+pub counted-with : (o : Option StreamFault) (limits : Limits) (a : Standing) (n : ℕ) (s b c x : List ℕ) → is_some o ≡ true → b ++ c ≡ x → IsEnded o limits a (s ++ b) → IsCounted o limits n s b → IsCounted o limits n s x
+counted-with None limits a n s b c x e is f k = absurd cc
+counted-with (Some d) limits a n s b c x e is f k = counted-by d limits n s b c x is f k
 
--- what a piece told, after those before it
+-- what a piece gives, after those before it
 
-pub told-after : (o : Option StreamFault) (limits : Limits) (m n : ℕ) (s b c x : List ℕ) → b ++ c ≡ x → Counts limits m s b → IsTold o limits n (s ++ b) c → IsTold o limits (m + n) s x
-told-after None limits m n s b c x is first second = counts-further limits m n s b c x is first second
-told-after (Some (BadHeader h)) limits m n s b c x is first second = counts-further limits m n s b c x is first second
-told-after (Some TooLarge) limits m n s b c x is first second = counts-further limits m n s b c x is first second
-told-after (Some UnalignedFragment) limits m n s b c x is first second = counts-further limits m n s b c x is first second
-told-after (Some StrayFragment) limits m n s b c x is first second = counts-further limits m n s b c x is first second
-told-after (Some TwiceStarted) limits m n s b c x is first second = counts-further limits m n s b c x is first second
-told-after (Some TooManyPartial) limits m n s b c x is first second = counts-further limits m n s b c x is first second
-told-after (Some (Body d)) limits m n s b c x is first second = counts-further limits m n s b c x is first second
-told-after (Some MixedOrder) limits m n s b c x is first second = counts-further limits m n s b c x is first second
-told-after (Some Memory) limits m n s b c x is first second = tt
-told-after (Some Failed) limits m n s b c x is first second = counts-further limits m n s b c x is first second
+pub counted-after : (o : Option StreamFault) (limits : Limits) (m n : ℕ) (s b c x : List ℕ) → b ++ c ≡ x → Counts limits m s b → IsCounted o limits n (s ++ b) c → IsCounted o limits (m + n) s x
+counted-after None limits m n s b c x is first second = counts-further limits m n s b c x is first second
+counted-after (Some e) limits m n s b c x is first second = on-fault e (Counts limits n (s ++ b) c) (Counts limits (m + n) s x) (counts-further limits m n s b c x is first) second
 
 -- the message that is lent, by what the code sees
 
@@ -168,17 +118,17 @@ pub ended-none : (o : Option StreamFault) (limits : Limits) (a : Standing) (s : 
 ended-none None limits a s e k = k
 ended-none (Some d) limits a s e k = absurd cc
 
-pub told-none : (o : Option StreamFault) (limits : Limits) (n : ℕ) (s c : List ℕ) → is_some o ≡ false → IsTold o limits n s c → Counts limits n s c
-told-none None limits n s c e k = k
-told-none (Some d) limits n s c e k = absurd cc
+pub counted-none : (o : Option StreamFault) (limits : Limits) (n : ℕ) (s c : List ℕ) → is_some o ≡ false → IsCounted o limits n s c → Counts limits n s c
+counted-none None limits n s c e k = k
+counted-none (Some d) limits n s c e k = absurd cc
 
--- the end of a piece, and of those behind it
+-- the end of a piece, and of those after it
 
 pub ended-in : (o : Option StreamFault) (limits : Limits) (a : Standing) (s b c d x y : List ℕ) → is_some o ≡ true → b ++ c ≡ x → x ++ d ≡ y → IsEnded o limits a ((s ++ b) ++ c) → IsEnded o limits a (s ++ y)
 ended-in o limits a s b c d x y e is whole k =
     ended-with o limits a s x d y e whole (subst (λ (z : List ℕ). IsEnded o limits a (s ++ z)) is (subst (IsEnded o limits a) (append_assoc s b c) k))
 
-pub told-of : (o : Option StreamFault) (limits : Limits) (a : Standing) (m n : ℕ) (s b c d x y : List ℕ) → is_some o ≡ true → b ++ c ≡ x → x ++ d ≡ y → IsEnded o limits a ((s ++ b) ++ c) → Counts limits m s b → IsTold o limits n (s ++ b) c → IsTold o limits (m + n) s y
-told-of o limits a m n s b c d x y e is whole k first second =
+pub counted-of : (o : Option StreamFault) (limits : Limits) (a : Standing) (m n : ℕ) (s b c d x y : List ℕ) → is_some o ≡ true → b ++ c ≡ x → x ++ d ≡ y → IsEnded o limits a ((s ++ b) ++ c) → Counts limits m s b → IsCounted o limits n (s ++ b) c → IsCounted o limits (m + n) s y
+counted-of o limits a m n s b c d x y e is whole k first second =
     let ended : IsEnded o limits a (s ++ x) = subst (λ (z : List ℕ). IsEnded o limits a (s ++ z)) is (subst (IsEnded o limits a) (append_assoc s b c) k) in
-    told-with o limits a (m + n) s x d y e whole ended (told-after o limits m n s b c x is first second)
+    counted-with o limits a (m + n) s x d y e whole ended (counted-after o limits m n s b c x is first second)

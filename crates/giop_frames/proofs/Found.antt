@@ -2,9 +2,10 @@
 use Rattle.std.proofs.Common.{◌≡◌, ℕ, ◌+◌, ◌<◌, ◌==◌, Bool, true, List, [], ◌∷◌, length, get_or, suc, Option, Some, None, is_some, refl, sym, ap, subst, ◌∙◌, inl, inr, arith}
 use Rattle.std.specs.List.{position, position_from, remove}
 use Rattle.std.proofs.lemmas.Iterator.Adapters.{position_from-zero}
-use Rattle.giop_frames.specs.declared.part.Part.{Part}
-use Rattle.giop_frames.specs.Code.{piece_of, pieces}
-use Rattle.giop_frames.specs.Parts.{Piece, part_in, without}
+use Rattle.giop_frames.specs.declared.partial.Part.{Part}
+use Rattle.giop_frames.specs.Standing.{entry_of, entries}
+use Rattle.giop_frames.specs.Streams.{Entry, part_in}
+use Rattle.giop_frames.specs.Private.{without}
 use Rattle.giop_frames.proofs.Tables.{head-other, head-same, without-other, without-same}
 use Rattle.giop_frames.proofs.Deciding.{test_eq}
 
@@ -15,23 +16,23 @@ of_id id p = p.id == id
 pub record FoundAt (id : ℕ) (ps : List Part) (k : ℕ) : Type 0 where
   pub below : k < length ps
   pub same : (d : Part) → (get_or ps k d).id ≡ id
-  pub part : (d : Part) → part_in (pieces ps) id ≡ Some (piece_of (get_or ps k d)).part
-  pub rest : pieces (remove ps k) ≡ without id (pieces ps)
+  pub part : (d : Part) → part_in (entries ps) id ≡ Some (entry_of (get_or ps k d)).part
+  pub rest : entries (remove ps k) ≡ without id (entries ps)
 
 found_next : (id : ℕ) (p : Part) (ps : List Part) (k : ℕ) → ((p.id ≡ id) → ⊥) → FoundAt id ps k → FoundAt id (p ∷ ps) (suc k)
 found_next id p ps k n f = record {
   below = omega (arith, f.below);
   same = f.same;
-  part = λ d. head-other (piece_of p) (pieces ps) id n ∙ f.part d;
-  rest = ap (λ (qs : List Piece). piece_of p ∷ qs) f.rest ∙ sym (without-other id (piece_of p) (pieces ps) n);
+  part = λ d. head-other (entry_of p) (entries ps) id n ∙ f.part d;
+  rest = ap (λ (qs : List Entry). entry_of p ∷ qs) f.rest ∙ sym (without-other id (entry_of p) (entries ps) n);
 }
 
 found_here : (id : ℕ) (p : Part) (ps : List Part) → p.id ≡ id → FoundAt id (p ∷ ps) 0
 found_here id p ps e = record {
   below = omega arith;
   same = λ d. e;
-  part = λ d. head-same (piece_of p) (pieces ps) id e;
-  rest = sym (without-same id (piece_of p) (pieces ps) e);
+  part = λ d. head-same (entry_of p) (entries ps) id e;
+  rest = sym (without-same id (entry_of p) (entries ps) e);
 }
 
 found_from : (id : ℕ) (ps : List Part) (i k : ℕ) → position_from (of_id id) i ps ≡ Some k → (j : ℕ) × (k ≡ i + j) × FoundAt id ps j
@@ -48,14 +49,14 @@ found_from id (p ∷ ps) i k e =
           (suc f.0, omega (arith, f.1), found_next id p ps f.0 t.1 f.2)
     ]
 
-none_from : (id : ℕ) (ps : List Part) (i : ℕ) → position_from (of_id id) i ps ≡ None → part_in (pieces ps) id ≡ None
+none_from : (id : ℕ) (ps : List Part) (i : ℕ) → position_from (of_id id) i ps ≡ None → part_in (entries ps) id ≡ None
 none_from id [] i e = refl
 none_from id (p ∷ ps) i e =
     elim (test_eq p.id id) [
       | inl t ↦ absurd (let here : position_from (of_id id) i (p ∷ ps) ≡ Some i = rw t.0 refl in cc)
       | inr t ↦
           let later : position_from (of_id id) i (p ∷ ps) ≡ position_from (of_id id) (i + 1) ps = rw t.0 refl in
-          head-other (piece_of p) (pieces ps) id t.1 ∙ none_from id ps (i + 1) (sym later ∙ e)
+          head-other (entry_of p) (entries ps) id t.1 ∙ none_from id ps (i + 1) (sym later ∙ e)
     ]
 
 pub place-some : (id : ℕ) (ps : List Part) (k : ℕ) → position (of_id id) ps ≡ Some k → FoundAt id ps k
@@ -64,12 +65,12 @@ place-some id ps k e =
     let same : f.0 ≡ k = omega (arith, f.1) in
     subst (FoundAt id ps) same f.2
 
-pub place-none : (id : ℕ) (ps : List Part) → position (of_id id) ps ≡ None → part_in (pieces ps) id ≡ None
+pub place-none : (id : ℕ) (ps : List Part) → position (of_id id) ps ≡ None → part_in (entries ps) id ≡ None
 place-none id ps e = none_from id ps 0 (sym (position_from-zero (of_id id) ps) ∙ e)
 
-some_by : (id : ℕ) (ps : List Part) (o : Option ℕ) → position (of_id id) ps ≡ o → is_some o ≡ is_some (part_in (pieces ps) id)
+some_by : (id : ℕ) (ps : List Part) (o : Option ℕ) → position (of_id id) ps ≡ o → is_some o ≡ is_some (part_in (entries ps) id)
 some_by id ps None e = ap is_some (sym (place-none id ps e))
-some_by id ps (Some k) e = elim ps as (λ qs. FoundAt id qs k → true ≡ is_some (part_in (pieces qs) id)) [ [] ↦ λ f. absurd (omega (arith, f.below)) | p ∷ qs ↦ λ f. ap is_some (sym (f.part p)) ] (place-some id ps k e)
+some_by id ps (Some k) e = elim ps as (λ qs. FoundAt id qs k → true ≡ is_some (part_in (entries qs) id)) [ [] ↦ λ f. absurd (omega (arith, f.below)) | p ∷ qs ↦ λ f. ap is_some (sym (f.part p)) ] (place-some id ps k e)
 
-pub place-is_some : (id : ℕ) (ps : List Part) → is_some (position (of_id id) ps) ≡ is_some (part_in (pieces ps) id)
+pub place-is_some : (id : ℕ) (ps : List Part) → is_some (position (of_id id) ps) ≡ is_some (part_in (entries ps) id)
 place-is_some id ps = some_by id ps (position (of_id id) ps) refl

@@ -6,29 +6,31 @@ use Rattle.giop_core.specs.declared.header.Header.{Header}
 use Rattle.giop_frames.specs.declared.fault.StreamFault.{StreamFault}
 use Rattle.giop_frames.specs.declared.fault.StreamFault.TheVariants.{MixedOrder, TooLarge, TooManyPartial, TwiceStarted}
 use Rattle.giop_frames.specs.declared.limits.Limits.{Limits}
-use Rattle.giop_frames.specs.declared.part.Part.{Part}
-use Rattle.giop_frames.specs.declared.role.Role.{Role}
-use Rattle.giop_frames.specs.declared.role.Role.TheVariants.{Opens, Carries, Ends, Drops, Uncut, Apart}
-use Rattle.giop_frames.specs.declared.settling.Settled.{Settled}
-use Rattle.giop_frames.specs.declared.settling.TakenUp.{TakenUp}
-use Rattle.giop_frames.specs.declared.settling.Settled.TheVariants.{Quiet as SettledQuiet, Done as SettledDone, Bad as SettledBad}
+use Rattle.giop_frames.specs.declared.partial.Part.{Part}
+use Rattle.giop_frames.specs.declared.reassembly.Role.{Role}
+use Rattle.giop_frames.specs.declared.reassembly.Role.TheVariants.{Opens, Carries, Ends, Drops, Uncut, Apart}
+use Rattle.giop_frames.specs.declared.reassembly.Settled.{Settled}
+use Rattle.giop_frames.specs.declared.reassembly.TakenUp.{TakenUp}
+use Rattle.giop_frames.specs.declared.reassembly.Settled.TheVariants.{Quiet as SettledQuiet, Done as SettledDone, Bad as SettledBad}
 use Rattle.giop_frames.specs.Frames.{Frame}
-use Rattle.giop_frames.specs.Fragments.{Bad, Partial, Quiet, Verdict, begun_by, content_of, continued_by, data_of, has_id, id_of, is_same_order, joined, judged_as, judged_by, judged_fragment, judged_whole, on_content, role_of, too_short}
-use Rattle.giop_frames.specs.Parts.{Piece, part_in, parts_as, without}
-use Rattle.giop_frames.specs.Code.{IsContinued, IsLeft, IsSettled, IsSettledAs, IsTakenUp, framed, judged_uncut, piece_of, pieces, verdict_at}
+use Rattle.giop_frames.specs.Fragments.{Bad, Partial, Quiet, Verdict, opened_by, content_of, continued_by, payload_of, has_id, id_of, is_same_order, joined, judged_as, judged_by, joinable, judged_carried, judged_ended, judged_whole, on_content, role_of, too_short}
+use Rattle.giop_frames.specs.Streams.{Entry, part_in}
+use Rattle.giop_frames.specs.Private.{parts_as, without}
+use Rattle.giop_frames.specs.Private.{IsContinued, IsLeft, IsSettled, IsSettledAs, IsTakenUp, judged_uncut, verdict_at}
+use Rattle.giop_frames.specs.Standing.{framed, entry_of, entries}
 
 -- a part that was found, and parts that were counted
 
-pub begun-at : (id i : ℕ) (ps qs : List Part) (r : Bool) → qs ≡ ps → id ≡ i → r ≡ is_some (part_in (pieces qs) id) → is_some (part_in (pieces ps) i) ≡ r
-begun-at id i ps qs r e is has = ap (λ (j : ℕ). is_some (part_in (pieces ps) j)) (sym is) ∙ ap (λ (xs : List Part). is_some (part_in (pieces xs) id)) (sym e) ∙ sym has
+pub partial-at : (id i : ℕ) (ps qs : List Part) (r : Bool) → qs ≡ ps → id ≡ i → r ≡ is_some (part_in (entries qs) id) → is_some (part_in (entries ps) i) ≡ r
+partial-at id i ps qs r e is has = ap (λ (j : ℕ). is_some (part_in (entries ps) j)) (sym is) ∙ ap (λ (xs : List Part). is_some (part_in (entries xs) id)) (sym e) ∙ sym has
 
-pub count-of : (ps : List Part) → length (pieces ps) ≡ length ps
-count-of ps = length-map ps piece_of
+pub count-of : (ps : List Part) → length (entries ps) ≡ length ps
+count-of ps = length-map ps entry_of
 
-pub piece-is : (p : Part) (i : ℕ) (q : Partial) → p.id ≡ i → p.header ≡ q.header → drop 12 p.octets.items ≡ q.octets → piece_of p ≡ record { id = i; part = q }
-piece-is p i q a b c = rw (a, b, c) refl
+pub entry-is : (p : Part) (i : ℕ) (q : Partial) → p.id ≡ i → p.header ≡ q.header → drop 12 p.octets.items ≡ q.octets → entry_of p ≡ record { id = i; part = q }
+entry-is p i q a b c = rw (a, b, c) refl
 
--- a first piece
+-- a first frame
 
 pub opens-twice : (limits : Limits) (before : Option Partial) (n : ℕ) (f : Frame) → is_some before ≡ true → judged_as Opens limits before n f ≡ Bad TwiceStarted
 unfolding judged_as
@@ -42,84 +44,84 @@ pub opens-quiet : (limits : Limits) (before : Option Partial) (n : ℕ) (f : Fra
 unfolding judged_as
 opens-quiet limits before n f e h = rw (e, lt-leb limits.partials n h) refl
 
-pub opened : (ps qs : List Part) (p : Part) (f : Frame) → qs ≡ ps ++ p ∷ [] → p.id ≡ id_of f → p.header ≡ f.header → drop 12 p.octets.items ≡ f.octets → pieces qs ≡ parts_as Opens (pieces ps) f
+pub opened : (ps qs : List Part) (p : Part) (f : Frame) → qs ≡ ps ++ p ∷ [] → p.id ≡ id_of f → p.header ≡ f.header → drop 12 p.octets.items ≡ f.octets → entries qs ≡ parts_as Opens (entries ps) f
 unfolding parts_as
-opened ps qs p f e is same octets = ap pieces e ∙ map-append piece_of ps (p ∷ []) ∙ ap (λ (q : Piece). pieces ps ++ q ∷ []) (piece-is p (id_of f) (begun_by f) is same octets)
+opened ps qs p f e is same octets = ap entries e ∙ map-append entry_of ps (p ∷ []) ∙ ap (λ (q : Entry). entries ps ++ q ∷ []) (entry-is p (id_of f) (opened_by f) is same octets)
 
 -- a Fragment
 
-pub mixed : (limits : Limits) (f : Frame) (p : Partial) (then_is : Partial → Verdict) → is_same_order p.header.order f.header.order ≡ false → judged_fragment limits f (Some p) then_is ≡ Bad MixedOrder
-mixed limits f p then_is e = rw e refl
+pub mixed : (limits : Limits) (f : Frame) (p : Partial) → is_same_order p.header.order f.header.order ≡ false → joinable limits f (Some p) ≡ Err MixedOrder
+mixed limits f p e = rw e refl
 
-pub too_long : (limits : Limits) (f : Frame) (p : Partial) (then_is : Partial → Verdict) → is_same_order p.header.order f.header.order ≡ true → limits.message < 12 + length (p.octets ++ data_of f) → judged_fragment limits f (Some p) then_is ≡ Bad TooLarge
-too_long limits f p then_is e h = rw (e, lt-ltb limits.message (12 + length (p.octets ++ data_of f)) h) refl
+pub too_long : (limits : Limits) (f : Frame) (p : Partial) → is_same_order p.header.order f.header.order ≡ true → limits.message < 12 + length (p.octets ++ payload_of f) → joinable limits f (Some p) ≡ Err TooLarge
+too_long limits f p e h = rw (e, lt-ltb limits.message (12 + length (p.octets ++ payload_of f)) h) refl
 
-pub fits : (limits : Limits) (f : Frame) (p : Partial) (then_is : Partial → Verdict) → is_same_order p.header.order f.header.order ≡ true → 12 + length (p.octets ++ data_of f) ≤ limits.message → judged_fragment limits f (Some p) then_is ≡ then_is p
-fits limits f p then_is e h = rw (e, le-ltb limits.message (12 + length (p.octets ++ data_of f)) h) refl
+pub fits : (limits : Limits) (f : Frame) (p : Partial) → is_same_order p.header.order f.header.order ≡ true → 12 + length (p.octets ++ payload_of f) ≤ limits.message → joinable limits f (Some p) ≡ Ok p
+fits limits f p e h = rw (e, le-ltb limits.message (12 + length (p.octets ++ payload_of f)) h) refl
 
-pub too-long-at : (limits : Limits) (f : Frame) (ps : List Piece) (q : Part) (more : List ℕ) (id : ℕ) → id ≡ id_of f → part_in ps id ≡ Some (piece_of q).part → is_same_order q.header.order f.header.order ≡ true → more ≡ data_of f
-    → 12 ≤ length q.octets.items → limits.message < length q.octets.items + length more → (then_is : Partial → Verdict) → judged_fragment limits f (part_in ps (id_of f)) then_is ≡ Bad TooLarge
-too-long-at limits f ps q more id is had same from long over then_is =
-    let there : part_in ps (id_of f) ≡ Some (piece_of q).part = ap (part_in ps) (sym is) ∙ had in
+pub too-long-at : (limits : Limits) (f : Frame) (ps : List Entry) (q : Part) (more : List ℕ) (id : ℕ) → id ≡ id_of f → part_in ps id ≡ Some (entry_of q).part → is_same_order q.header.order f.header.order ≡ true → more ≡ payload_of f
+    → 12 ≤ length q.octets.items → limits.message < length q.octets.items + length more → joinable limits f (part_in ps (id_of f)) ≡ Err TooLarge
+too-long-at limits f ps q more id is had same from long over =
+    let there : part_in ps (id_of f) ≡ Some (entry_of q).part = ap (part_in ps) (sym is) ∙ had in
     let octets = drop 12 q.octets.items in
-    rw there (too_long limits f (piece_of q).part then_is same (omega (arith, long, over, ap length from, length-append octets (data_of f), length-drop 12 q.octets.items)))
+    rw there (too_long limits f (entry_of q).part same (omega (arith, long, over, ap length from, length-append octets (payload_of f), length-drop 12 q.octets.items)))
 
-pub continued : (limits : Limits) (f : Frame) (ps after : List Piece) (p q : Part) (more : List ℕ) (id : ℕ) → id ≡ id_of f → part_in ps id ≡ Some (piece_of q).part → is_same_order q.header.order f.header.order ≡ true → more ≡ data_of f
+pub continued : (limits : Limits) (f : Frame) (ps after : List Entry) (p q : Part) (more : List ℕ) (id : ℕ) → id ≡ id_of f → part_in ps id ≡ Some (entry_of q).part → is_same_order q.header.order f.header.order ≡ true → more ≡ payload_of f
     → 12 ≤ length q.octets.items → length q.octets.items + length more ≤ limits.message → p.id ≡ id → p.header ≡ q.header → p.octets.items ≡ q.octets.items ++ more → after ≡ without id ps → IsContinued p limits f ps after
 continued limits f ps after p q more id is had same from long within named headed joins left =
     let octets = drop 12 q.octets.items in
     record {
-      before = (piece_of q).part;
+      before = (entry_of q).part;
       had = ap (part_in ps) (sym is) ∙ had;
-      fits = λ then_is. fits limits f (piece_of q).part then_is same (omega (arith, long, within, ap length from, length-append octets (data_of f), length-drop 12 q.octets.items));
-      piece = piece-is p (id_of f) (continued_by f (piece_of q).part) (named ∙ is) headed (ap (drop 12) joins ∙ drop-append-le 12 q.octets.items more long ∙ ap (λ (x : List ℕ). octets ++ x) from);
+      fits = fits limits f (entry_of q).part same (omega (arith, long, within, ap length from, length-append octets (payload_of f), length-drop 12 q.octets.items));
+      entry = entry-is p (id_of f) (continued_by f (entry_of q).part) (named ∙ is) headed (ap (drop 12) joins ∙ drop-append-le 12 q.octets.items more long ∙ ap (λ (x : List ℕ). octets ++ x) from);
       others = left ∙ ap (λ (i : ℕ). without i ps) is;
       within = omega (arith, within, ap length joins, length-append q.octets.items more);
     }
 
--- the data behind the header and the id
-pub data-at : (h : Header) (b octets : List ℕ) → octets ≡ drop 16 b → octets ≡ data_of (framed h b)
-data-at h b octets e = e ∙ sym (drop-drop 4 12 b)
+-- the payload after the header and the id
+pub payload-at : (h : Header) (b octets : List ℕ) → octets ≡ drop 16 b → octets ≡ payload_of (framed h b)
+payload-at h b octets e = e ∙ sym (drop-drop 4 12 b)
 
-pub taken : (t u : TakenUp) (limits : Limits) (h : Header) (x y : List ℕ) (ps qs : List Piece) → t ≡ u → x ≡ y → IsTakenUp t limits (framed h x) ps qs → IsTakenUp u limits (framed h y) ps qs
+pub taken : (t u : TakenUp) (limits : Limits) (h : Header) (x y : List ℕ) (ps qs : List Entry) → t ≡ u → x ≡ y → IsTakenUp t limits (framed h x) ps qs → IsTakenUp u limits (framed h y) ps qs
 taken t u limits h x y ps qs e is k = subst (λ (z : List ℕ). IsTakenUp u limits (framed h z) ps qs) is (subst (λ (v : TakenUp). IsTakenUp v limits (framed h x) ps qs) e k)
 
-pub carries-bad : (limits : Limits) (before : Option Partial) (n : ℕ) (f : Frame) (e : StreamFault) → ((then_is : Partial → Verdict) → judged_fragment limits f before then_is ≡ Bad e) → judged_as Carries limits before n f ≡ Bad e
+pub carries-bad : (limits : Limits) (before : Option Partial) (n : ℕ) (f : Frame) (e : StreamFault) → joinable limits f before ≡ Err e → judged_as Carries limits before n f ≡ Bad e
 unfolding judged_as
-carries-bad limits before n f e h = h (λ p. Quiet)
+carries-bad limits before n f e h = ap judged_carried h
 
-pub ends-bad : (limits : Limits) (before : Option Partial) (n : ℕ) (f : Frame) (e : StreamFault) → ((then_is : Partial → Verdict) → judged_fragment limits f before then_is ≡ Bad e) → judged_as Ends limits before n f ≡ Bad e
+pub ends-bad : (limits : Limits) (before : Option Partial) (n : ℕ) (f : Frame) (e : StreamFault) → joinable limits f before ≡ Err e → judged_as Ends limits before n f ≡ Bad e
 unfolding judged_as
-ends-bad limits before n f e h = h (λ p. judged_whole (joined p f))
+ends-bad limits before n f e h = ap (judged_ended f) h
 
-pub carries-quiet : (limits : Limits) (n : ℕ) (f : Frame) (ps after : List Piece) (p : Part) → IsContinued p limits f ps after → judged_as Carries limits (part_in ps (id_of f)) n f ≡ Quiet
+pub carries-quiet : (limits : Limits) (n : ℕ) (f : Frame) (ps after : List Entry) (p : Part) → IsContinued p limits f ps after → judged_as Carries limits (part_in ps (id_of f)) n f ≡ Quiet
 unfolding judged_as
-carries-quiet limits n f ps after p c = rw c.had (c.fits (λ q. Quiet))
+carries-quiet limits n f ps after p c = rw c.had (ap judged_carried c.fits)
 
-pub carried_on : (limits : Limits) (f : Frame) (ps : List Piece) (qs : List Part) (rs : List Part) (p : Part) → IsContinued p limits f ps (pieces qs) → rs ≡ qs ++ p ∷ [] → pieces rs ≡ parts_as Carries ps f
+pub carried_on : (limits : Limits) (f : Frame) (ps : List Entry) (qs : List Part) (rs : List Part) (p : Part) → IsContinued p limits f ps (entries qs) → rs ≡ qs ++ p ∷ [] → entries rs ≡ parts_as Carries ps f
 unfolding parts_as
 carried_on limits f ps qs rs p c e =
-    ap pieces e ∙ map-append piece_of qs (p ∷ []) ∙ ap (λ (q : Piece). pieces qs ++ q ∷ []) c.piece ∙ ap (λ (q : List Piece). q ++ record { id = id_of f; part = continued_by f c.before } ∷ []) c.others
+    ap entries e ∙ map-append entry_of qs (p ∷ []) ∙ ap (λ (q : Entry). entries qs ++ q ∷ []) c.entry ∙ ap (λ (q : List Entry). q ++ record { id = id_of f; part = continued_by f c.before } ∷ []) c.others
     ∙ sym (rw c.had refl)
 
-pub ends-as : (limits : Limits) (n : ℕ) (f : Frame) (ps after : List Piece) (p : Part) (c : IsContinued p limits f ps after) → judged_as Ends limits (part_in ps (id_of f)) n f ≡ judged_whole (joined c.before f)
+pub ends-as : (limits : Limits) (n : ℕ) (f : Frame) (ps after : List Entry) (p : Part) (c : IsContinued p limits f ps after) → judged_as Ends limits (part_in ps (id_of f)) n f ≡ judged_whole (joined c.before f)
 unfolding judged_as
-ends-as limits n f ps after p c = rw c.had (c.fits (λ q. judged_whole (joined q f)))
+ends-as limits n f ps after p c = rw c.had (ap (judged_ended f) c.fits)
 
 -- a verdict that a whole message leaves
 
 pub never-quiet : (f : Frame) → judged_whole f ≡ Quiet → ⊥
 never-quiet f e = elim (content_of f.header f.octets) as (λ r. on_content f r ≡ Quiet → ⊥) [ Err d ↦ λ k. absurd cc | Ok m ↦ λ k. absurd cc ] e
 
-pub left-whole : (s : Settled) (b : List ℕ) (v : Verdict) (ps after : List Piece) → verdict_at s b ≡ v → (v ≡ Quiet → ⊥) → ps ≡ after → 12 ≤ length b → IsLeft s v b ps after
+pub left-whole : (s : Settled) (b : List ℕ) (v : Verdict) (ps after : List Entry) → verdict_at s b ≡ v → (v ≡ Quiet → ⊥) → ps ≡ after → 12 ≤ length b → IsLeft s v b ps after
 left-whole SettledQuiet b v ps after e n same long = absurd (n (sym e))
 left-whole (SettledDone h) b v ps after e n same long = (sym e, same, long)
 left-whole (SettledBad d) b v ps after e n same long = sym e
 
-pub left-as : (s : Settled) (b : List ℕ) (v w : Verdict) (ps after : List Piece) → IsLeft s v b ps after → v ≡ w → IsLeft s w b ps after
+pub left-as : (s : Settled) (b : List ℕ) (v w : Verdict) (ps after : List Entry) → IsLeft s v b ps after → v ≡ w → IsLeft s w b ps after
 left-as s b v w ps after l e = subst (λ (x : Verdict). IsLeft s x b ps after) e l
 
-uncut-judged : (limits : Limits) (ps : List Piece) (n : ℕ) (f : Frame) → judged_uncut ps f ≡ judged_as Uncut limits (part_in ps (id_of f)) n f
+uncut-judged : (limits : Limits) (ps : List Entry) (n : ℕ) (f : Frame) → judged_uncut ps f ≡ judged_as Uncut limits (part_in ps (id_of f)) n f
 unfolding judged_as
 uncut-judged limits ps n f = refl
 
@@ -127,45 +129,45 @@ uncut-never : (b : Bool) (f : Frame) → cond b (Bad TwiceStarted) (judged_whole
 uncut-never true f e = absurd cc
 uncut-never false f e = never-quiet f e
 
-pub by-uncut : (limits : Limits) (h : Header) (b x : List ℕ) (ps qs : List Piece) (s : Settled) → x ≡ b → qs ≡ ps → 12 ≤ length b → verdict_at s x ≡ judged_uncut qs (framed h x) → IsSettledAs Uncut s limits h b b ps ps
+pub by-uncut : (limits : Limits) (h : Header) (b x : List ℕ) (ps qs : List Entry) (s : Settled) → x ≡ b → qs ≡ ps → 12 ≤ length b → verdict_at s x ≡ judged_uncut qs (framed h x) → IsSettledAs Uncut s limits h b b ps ps
 unfolding parts_as
 by-uncut limits h b x ps qs s is same long e =
     let f = framed h b in
-    let there : verdict_at s b ≡ judged_uncut ps f = subst (λ (y : List ℕ). verdict_at s y ≡ judged_uncut ps (framed h y)) is (subst (λ (r : List Piece). verdict_at s x ≡ judged_uncut r (framed h x)) same e) in
+    let there : verdict_at s b ≡ judged_uncut ps f = subst (λ (y : List ℕ). verdict_at s y ≡ judged_uncut ps (framed h y)) is (subst (λ (r : List Entry). verdict_at s x ≡ judged_uncut r (framed h x)) same e) in
     left-as s b (judged_uncut ps f) (judged_as Uncut limits (part_in ps (id_of f)) (length ps) f) ps ps (left-whole s b (judged_uncut ps f) ps ps there (uncut-never (is_some (part_in ps (id_of f))) f) refl long) (uncut-judged limits ps (length ps) f)
 
 whole-at : (s : Settled) (h : Header) (b x : List ℕ) → x ≡ b → verdict_at s x ≡ judged_whole (framed h x) → verdict_at s b ≡ judged_whole (framed h b)
 whole-at s h b x is e = subst (λ (y : List ℕ). verdict_at s y ≡ judged_whole (framed h y)) is e
 
-pub by-cancel : (limits : Limits) (h : Header) (b x : List ℕ) (ps after : List Piece) (s : Settled) (id : ℕ) → x ≡ b → 12 ≤ length b → verdict_at s x ≡ judged_whole (framed h x) → id ≡ id_of (framed h b) → after ≡ without id ps → IsSettledAs Drops s limits h b b ps after
+pub by-cancel : (limits : Limits) (h : Header) (b x : List ℕ) (ps after : List Entry) (s : Settled) (id : ℕ) → x ≡ b → 12 ≤ length b → verdict_at s x ≡ judged_whole (framed h x) → id ≡ id_of (framed h b) → after ≡ without id ps → IsSettledAs Drops s limits h b b ps after
 unfolding judged_as parts_as
 by-cancel limits h b x ps after s id is long e named left = left-whole s b (judged_whole (framed h b)) after (without (id_of (framed h b)) ps) (whole-at s h b x is e) (never-quiet (framed h b)) (left ∙ ap (λ (i : ℕ). without i ps) named) long
 
-pub by-apart : (limits : Limits) (h : Header) (b x : List ℕ) (ps : List Piece) (s : Settled) → x ≡ b → 12 ≤ length b → verdict_at s x ≡ judged_whole (framed h x) → IsSettledAs Apart s limits h b b ps ps
+pub by-apart : (limits : Limits) (h : Header) (b x : List ℕ) (ps : List Entry) (s : Settled) → x ≡ b → 12 ≤ length b → verdict_at s x ≡ judged_whole (framed h x) → IsSettledAs Apart s limits h b b ps ps
 unfolding judged_as parts_as
 by-apart limits h b x ps s is long e = left-whole s b (judged_whole (framed h b)) ps ps (whole-at s h b x is e) (never-quiet (framed h b)) refl long
 
 -- a message that its last Fragment ends
 
-part-of : (p : Part) (i : ℕ) (q : Partial) → piece_of p ≡ record { id = i; part = q } → (p.header ≡ q.header) × (drop 12 p.octets.items ≡ q.octets)
-part-of p i q e = (ap (λ (x : Piece). x.part.header) e, ap (λ (x : Piece). x.part.octets) e)
+part-of : (p : Part) (i : ℕ) (q : Partial) → entry_of p ≡ record { id = i; part = q } → (p.header ≡ q.header) × (drop 12 p.octets.items ≡ q.octets)
+part-of p i q e = (ap (λ (x : Entry). x.part.header) e, ap (λ (x : Entry). x.part.octets) e)
 
 abbrev whole_header : Header → ℕ → Header
 whole_header h n = record h { more = false; size = n }
 
-ended-message : (p : Part) (before : Partial) (f : Frame) (n : ℕ) → piece_of p ≡ record { id = id_of f; part = continued_by f before } → n ≡ length p.octets.items - 12 → framed (whole_header p.header n) p.octets.items ≡ joined before f
+ended-message : (p : Part) (before : Partial) (f : Frame) (n : ℕ) → entry_of p ≡ record { id = id_of f; part = continued_by f before } → n ≡ length p.octets.items - 12 → framed (whole_header p.header n) p.octets.items ≡ joined before f
 ended-message p before f n e is =
     let k = part-of p (id_of f) (continued_by f before) e in
-    let size : n ≡ length (before.octets ++ data_of f) = omega (arith, is, ap length k.1, length-drop 12 p.octets.items) in
-    ap (λ (h : Header). framed (whole_header h n) p.octets.items) k.0 ∙ ap (λ (x : List ℕ). record { header = whole_header before.header n; octets = x }) k.1 ∙ ap (λ (m : ℕ). record { header = whole_header before.header m; octets = before.octets ++ data_of f }) size
+    let size : n ≡ length (before.octets ++ payload_of f) = omega (arith, is, ap length k.1, length-drop 12 p.octets.items) in
+    ap (λ (h : Header). framed (whole_header h n) p.octets.items) k.0 ∙ ap (λ (x : List ℕ). record { header = whole_header before.header n; octets = x }) k.1 ∙ ap (λ (m : ℕ). record { header = whole_header before.header m; octets = before.octets ++ payload_of f }) size
 
-pub by-end : (limits : Limits) (h : Header) (b x : List ℕ) (ps after : List Piece) (p : Part) (s : Settled) (n : ℕ) → IsContinued p limits (framed h b) ps after → x ≡ p.octets.items → n ≡ length p.octets.items - 12 → 12 ≤ length p.octets.items
+pub by-end : (limits : Limits) (h : Header) (b x : List ℕ) (ps after : List Entry) (p : Part) (s : Settled) (n : ℕ) → IsContinued p limits (framed h b) ps after → x ≡ p.octets.items → n ≡ length p.octets.items - 12 → 12 ≤ length p.octets.items
     → verdict_at s x ≡ judged_whole (framed (whole_header p.header n) x) → IsSettledAs Ends s limits h b p.octets.items ps after
 unfolding parts_as
 by-end limits h b x ps after p s n c is size long e =
     let f = framed h b in
     let m = joined c.before f in
-    let there : verdict_at s p.octets.items ≡ judged_whole m = whole-at s (whole_header p.header n) p.octets.items x is e ∙ ap judged_whole (ended-message p c.before f n c.piece size) in
+    let there : verdict_at s p.octets.items ≡ judged_whole m = whole-at s (whole_header p.header n) p.octets.items x is e ∙ ap judged_whole (ended-message p c.before f n c.entry size) in
     left-as s p.octets.items (judged_whole m) (judged_as Ends limits (part_in ps (id_of f)) (length ps) f) after (without (id_of f) ps) (left-whole s p.octets.items (judged_whole m) after (without (id_of f) ps) there (never-quiet m) c.others long) (sym (ends-as limits (length ps) f ps after p c))
 
 -- the id that a frame begins with
@@ -181,13 +183,13 @@ with-id : (limits : Limits) (h : Header) (b : List ℕ) (before : Option Partial
 unfolding judged_by
 with-id limits h b before n long = rw (and-false (has_id (role_of h)) (nat_lt (length (framed h b).octets) 4) (id-there h b long)) refl
 
-pub settled-by : (limits : Limits) (h : Header) (b b' : List ℕ) (ps ps' : List Piece) (r : Role) (s : Settled) → r ≡ role_of h → 16 ≤ length b → IsSettledAs r s limits h b b' ps ps' → IsSettled s limits h b b' ps ps'
+pub settled-by : (limits : Limits) (h : Header) (b b' : List ℕ) (ps ps' : List Entry) (r : Role) (s : Settled) → r ≡ role_of h → 16 ≤ length b → IsSettledAs r s limits h b b' ps ps' → IsSettled s limits h b b' ps ps'
 settled-by limits h b b' ps ps' r s is long l =
     let f = framed h b in
     let here : IsSettledAs (role_of h) s limits h b b' ps ps' = subst (λ (x : Role). IsSettledAs x s limits h b b' ps ps') is l in
     left-as s b' (judged_as (role_of h) limits (part_in ps (id_of f)) (length ps) f) (judged_by limits (part_in ps (id_of f)) (length ps) f) ps' (parts_as (role_of h) ps f) here (with-id limits h b (part_in ps (id_of f)) (length ps) long)
 
-pub settled-apart : (limits : Limits) (h : Header) (b x : List ℕ) (ps : List Piece) (s : Settled) → Apart ≡ role_of h → x ≡ b → 12 ≤ length b → verdict_at s x ≡ judged_whole (framed h x) → IsSettled s limits h b b ps ps
+pub settled-apart : (limits : Limits) (h : Header) (b x : List ℕ) (ps : List Entry) (s : Settled) → Apart ≡ role_of h → x ≡ b → 12 ≤ length b → verdict_at s x ≡ judged_whole (framed h x) → IsSettled s limits h b b ps ps
 unfolding judged_by
 settled-apart limits h b x ps s is same long e = subst (λ (r : Role). IsLeft s (cond (has_id r && nat_lt (length (drop 12 b)) 4) too_short (judged_as r limits (part_in ps (id_of (framed h b))) (length ps) (framed h b))) b ps (parts_as r ps (framed h b))) is (by-apart limits h b x ps s same long e)
 

@@ -6,7 +6,7 @@ pub mod Places
 pub mod Tables
 pub mod Samples
 pub mod Standing
-pub mod Rooms
+pub mod Needs
 pub mod Found
 pub mod Judging
 pub mod Bounds

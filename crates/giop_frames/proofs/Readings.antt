@@ -4,7 +4,7 @@ use Rattle.giop_frames.specs.declared.fault.StreamFault.{StreamFault}
 use Rattle.giop_frames.specs.declared.limits.Limits.{Limits}
 use Rattle.giop_frames.specs.Frames.{Frame}
 use Rattle.giop_frames.specs.Fragments.{Bad, Quiet, Done, judged}
-use Rattle.giop_frames.specs.Streams.{Reading, Told, after_message, place_after, reading_from}
+use Rattle.giop_frames.specs.Streams.{Reading, Completed, after_message, place_after, reading_from}
 
 -- one frame more, by its judgement
 
@@ -19,7 +19,7 @@ pub step-done : (limits : Limits) (h : List Frame) (last : Option StreamFault) (
 step-done limits h last f fs m j = rw (j, reading_from) refl
 
 -- messages before a reading
-abbrev pub after_messages : List Told → Reading → Reading
+abbrev pub after_messages : List Completed → Reading → Reading
 after_messages ms r = record r { messages = ms ++ r.messages }
 
 -- frames after frames without a fault

@@ -13,16 +13,16 @@ use Rattle.giop_core.specs.Headers.{header_of}
 use Rattle.giop_core.specs.Messages.{message_of}
 use Rattle.giop_frames.specs.declared.fault.StreamFault.{StreamFault}
 use Rattle.giop_frames.specs.declared.limits.Limits.{Limits}
-use Rattle.giop_frames.specs.declared.role.Role.TheVariants.{Opens, Carries, Uncut}
+use Rattle.giop_frames.specs.declared.reassembly.Role.TheVariants.{Opens, Carries, Uncut}
 use Rattle.giop_frames.specs.ReadAgain.{Completes, CutIsReadAgain, under}
-use Rattle.giop_frames.specs.Cutting.{cut_octets, first_piece, fragment_of, fragments_of, frame_octets, is_cut_kind, is_cuttable, is_cuttable_under, pieces_from}
-use Rattle.giop_frames.specs.Fragments.{Done, Partial, Quiet, begun, content_of, continued_by, data_of, id_of, is_same_order, judged, partials_in, role_in, role_in_12, role_of}
+use Rattle.giop_frames.specs.Cutting.{cut_octets, first_frame, fragment_of, fragments_of, frame_octets, is_cut_kind, is_cuttable, is_cuttable_under, chunks_from}
+use Rattle.giop_frames.specs.Fragments.{Done, Partial, Quiet, partial_of, content_of, continued_by, payload_of, id_of, is_same_order, judged, partials_in, role_in, role_in_12, role_of}
 use Rattle.giop_frames.specs.Frames.{Frame, Split, frame_size, split, split_from}
 use Rattle.giop_frames.specs.Splitting.{IsFrame, Splits}
-use Rattle.giop_frames.specs.Streams.{Reading, Told, fault_of, frames_of, messages_of, place_after, reading_from, reading_of, rest_of}
+use Rattle.giop_frames.specs.Streams.{Reading, Completed, fault_of, frames_of, messages_of, place_after, reading_from, reading_of, rest_of}
 use Rattle.giop_core.specs.Laws.{HeadersAreReadAgain}
 use Rattle.giop_frames.proofs.CutFrames.{AreFrames, admit-12, and-not, cut-can, cut-has_id, cut-opens, cut-uncut, frame-again, frames-split, judged-carrying, judged-ending, judged-opening, judged-uncut, number-front, number-take, same-order, version-12}
-use Rattle.giop_frames.proofs.Cuts.{fragments-more, pieces-last, pieces-more}
+use Rattle.giop_frames.proofs.Cuts.{fragments-more, chunks-last, chunks-more}
 use Rattle.giop_frames.proofs.Deciding.{test_eq, test_le, test_lt}
 use Rattle.giop_frames.proofs.Places.{faultless-split, place-length}
 use Rattle.giop_frames.proofs.Readings.{after_messages, reading-append, step-done, step-quiet}
@@ -30,13 +30,13 @@ use Rattle.giop_frames.proofs.Sights.{nothing-waits}
 use Rattle.giop_frames.proofs.Splits.{after_frames, split-append}
 use Rattle.giop_frames.proofs.Splitting.{only_splits}
 use Rattle.giop_frames.proofs.Standing.{rest-more}
-use Rattle.giop_frames.proofs.Tables.{begun-same}
+use Rattle.giop_frames.proofs.Tables.{partial-same}
 
--- one message, told behind the frames it ends with
-abbrev pub one_told : List Frame → Frame → Reading
-one_told e m = record { messages = record { place = place_after e; message = m } ∷ []; fault = None; earlier = e }
+-- one message, which completes with these frames
+abbrev pub one_completed : List Frame → Frame → Reading
+one_completed e m = record { messages = record { place = place_after e; message = m } ∷ []; fault = None; earlier = e }
 
-finished : (limits : Limits) (x : List ℕ) (ms : List Told) (e : List Frame) (m : Frame) → reading_of limits x ≡ after_messages ms (one_told e m) → rest_of limits x ≡ []
+finished : (limits : Limits) (x : List ℕ) (ms : List Completed) (e : List Frame) (m : Frame) → reading_of limits x ≡ after_messages ms (one_completed e m) → rest_of limits x ≡ []
     → (messages_of limits x ≡ ms ++ record { place = length x; message = m } ∷ []) × (fault_of limits x ≡ None) × (rest_of limits x ≡ [])
 unfolding messages_of fault_of frames_of
 finished limits x ms e m all none =
@@ -63,29 +63,29 @@ module _ (limits : Limits) (s : List ℕ) (n : fault_of limits s ≡ None) (none
   unfolding split
   rest-none c fs is = rest-more limits s c n ∙ ap (λ (w : List ℕ). (split_from limits w c).rest) none ∙ ap (λ (t : Split). t.rest) (only_splits limits c fs [] is (nothing-waits limits))
 
-  pub completes : (c : List ℕ) (fs e : List Frame) (m : Frame) → Splits limits c fs [] → reading_from limits (frames_of limits s) None fs ≡ one_told e m → Completes limits s c m
-  completes c fs e m is told = finished limits (s ++ c) (messages_of limits s) e m (reading-more c fs is ∙ ap (after_messages (messages_of limits s)) told) (rest-none c fs is)
+  pub completes : (c : List ℕ) (fs e : List Frame) (m : Frame) → Splits limits c fs [] → reading_from limits (frames_of limits s) None fs ≡ one_completed e m → Completes limits s c m
+  completes c fs e m is read = finished limits (s ++ c) (messages_of limits s) e m (reading-more c fs is ∙ ap (after_messages (messages_of limits s)) read) (rest-none c fs is)
 
 -- the Fragments of what is left, by how much it is
 
-last-fragment : (h : Header) (id left : List ℕ) (r : ℕ) → length left ≤ r → fragments_of h id (pieces_from r [] left) ≡ fragment_of h id false left ∷ []
-last-fragment h id left r short = ap (fragments_of h id) (pieces-last r [] left (omega (arith, short)))
+last-fragment : (h : Header) (id left : List ℕ) (r : ℕ) → length left ≤ r → fragments_of h id (chunks_from r [] left) ≡ fragment_of h id false left ∷ []
+last-fragment h id left r short = ap (fragments_of h id) (chunks-last r [] left (omega (arith, short)))
 
 more-fragments : (h : Header) (id left : List ℕ) (r : ℕ) → 0 < r → r < length left
-    → fragments_of h id (pieces_from r [] left) ≡ fragment_of h id true (take r left) ∷ fragments_of h id (pieces_from r [] (drop r left))
+    → fragments_of h id (chunks_from r [] left) ≡ fragment_of h id true (take r left) ∷ fragments_of h id (chunks_from r [] (drop r left))
 more-fragments h id left r some long =
     let front = take r left in
     let others = drop r left in
     let size : length front ≡ r = length-take-le r left (omega (arith, long)) in
     let more : 0 < length others = omega (arith, length-drop r left, long) in
-    ap (λ (x : List ℕ). fragments_of h id (pieces_from r [] x)) (sym (take-append-drop r left))
-    ∙ ap (fragments_of h id) (pieces-more r [] front others some (omega (arith, size)) more)
+    ap (λ (x : List ℕ). fragments_of h id (chunks_from r [] x)) (sym (take-append-drop r left))
+    ∙ ap (fragments_of h id) (chunks-more r [] front others some (omega (arith, size)) more)
     ∙ fragments-more h id front r [] others
 
--- the Fragments of what is left, behind a first piece
+-- the Fragments of what is left, after a first frame
 
 module _ (again : HeadersAreReadAgain) (limits : Limits) (h hd : Header) (id whole : List ℕ) (r : ℕ) (v : h.version ≡ V12) (order : is_same_order hd.order h.order ≡ true) (four : length id ≡ 4) (some : 0 < r)
-    (aligned : (16 + r) % 8 ≡ 0) (within : 12 + length whole ≤ limits.message) (room : 16 + r ≤ limits.message) (ok : IsOk (content_of (record hd { more = false; size = length whole }) whole)) where
+    (aligned : (16 + r) % 8 ≡ 0) (within : 12 + length whole ≤ limits.message) (free : 16 + r ≤ limits.message) (ok : IsOk (content_of (record hd { more = false; size = length whole }) whole)) where
   abbrev i : ℕ
   i = number_of h.order 4 id
 
@@ -98,48 +98,48 @@ module _ (again : HeadersAreReadAgain) (limits : Limits) (h hd : Header) (id who
   id-is : (more : Bool) (x : List ℕ) → id_of (fragment_of h id more x) ≡ i
   id-is more x = number-front h.order id x (omega (arith, four))
 
-  data-is : (more : Bool) (x : List ℕ) → data_of (fragment_of h id more x) ≡ x
-  data-is more x = drop_at id x 4 four
+  payload-is : (more : Bool) (x : List ℕ) → payload_of (fragment_of h id more x) ≡ x
+  payload-is more x = drop_at id x 4 four
 
   long-is : (x : List ℕ) → length (id ++ x) ≡ 4 + length x
   long-is x = omega (arith, four, length-append id x)
 
   is-frame : (more : Bool) (x : List ℕ) → length x ≤ r → (more && not ((12 + (4 + length x)) % 8 == 0)) ≡ false → IsFrame limits (fragment_of h id more x) (frame_octets (fragment_of h id more x))
-  is-frame more x short even = frame-again again limits (fragment_of h id more x) v refl (sym (long-is x)) (omega (arith, long-is x, short, room)) even
+  is-frame more x short even = frame-again again limits (fragment_of h id more x) v refl (sym (long-is x)) (omega (arith, long-is x, short, free)) even
 
   even-is : (x : List ℕ) → length x ≡ r → (true && not ((12 + (4 + length x)) % 8 == 0)) ≡ false
   even-is x e =
       let size : 12 + (4 + length x) ≡ 16 + r = omega (arith, e) in
       and-not true _ (eq-eqb ((12 + (4 + length x)) % 8) 0 (ap (λ (k : ℕ). k % 8) size ∙ aligned))
 
-  carries-on : (earlier : List Frame) (o x : List ℕ) → begun earlier i ≡ Some (at o) → 12 + length (o ++ x) ≤ limits.message → judged limits earlier (fragment_of h id true x) ≡ Quiet
+  carries-on : (earlier : List Frame) (o x : List ℕ) → partial_of earlier i ≡ Some (at o) → 12 + length (o ++ x) ≤ limits.message → judged limits earlier (fragment_of h id true x) ≡ Quiet
   carries-on earlier o x b fit =
       let f = fragment_of h id true x in
-      let more : 12 + length (o ++ data_of f) ≤ limits.message = omega (arith, fit, ap (λ (y : List ℕ). length (o ++ y)) (data-is true x)) in
-      judged-carrying limits earlier f (at o) (ap (λ (w : Version). role_in w Fragment true) v) (omega (arith, long-is x)) (ap (begun earlier) (id-is true x) ∙ b) order more
+      let more : 12 + length (o ++ payload_of f) ≤ limits.message = omega (arith, fit, ap (λ (y : List ℕ). length (o ++ y)) (payload-is true x)) in
+      judged-carrying limits earlier f (at o) (ap (λ (w : Version). role_in w Fragment true) v) (omega (arith, long-is x)) (ap (partial_of earlier) (id-is true x) ∙ b) order more
 
-  begun-on : (earlier : List Frame) (o x : List ℕ) → begun earlier i ≡ Some (at o) → begun (fragment_of h id true x ∷ earlier) i ≡ Some (at (o ++ x))
-  begun-on earlier o x b =
+  partial-on : (earlier : List Frame) (o x : List ℕ) → partial_of earlier i ≡ Some (at o) → partial_of (fragment_of h id true x ∷ earlier) i ≡ Some (at (o ++ x))
+  partial-on earlier o x b =
       let f = fragment_of h id true x in
-      begun-same f earlier i Carries (id-is true x) (ap (λ (w : Version). role_in w Fragment true) v) ∙ ap (option_map (continued_by f)) b ∙ ap (λ (y : List ℕ). Some (at (o ++ y))) (data-is true x)
+      partial-same f earlier i Carries (id-is true x) (ap (λ (w : Version). role_in w Fragment true) v) ∙ ap (option_map (continued_by f)) b ∙ ap (λ (y : List ℕ). Some (at (o ++ y))) (payload-is true x)
 
-  ends-it : (earlier : List Frame) (o x : List ℕ) → begun earlier i ≡ Some (at o) → o ++ x ≡ whole → judged limits earlier (fragment_of h id false x) ≡ Done (all_of whole)
+  ends-it : (earlier : List Frame) (o x : List ℕ) → partial_of earlier i ≡ Some (at o) → o ++ x ≡ whole → judged limits earlier (fragment_of h id false x) ≡ Done (all_of whole)
   ends-it earlier o x b is =
       let f = fragment_of h id false x in
-      let all : o ++ data_of f ≡ whole = ap (λ (y : List ℕ). o ++ y) (data-is false x) ∙ is in
-      let fit : 12 + length (o ++ data_of f) ≤ limits.message = omega (arith, within, ap length all) in
-      let reads : IsOk (content_of (all_of (o ++ data_of f)).header (o ++ data_of f)) = subst (λ (y : List ℕ). IsOk (content_of (all_of y).header y)) (sym all) ok in
-      judged-ending limits earlier f (at o) (ap (λ (w : Version). role_in w Fragment false) v) (omega (arith, long-is x)) (ap (begun earlier) (id-is false x) ∙ b) order fit reads ∙ ap (λ (y : List ℕ). Done (all_of y)) all
+      let all : o ++ payload_of f ≡ whole = ap (λ (y : List ℕ). o ++ y) (payload-is false x) ∙ is in
+      let fit : 12 + length (o ++ payload_of f) ≤ limits.message = omega (arith, within, ap length all) in
+      let reads : IsOk (content_of (all_of (o ++ payload_of f)).header (o ++ payload_of f)) = subst (λ (y : List ℕ). IsOk (content_of (all_of y).header y)) (sym all) ok in
+      judged-ending limits earlier f (at o) (ap (λ (w : Version). role_in w Fragment false) v) (omega (arith, long-is x)) (ap (partial_of earlier) (id-is false x) ∙ b) order fit reads ∙ ap (λ (y : List ℕ). Done (all_of y)) all
 
   abbrev Reads : List Frame → List Frame → Type 0
-  Reads earlier fs = AreFrames limits fs × (e : List Frame) × (reading_from limits earlier None fs ≡ one_told e (all_of whole))
+  Reads earlier fs = AreFrames limits fs × (e : List Frame) × (reading_from limits earlier None fs ≡ one_completed e (all_of whole))
 
-  reads-last : (earlier : List Frame) (o left : List ℕ) → length left ≤ r → begun earlier i ≡ Some (at o) → o ++ left ≡ whole → Reads earlier (fragments_of h id (pieces_from r [] left))
+  reads-last : (earlier : List Frame) (o left : List ℕ) → length left ≤ r → partial_of earlier i ≡ Some (at o) → o ++ left ≡ whole → Reads earlier (fragments_of h id (chunks_from r [] left))
   reads-last earlier o left short b is =
       let f = fragment_of h id false left in
       subst (Reads earlier) (sym (last-fragment h id left r short)) ((is-frame false left short refl, tt), f ∷ earlier, step-done limits earlier None f [] (all_of whole) (ends-it earlier o left b is))
 
-  reads-more : (k : ℕ) (left : List ℕ) → length left ≤ k → (earlier : List Frame) (o : List ℕ) → begun earlier i ≡ Some (at o) → o ++ left ≡ whole → Reads earlier (fragments_of h id (pieces_from r [] left))
+  reads-more : (k : ℕ) (left : List ℕ) → length left ≤ k → (earlier : List Frame) (o : List ℕ) → partial_of earlier i ≡ Some (at o) → o ++ left ≡ whole → Reads earlier (fragments_of h id (chunks_from r [] left))
   reads-more zero left fuel earlier o b is = reads-last earlier o left (omega (arith, fuel)) b is
   reads-more (suc k) left fuel earlier o b is =
       elim (test_lt r (length left)) [
@@ -150,7 +150,7 @@ module _ (again : HeadersAreReadAgain) (limits : Limits) (h hd : Header) (id who
             let parts : (o ++ x) ++ drop r left ≡ whole = append_assoc o x (drop r left) ∙ ap (λ (y : List ℕ). o ++ y) (take-append-drop r left) ∙ is in
             let fit : 12 + length (o ++ x) ≤ limits.message = omega (arith, within, ap length parts, length-append (o ++ x) (drop r left)) in
             let less : length (drop r left) ≤ k = omega (arith, fuel, some, t.1, length-drop r left) in
-            let later = reads-more k (drop r left) less (f ∷ earlier) (o ++ x) (begun-on earlier o x b) parts in
+            let later = reads-more k (drop r left) less (f ∷ earlier) (o ++ x) (partial-on earlier o x b) parts in
             subst (Reads earlier) (sym (more-fragments h id left r some t.1)) ((is-frame true x (omega (arith, size)) (even-is x size), later.0), later.1, step-quiet limits earlier None f _ (carries-on earlier o x b fit) ∙ later.2)
         | inr t ↦ reads-last earlier o left t.1 b is
       ]
@@ -188,7 +188,7 @@ whole-header : (h : Header) (n : ℕ) → h.more ≡ false → h.size ≡ n → 
 whole-header h n alone size = ap (λ (b : Bool). record h { more = b; size = n }) (sym alone) ∙ ap (λ (k : ℕ). record h { size = k }) (sym size)
 
 module _ (again : HeadersAreReadAgain) (limits : Limits) (s message : List ℕ) (h : Header) (n : fault_of limits s ≡ None) (none : rest_of limits s ≡ [])
-    (new : begun (frames_of limits s) (id_of (under h message)) ≡ None) (is : header_of (take 12 message) ≡ Ok h) (c : IsCuttable message h) (within : length message ≤ limits.message) (ok : IsOk (content_of h (drop 12 message))) where
+    (new : partial_of (frames_of limits s) (id_of (under h message)) ≡ None) (is : header_of (take 12 message) ≡ Ok h) (c : IsCuttable message h) (within : length message ≤ limits.message) (ok : IsOk (content_of h (drop 12 message))) where
   v : h.version ≡ V12
   v = version-12 h.version h.kind c.kind
 
@@ -211,15 +211,15 @@ module _ (again : HeadersAreReadAgain) (limits : Limits) (s message : List ℕ) 
       let verdict : judged limits (frames_of limits s) f ≡ Done f = judged-uncut limits (frames_of limits s) f role long new ok in
       completes limits s n none message fs (f ∷ frames_of limits s) f (message, [], sym (append-nil message), frame, refl) (step-done limits (frames_of limits s) None f [] f verdict)
 
-  -- in a first piece and Fragments
-  in_pieces : (k : ℕ) → partials_in (frames_of limits s) < limits.partials → 24 ≤ k → k % 8 ≡ 0 → k < length message
-      → Completes limits s (flat_map frame_octets (first_piece h (drop 12 (take k message)) ∷ fragments_of h (take 4 (drop 12 message)) (pieces_from (k - 16) [] (drop k message)))) (under h message)
-  in_pieces k room least even more =
+  -- in a first frame and Fragments
+  in_frames : (k : ℕ) → partials_in (frames_of limits s) < limits.partials → 24 ≤ k → k % 8 ≡ 0 → k < length message
+      → Completes limits s (flat_map frame_octets (first_frame h (drop 12 (take k message)) ∷ fragments_of h (take 4 (drop 12 message)) (chunks_from (k - 16) [] (drop k message)))) (under h message)
+  in_frames k free least even more =
       let whole = drop 12 message in
       let front = drop 12 (take k message) in
       let left = drop k message in
       let id = take 4 whole in
-      let first = first_piece h front in
+      let first = first_frame h front in
       let earlier = frames_of limits s in
       let size : length (take k message) ≡ k = length-take-le k message (omega (arith, more)) in
       let front-size : length front ≡ k - 12 = omega (arith, size, length-drop 12 (take k message)) in
@@ -228,8 +228,8 @@ module _ (again : HeadersAreReadAgain) (limits : Limits) (s message : List ℕ) 
       let same : id_of first ≡ id_of (under h message) = sym (number-front h.order front left (omega (arith, front-size, least))) ∙ ap (number_of h.order 4) parts in
       let named : id_of first ≡ number_of h.order 4 id = same ∙ sym (number-take h.order whole) in
       let role : role_of first.header ≡ Opens = ap (λ (w : Version). role_in w h.kind true) v ∙ cut-opens h.kind kind in
-      let verdict : judged limits earlier first ≡ Quiet = judged-opening limits earlier first role (omega (arith, front-size, least)) (ap (begun earlier) same ∙ new) room in
-      let opened : begun (first ∷ earlier) (number_of h.order 4 id) ≡ Some (record { header = first.header; octets = front }) = begun-same first earlier (number_of h.order 4 id) Opens named role in
+      let verdict : judged limits earlier first ≡ Quiet = judged-opening limits earlier first role (omega (arith, front-size, least)) (ap (partial_of earlier) same ∙ new) free in
+      let opened : partial_of (first ∷ earlier) (number_of h.order 4 id) ≡ Some (record { header = first.header; octets = front }) = partial-same first earlier (number_of h.order 4 id) Opens named role in
       let all : 16 + (k - 16) ≡ k = omega (arith, least) in
       let head : frame_size first.header ≡ k = omega (arith, front-size, least) in
       let fit : 12 + length whole ≤ limits.message = omega (arith, within, c.long, length-drop 12 message) in
@@ -238,18 +238,18 @@ module _ (again : HeadersAreReadAgain) (limits : Limits) (s message : List ℕ) 
       let first-frame : IsFrame limits first (frame_octets first) = frame-again again limits first v (cut-can h.kind kind) refl (omega (arith, front-size, least, more, within)) (and-not true (frame_size first.header % 8 == 0) (eq-eqb (frame_size first.header % 8) 0 (ap (λ (m : ℕ). m % 8) head ∙ even))) in
       let later = reads-more again limits h first.header id whole (k - 16) v (same-order h.order) four (omega (arith, least)) (ap (λ (m : ℕ). m % 8) all ∙ even) fit (omega (arith, all, more, within)) reads
       (length left) left (omega arith) (first ∷ earlier) front opened parts in
-      let fs = first ∷ fragments_of h id (pieces_from (k - 16) [] left) in
+      let fs = first ∷ fragments_of h id (chunks_from (k - 16) [] left) in
       let done = completes limits s n none (flat_map frame_octets fs) fs later.1 (record { header = record first.header { more = false; size = length whole }; octets = whole }) (frames-split limits fs (first-frame, later.0)) (step-quiet limits earlier None first _ verdict ∙ later.2) in
       subst (λ (x : Header). Completes limits s (flat_map frame_octets fs) (record { header = x; octets = whole })) ended done
 
 pub cut_again : HeadersAreReadAgain → CutIsReadAgain
-cut_again again limits s message n h faultless none new room is e least even within ok =
+cut_again again limits s message n h faultless none new free is e least even within ok =
     let c = cuttable-is message h is e in
     elim (test_le (length message) n) [
       | inl t ↦
           let as_is : cut_octets n h message ≡ message = rw t.0 refl in
           subst (λ (x : List ℕ). Completes limits s x (under h message)) (sym as_is) (uncut again limits s message h faultless none new e c within ok)
       | inr t ↦
-          let cut : cut_octets n h message ≡ flat_map frame_octets (first_piece h (drop 12 (take n message)) ∷ fragments_of h (take 4 (drop 12 message)) (pieces_from (n - 16) [] (drop n message))) = rw t.0 refl in
-          subst (λ (x : List ℕ). Completes limits s x (under h message)) (sym cut) (in_pieces again limits s message h faultless none new e c within ok n room least even t.1)
+          let cut : cut_octets n h message ≡ flat_map frame_octets (first_frame h (drop 12 (take n message)) ∷ fragments_of h (take 4 (drop 12 message)) (chunks_from (n - 16) [] (drop n message))) = rw t.0 refl in
+          subst (λ (x : List ℕ). Completes limits s x (under h message)) (sym cut) (in_frames again limits s message h faultless none new e c within ok n free least even t.1)
     ]

@@ -8,12 +8,12 @@ use Rattle.giop_frames.specs.declared.fault.StreamFault.TheVariants.{StrayFragme
 use Rattle.giop_frames.specs.declared.limits.Limits.{Limits}
 use Rattle.giop_frames.specs.Frames.{sight, split}
 use Rattle.giop_frames.specs.Fragments.{judged_as, judged_by}
-use Rattle.giop_frames.specs.Streams.{Told, fault_of, messages_of, rest_of}
+use Rattle.giop_frames.specs.Streams.{Completed, fault_of, messages_of, rest_of}
 
 limits : Limits
 limits = record { message = 4096; partials = 1; message_in_range = (lit≤ tt, lit≤ tt); partials_in_range = (lit≤ tt, lit≤ tt) }
 
--- the first piece of a LocateRequest of id 1, cut behind its disposition and key length; 12 + 12 octets
+-- the first frame of a LocateRequest of id 1, cut after its disposition and key length; 12 + 12 octets
 opening : List ℕ
 opening = 71 ∷ 73 ∷ 79 ∷ 80 ∷ 1 ∷ 2 ∷ 2 ∷ 3 ∷ 0 ∷ 0 ∷ 0 ∷ 12 ∷ 0 ∷ 0 ∷ 0 ∷ 1 ∷ 0 ∷ 0 ∷ 0 ∷ 0 ∷ 0 ∷ 0 ∷ 0 ∷ 2 ∷ []
 
@@ -29,12 +29,12 @@ cancel = 71 ∷ 73 ∷ 79 ∷ 80 ∷ 1 ∷ 2 ∷ 0 ∷ 2 ∷ 0 ∷ 0 ∷ 0 ∷ 4
 again : List ℕ
 again = 71 ∷ 73 ∷ 79 ∷ 80 ∷ 1 ∷ 2 ∷ 0 ∷ 3 ∷ 0 ∷ 0 ∷ 0 ∷ 12 ∷ 0 ∷ 0 ∷ 0 ∷ 1 ∷ 0 ∷ 0 ∷ 0 ∷ 0 ∷ 0 ∷ 0 ∷ 0 ∷ 0 ∷ []
 
--- the first piece of a Reply of id 2
+-- the first frame of a Reply of id 2
 other : List ℕ
 other = 71 ∷ 73 ∷ 79 ∷ 80 ∷ 1 ∷ 2 ∷ 2 ∷ 1 ∷ 0 ∷ 0 ∷ 0 ∷ 12 ∷ 0 ∷ 0 ∷ 0 ∷ 2 ∷ 0 ∷ 0 ∷ 0 ∷ 0 ∷ 0 ∷ 0 ∷ 0 ∷ 0 ∷ []
 
 -- the places and the octets of messages
-seen : List Told → List (ℕ × List ℕ)
+seen : List Completed → List (ℕ × List ℕ)
 seen ms = map (λ m. (m.place, m.message.octets)) ms
 
 of : List ℕ → List (ℕ × List ℕ)
@@ -60,9 +60,9 @@ cancelled_is_stray : fault_of limits (opening ++ cancel ++ ending) ≡ Some Stra
 unfolding of seen limits opening ending cancel again other messages_of fault_of rest_of split sight header_of judged_by judged_as message_of row value_at whole_at number_at part_at octets_at length_at
 cancelled_is_stray = refl
 
-cancel_is_told : of (opening ++ cancel) ≡ (40, 0 ∷ 0 ∷ 0 ∷ 1 ∷ []) ∷ []
+cancel_is_reported : of (opening ++ cancel) ≡ (40, 0 ∷ 0 ∷ 0 ∷ 1 ∷ []) ∷ []
 unfolding of seen limits opening ending cancel again other messages_of fault_of rest_of split sight header_of judged_by judged_as message_of row value_at whole_at number_at part_at octets_at length_at
-cancel_is_told = refl
+cancel_is_reported = refl
 
 twice : fault_of limits (opening ++ again) ≡ Some TwiceStarted
 unfolding of seen limits opening ending cancel again other messages_of fault_of rest_of split sight header_of judged_by judged_as message_of row value_at whole_at number_at part_at octets_at length_at

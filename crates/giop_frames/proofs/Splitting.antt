@@ -7,11 +7,11 @@ use Rattle.giop_core.specs.Headers.{header_of}
 use Rattle.giop_frames.specs.declared.fault.StreamFault.{StreamFault}
 use Rattle.giop_frames.specs.declared.limits.Limits.{Limits}
 use Rattle.giop_frames.specs.Frames.{Frame, Refused, Split, Waiting, Whole, admitted, after_frame, frame_size, judged_header, sight, split, split_from, under_header}
-use Rattle.giop_frames.specs.Code.{framed}
+use Rattle.giop_frames.specs.Standing.{framed}
 use Rattle.giop_frames.specs.Splitting.{IsFrame, Splits}
 use Rattle.giop_frames.specs.Laws.{RestsHaveNoFrame, SplitsAreTheOnes, StreamsSplit}
 use Rattle.giop_frames.proofs.Bounds.{admitted-within}
-use Rattle.giop_frames.proofs.Rooms.{sight-all}
+use Rattle.giop_frames.proofs.Needs.{sight-all}
 use Rattle.giop_frames.proofs.Sights.{front-waiting, nothing-waits, sight-long, sight-short, until-waiting, until-whole}
 use Rattle.giop_frames.proofs.Splits.{split-waiting, split-whole, step-refused, step-waiting, step-whole}
 use Rattle.giop_frames.proofs.Deciding.{test_lt}

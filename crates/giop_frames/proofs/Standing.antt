@@ -5,7 +5,8 @@ use Rattle.giop_frames.specs.declared.fault.StreamFault.{StreamFault}
 use Rattle.giop_frames.specs.declared.limits.Limits.{Limits}
 use Rattle.giop_frames.specs.Frames.{Frame, Split, Waiting, Whole, Refused, after_frame, frame_size, sight, split, split_from}
 use Rattle.giop_frames.specs.Fragments.{Bad, Quiet, Done, id_of, judged, judged_by}
-use Rattle.giop_frames.specs.Parts.{Piece, part_in, parts_after}
+use Rattle.giop_frames.specs.Streams.{Entry, part_in}
+use Rattle.giop_frames.specs.Private.{parts_after}
 use Rattle.giop_frames.specs.Streams.{Faults, Follows, Reading, Stands, fault_of, frames_of, messages_of, place_after, reading_from, reading_of, rest_of}
 use Rattle.giop_frames.proofs.Places.{faultless-split, place-length, whole-length}
 use Rattle.giop_frames.proofs.Readings.{after_messages, reading-append, step-bad, step-done, step-quiet}
@@ -30,7 +31,7 @@ module _ (limits : Limits) (s : List ℕ) (n : fault_of limits s ≡ None) where
       ∙ reading-append limits [] t.fault first.frames t.frames ends
       ∙ ap (λ (last : Option StreamFault). after_messages (reading_from limits [] last first.frames).messages (reading_from limits (reading_from limits [] last first.frames).earlier t.fault t.frames)) (sym none)
 
-module _ (limits : Limits) (b : List ℕ) (ps : List Piece) (s : List ℕ) (stands : Stands limits b ps s) where
+module _ (limits : Limits) (b : List ℕ) (ps : List Entry) (s : List ℕ) (stands : Stands limits b ps s) where
   -- what octets after those that wait make of the stream
   split_is : (c : List ℕ) (t : Split) → split_from limits b c ≡ t → split_from limits (rest_of limits s) c ≡ t
   split_is c t e = ap (λ (w : List ℕ). split_from limits w c) (sym stands.waiting) ∙ e
@@ -42,7 +43,7 @@ module _ (limits : Limits) (b : List ℕ) (ps : List Piece) (s : List ℕ) (stan
   rest_is c t e = rest-more limits s c stands.faultless ∙ ap (λ (u : Split). u.rest) (split_is c t e)
 
   -- the stream with octets that leave no fault
-  goes_on : (c : List ℕ) (t : Split) (r : Reading) (qs : List Piece) → split_from limits b c ≡ t → reading_from limits (frames_of limits s) t.fault t.frames ≡ r → r.fault ≡ None → Follows qs r.earlier
+  goes_on : (c : List ℕ) (t : Split) (r : Reading) (qs : List Entry) → split_from limits b c ≡ t → reading_from limits (frames_of limits s) t.fault t.frames ≡ r → r.fault ≡ None → Follows qs r.earlier
       → Stands limits t.rest qs (s ++ c) × (messages_of limits (s ++ c) ≡ messages_of limits s ++ r.messages)
   unfolding fault_of frames_of messages_of
   goes_on c t r qs e k none follows =
@@ -66,7 +67,7 @@ module _ (limits : Limits) (b : List ℕ) (ps : List Piece) (s : List ℕ) (stan
   judged_next : (f : Frame) → judged_by limits (part_in ps (id_of f)) (length ps) f ≡ judged limits (frames_of limits s) f
   judged_next f = judged-follows limits ps (frames_of limits s) f stands.partial
 
-pub stands-waiting : (limits : Limits) (b : List ℕ) (ps : List Piece) (s c : List ℕ) → Stands limits b ps s → sight limits (b ++ c) ≡ Waiting
+pub stands-waiting : (limits : Limits) (b : List ℕ) (ps : List Entry) (s c : List ℕ) → Stands limits b ps s → sight limits (b ++ c) ≡ Waiting
     → Stands limits (b ++ c) ps (s ++ c) × (messages_of limits (s ++ c) ≡ messages_of limits s)
 stands-waiting limits b ps s c stands w =
     let alone : split_from limits b c ≡ split_from limits (b ++ c) [] = ap (split_from limits b) (sym (append-nil c)) ∙ split-waiting limits b c [] w in
@@ -77,7 +78,7 @@ stands-waiting limits b ps s c stands w =
 alone-whole : (limits : Limits) (b c : List ℕ) (f : Frame) → sight limits (b ++ c) ≡ Whole f → length (b ++ c) ≡ frame_size f.header → 0 < length c → split_from limits b c ≡ record { frames = f ∷ []; rest = []; fault = None }
 alone-whole limits b c f w exact some = ap (split_from limits b) (sym (append-nil c)) ∙ split-whole limits b c [] f w exact some
 
-pub stands-quiet : (limits : Limits) (b : List ℕ) (ps : List Piece) (s c : List ℕ) (f : Frame) → Stands limits b ps s → sight limits (b ++ c) ≡ Whole f → length (b ++ c) ≡ frame_size f.header → 0 < length c
+pub stands-quiet : (limits : Limits) (b : List ℕ) (ps : List Entry) (s c : List ℕ) (f : Frame) → Stands limits b ps s → sight limits (b ++ c) ≡ Whole f → length (b ++ c) ≡ frame_size f.header → 0 < length c
     → judged_by limits (part_in ps (id_of f)) (length ps) f ≡ Quiet → Stands limits [] (parts_after ps f) (s ++ c) × (messages_of limits (s ++ c) ≡ messages_of limits s)
 stands-quiet limits b ps s c f stands w exact some j =
     let h = frames_of limits s in
@@ -87,7 +88,7 @@ stands-quiet limits b ps s c f stands w exact some j =
     (alone-whole limits b c f w exact some) (step-quiet limits h None f [] verdict) refl (follows-step limits ps h f stands.partial fine) in
     (r.0, r.1 ∙ append-nil (messages_of limits s))
 
-pub stands-done : (limits : Limits) (b : List ℕ) (ps : List Piece) (s c : List ℕ) (f m : Frame) → Stands limits b ps s → sight limits (b ++ c) ≡ Whole f → length (b ++ c) ≡ frame_size f.header → 0 < length c
+pub stands-done : (limits : Limits) (b : List ℕ) (ps : List Entry) (s c : List ℕ) (f m : Frame) → Stands limits b ps s → sight limits (b ++ c) ≡ Whole f → length (b ++ c) ≡ frame_size f.header → 0 < length c
     → judged_by limits (part_in ps (id_of f)) (length ps) f ≡ Done m
     → Stands limits [] (parts_after ps f) (s ++ c) × (messages_of limits (s ++ c) ≡ messages_of limits s ++ record { place = length (s ++ c); message = m } ∷ [])
 stands-done limits b ps s c f m stands w exact some j =
@@ -99,7 +100,7 @@ stands-done limits b ps s c f m stands w exact some j =
     let place : place_after (f ∷ h) ≡ length (s ++ c) = omega (arith, place-length limits s stands.faultless, ap length stands.waiting, whole-length limits (b ++ c) f w, length-append b c, length-append s c) in
     (r.0, r.1 ∙ ap (λ (p : ℕ). messages_of limits s ++ record { place = p; message = m } ∷ []) place)
 
-pub faults-frame : (limits : Limits) (b : List ℕ) (ps : List Piece) (s c ys : List ℕ) (f : Frame) (e : StreamFault) → Stands limits b ps s → sight limits (b ++ c) ≡ Whole f → length (b ++ c) ≡ frame_size f.header → 0 < length c
+pub faults-frame : (limits : Limits) (b : List ℕ) (ps : List Entry) (s c ys : List ℕ) (f : Frame) (e : StreamFault) → Stands limits b ps s → sight limits (b ++ c) ≡ Whole f → length (b ++ c) ≡ frame_size f.header → 0 < length c
     → judged_by limits (part_in ps (id_of f)) (length ps) f ≡ Bad e → Faults limits s (c ++ ys) e
 faults-frame limits b ps s c ys f e stands w exact some j =
     let h = frames_of limits s in
@@ -107,7 +108,7 @@ faults-frame limits b ps s c ys f e stands w exact some j =
     let t = after_frame f (split_from limits [] ys) in
     stops limits b ps s stands (c ++ ys) t e h (split-whole limits b c ys f w exact some) (step-bad limits h t.fault f (split_from limits [] ys).frames e verdict)
 
-pub faults-header : (limits : Limits) (b : List ℕ) (ps : List Piece) (s c ys : List ℕ) (e : StreamFault) → Stands limits b ps s → sight limits (b ++ c) ≡ Refused e → length (b ++ c) ≡ 12 → 0 < length c → Faults limits s (c ++ ys) e
+pub faults-header : (limits : Limits) (b : List ℕ) (ps : List Entry) (s c ys : List ℕ) (e : StreamFault) → Stands limits b ps s → sight limits (b ++ c) ≡ Refused e → length (b ++ c) ≡ 12 → 0 < length c → Faults limits s (c ++ ys) e
 faults-header limits b ps s c ys e stands w exact some =
     stops limits b ps s stands (c ++ ys) (record { frames = []; rest = b ++ c; fault = Some e }) e (frames_of limits s) (split-refused limits b c ys e w exact some) refl
 

@@ -8,7 +8,7 @@ use Rattle.giop_frames.specs.Streams.{Reading, after_message, fault_of, messages
 use Rattle.giop_frames.proofs.Readings.{step-bad, step-done, step-quiet}
 use Rattle.giop_frames.proofs.Splits.{split-append, step-refused, step-waiting, step-whole}
 
--- behind a header that is refused nothing is split
+-- after a header that is refused nothing is split
 split-stays : (limits : Limits) (w s c : List ℕ) (d : StreamFault) → (split_from limits w s).fault ≡ Some d → split_from limits w (s ++ c) ≡ split_from limits w s
 split-stays limits w [] c d n = absurd (let k : None ≡ Some d = n in cc)
 split-stays limits w (x ∷ s) c d n =
@@ -24,7 +24,7 @@ split-stays limits w (x ∷ s) c d n =
       | Refused k ↦ λ e. step-refused limits w x (s ++ c) k e ∙ sym (step-refused limits w x s k e)
     ]) refl
 
--- behind a frame that is refused nothing is read
+-- after a frame that is refused nothing is read
 reading-stays : (limits : Limits) (h : List Frame) (last : Option StreamFault) (fs gs : List Frame) (d : StreamFault) → (reading_from limits h None fs).fault ≡ Some d
     → reading_from limits h last (fs ++ gs) ≡ reading_from limits h None fs
 reading-stays limits h last [] gs d n = absurd (let k : None ≡ Some d = n in cc)

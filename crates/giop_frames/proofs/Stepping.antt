@@ -5,32 +5,48 @@ use Rattle.std.proofs.Math.Seq.{take-add}
 use Rattle.giop_core.specs.declared.header.Header.{Header}
 use Rattle.giop_frames.specs.declared.fault.StreamFault.{StreamFault}
 use Rattle.giop_frames.specs.declared.fault.StreamFault.TheVariants.{Header as BadHeader, TooLarge, UnalignedFragment, StrayFragment, TwiceStarted, TooManyPartial, Body, MixedOrder, Memory, Failed}
-use Rattle.giop_frames.specs.declared.gathering.Seen.{Seen}
+use Rattle.giop_frames.specs.declared.deframer.Seen.{Seen}
 use Rattle.giop_frames.specs.declared.limits.Limits.{Limits}
-use Rattle.giop_frames.specs.declared.settling.Settled.{Settled}
-use Rattle.giop_frames.specs.declared.settling.Settled.TheVariants.{Quiet as SettledQuiet, Done as SettledDone, Bad as SettledBad}
+use Rattle.giop_frames.specs.declared.reassembly.Settled.{Settled}
+use Rattle.giop_frames.specs.declared.reassembly.Settled.TheVariants.{Quiet as SettledQuiet, Done as SettledDone, Bad as SettledBad}
 use Rattle.giop_frames.specs.Frames.{Refused, Waiting, Whole, frame_size, sight}
 use Rattle.giop_frames.specs.Fragments.{id_of, judged_by}
-use Rattle.giop_frames.specs.Parts.{Piece, part_in}
-use Rattle.giop_frames.specs.Standing.{IsFault, told_at}
-use Rattle.giop_frames.specs.Streams.{Faults, Stands, Told, fault_of, messages_of}
-use Rattle.giop_frames.specs.Code.{AreWithin, IsError, IsExact, IsSettled, IsStep, IsWhole, LeavesRoom, framed, message_at, pending_at, sight_at}
-use Rattle.giop_frames.proofs.Bounds.{bad-error, done-reads, refused-error, whole-within, within-step}
+use Rattle.giop_frames.specs.Standing.{AreWithin, IsFault, OnFault, completed_at, framed, message_at, pending_at}
+use Rattle.giop_frames.specs.Streams.{Completed, Entry, Faults, Stands, fault_of, messages_of, part_in}
+use Rattle.giop_frames.specs.Private.{IsExact, IsSettled, IsStep, IsWhole, NeedsAsSeen, sight_at}
+use Rattle.giop_frames.proofs.Bounds.{IsError, bad-error, done-reads, refused-error, whole-within, within-step}
 use Rattle.giop_frames.proofs.Places.{whole-length}
 use Rattle.giop_frames.proofs.Standing.{faults-frame, faults-header, stands-done, stands-quiet, stands-waiting}
 use Rattle.giop_frames.proofs.Tables.{IsFine}
 
+-- what follows from a fact about a fault
+pub on-fault : (e : StreamFault) (P Q : Type 0) → (P → Q) → OnFault e P → OnFault e Q
+on-fault (BadHeader h) P Q f p = f p
+on-fault TooLarge P Q f p = f p
+on-fault UnalignedFragment P Q f p = f p
+on-fault StrayFragment P Q f p = f p
+on-fault TwiceStarted P Q f p = f p
+on-fault TooManyPartial P Q f p = f p
+on-fault (Body m) P Q f p = f p
+on-fault MixedOrder P Q f p = f p
+on-fault Memory P Q f p = tt
+on-fault Failed P Q f p = p
+
+-- and from two
+pub on-fault_both : (e : StreamFault) (P Q R : Type 0) → (P → Q → R) → OnFault e P → OnFault e Q → OnFault e R
+on-fault_both (BadHeader h) P Q R f p q = f p q
+on-fault_both TooLarge P Q R f p q = f p q
+on-fault_both UnalignedFragment P Q R f p q = f p q
+on-fault_both StrayFragment P Q R f p q = f p q
+on-fault_both TwiceStarted P Q R f p q = f p q
+on-fault_both TooManyPartial P Q R f p q = f p q
+on-fault_both (Body m) P Q R f p q = f p q
+on-fault_both MixedOrder P Q R f p q = f p q
+on-fault_both Memory P Q R f p q = tt
+on-fault_both Failed P Q R f p q = p
+
 pub fault-is : (limits : Limits) (s c : List ℕ) (e : StreamFault) → IsError e → Faults limits s c e → IsFault limits s c e
-fault-is limits s c (BadHeader h) err f = f
-fault-is limits s c TooLarge err f = f
-fault-is limits s c UnalignedFragment err f = f
-fault-is limits s c StrayFragment err f = f
-fault-is limits s c TwiceStarted err f = f
-fault-is limits s c TooManyPartial err f = f
-fault-is limits s c (Body m) err f = f
-fault-is limits s c MixedOrder err f = f
-fault-is limits s c Memory err f = absurd err
-fault-is limits s c Failed err f = absurd err
+fault-is limits s c e err f = on-fault e (Unit {0}) (Faults limits s c e) (λ u. f) err
 
 -- what is seen, by the variant
 
@@ -40,10 +56,10 @@ seen-as limits g s t e k = subst (λ (x : Seen). sight_at x g ≡ sight limits g
 pub exact-as : (g : List ℕ) (s t : Seen) → s ≡ t → IsExact g (sight_at s g) → IsExact g (sight_at t g)
 exact-as g s t e k = subst (λ (x : Seen). IsExact g (sight_at x g)) e k
 
-pub room-as : (limits : Limits) (g : List ℕ) (s t : Seen) → s ≡ t → LeavesRoom s limits g → LeavesRoom t limits g
-room-as limits g s t e k = subst (λ (x : Seen). LeavesRoom x limits g) e k
+pub needs-as : (limits : Limits) (g : List ℕ) (s t : Seen) → s ≡ t → NeedsAsSeen s limits g → NeedsAsSeen t limits g
+needs-as limits g s t e k = subst (λ (x : Seen). NeedsAsSeen x limits g) e k
 
-pub settled-as : (s t : Settled) (limits : Limits) (h : Header) (b b' : List ℕ) (ps ps' : List Piece) → s ≡ t → IsSettled s limits h b b' ps ps' → IsSettled t limits h b b' ps ps'
+pub settled-as : (s t : Settled) (limits : Limits) (h : Header) (b b' : List ℕ) (ps ps' : List Entry) → s ≡ t → IsSettled s limits h b b' ps ps' → IsSettled t limits h b b' ps ps'
 settled-as s t limits h b b' ps ps' e k = subst (λ (x : Settled). IsSettled x limits h b b' ps ps') e k
 
 -- octets c that were gathered to b, from the front of a piece
@@ -51,12 +67,12 @@ module _ (limits : Limits) (b g piece : List ℕ) (n : ℕ) (gathered : g ≡ b 
   front-length : length (take n piece) ≡ n
   front-length = length-take-le n piece within
 
-  pub goes-waiting : (ps : List Piece) (s : List ℕ) → Waiting ≡ sight limits g → Stands limits b ps s → IsStep limits s (take n piece) None g ps
+  pub goes-waiting : (ps : List Entry) (s : List ℕ) → Waiting ≡ sight limits g → Stands limits b ps s → IsStep limits s (take n piece) None g ps
   goes-waiting ps s w stands =
       let k = stands-waiting limits b ps s (take n piece) stands (ap (sight limits) (sym gathered) ∙ sym w) in
-      record { stands = subst (λ (x : List ℕ). Stands limits x ps (s ++ take n piece)) (sym gathered) k.0; told = k.1 ∙ sym (append-nil (messages_of limits s)) }
+      record { stands = subst (λ (x : List ℕ). Stands limits x ps (s ++ take n piece)) (sym gathered) k.0; messages = k.1 ∙ sym (append-nil (messages_of limits s)) }
 
-  pub fails-header : (ps : List Piece) (s : List ℕ) (e : StreamFault) → 0 < n → Refused e ≡ sight limits g → length g ≡ 12 → Stands limits b ps s → IsFault limits s piece e
+  pub fails-header : (ps : List Entry) (s : List ℕ) (e : StreamFault) → 0 < n → Refused e ≡ sight limits g → length g ≡ 12 → Stands limits b ps s → IsFault limits s piece e
   fails-header ps s e some w exact stands =
       let seen : sight limits (b ++ take n piece) ≡ Refused e = ap (sight limits) (sym gathered) ∙ sym w in
       let f = faults-header limits b ps s (take n piece) (drop n piece) e stands seen (ap length (sym gathered) ∙ exact) (omega (arith, some, front-length)) in
@@ -76,55 +92,55 @@ module _ (limits : Limits) (b g piece : List ℕ) (n : ℕ) (gathered : g ≡ b 
     frame-within : 12 + length (framed h g).octets ≤ limits.message
     frame-within = let size = whole-within limits g (framed h g) (sym seen) in omega (arith, size, exact, whole-length limits g (framed h g) (sym seen))
 
-    pub goes-quiet : (b' : List ℕ) (ps ps' : List Piece) (s : List ℕ) → IsSettled SettledQuiet limits h g b' ps ps' → Stands limits b ps s → IsStep limits s (take n piece) None b' ps'
+    pub goes-quiet : (b' : List ℕ) (ps ps' : List Entry) (s : List ℕ) → IsSettled SettledQuiet limits h g b' ps ps' → Stands limits b ps s → IsStep limits s (take n piece) None b' ps'
     goes-quiet b' ps ps' s settled stands =
         let k = stands-quiet limits b ps s (take n piece) (framed h g) stands seen-whole exact-whole some-front settled.0 in
         record {
-          stands = subst (λ (x : List ℕ). Stands limits x ps' (s ++ take n piece)) (sym settled.1) (subst (λ (qs : List Piece). Stands limits [] qs (s ++ take n piece)) (sym settled.2) k.0);
-          told = k.1 ∙ sym (append-nil (messages_of limits s));
+          stands = subst (λ (x : List ℕ). Stands limits x ps' (s ++ take n piece)) (sym settled.1) (subst (λ (qs : List Entry). Stands limits [] qs (s ++ take n piece)) (sym settled.2) k.0);
+          messages = k.1 ∙ sym (append-nil (messages_of limits s));
         }
 
-    pub goes-done : (m : Header) (b' : List ℕ) (ps ps' : List Piece) (s : List ℕ) → IsSettled (SettledDone m) limits h g b' ps ps' → Stands limits b ps s → IsStep limits s (take n piece) (Some m) b' ps'
+    pub goes-done : (m : Header) (b' : List ℕ) (ps ps' : List Entry) (s : List ℕ) → IsSettled (SettledDone m) limits h g b' ps ps' → Stands limits b ps s → IsStep limits s (take n piece) (Some m) b' ps'
     goes-done m b' ps ps' s settled stands =
         let k = stands-done limits b ps s (take n piece) (framed h g) (framed m b') stands seen-whole exact-whole some-front settled.0 in
-        record { stands = subst (λ (qs : List Piece). Stands limits [] qs (s ++ take n piece)) (sym settled.1) k.0; told = k.1 }
+        record { stands = subst (λ (qs : List Entry). Stands limits [] qs (s ++ take n piece)) (sym settled.1) k.0; messages = k.1 }
 
-    pub fails-frame : (b' : List ℕ) (ps ps' : List Piece) (s : List ℕ) (e : StreamFault) → IsSettled (SettledBad e) limits h g b' ps ps' → Stands limits b ps s → IsFault limits s piece e
+    pub fails-frame : (b' : List ℕ) (ps ps' : List Entry) (s : List ℕ) (e : StreamFault) → IsSettled (SettledBad e) limits h g b' ps ps' → Stands limits b ps s → IsFault limits s piece e
     fails-frame b' ps ps' s e settled stands =
         let f = faults-frame limits b ps s (take n piece) (drop n piece) (framed h g) e stands seen-whole exact-whole some-front settled in
         fault-is limits s piece e (bad-error limits (part_in ps (id_of (framed h g))) (length ps) (framed h g) e frame-within settled) (subst (λ (x : List ℕ). Faults limits s x e) (take-append-drop n piece) f)
 
-    pub keeps-done : (m : Header) (b' : List ℕ) (ps ps' : List Piece) → IsSettled (SettledDone m) limits h g b' ps ps' → IsWhole limits m b'
+    pub keeps-done : (m : Header) (b' : List ℕ) (ps ps' : List Entry) → IsSettled (SettledDone m) limits h g b' ps ps' → IsWhole limits m b'
     keeps-done m b' ps ps' settled =
         let k = done-reads limits (part_in ps (id_of (framed h g))) (length ps) (framed h g) (framed m b') frame-within settled.0 in
         let all = settled.2 in
         record { headed = all; within = omega (arith, k.0, length-drop 12 b'); reads = k.1 }
 
-    pub stays-quiet : (b' : List ℕ) (ps ps' : List Piece) → IsSettled SettledQuiet limits h g b' ps ps' → AreWithin limits ps → AreWithin limits ps'
+    pub stays-quiet : (b' : List ℕ) (ps ps' : List Entry) → IsSettled SettledQuiet limits h g b' ps ps' → AreWithin limits ps → AreWithin limits ps'
     stays-quiet b' ps ps' settled w =
         let fine : IsFine (judged_by limits (part_in ps (id_of (framed h g))) (length ps) (framed h g)) = rw settled.0 tt in
         subst (AreWithin limits) (sym settled.2) (within-step limits ps (framed h g) frame-within w fine)
 
-    pub stays-done : (m : Header) (b' : List ℕ) (ps ps' : List Piece) → IsSettled (SettledDone m) limits h g b' ps ps' → AreWithin limits ps → AreWithin limits ps'
+    pub stays-done : (m : Header) (b' : List ℕ) (ps ps' : List Entry) → IsSettled (SettledDone m) limits h g b' ps ps' → AreWithin limits ps → AreWithin limits ps'
     stays-done m b' ps ps' settled w =
         let fine : IsFine (judged_by limits (part_in ps (id_of (framed h g))) (length ps) (framed h g)) = rw settled.0 tt in
         subst (AreWithin limits) (sym settled.1) (within-step limits ps (framed h g) frame-within w fine)
 
 -- a step after a step
 
-pub step-nothing : (limits : Limits) (b : List ℕ) (ps : List Piece) (s : List ℕ) → Stands limits b ps s → IsStep limits s [] None b ps
+pub step-nothing : (limits : Limits) (b : List ℕ) (ps : List Entry) (s : List ℕ) → Stands limits b ps s → IsStep limits s [] None b ps
 step-nothing limits b ps s stands = record {
   stands = subst (Stands limits b ps) (sym (append-nil s)) stands;
-  told = ap (messages_of limits) (append-nil s) ∙ sym (append-nil (messages_of limits s));
+  messages = ap (messages_of limits) (append-nil s) ∙ sym (append-nil (messages_of limits s));
 }
 
-pub step-step : (limits : Limits) (s c d x : List ℕ) (complete : Option Header) (b b' : List ℕ) (ps ps' : List Piece) → c ++ d ≡ x → IsStep limits s c None b ps → IsStep limits (s ++ c) d complete b' ps' → IsStep limits s x complete b' ps'
+pub step-step : (limits : Limits) (s c d x : List ℕ) (complete : Option Header) (b b' : List ℕ) (ps ps' : List Entry) → c ++ d ≡ x → IsStep limits s c None b ps → IsStep limits (s ++ c) d complete b' ps' → IsStep limits s x complete b' ps'
 step-step limits s c d x complete b b' ps ps' is first second =
     let all : (s ++ c) ++ d ≡ s ++ x = append_assoc s c d ∙ ap (λ (y : List ℕ). s ++ y) is in
-    let before : messages_of limits (s ++ c) ≡ messages_of limits s = first.told ∙ append-nil (messages_of limits s) in
+    let before : messages_of limits (s ++ c) ≡ messages_of limits s = first.messages ∙ append-nil (messages_of limits s) in
     record {
       stands = subst (Stands limits (pending_at complete b') ps') all second.stands;
-      told = ap (messages_of limits) (sym all) ∙ second.told ∙ ap (λ (ms : List Told). ms ++ told_at (length (s ++ c ++ d)) (message_at complete b')) before ∙ ap (λ (y : List ℕ). messages_of limits s ++ told_at (length y) (message_at complete b')) all;
+      messages = ap (messages_of limits) (sym all) ∙ second.messages ∙ ap (λ (ms : List Completed). ms ++ completed_at (length (s ++ c ++ d)) (message_at complete b')) before ∙ ap (λ (y : List ℕ). messages_of limits s ++ completed_at (length y) (message_at complete b')) all;
     }
 
 faults-further : (limits : Limits) (s c d x : List ℕ) (e : StreamFault) → c ++ d ≡ x → messages_of limits (s ++ c) ≡ messages_of limits s → Faults limits (s ++ c) d e → Faults limits s x e
@@ -132,23 +148,10 @@ faults-further limits s c d x e is same f =
     let all : (s ++ c) ++ d ≡ s ++ x = append_assoc s c d ∙ ap (λ (y : List ℕ). s ++ y) is in
     record { is = ap (fault_of limits) (sym all) ∙ f.is; same = ap (messages_of limits) (sym all) ∙ f.same ∙ same }
 
-pub fault-further : (limits : Limits) (s c d x : List ℕ) (b : List ℕ) (ps : List Piece) (e : StreamFault) → c ++ d ≡ x → IsStep limits s c None b ps → IsFault limits (s ++ c) d e → IsFault limits s x e
-fault-further limits s c d x b ps e is first f = by e f
-  where
-    same : messages_of limits (s ++ c) ≡ messages_of limits s
-    same = first.told ∙ append-nil (messages_of limits s)
-
-    by : (d' : StreamFault) → IsFault limits (s ++ c) d d' → IsFault limits s x d'
-    by (BadHeader h) k = faults-further limits s c d x (BadHeader h) is same k
-    by TooLarge k = faults-further limits s c d x TooLarge is same k
-    by UnalignedFragment k = faults-further limits s c d x UnalignedFragment is same k
-    by StrayFragment k = faults-further limits s c d x StrayFragment is same k
-    by TwiceStarted k = faults-further limits s c d x TwiceStarted is same k
-    by TooManyPartial k = faults-further limits s c d x TooManyPartial is same k
-    by (Body m) k = faults-further limits s c d x (Body m) is same k
-    by MixedOrder k = faults-further limits s c d x MixedOrder is same k
-    by Memory k = tt
-    by Failed k = absurd k
+pub fault-further : (limits : Limits) (s c d x : List ℕ) (b : List ℕ) (ps : List Entry) (e : StreamFault) → c ++ d ≡ x → IsStep limits s c None b ps → IsFault limits (s ++ c) d e → IsFault limits s x e
+fault-further limits s c d x b ps e is first f =
+    let same : messages_of limits (s ++ c) ≡ messages_of limits s = first.messages ∙ append-nil (messages_of limits s) in
+    on-fault e (Faults limits (s ++ c) d e) (Faults limits s x e) (faults-further limits s c d x e is same) f
 
 -- the octets of two steps
 pub take-further : (n m : ℕ) (piece : List ℕ) → take n piece ++ take m (drop n piece) ≡ take (n + m) piece

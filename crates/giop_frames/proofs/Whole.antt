@@ -1,9 +1,8 @@
 -- A message that is written whole is read again.
-use Rattle.std.proofs.Common.{◌≡◌, ℕ, ◌+◌, ◌<◌, ◌≤◌, ◌^◌, ◌==◌, ◌&&◌, nat_lt, Bool, true, false, List, [], ◌∷◌, ◌++◌, length, take, Option, Some, None, Ok, Err, Result, IsOk, refl, sym, ap, subst, ◌∙◌, inl, inr, arith, length-append, if◌then◌else◌}
+use Rattle.std.proofs.Common.{◌≡◌, ℕ, ◌+◌, ◌<◌, ◌≤◌, ◌^◌, ◌&&◌, nat_lt, true, false, List, [], ◌∷◌, length, take, None, Ok, IsOk, refl, sym, ap, subst, ◌∙◌, inl, inr, arith, length-append, if◌then◌else◌}
 use Rattle.std.proofs.lemmas.Bool.{le-ltb, lt-ltb}
 use Rattle.std.proofs.lemmas.List.{append-nil, drop_at, take_at}
 use Rattle.cdr_core.specs.declared.order.Order.{Order}
-use Rattle.cdr_core.specs.Numbers.{number_of}
 use Rattle.cdr_core.specs.Reading.{number_at, part_at, value_at, whole_at}
 use Rattle.giop_core.specs.declared.header.MessageKind.{MessageKind}
 use Rattle.giop_core.specs.declared.header.MessageKind.TheVariants.{Request, Reply, CancelRequest, LocateRequest, LocateReply, CloseConnection, MessageError, Fragment}
@@ -15,14 +14,14 @@ use Rattle.giop_core.specs.Messages.{message_of}
 use Rattle.giop_core.specs.Rows.{row}
 use Rattle.giop_core.specs.Written.{header_for, message_octets}
 use Rattle.giop_frames.specs.declared.limits.Limits.{Limits}
-use Rattle.giop_frames.specs.declared.role.Role.{Role}
-use Rattle.giop_frames.specs.declared.role.Role.TheVariants.{Apart, Drops, Uncut}
-use Rattle.giop_frames.specs.ReadAgain.{Completes, WrittenIsReadAgain, written}
+use Rattle.giop_frames.specs.declared.reassembly.Role.{Role}
+use Rattle.giop_frames.specs.declared.reassembly.Role.TheVariants.{Apart, Drops, Uncut}
+use Rattle.giop_frames.specs.ReadAgain.{WrittenIsReadAgain, written}
 use Rattle.giop_frames.specs.Cutting.{is_cut_kind}
-use Rattle.giop_frames.specs.Fragments.{Done, Verdict, begun, has_id, id_of, judged, judged_as, judged_by, judged_whole, partials_in, role_before_12, role_in, role_of, too_short, content_of}
-use Rattle.giop_frames.specs.Frames.{Frame, admitted, frame_size}
+use Rattle.giop_frames.specs.Fragments.{Done, Verdict, partial_of, has_id, id_of, judged, judged_as, judged_by, partials_in, role_before_12, role_in, role_of, too_short, content_of}
+use Rattle.giop_frames.specs.Frames.{Frame, admitted}
 use Rattle.giop_frames.specs.Splitting.{IsFrame}
-use Rattle.giop_frames.specs.Streams.{fault_of, frames_of, rest_of}
+use Rattle.giop_frames.specs.Streams.{frames_of}
 use Rattle.giop_frames.proofs.CutFrames.{cut-has_id, judged-uncut, length-header, too_few, whole-done}
 use Rattle.giop_frames.proofs.Deciding.{test_lt}
 use Rattle.giop_frames.proofs.Readings.{step-done}
@@ -54,17 +53,17 @@ taken limits V11 CloseConnection order n not fits = rw (le-ltb limits.message (1
 taken limits V11 MessageError order n not fits = rw (le-ltb limits.message (12 + n) fits) refl
 taken limits V11 Fragment order n not fits = absurd (not refl)
 
-is-frame : HeadersAreReadAgain → (limits : Limits) (v : Version) (k : MessageKind) (order : Order) (behind : List ℕ) → (k ≡ Fragment → ⊥) → 12 + length behind ≤ limits.message
-    → IsFrame limits (written v k order behind) (message_octets v k order behind)
-is-frame again limits v k order behind not fits =
-    let h = header_for v k order (length behind) in
-    let small : length behind < 2 ^ 32 = omega (arith, fits, limits.message_in_range.1) in
-    let front : take 12 (message_octets v k order behind) ≡ header_octets h = take_at (header_octets h) behind 12 (length-header h) in
+is-frame : HeadersAreReadAgain → (limits : Limits) (v : Version) (k : MessageKind) (order : Order) (body : List ℕ) → (k ≡ Fragment → ⊥) → 12 + length body ≤ limits.message
+    → IsFrame limits (written v k order body) (message_octets v k order body)
+is-frame again limits v k order body not fits =
+    let h = header_for v k order (length body) in
+    let small : length body < 2 ^ 32 = omega (arith, fits, limits.message_in_range.1) in
+    let front : take 12 (message_octets v k order body) ≡ header_octets h = take_at (header_octets h) body 12 (length-header h) in
     record {
-      header = ap header_of front ∙ again h small (possible v k order (length behind) not);
-      taken = taken limits v k order (length behind) not fits;
-      long = omega (arith, length-append (header_octets h) behind, length-header h);
-      rest = sym (drop_at (header_octets h) behind 12 (length-header h));
+      header = ap header_of front ∙ again h small (possible v k order (length body) not);
+      taken = taken limits v k order (length body) not fits;
+      long = omega (arith, length-append (header_octets h) body, length-header h);
+      rest = sym (drop_at (header_octets h) body 12 (length-header h));
     }
 
 -- a cancel that reads has its request id
@@ -86,7 +85,7 @@ cancel-long v order x ok =
 
 module _ (limits : Limits) (earlier : List Frame) where
   abbrev by_role : Frame → Role → Verdict
-  by_role f r = if has_id r && nat_lt (length f.octets) 4 then too_short else judged_as r limits (begun earlier (id_of f)) (partials_in earlier) f
+  by_role f r = if has_id r && nat_lt (length f.octets) 4 then too_short else judged_as r limits (partial_of earlier (id_of f)) (partials_in earlier) f
 
   judged-apart : (f : Frame) → role_of f.header ≡ Apart → IsOk (content_of f.header f.octets) → judged limits earlier f ≡ Done f
   unfolding judged_by judged_as
@@ -97,39 +96,39 @@ module _ (limits : Limits) (earlier : List Frame) where
   judged-drops f is long ok = ap (by_role f) is ∙ rw (le-ltb (length f.octets) 4 long) (whole-done f ok)
 
   abbrev IsJudged : Version → MessageKind → Order → List ℕ → Type 0
-  IsJudged v k order behind =
-      (role_in v k false ≡ Uncut → begun earlier (id_of (written v k order behind)) ≡ None) → IsOk (message_of v k order behind)
-      → judged limits earlier (written v k order behind) ≡ Done (written v k order behind)
+  IsJudged v k order body =
+      (role_in v k false ≡ Uncut → partial_of earlier (id_of (written v k order body)) ≡ None) → IsOk (message_of v k order body)
+      → judged limits earlier (written v k order body) ≡ Done (written v k order body)
 
-  early : (v : Version) → ((k : MessageKind) → role_in v k false ≡ role_before_12 k) → (k : MessageKind) (order : Order) (behind : List ℕ) → IsJudged v k order behind
-  early v same Request order behind new ok = judged-apart (written v Request order behind) (same Request) ok
-  early v same Reply order behind new ok = judged-apart (written v Reply order behind) (same Reply) ok
-  early v same CancelRequest order behind new ok = judged-drops (written v CancelRequest order behind) (same CancelRequest) (cancel-long v order behind ok) ok
-  early v same LocateRequest order behind new ok = judged-apart (written v LocateRequest order behind) (same LocateRequest) ok
-  early v same LocateReply order behind new ok = judged-apart (written v LocateReply order behind) (same LocateReply) ok
-  early v same CloseConnection order behind new ok = judged-apart (written v CloseConnection order behind) (same CloseConnection) ok
-  early v same MessageError order behind new ok = judged-apart (written v MessageError order behind) (same MessageError) ok
-  early v same Fragment order behind new ok = judged-apart (written v Fragment order behind) (same Fragment) ok
+  early : (v : Version) → ((k : MessageKind) → role_in v k false ≡ role_before_12 k) → (k : MessageKind) (order : Order) (body : List ℕ) → IsJudged v k order body
+  early v same Request order body new ok = judged-apart (written v Request order body) (same Request) ok
+  early v same Reply order body new ok = judged-apart (written v Reply order body) (same Reply) ok
+  early v same CancelRequest order body new ok = judged-drops (written v CancelRequest order body) (same CancelRequest) (cancel-long v order body ok) ok
+  early v same LocateRequest order body new ok = judged-apart (written v LocateRequest order body) (same LocateRequest) ok
+  early v same LocateReply order body new ok = judged-apart (written v LocateReply order body) (same LocateReply) ok
+  early v same CloseConnection order body new ok = judged-apart (written v CloseConnection order body) (same CloseConnection) ok
+  early v same MessageError order body new ok = judged-apart (written v MessageError order body) (same MessageError) ok
+  early v same Fragment order body new ok = judged-apart (written v Fragment order body) (same Fragment) ok
 
-  uncut-12 : (k : MessageKind) → is_cut_kind V12 k ≡ true → role_in V12 k false ≡ Uncut → (order : Order) (behind : List ℕ) → IsJudged V12 k order behind
-  uncut-12 k kind is order behind new ok = judged-uncut limits earlier (written V12 k order behind) is (cut-has_id k order behind kind ok) (new is) ok
+  uncut-12 : (k : MessageKind) → is_cut_kind V12 k ≡ true → role_in V12 k false ≡ Uncut → (order : Order) (body : List ℕ) → IsJudged V12 k order body
+  uncut-12 k kind is order body new ok = judged-uncut limits earlier (written V12 k order body) is (cut-has_id k order body kind ok) (new is) ok
 
-  is-judged : (v : Version) (k : MessageKind) (order : Order) (behind : List ℕ) → (k ≡ Fragment → ⊥) → IsJudged v k order behind
-  is-judged V10 k order behind not new ok = early V10 (λ x. refl) k order behind new ok
-  is-judged V11 k order behind not new ok = early V11 (λ x. refl) k order behind new ok
-  is-judged V12 Request order behind not new ok = uncut-12 Request refl refl order behind new ok
-  is-judged V12 Reply order behind not new ok = uncut-12 Reply refl refl order behind new ok
-  is-judged V12 CancelRequest order behind not new ok = judged-drops (written V12 CancelRequest order behind) refl (cancel-long V12 order behind ok) ok
-  is-judged V12 LocateRequest order behind not new ok = uncut-12 LocateRequest refl refl order behind new ok
-  is-judged V12 LocateReply order behind not new ok = uncut-12 LocateReply refl refl order behind new ok
-  is-judged V12 CloseConnection order behind not new ok = judged-apart (written V12 CloseConnection order behind) refl ok
-  is-judged V12 MessageError order behind not new ok = judged-apart (written V12 MessageError order behind) refl ok
-  is-judged V12 Fragment order behind not new ok = absurd (not refl)
+  is-judged : (v : Version) (k : MessageKind) (order : Order) (body : List ℕ) → (k ≡ Fragment → ⊥) → IsJudged v k order body
+  is-judged V10 k order body not new ok = early V10 (λ x. refl) k order body new ok
+  is-judged V11 k order body not new ok = early V11 (λ x. refl) k order body new ok
+  is-judged V12 Request order body not new ok = uncut-12 Request refl refl order body new ok
+  is-judged V12 Reply order body not new ok = uncut-12 Reply refl refl order body new ok
+  is-judged V12 CancelRequest order body not new ok = judged-drops (written V12 CancelRequest order body) refl (cancel-long V12 order body ok) ok
+  is-judged V12 LocateRequest order body not new ok = uncut-12 LocateRequest refl refl order body new ok
+  is-judged V12 LocateReply order body not new ok = uncut-12 LocateReply refl refl order body new ok
+  is-judged V12 CloseConnection order body not new ok = judged-apart (written V12 CloseConnection order body) refl ok
+  is-judged V12 MessageError order body not new ok = judged-apart (written V12 MessageError order body) refl ok
+  is-judged V12 Fragment order body not new ok = absurd (not refl)
 
 pub written_again : HeadersAreReadAgain → WrittenIsReadAgain
-written_again again limits s behind v k order faultless none new not fits ok =
-    let f = written v k order behind in
-    let octets = message_octets v k order behind in
+written_again again limits s body v k order faultless none new not fits ok =
+    let f = written v k order body in
+    let octets = message_octets v k order body in
     let earlier = frames_of limits s in
-    let verdict : judged limits earlier f ≡ Done f = is-judged limits earlier v k order behind not new ok in
-    completes limits s faultless none octets (f ∷ []) (f ∷ earlier) f (octets, [], sym (append-nil octets), is-frame again limits v k order behind not fits, refl) (step-done limits earlier None f [] f verdict)
+    let verdict : judged limits earlier f ≡ Done f = is-judged limits earlier v k order body not new ok in
+    completes limits s faultless none octets (f ∷ []) (f ∷ earlier) f (octets, [], sym (append-nil octets), is-frame again limits v k order body not fits, refl) (step-done limits earlier None f [] f verdict)

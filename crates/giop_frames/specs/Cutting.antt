@@ -1,5 +1,5 @@
--- GIOP 9.4.9: a message of 1.2, cut into a first piece and Fragments.
-use Rattle.std.specs.Prelude.{◌≡◌, ℕ, ◌+◌, ◌-◌, ◌==◌, ◌&&◌, nat_le, not, Bool, true, false, List, [], ◌∷◌, ◌++◌, length, take, drop, Result, Ok, Err, if◌then◌else◌}
+-- 9.4.9: a message of 1.2, cut into a first frame and Fragments.
+use Rattle.std.specs.Prelude.{ℕ, ◌+◌, ◌-◌, ◌==◌, ◌&&◌, nat_le, not, Bool, true, false, List, [], ◌∷◌, ◌++◌, length, take, drop, Result, Ok, Err, if◌then◌else◌}
 use Rattle.std.specs.List.{flat_map}
 use Rattle.giop_core.specs.declared.header.Header.{Header}
 use Rattle.giop_core.specs.declared.header.HeaderFault.{HeaderFault}
@@ -10,7 +10,7 @@ use Rattle.giop_core.specs.declared.header.Version.TheVariants.{V12}
 use Rattle.giop_core.specs.Headers.{header_octets, header_of}
 use Rattle.giop_frames.specs.Frames.{Frame, frame_size}
 
--- the messages of 1.2 that can be cut, but for the pieces themselves
+-- the messages of 1.2 that can be cut; a Fragment is one part of such a message
 abbrev pub is_cut_kind : Version → MessageKind → Bool
 is_cut_kind V12 Request = true
 is_cut_kind V12 Reply = true
@@ -18,6 +18,7 @@ is_cut_kind V12 LocateRequest = true
 is_cut_kind V12 LocateReply = true
 is_cut_kind _ _ = false
 
+-- a header of so many octets that are one whole message that can be cut
 abbrev pub is_cuttable_under : ℕ → Result Header HeaderFault → Bool
 is_cuttable_under n (Err e) = false
 is_cuttable_under n (Ok h) = is_cut_kind h.version h.kind && not h.more && (frame_size h == n)
@@ -30,20 +31,20 @@ is_cuttable octets = nat_le 12 (length octets) && is_cuttable_under (length octe
 abbrev pub frame_octets : Frame → List ℕ
 frame_octets f = header_octets f.header ++ f.octets
 
--- octets in pieces of n, but for the last, which has what remains
-abbrev pub pieces_from : ℕ → List ℕ → List ℕ → List (List ℕ)
-pieces_from n piece [] = piece ∷ []
-pieces_from n piece (x ∷ xs) = if length piece == n then piece ∷ pieces_from n (x ∷ []) xs else pieces_from n (piece ++ x ∷ []) xs
+-- octets in chunks of n, but for the last, which has what remains; the first chunk goes on from the octets given
+abbrev pub chunks_from : ℕ → List ℕ → List ℕ → List (List ℕ)
+chunks_from n chunk [] = chunk ∷ []
+chunks_from n chunk (x ∷ xs) = if length chunk == n then chunk ∷ chunks_from n (x ∷ []) xs else chunks_from n (chunk ++ x ∷ []) xs
 
--- a first piece
-abbrev pub first_piece : Header → List ℕ → Frame
-first_piece h octets = record { header = record h { more = true; size = length octets }; octets = octets }
+-- a first frame
+abbrev pub first_frame : Header → List ℕ → Frame
+first_frame h octets = record { header = record h { more = true; size = length octets }; octets = octets }
 
--- a Fragment of a request id, and whether more follow
+-- a Fragment of a request id with a payload, and whether more follow
 abbrev pub fragment_of : Header → List ℕ → Bool → List ℕ → Frame
 fragment_of h id more octets = record { header = record h { kind = Fragment; more = more; size = 4 + length octets }; octets = id ++ octets }
 
--- a Fragment for each piece, the last without the bit
+-- a Fragment for each chunk, the last without the bit
 abbrev pub fragments_of : Header → List ℕ → List (List ℕ) → List Frame
 fragments_of h id [] = []
 fragments_of h id (p ∷ []) = fragment_of h id false p ∷ []
@@ -53,8 +54,4 @@ fragments_of h id (p ∷ (q ∷ ps)) = fragment_of h id true p ∷ fragments_of 
 abbrev pub cut_octets : ℕ → Header → List ℕ → List ℕ
 cut_octets n h message =
     if nat_le (length message) n then message else
-    flat_map frame_octets (first_piece h (drop 12 (take n message)) ∷ fragments_of h (take 4 (drop 12 message)) (pieces_from (n - 16) [] (drop n message)))
-
--- octets with others after them
-abbrev pub IsAppended : List ℕ → List ℕ → Type 0
-IsAppended old new = (more : List ℕ) × (new ≡ old ++ more)
+    flat_map frame_octets (first_frame h (drop 12 (take n message)) ∷ fragments_of h (take 4 (drop 12 message)) (chunks_from (n - 16) [] (drop n message)))

@@ -1,4 +1,5 @@
--- Octets to frames (GIOP 9.4.1): where a frame ends, and where a header is refused.
+-- Octets to frames (9.4.1): a frame is a header and the octets after it; where a frame ends, and where a header is
+-- refused.
 use Rattle.std.specs.Prelude.{ℕ, ◌+◌, ◌%◌, ◌==◌, ◌&&◌, nat_lt, not, Bool, true, false, List, [], ◌∷◌, ◌++◌, length, take, drop, Option, Some, None, Result, Ok, Err, if◌then◌else◌}
 use Rattle.giop_core.specs.declared.header.Header.{Header}
 use Rattle.giop_core.specs.declared.header.HeaderFault.{HeaderFault}
@@ -16,28 +17,29 @@ pub record Frame : Type 0 where
   pub header : Header
   pub octets : List ℕ
 
--- how many octets a frame has
+-- 9.4.1: how many octets a frame has; a header says how many come after it
 abbrev pub frame_size : Header → ℕ
 frame_size h = 12 + h.size
 
--- GIOP 9.4.9: in 1.2 each piece but the last ends at a place divisible by 8
+-- 9.4.9: in 1.2 each frame of a cut message but the last has a length divisible by 8
 abbrev pub is_unaligned : Version → Header → Bool
 is_unaligned V12 h = h.more && not (frame_size h % 8 == 0)
 is_unaligned _ h = false
 
--- cut messages of 1.1 are not taken
+-- a rule of this project: cut messages of 1.1 are not joined
 abbrev pub is_old_fragment : Version → MessageKind → Bool → Bool
 is_old_fragment V11 Fragment more = true
 is_old_fragment V11 _ more = more
 is_old_fragment _ _ more = false
 
--- what is judged of a header by itself, under the limits
+-- a header judged by itself, under the limits; the order of these judgements is a rule of this project
 abbrev pub admitted : Limits → Header → Result Header StreamFault
 admitted limits h =
     if nat_lt limits.message (frame_size h) then Err TooLarge else
     (if is_unaligned h.version h then Err UnalignedFragment else
     (if is_old_fragment h.version h.kind h.more then Err StrayFragment else Ok h))
 
+-- the first twelve octets of a frame, judged
 abbrev pub judged_header : Limits → Result Header HeaderFault → Result Header StreamFault
 judged_header limits (Err e) = Err (BadHeader e)
 judged_header limits (Ok h) = admitted limits h
@@ -48,10 +50,12 @@ pub data Sight : Type 0 where
   Whole : Frame → Sight
   Refused : StreamFault → Sight
 
+-- octets under the header that their first twelve give
 abbrev pub under_header : List ℕ → Result Header StreamFault → Sight
 under_header b (Err e) = Refused e
 under_header b (Ok h) = if nat_lt (length b) (frame_size h) then Waiting else Whole (record { header = h; octets = drop 12 b })
 
+-- a header is judged as soon as its twelve octets have come: a rule of this project
 unfoldable pub sight : Limits → List ℕ → Sight
 sight limits b = if nat_lt (length b) 12 then Waiting else under_header b (judged_header limits (header_of (take 12 b)))
 
@@ -61,10 +65,11 @@ pub record Split : Type 0 where
   pub rest : List ℕ
   pub fault : Option StreamFault
 
+-- the same, with one frame before
 abbrev pub after_frame : Frame → Split → Split
 after_frame f s = record s { frames = f ∷ s.frames }
 
--- octet by octet: each one goes to those that wait, until they are a frame
+-- octet by octet: each is appended to those that wait, until they are a frame
 abbrev pub split_from : Limits → List ℕ → List ℕ → Split
 split_from limits waiting [] = record { frames = []; rest = waiting; fault = None }
 split_from limits waiting (x ∷ xs) =
@@ -74,5 +79,6 @@ split_from limits waiting (x ∷ xs) =
       | Refused e ↦ record { frames = []; rest = waiting ++ x ∷ []; fault = Some e }
     ]
 
+-- a stream as frames
 unfoldable pub split : Limits → List ℕ → Split
 split limits s = split_from limits [] s

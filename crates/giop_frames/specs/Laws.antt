@@ -2,8 +2,8 @@
 use Rattle.std.specs.Prelude.{◌≡◌, ℕ, List, ◌++◌, Some, None}
 use Rattle.giop_frames.specs.declared.limits.Limits.{Limits}
 use Rattle.giop_frames.specs.Frames.{Frame, Waiting, sight, split}
-use Rattle.giop_frames.specs.Fragments.{Partial, begun}
-use Rattle.giop_frames.specs.Positions.{IsBegun}
+use Rattle.giop_frames.specs.Fragments.{Partial, partial_of}
+use Rattle.giop_frames.specs.Positions.{IsPartial}
 use Rattle.giop_frames.specs.Splitting.{IsFrame, Splits}
 
 -- A stream in which no header is refused is its frames and its rest, no front of which is a frame ..
@@ -18,10 +18,10 @@ SplitsAreTheOnes = (limits : Limits) (s : List ℕ) (frames : List Frame) (rest 
 abbrev pub RestsHaveNoFrame : Type 0
 RestsHaveNoFrame = (limits : Limits) (rest front later : List ℕ) (f : Frame) → sight limits rest ≡ Waiting → rest ≡ front ++ later → IsFrame limits f front → ⊥
 
--- What has come of a cut message is found by positions ..
-abbrev pub BegunByPosition : Type 0
-BegunByPosition = (frames : List Frame) (i : ℕ) (p : Partial) → begun frames i ≡ Some p → IsBegun frames i p
+-- A partial message is found by positions ..
+abbrev pub PartialByPosition : Type 0
+PartialByPosition = (frames : List Frame) (i : ℕ) (p : Partial) → partial_of frames i ≡ Some p → IsPartial frames i p
 
--- .. and what is found by positions has come of it.
-abbrev pub ByPositionIsBegun : Type 0
-ByPositionIsBegun = (frames : List Frame) (i : ℕ) (p : Partial) → IsBegun frames i p → begun frames i ≡ Some p
+-- .. and what is found by positions is partial.
+abbrev pub ByPositionIsPartial : Type 0
+ByPositionIsPartial = (frames : List Frame) (i : ℕ) (p : Partial) → IsPartial frames i p → partial_of frames i ≡ Some p

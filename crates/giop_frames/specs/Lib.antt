@@ -1,12 +1,15 @@
+-- What has to be believed of this crate, in reading order. Clauses are those of GIOP (CORBA 3.3 Part 2, chapter 9); what
+-- stands in no clause is named as a rule of this project.
 pub mod Frames
 pub mod Fragments
-pub mod Parts
 pub mod Streams
-pub mod Code
 pub mod Standing
+pub mod Feeding
+pub mod Cutting
+-- what the laws say
 pub mod Splitting
 pub mod Positions
-pub mod Laws
-pub mod Cutting
-pub mod Feeding
 pub mod ReadAgain
+pub mod Laws
+-- words of private functions: nothing public rests on them
+pub mod Private

@@ -9,9 +9,9 @@ use Rattle.giop_core.specs.Headers.{header_of}
 use Rattle.giop_core.specs.Messages.{message_of}
 use Rattle.giop_core.specs.Written.{header_for, message_octets}
 use Rattle.giop_frames.specs.declared.limits.Limits.{Limits}
-use Rattle.giop_frames.specs.declared.role.Role.TheVariants.{Uncut}
+use Rattle.giop_frames.specs.declared.reassembly.Role.TheVariants.{Uncut}
 use Rattle.giop_frames.specs.Cutting.{cut_octets, is_cuttable}
-use Rattle.giop_frames.specs.Fragments.{begun, content_of, id_of, partials_in, role_of}
+use Rattle.giop_frames.specs.Fragments.{partial_of, content_of, id_of, partials_in, role_of}
 use Rattle.giop_frames.specs.Frames.{Frame}
 use Rattle.giop_frames.specs.Streams.{fault_of, frames_of, messages_of, rest_of}
 
@@ -28,23 +28,23 @@ Completes limits s c m =
 
 -- a whole message, as it is written
 abbrev pub written : Version → MessageKind → Order → List ℕ → Frame
-written version kind order behind = record { header = header_for version kind order (length behind); octets = behind }
+written version kind order body = record { header = header_for version kind order (length body); octets = body }
 
 -- what is written for a message of any kind but a Fragment, at the end of a stream without a fault and without a rest,
--- completes that message and no other, if it reads within the limit and no cut message of its request id is begun
+-- completes that message and no other, if it is valid within the limit and no message of its request id is partial
 abbrev pub WrittenIsReadAgain : Type 0
-WrittenIsReadAgain = (limits : Limits) (s behind : List ℕ) (version : Version) (kind : MessageKind) (order : Order)
+WrittenIsReadAgain = (limits : Limits) (s body : List ℕ) (version : Version) (kind : MessageKind) (order : Order)
     → fault_of limits s ≡ None → rest_of limits s ≡ []
-    → (role_of (header_for version kind order (length behind)) ≡ Uncut → begun (frames_of limits s) (id_of (written version kind order behind)) ≡ None)
-    → (kind ≡ Fragment → ⊥) → 12 + length behind ≤ limits.message → IsOk (message_of version kind order behind)
-    → Completes limits s (message_octets version kind order behind) (written version kind order behind)
+    → (role_of (header_for version kind order (length body)) ≡ Uncut → partial_of (frames_of limits s) (id_of (written version kind order body)) ≡ None)
+    → (kind ≡ Fragment → ⊥) → 12 + length body ≤ limits.message → IsOk (message_of version kind order body)
+    → Completes limits s (message_octets version kind order body) (written version kind order body)
 
 -- what a message that can be cut is cut into, at the end of a stream without a fault and without a rest, where no message
--- of its request id is begun and one more may be, completes that message and no other, if it reads within the limit
+-- of its request id is partial and one more may be, completes that message and no other, if it is valid within the limit
 abbrev pub CutIsReadAgain : Type 0
 CutIsReadAgain = (limits : Limits) (s message : List ℕ) (n : ℕ) (h : Header)
     → fault_of limits s ≡ None → rest_of limits s ≡ []
-    → begun (frames_of limits s) (id_of (under h message)) ≡ None → partials_in (frames_of limits s) < limits.partials
+    → partial_of (frames_of limits s) (id_of (under h message)) ≡ None → partials_in (frames_of limits s) < limits.partials
     → is_cuttable message ≡ true → header_of (take 12 message) ≡ Ok h → 24 ≤ n → n % 8 ≡ 0
     → length message ≤ limits.message → IsOk (content_of h (drop 12 message))
     → Completes limits s (cut_octets n h message) (under h message)

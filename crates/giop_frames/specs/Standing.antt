@@ -1,14 +1,15 @@
--- What callers see of an assembler.
-use Rattle.std.specs.Prelude.{◌≡◌, ℕ, ◌+◌, Bool, false, List, [], ◌∷◌, length, Option, Some, None, Ok}
+-- What callers see of an assembler, and the stream that it stands for.
+use Rattle.std.specs.Prelude.{◌≡◌, ℕ, ◌+◌, ◌≤◌, Bool, false, List, [], ◌∷◌, length, drop, map, Option, Some, None, Ok}
+use Rattle.giop_core.specs.declared.header.Header.{Header}
 use Rattle.giop_core.specs.declared.message.Message.{Message}
 use Rattle.giop_core.specs.Lent as lent
 use Rattle.giop_frames.specs.declared.fault.StreamFault.{StreamFault}
 use Rattle.giop_frames.specs.declared.fault.StreamFault.TheVariants.{Failed, Memory}
 use Rattle.giop_frames.specs.declared.limits.Limits.{Limits}
+use Rattle.giop_frames.specs.declared.partial.Part.{Part}
 use Rattle.giop_frames.specs.Frames.{Frame}
 use Rattle.giop_frames.specs.Fragments.{content_of}
-use Rattle.giop_frames.specs.Parts.{Piece}
-use Rattle.giop_frames.specs.Streams.{Faults, Stands, Told}
+use Rattle.giop_frames.specs.Streams.{Completed, Entry, Faults, Stands}
 
 -- an assembler: its limits, whether there was a fault, the octets of the frame that isn't whole, the partial messages,
 -- and the message that is lent
@@ -16,24 +17,50 @@ pub record Standing : Type 0 where
   pub limits : Limits
   pub failed : Bool
   pub pending : List ℕ
-  pub parts : List Piece
+  pub parts : List Entry
   pub message : Option Frame
+
+-- octets of a header and after it, as a frame under that header
+abbrev pub framed : Header → List ℕ → Frame
+framed h b = record { header = h; octets = drop 12 b }
+
+-- a partial message under its request id, without the twelve octets of its header
+abbrev pub entry_of : Part → Entry
+entry_of p = record { id = p.id; part = record { header = p.header; octets = drop 12 p.octets.items } }
+
+-- the partial messages under their request ids
+abbrev pub entries : List Part → List Entry
+entries ps = map entry_of ps
+
+-- the octets of the frame that isn't whole: none, where a message is lent
+abbrev pub pending_at : Option Header → List ℕ → List ℕ
+pending_at None b = b
+pending_at (Some h) b = []
+
+-- the message that is lent
+abbrev pub message_at : Option Header → List ℕ → Option Frame
+message_at None b = None
+message_at (Some h) b = Some (framed h b)
 
 -- an assembler stands for the stream s
 pub record StandsFor (a : Standing) (s : List ℕ) : Type 0 where
   pub live : a.failed ≡ false
   pub stands : Stands a.limits a.pending a.parts s
 
--- the message that ends at a place, if there is one
-abbrev pub told_at : ℕ → Option Frame → List Told
-told_at n None = []
-told_at n (Some m) = record { place = n; message = m } ∷ []
+-- the message that completes at a place, if there is one
+abbrev pub completed_at : ℕ → Option Frame → List Completed
+completed_at n None = []
+completed_at n (Some m) = record { place = n; message = m } ∷ []
 
--- an error is want of memory, or the fault of the stream s with more octets
+-- a fact about a fault of the stream; an allocation that failed is none, and `Failed` is never the first
+abbrev pub OnFault : StreamFault → Type 0 → Type 0
+OnFault Memory P = Unit {0}
+OnFault Failed P = ⊥
+OnFault e P = P
+
+-- an error is that an allocation failed, or the fault of the stream s with more octets
 abbrev pub IsFault : Limits → List ℕ → List ℕ → StreamFault → Type 0
-IsFault limits s c Memory = Unit {0}
-IsFault limits s c Failed = ⊥
-IsFault limits s c e = Faults limits s c e
+IsFault limits s c e = OnFault e (Faults limits s c e)
 
 -- a lent message says what the octets of a message say
 pub record IsLent (m : Message) (f : Frame) : Type 0 where
@@ -41,8 +68,18 @@ pub record IsLent (m : Message) (f : Frame) : Type 0 where
   pub order : m.order ≡ f.header.order
   pub content : content_of f.header f.octets ≡ Ok (lent.content_of m.part)
 
--- how many octets partial messages hold, the headers of their first pieces among them
-abbrev pub parts_held : List Piece → ℕ
+-- no partial message is longer than the limit
+abbrev pub AreShort : Limits → List Entry → Type 0
+AreShort limits [] = Unit {0}
+AreShort limits (p ∷ ps) = (12 + length p.part.octets ≤ limits.message) × AreShort limits ps
+
+-- partial messages within the limits
+pub record AreWithin (limits : Limits) (ps : List Entry) : Type 0 where
+  pub count : length ps ≤ limits.partials
+  pub each : AreShort limits ps
+
+-- how many octets partial messages hold, the headers of their first frames among them
+abbrev pub parts_held : List Entry → ℕ
 parts_held [] = 0
 parts_held (p ∷ ps) = (12 + length p.part.octets) + parts_held ps
 

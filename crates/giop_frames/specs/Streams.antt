@@ -1,19 +1,18 @@
 -- Whole streams: their messages, each with the place where it completes, and their first fault.
-use Rattle.std.specs.Prelude.{◌≡◌, ℕ, ◌+◌, List, [], ◌∷◌, ◌++◌, length, Option, Some, None}
+use Rattle.std.specs.Prelude.{◌≡◌, ℕ, ◌+◌, ◌==◌, List, [], ◌∷◌, ◌++◌, length, Option, Some, None, if◌then◌else◌}
 use Rattle.giop_frames.specs.declared.fault.StreamFault.{StreamFault}
 use Rattle.giop_frames.specs.declared.limits.Limits.{Limits}
 use Rattle.giop_frames.specs.Frames.{Frame, split}
-use Rattle.giop_frames.specs.Fragments.{Bad, Quiet, Done, begun, judged, partials_in}
-use Rattle.giop_frames.specs.Parts.{Piece, IsDistinct, part_in}
+use Rattle.giop_frames.specs.Fragments.{Bad, Done, Partial, Quiet, judged, partial_of, partials_in}
 
--- a message, joined, and the number of octets of the stream up to its end
-pub record Told : Type 0 where
+-- a message that completes, joined, and the number of octets of the stream up to its end
+pub record Completed : Type 0 where
   pub place : ℕ
   pub message : Frame
 
 -- frames as messages: the messages, the first fault, and all frames before it, the latest first
 pub record Reading : Type 0 where
-  pub messages : List Told
+  pub messages : List Completed
   pub fault : Option StreamFault
   pub earlier : List Frame
 
@@ -22,7 +21,8 @@ abbrev pub place_after : List Frame → ℕ
 place_after [] = 0
 place_after (f ∷ earlier) = place_after earlier + (12 + length f.octets)
 
-abbrev pub after_message : Told → Reading → Reading
+-- the same, with one message before
+abbrev pub after_message : Completed → Reading → Reading
 after_message m r = record r { messages = m ∷ r.messages }
 
 -- frames after those earlier ones, and after them the fault of a header, if there is one
@@ -35,11 +35,12 @@ reading_from limits earlier last (f ∷ fs) =
       | Done m ↦ after_message (record { place = place_after (f ∷ earlier); message = m }) (reading_from limits (f ∷ earlier) last fs)
     ]
 
+-- the frames of a stream as messages
 abbrev pub reading_of : Limits → List ℕ → Reading
 reading_of limits s = reading_from limits [] (split limits s).fault (split limits s).frames
 
 -- the messages of a stream before its first fault
-unfoldable pub messages_of : Limits → List ℕ → List Told
+unfoldable pub messages_of : Limits → List ℕ → List Completed
 messages_of limits s = (reading_of limits s).messages
 
 -- the first fault of a stream
@@ -54,14 +55,29 @@ rest_of limits s = (split limits s).rest
 unfoldable pub frames_of : Limits → List ℕ → List Frame
 frames_of limits s = (reading_of limits s).earlier
 
--- these are the cut messages that are begun after those frames
-pub record Follows (parts : List Piece) (earlier : List Frame) : Type 0 where
-  pub each : (i : ℕ) → part_in parts i ≡ begun earlier i
+-- a partial message under its request id
+pub record Entry : Type 0 where
+  pub id : ℕ
+  pub part : Partial
+
+-- the partial message of a request id among those of a list
+abbrev pub part_in : List Entry → ℕ → Option Partial
+part_in [] i = None
+part_in (p ∷ ps) i = if p.id == i then Some p.part else part_in ps i
+
+-- no two have one request id
+abbrev pub IsDistinct : List Entry → Type 0
+IsDistinct [] = Unit {0}
+IsDistinct (p ∷ ps) = (part_in ps p.id ≡ None) × IsDistinct ps
+
+-- these are the partial messages after those frames
+pub record Follows (parts : List Entry) (earlier : List Frame) : Type 0 where
+  pub each : (i : ℕ) → part_in parts i ≡ partial_of earlier i
   pub count : length parts ≡ partials_in earlier
   pub distinct : IsDistinct parts
 
 -- these octets and these partial messages are what is left of a stream without a fault
-pub record Stands (limits : Limits) (pending : List ℕ) (parts : List Piece) (s : List ℕ) : Type 0 where
+pub record Stands (limits : Limits) (pending : List ℕ) (parts : List Entry) (s : List ℕ) : Type 0 where
   pub faultless : fault_of limits s ≡ None
   pub waiting : pending ≡ rest_of limits s
   pub partial : Follows parts (frames_of limits s)

@@ -1,28 +1,29 @@
 //! The assembler: octets as they come, and each message that completes.
 
 ghost use Rattle.std.specs.Prelude.{◌≡◌, ◌+◌, ◌*◌, ◌<◌, ◌≤◌, ◌++◌, List, [], ℕ, length, take, false, None, Err, IfOk, IfErr, IsSomeAnd, OnErr, OnOk, MatchResult, MatchOption, IsTrue};
-ghost use Rattle.giop_frames.specs.Code.{AreWithin, HasRoom, IsKept, IsStep, pending_at, pieces};
+ghost use Rattle.giop_frames.specs.Private.{Needs, IsKept, IsStep};
 ghost use Rattle.giop_frames.specs.Fragments.{partials_in};
-ghost use Rattle.giop_frames.specs.Standing.{IsFault, IsLent, StandsFor, frame_held, octets_held, parts_held, told_at};
+ghost use Rattle.giop_frames.specs.Standing.{AreWithin, IsFault, IsLent, StandsFor, completed_at, entries, frame_held, octets_held, parts_held, pending_at};
 ghost use Rattle.giop_frames.specs.Streams.{Stands, frames_of, messages_of, rest_of};
 
+use crate::deframer::{Gathered, Seen, gather};
 use crate::fault::StreamFault;
-use crate::gathering::{Gathered, Seen, gather};
 use crate::limits::Limits;
-use crate::part::Part;
-use crate::settling::{Settled, settle};
+use crate::partial::Part;
+use crate::reassembly::{Settled, settle};
 use giop_core::{Header, Message, read_message};
 use std::alloc::Global;
+use std::fmt;
 use std::marker::Model;
 
-/// How many octets a frame has at least: those of its header.
+/// How many octets a header has.
 const HEADER: usize = 12;
 
 /// How many octets were taken, and the header of the message that they complete, if they do.
 #[derive(Drop)]
-pub struct Step {
-    pub taken: usize,
-    pub complete: Option<Header>,
+struct Step {
+    taken: usize,
+    complete: Option<Header>,
 }
 
 /// Takes octets up to the next place where something can be judged, and judges it.
@@ -30,24 +31,24 @@ fn advance_once(
     limits: &Limits,
     alloc: Global,
     frame: &mut Vec<u8>,
-    room: &mut usize,
+    needed: &mut usize,
     parts: &mut Vec<Part>,
     piece: &[u8],
 ) -> Result<Step, StreamFault>
-    requires room { HasRoom limits.now frame.old.items room.old }
+    requires needed { Needs limits.now frame.old.items needed.old }
     requires some { 0 < length piece.now }
-    ensures stands { (s : List ℕ) → Stands limits.now frame.old.items (pieces parts.old.items) s → MatchResult result
-        (λ r. IsStep limits.now s (take r.taken piece.now) r.complete frame.new.items (pieces parts.new.items))
+    ensures stands { (s : List ℕ) → Stands limits.now frame.old.items (entries parts.old.items) s → MatchResult result
+        (λ r. IsStep limits.now s (take r.taken piece.now) r.complete frame.new.items (entries parts.new.items))
         (λ e. IsFault limits.now s piece.now e) }
     ensures taken { IfOk result (λ r. (0 < r.taken) × (r.taken ≤ length piece.now)) }
-    ensures room { IfOk result (λ r. HasRoom limits.now (pending_at r.complete frame.new.items) room.new) }
+    ensures needed { IfOk result (λ r. Needs limits.now (pending_at r.complete frame.new.items) needed.new) }
     ensures kept { IfOk result (λ r. IsKept limits.now r.complete frame.new.items) }
-    ensures within { AreWithin limits.now (pieces parts.old.items) → IfOk result (λ r. AreWithin limits.now (pieces parts.new.items)) }
+    ensures within { AreWithin limits.now (entries parts.old.items) → IfOk result (λ r. AreWithin limits.now (entries parts.new.items)) }
 {
-    let Gathered { taken, seen } = gather(limits, frame, *room, piece)?;
+    let Gathered { taken, seen } = gather(limits, frame, *needed, piece)?;
     match seen {
         Seen::Waiting(more) => {
-            *room = more;
+            *needed = more;
             Ok(Step {
                 taken,
                 complete: None,
@@ -55,7 +56,7 @@ fn advance_once(
         }
         Seen::Refused(fault) => Err(fault),
         Seen::Whole(header) => {
-            *room = HEADER;
+            *needed = HEADER;
             match settle(limits, alloc, &header, frame, parts)? {
                 Settled::Quiet => Ok(Step {
                     taken,
@@ -72,29 +73,29 @@ fn advance_once(
 }
 
 /// Takes octets up to the end of the next message that completes, or all.
-pub(crate) fn advance(
+fn advance(
     limits: &Limits,
     alloc: Global,
     frame: &mut Vec<u8>,
-    room: &mut usize,
+    needed: &mut usize,
     parts: &mut Vec<Part>,
     piece: &[u8],
 ) -> Result<Step, StreamFault>
-    requires room { HasRoom limits.now frame.old.items room.old }
-    ensures stands { (s : List ℕ) → Stands limits.now frame.old.items (pieces parts.old.items) s → MatchResult result
-        (λ r. IsStep limits.now s (take r.taken piece.now) r.complete frame.new.items (pieces parts.new.items))
+    requires needed { Needs limits.now frame.old.items needed.old }
+    ensures stands { (s : List ℕ) → Stands limits.now frame.old.items (entries parts.old.items) s → MatchResult result
+        (λ r. IsStep limits.now s (take r.taken piece.now) r.complete frame.new.items (entries parts.new.items))
         (λ e. IsFault limits.now s piece.now e) }
     ensures taken { IfOk result (λ r. r.taken ≤ length piece.now) }
     ensures some { IfOk result (λ r. 0 < length piece.now → 0 < r.taken) }
     ensures all { IfOk result (λ r. r.complete ≡ None → r.taken ≡ length piece.now) }
-    ensures room { IfOk result (λ r. HasRoom limits.now (pending_at r.complete frame.new.items) room.new) }
+    ensures needed { IfOk result (λ r. Needs limits.now (pending_at r.complete frame.new.items) needed.new) }
     ensures kept { IfOk result (λ r. IsKept limits.now r.complete frame.new.items) }
-    ensures within { AreWithin limits.now (pieces parts.old.items) → IfOk result (λ r. AreWithin limits.now (pieces parts.new.items)) }
+    ensures within { AreWithin limits.now (entries parts.old.items) → IfOk result (λ r. AreWithin limits.now (entries parts.new.items)) }
 {
     let mut taken = 0;
     while taken < piece.len() {
         let (_, left) = piece.split_at(taken);
-        match advance_once(limits, alloc, frame, room, parts, left) {
+        match advance_once(limits, alloc, frame, needed, parts, left) {
             Ok(step) => {
                 taken += step.taken;
                 if step.complete.is_some() {
@@ -113,7 +114,7 @@ pub(crate) fn advance(
     })
 }
 
-/// Leaves no octets of a message that was given.
+/// Drops the octets of the message that was lent, if one was.
 fn drop_given(frame: &mut Vec<u8>, complete: &Option<Header>)
     ensures { frame.new.items ≡ pending_at complete.now frame.old.items }
 {
@@ -122,10 +123,10 @@ fn drop_given(frame: &mut Vec<u8>, complete: &Option<Header>)
     }
 }
 
-/// How many octets the messages that are begun hold.
+/// How many octets the partial messages hold.
 fn parts_held(limits: &Limits, parts: &[Part]) -> usize
-    requires { AreWithin limits.now (pieces parts.now) }
-    ensures { result ≡ parts_held (pieces parts.now) }
+    requires { AreWithin limits.now (entries parts.now) }
+    ensures { result ≡ parts_held (entries parts.now) }
 {
     let mut held = 0;
     for part in parts {
@@ -136,15 +137,15 @@ fn parts_held(limits: &Limits, parts: &[Part]) -> usize
 
 /// Takes the octets of one direction of a connection, and lends each message that completes.
 ///
-/// It holds the octets of the frame that is not whole, or those of the message that it lends, and those of
-/// the messages whose fragments have not all come: no others. Each of these is at most as long as the
-/// limit, and takes memory as its octets come.
+/// It buffers the octets of the frame that is not whole, or of the message that it lends, and those of the
+/// partial messages, whose fragments have not all come: no others. Each of these is at most as long as the
+/// limit, and its buffer grows as its octets come.
 #[derive(Drop)]
 pub struct Assembler {
     limits: Limits,
     alloc: Global,
     frame: Vec<u8>,
-    room: usize,
+    needed: usize,
     parts: Vec<Part>,
     complete: Option<Header>,
     failed: bool,
@@ -152,18 +153,18 @@ pub struct Assembler {
 
 impl Model for Assembler {
     ghost use Rattle.std.specs.Prelude.{◌≡◌, true, None};
-    ghost use Rattle.giop_frames.specs.Code.{AreWithin, HasRoom, IsKept, IsSound, message_at, pending_at, pieces};
-    ghost use Rattle.giop_frames.specs.Standing.{Standing};
+    ghost use Rattle.giop_frames.specs.Private.{Needs, IsKept, IsSound};
+    ghost use Rattle.giop_frames.specs.Standing.{AreWithin, Standing, entries, message_at, pending_at};
 
     ghost Value = { Standing };
 
-    ghost view = { λ a. record { limits = a.limits; failed = a.failed; pending = pending_at a.complete a.frame.items; parts = pieces a.parts.items; message = message_at a.complete a.frame.items } };
+    ghost view = { λ a. record { limits = a.limits; failed = a.failed; pending = pending_at a.complete a.frame.items; parts = entries a.parts.items; message = message_at a.complete a.frame.items } };
 
-    ghost invariant = { λ a. IsSound a.limits a.failed a.complete a.frame.items a.room (pieces a.parts.items) };
+    ghost invariant = { λ a. IsSound a.limits a.failed a.complete a.frame.items a.needed (entries a.parts.items) };
 }
 
 impl Assembler {
-    /// An assembler for a stream of which nothing has come.
+    /// An assembler for a stream of which no octet has come.
     pub fn new(alloc: Global, limits: Limits) -> Assembler
         ensures stands { StandsFor result [] }
         ensures message { result.message ≡ None }
@@ -173,27 +174,27 @@ impl Assembler {
             limits,
             alloc,
             frame: Vec::new(alloc),
-            room: HEADER,
+            needed: HEADER,
             parts: Vec::new(alloc),
             complete: None,
             failed: false,
         }
     }
 
-    /// Takes octets of a piece up to and with the end of the next message that completes, or all of them,
-    /// and tells how many. What it lent before is let go.
+    /// Takes octets of a piece up to and with the end of the next message that completes, or all of them, and
+    /// returns how many. The message that it lent before is dropped.
     ///
-    /// An error is the first fault of the stream, or want of memory. From then on each call answers
-    /// `Failed`, and nothing is held or lent. An empty piece completes nothing.
+    /// An error is the first fault of the stream, or `Memory` where an allocation failed. From then on each
+    /// call returns `Failed`, and nothing is held or lent. An empty piece completes nothing.
     pub fn feed(&mut self, piece: &[u8]) -> Result<usize, StreamFault>
         ensures stands { (s : List ℕ) → StandsFor self.old s → IfOk result (λ n. StandsFor self.new (s ++ take n piece.now)) }
         // the messages are those before, and then the one that is lent, if there is one, which ends where the octets taken end
         ensures messages { (s : List ℕ) → StandsFor self.old s → IfOk result (λ n.
-            messages_of self.old.limits (s ++ take n piece.now) ≡ messages_of self.old.limits s ++ told_at (length (s ++ take n piece.now)) self.new.message) }
+            messages_of self.old.limits (s ++ take n piece.now) ≡ messages_of self.old.limits s ++ completed_at (length (s ++ take n piece.now)) self.new.message) }
         ensures within { IfOk result (λ n. n ≤ length piece.now) }
         ensures some { IfOk result (λ n. 0 < length piece.now → 0 < n) }
         ensures all { IfOk result (λ n. self.new.message ≡ None → n ≡ length piece.now) }
-        // want of memory, or the fault of the stream with the piece, and no message before it
+        // an allocation failed, or it is the fault of the stream with the piece, and no message comes before it
         ensures fault { (s : List ℕ) → StandsFor self.old s → IfErr result (λ e. IsFault self.old.limits s piece.now e) }
         ensures failed { IsTrue self.old.failed → result ≡ Err StreamFault.Failed }
         ensures err { OnErr result (IsTrue self.new.failed × (self.new.message ≡ None) × (self.new.pending ≡ []) × (self.new.parts ≡ [])) }
@@ -208,7 +209,7 @@ impl Assembler {
             &self.limits,
             self.alloc,
             &mut self.frame,
-            &mut self.room,
+            &mut self.needed,
             &mut self.parts,
             piece,
         ) {
@@ -221,7 +222,7 @@ impl Assembler {
                 self.complete = None;
                 self.frame.clear();
                 self.parts.clear();
-                self.room = HEADER;
+                self.needed = HEADER;
                 Err(fault)
             }
         }
@@ -237,11 +238,11 @@ impl Assembler {
     }
 
     /// How many octets are held: those of the frame that is not whole, or of the message that is lent, and
-    /// those of the messages whose fragments have not all come, headers of first pieces among them.
+    /// those of the partial messages, the headers of their first frames among them.
     pub fn held(&self) -> usize
         ensures octets { result ≡ octets_held self.now }
         ensures bound { result ≤ (self.now.limits.partials + 1) * self.now.limits.message }
-        // the frame or the message that is lent is within the limit, and so is each message that is begun
+        // the frame or the message that is lent is within the limit, and so is each partial message
         ensures frame { frame_held self.now.message self.now.pending ≤ self.now.limits.message }
         ensures parts { AreWithin self.now.limits self.now.parts }
     {
@@ -259,12 +260,24 @@ impl Assembler {
         self.frame.len()
     }
 
-    /// How many messages are begun whose fragments have not all come.
+    /// How many messages are partial: their fragments have not all come.
     pub fn partial(&self) -> usize
         ensures parts { result ≡ length self.now.parts }
         ensures stands { (s : List ℕ) → StandsFor self.now s → result ≡ partials_in (frames_of self.now.limits s) }
         ensures bound { result ≤ self.now.limits.partials }
     {
         self.parts.len()
+    }
+}
+
+/// The limits, how much is held, and whether there was a fault; not the octets.
+impl fmt::Debug for Assembler {
+    fn fmt<W: fmt::Write>(&self, f: &mut fmt::Formatter<W>) -> fmt::Result {
+        f.debug_struct("Assembler")
+            .field("limits", &self.limits)
+            .field("held", &self.held())
+            .field("partial", &self.partial())
+            .field("failed", &self.failed)
+            .finish_non_exhaustive()
     }
 }

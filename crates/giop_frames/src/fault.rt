@@ -1,14 +1,17 @@
 //! Why a stream is refused.
 
 ghost use Rattle.std.specs.Prelude.{◌≡◌};
-ghost use Rattle.giop_frames.specs.declared.fault.StreamFault.TheVariants.{Memory};
+ghost use Rattle.giop_frames.specs.declared.fault.StreamFault.TheVariants.{Body, Header as BadHeader, Memory};
 
 use giop_core::{HeaderFault, MessageFault};
 use std::alloc::AllocError;
 use thiserror::Error;
 
-/// The first fault of a stream. The first three and, for a message of 1.1, `StrayFragment` are told at the
-/// twelfth octet of a header, the others at the last octet of a frame.
+/// The first fault of a stream.
+///
+/// When each is reported is a rule of this project. At the twelfth octet of a frame: `Header`, `TooLarge` of a
+/// frame, `UnalignedFragment`, and `StrayFragment` of a message of 1.1. At the last octet of a frame: the
+/// others, and `TooLarge` of a message that is joined.
 #[derive(Clone, Copy, Debug, PartialEq, Eq, Error)]
 pub enum StreamFault {
     /// The twelve octets at the head of a frame are no header.
@@ -21,23 +24,24 @@ pub enum StreamFault {
     /// More fragments follow a frame of 1.2 whose length is not divisible by 8 (9.4.9).
     #[error("unaligned fragment")]
     UnalignedFragment,
-    /// A Fragment of 1.2 whose request id is that of no message that was begun, or a message of 1.1 that is
-    /// cut: those are not taken.
+    /// A Fragment of 1.2 whose request id is that of no partial message, or a frame of a cut message of 1.1,
+    /// which this crate does not join.
     #[error("stray fragment")]
     StrayFragment,
-    /// A message of 1.2 with the request id of one whose fragments are still to come.
+    /// A message of 1.2 with the request id of one whose fragments are still to come: a rule of this
+    /// project.
     #[error("twice started")]
     TwiceStarted,
-    /// As many messages are begun as the limits allow, and one more begins.
+    /// As many messages are partial as the limits allow, and one more starts.
     #[error("too many partial")]
     TooManyPartial,
-    /// A message does not read. Places count in the message whose fragments are joined.
+    /// The octets after a header are no message. Places count in the message whose fragments are joined.
     #[error("body: {0}")]
     Body(MessageFault),
-    /// A Fragment in another byte order than the first piece of its message.
+    /// A Fragment in another byte order than the first frame of its message: a rule of this project.
     #[error("mixed order")]
     MixedOrder,
-    /// A growth of memory was refused. This is no fault of the stream.
+    /// An allocation failed. This is no fault of the stream.
     #[error("memory")]
     Memory,
     /// There was a fault before. This is no fault of the stream.
@@ -45,11 +49,29 @@ pub enum StreamFault {
     Failed,
 }
 
-/// Want of memory.
+/// An allocation failed.
 impl From<AllocError> for StreamFault {
     ghost from_gives = { λ e f. f ≡ Memory };
 
     fn from(_error: AllocError) -> StreamFault {
         StreamFault::Memory
+    }
+}
+
+/// The head of a frame is no header.
+impl From<HeaderFault> for StreamFault {
+    ghost from_gives = { λ e f. f ≡ BadHeader e };
+
+    fn from(fault: HeaderFault) -> StreamFault {
+        StreamFault::Header(fault)
+    }
+}
+
+/// The octets after a header are no message.
+impl From<MessageFault> for StreamFault {
+    ghost from_gives = { λ e f. f ≡ Body e };
+
+    fn from(fault: MessageFault) -> StreamFault {
+        StreamFault::Body(fault)
     }
 }

@@ -2,14 +2,14 @@
 
 ghost use Rattle.std.specs.Prelude.{◌≡◌, ◌<◌, ◌^◌, ◌++◌, List, ℕ, map};
 ghost use Rattle.std.specs.List.{concat};
-ghost use Rattle.giop_frames.specs.Feeding.{IsEnded, IsTold};
+ghost use Rattle.giop_frames.specs.Feeding.{IsEnded, IsCounted};
 ghost use Rattle.giop_frames.specs.Standing.{StandsFor};
 
 use crate::assembler::Assembler;
 use crate::fault::StreamFault;
 
-/// What octets gave: how many messages completed, and the fault that came after those, if one did.
-#[derive(Clone, Copy)]
+/// What pieces gave: how many messages completed, and the fault that came after those, if one did.
+#[derive(Clone, Copy, Debug, PartialEq, Eq)]
 pub struct Fed {
     pub messages: u128,
     pub fault: Option<StreamFault>,
@@ -18,7 +18,7 @@ pub struct Fed {
 /// Feeds a piece up to its end or the first fault, and counts the messages that complete.
 fn feed_piece(assembler: &mut Assembler, piece: &[u8]) -> Fed
     ensures ended { (s : List ℕ) → StandsFor assembler.old s → IsEnded result.fault assembler.old.limits assembler.new (s ++ piece.now) }
-    ensures told { (s : List ℕ) → StandsFor assembler.old s → IsTold result.fault assembler.old.limits result.messages s piece.now }
+    ensures counted { (s : List ℕ) → StandsFor assembler.old s → IsCounted result.fault assembler.old.limits result.messages s piece.now }
     ensures few { result.messages < 2 ^ 64 }
     ensures limits { assembler.new.limits ≡ assembler.old.limits }
 {
@@ -50,10 +50,10 @@ fn feed_piece(assembler: &mut Assembler, piece: &[u8]) -> Fed
 /// Feeds pieces up to the end of the last or the first fault, and counts the messages that complete.
 ///
 /// The outcome is that of the pieces joined to one, whatever the cuts between them: the same messages, and
-/// the same fault. Want of memory alone can end it earlier.
+/// the same fault. Only an allocation that fails can end it earlier.
 pub fn feed_all(assembler: &mut Assembler, pieces: &[&[u8]]) -> Fed
     ensures ended { (s : List ℕ) → StandsFor assembler.old s → IsEnded result.fault assembler.old.limits assembler.new (s ++ concat (map (λ p. p.now) pieces.now)) }
-    ensures told { (s : List ℕ) → StandsFor assembler.old s → IsTold result.fault assembler.old.limits result.messages s (concat (map (λ p. p.now) pieces.now)) }
+    ensures counted { (s : List ℕ) → StandsFor assembler.old s → IsCounted result.fault assembler.old.limits result.messages s (concat (map (λ p. p.now) pieces.now)) }
     ensures limits { assembler.new.limits ≡ assembler.old.limits }
 {
     let mut messages: u128 = 0;

@@ -1,20 +1,23 @@
 //! Streams of GIOP messages (CORBA 3.3 Part 2, 9.4): an assembler that takes octets as they come and lends
-//! each message that completes, its fragments joined; and what cuts a message into fragments.
+//! each message that completes, its fragments joined; and a writer that cuts a message into fragments.
+//!
+//! It stands on `giop_core`, which reads and writes one message. It promises that the messages and the
+//! first fault are those of the definitions in `specs/`, wherever the stream is cut into pieces, and that the
+//! octets held stay within the limits.
 #![tactic(auto)]
 
-pub mod assembler;
-pub mod cutting;
-pub mod fault;
-pub mod feeding;
-mod gathering;
+mod assembler;
+mod deframer;
+mod fault;
+mod feeding;
+mod fragmenter;
 pub mod laws;
-pub mod limits;
-mod part;
-mod role;
-mod settling;
-mod table;
+mod limits;
+mod partial;
+mod reassembly;
 
 pub use assembler::Assembler;
-pub use cutting::{fragments, is_cuttable};
 pub use fault::StreamFault;
+pub use feeding::{Fed, feed_all};
+pub use fragmenter::{fragments, is_cuttable};
 pub use limits::Limits;

@@ -1,6 +1,7 @@
 use Rattle.std.proofs.Common.{◌≡◌, ℕ, ◌+◌, ◌++◌, List, take, drop, Option, None, sym, ap, subst, ◌∙◌, arith}
 use Rattle.giop_core.specs.declared.header.Header.{Header}
-use Rattle.giop_frames.specs.Code.{HasRoom, IsStep, pending_at, pieces}
+use Rattle.giop_frames.specs.Private.{Needs, IsStep}
+use Rattle.giop_frames.specs.Standing.{pending_at, entries}
 use Rattle.giop_frames.proofs.Stepping.{step-step, take-further}
 use Rattle.giop_frames.proofs.Tables.{none-is}
 use Rattle.giop_frames.proofs.assembler.advance.Goals as goal
@@ -15,7 +16,7 @@ returns-then-is_some-clause-stands c = λ s stands.
     let n = c.loop-taken.taken in
     let m = c.in-Ok.step.taken in
     let left = c.split_at.result.1.now in
-    step-step c.args.limits.now s (take n c.args.piece.now) (take m left) (take (n + m) c.args.piece.now) c.in-Ok.step.complete c.loop-taken.frame.items c.advance_once.new.frame.items (pieces c.loop-taken.parts.items) (pieces c.advance_once.new.parts.items)
+    step-step c.args.limits.now s (take n c.args.piece.now) (take m left) (take (n + m) c.args.piece.now) c.in-Ok.step.complete c.loop-taken.frame.items c.advance_once.new.frame.items (entries c.loop-taken.parts.items) (entries c.advance_once.new.parts.items)
     (next n m c.args.piece.now left c.split_at.ensures.back) first (c.in-Ok.ensures.stands (s ++ take n c.args.piece.now) first.stands)
 
 pub loop-taken-preserved : goal.loop-taken-preserved
@@ -28,11 +29,11 @@ loop-taken-preserved c =
     let after = c.advance_once.new.frame.items in
     record {
       in_range = omega (arith, c.in-Ok.ensures.taken.1, c.split_at.ensures.back_len);
-      room = subst (λ (o : Option Header). HasRoom limits (pending_at o after) c.advance_once.new.room) none c.in-Ok.ensures.room;
+      needed = subst (λ (o : Option Header). Needs limits (pending_at o after) c.advance_once.new.needed) none c.in-Ok.ensures.needed;
       stands = λ s stands.
           let first = c.loop-taken.invariant.stands s stands in
-          let whole = step-step limits s (take n c.args.piece.now) (take m left) (take (n + m) c.args.piece.now) c.in-Ok.step.complete c.loop-taken.frame.items after (pieces c.loop-taken.parts.items) (pieces c.advance_once.new.parts.items)
+          let whole = step-step limits s (take n c.args.piece.now) (take m left) (take (n + m) c.args.piece.now) c.in-Ok.step.complete c.loop-taken.frame.items after (entries c.loop-taken.parts.items) (entries c.advance_once.new.parts.items)
           (next n m c.args.piece.now left c.split_at.ensures.back) first (c.in-Ok.ensures.stands (s ++ take n c.args.piece.now) first.stands) in
-          subst (λ (o : Option Header). IsStep limits s (take (n + m) c.args.piece.now) o after (pieces c.advance_once.new.parts.items)) none whole;
+          subst (λ (o : Option Header). IsStep limits s (take (n + m) c.args.piece.now) o after (entries c.advance_once.new.parts.items)) none whole;
       within = λ w. c.in-Ok.ensures.within (c.loop-taken.invariant.within w);
     }

@@ -1,6 +1,6 @@
 use Rattle.std.proofs.Common.{◌≡◌, get_or, ap, arith, vec_len}
-use Rattle.giop_frames.specs.declared.part.Part.{Part}
-use Rattle.giop_frames.specs.Code.{pieces}
+use Rattle.giop_frames.specs.declared.partial.Part.{Part}
+use Rattle.giop_frames.specs.Standing.{entries}
 use Rattle.giop_frames.proofs.Holding.{held-more, held-small}
 use Rattle.giop_frames.proofs.assembler.parts_held.Goals as goal
 
@@ -10,7 +10,7 @@ overflow_add-held c =
     let p = c.part-item.result in
     let one : vec_len p.octets ≡ vec_len (get_or c.args.parts.now i p).octets = ap (λ (q : Part). vec_len q.octets) c.part-item.is in
     let more = held-more c.args.parts.now i p (omega arith) in
-    omega (arith, one, more, c.loop-part.invariant, c.len-held.ensures, held-small c.args.limits.now (pieces c.args.parts.now) c.requires)
+    omega (arith, one, more, c.loop-part.invariant, c.len-held.ensures, held-small c.args.limits.now (entries c.args.parts.now) c.requires)
 
 pub loop-part-preserved : goal.loop-part-preserved
 loop-part-preserved c =

@@ -1,9 +1,9 @@
 use Rattle.std.proofs.Common.{◌≡◌, ◌+◌, ◌++◌, List, ℕ, [], take, drop, false, is_some, Bor, get_or, sym, subst, ◌∙◌, arith}
 use Rattle.std.proofs.lemmas.List.{take_all}
 use Rattle.giop_frames.specs.declared.limits.Limits.{Limits}
-use Rattle.giop_frames.specs.Feeding.{IsEnded, IsTold}
+use Rattle.giop_frames.specs.Feeding.{IsEnded, IsCounted}
 use Rattle.giop_frames.specs.Standing.{StandsFor}
-use Rattle.giop_frames.proofs.Feeds.{counts-further, ended-in, ended-none, joined, joined-more, joined-rest, stands-next, told-none, told-of}
+use Rattle.giop_frames.proofs.Feeds.{counts-further, ended-in, ended-none, joined, joined-more, joined-rest, stands-next, counted-none, counted-of}
 use Rattle.giop_frames.proofs.feeding.feed_all.Goals as goal
 
 -- the item that stands where there is none
@@ -21,8 +21,8 @@ returns-then-is_some-clause-ended c = λ s stands.
     subst (λ (l : Limits). IsEnded o l c.feed_piece-fed.new.assembler ((s ++ front) ++ piece)) c.loop-piece.invariant.limits (c.feed_piece-fed.ensures.ended (s ++ front) (c.loop-piece.invariant.stands s stands)) in
     ended-in o c.args.assembler.now.limits c.feed_piece-fed.new.assembler s front piece (joined (drop (i + 1) ps)) (joined (take (i + 1) ps)) (joined ps) (sym c.if-is_some.ensures) (joined-more ps i no_piece c.loop-piece-test.true) (joined-rest ps (i + 1)) ended
 
-pub returns-then-is_some-clause-told : goal.returns-then-is_some-clause-told
-returns-then-is_some-clause-told c = λ s stands.
+pub returns-then-is_some-clause-counted : goal.returns-then-is_some-clause-counted
+returns-then-is_some-clause-counted c = λ s stands.
     let ps = c.args.pieces.now in
     let i = c.loop-piece.piece-index in
     let o = c.feed_piece-fed.result.fault in
@@ -32,9 +32,9 @@ returns-then-is_some-clause-told c = λ s stands.
     let here = c.loop-piece.invariant.stands s stands in
     let ended : IsEnded o limits c.feed_piece-fed.new.assembler ((s ++ front) ++ piece) =
     subst (λ (l : Limits). IsEnded o l c.feed_piece-fed.new.assembler ((s ++ front) ++ piece)) c.loop-piece.invariant.limits (c.feed_piece-fed.ensures.ended (s ++ front) here) in
-    let told : IsTold o limits c.feed_piece-fed.result.messages (s ++ front) piece =
-    subst (λ (l : Limits). IsTold o l c.feed_piece-fed.result.messages (s ++ front) piece) c.loop-piece.invariant.limits (c.feed_piece-fed.ensures.told (s ++ front) here) in
-    told-of o limits c.feed_piece-fed.new.assembler c.loop-piece.messages c.feed_piece-fed.result.messages s front piece (joined (drop (i + 1) ps)) (joined (take (i + 1) ps)) (joined ps) (sym c.if-is_some.ensures) (joined-more ps i no_piece c.loop-piece-test.true) (joined-rest ps (i + 1)) ended (c.loop-piece.invariant.told s stands) told
+    let counted : IsCounted o limits c.feed_piece-fed.result.messages (s ++ front) piece =
+    subst (λ (l : Limits). IsCounted o l c.feed_piece-fed.result.messages (s ++ front) piece) c.loop-piece.invariant.limits (c.feed_piece-fed.ensures.counted (s ++ front) here) in
+    counted-of o limits c.feed_piece-fed.new.assembler c.loop-piece.messages c.feed_piece-fed.result.messages s front piece (joined (drop (i + 1) ps)) (joined (take (i + 1) ps)) (joined ps) (sym c.if-is_some.ensures) (joined-more ps i no_piece c.loop-piece-test.true) (joined-rest ps (i + 1)) ended (c.loop-piece.invariant.counted s stands) counted
 
 pub loop-piece-preserved : goal.loop-piece-preserved
 loop-piece-preserved c =
@@ -51,10 +51,10 @@ loop-piece-preserved c =
       limits = c.feed_piece-fed.ensures.limits ∙ c.loop-piece.invariant.limits;
       stands = λ s stands.
           stands-next c.feed_piece-fed.new.assembler s front piece (joined (take (i + 1) ps)) is (ended-none o c.loop-piece.assembler.limits c.feed_piece-fed.new.assembler ((s ++ front) ++ piece) none (c.feed_piece-fed.ensures.ended (s ++ front) (c.loop-piece.invariant.stands s stands)));
-      told = λ s stands.
-          let told : IsTold o limits c.feed_piece-fed.result.messages (s ++ front) piece =
-          subst (λ (l : Limits). IsTold o l c.feed_piece-fed.result.messages (s ++ front) piece) c.loop-piece.invariant.limits (c.feed_piece-fed.ensures.told (s ++ front) (c.loop-piece.invariant.stands s stands)) in
-          counts-further limits c.loop-piece.messages c.feed_piece-fed.result.messages s front piece (joined (take (i + 1) ps)) is (c.loop-piece.invariant.told s stands) (told-none o limits c.feed_piece-fed.result.messages (s ++ front) piece none told);
+      counted = λ s stands.
+          let counted : IsCounted o limits c.feed_piece-fed.result.messages (s ++ front) piece =
+          subst (λ (l : Limits). IsCounted o l c.feed_piece-fed.result.messages (s ++ front) piece) c.loop-piece.invariant.limits (c.feed_piece-fed.ensures.counted (s ++ front) (c.loop-piece.invariant.stands s stands)) in
+          counts-further limits c.loop-piece.messages c.feed_piece-fed.result.messages s front piece (joined (take (i + 1) ps)) is (c.loop-piece.invariant.counted s stands) (counted-none o limits c.feed_piece-fed.result.messages (s ++ front) piece none counted);
     }
 
 pub returns-clause-ended : goal.returns-clause-ended

@@ -1,6 +1,6 @@
 use Rattle.std.proofs.Common.{◌≡◌, ℕ, ◌-◌, ◌≤◌, ◌++◌, List, length, take}
 use Rattle.giop_frames.specs.Standing.{StandsFor}
-use Rattle.giop_frames.proofs.Feeds.{Counts}
+use Rattle.giop_frames.specs.Feeding.{Counts}
 use Rattle.giop_frames.proofs.feeding.feed_piece.Given as goal
 
 abbrev pub invariant-loop-taken : goal.invariant-loop-taken
@@ -9,7 +9,7 @@ invariant-loop-taken l = record {
   few : l.messages ≤ l.taken;
   limits : l.assembler.limits ≡ l.fn.assembler.limits;
   stands : (s : List ℕ) → StandsFor l.fn.assembler s → StandsFor l.assembler (s ++ take l.taken l.piece);
-  told : (s : List ℕ) → StandsFor l.fn.assembler s → Counts l.fn.assembler.limits l.messages s (take l.taken l.piece);
+  counted : (s : List ℕ) → StandsFor l.fn.assembler s → Counts l.fn.assembler.limits l.messages s (take l.taken l.piece);
 }
 
 abbrev pub decreases-loop-taken : goal.decreases-loop-taken

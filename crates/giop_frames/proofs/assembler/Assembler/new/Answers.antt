@@ -1,10 +1,10 @@
 use Rattle.std.proofs.Common.{false, refl, ap}
-use Rattle.giop_frames.specs.Code.{pieces}
+use Rattle.giop_frames.specs.Standing.{entries}
 use Rattle.giop_frames.proofs.Holding.{sound-nothing, stands-nothing}
 use Rattle.giop_frames.proofs.assembler.Assembler.new.Goals as goal
 
 pub invariant_of-result : goal.invariant_of-result
-invariant_of-result c = sound-nothing c.args.limits false c.new.result.items (pieces c.new-2.result.items) c.new.ensures.items (ap pieces c.new-2.ensures.items)
+invariant_of-result c = sound-nothing c.args.limits false c.new.result.items (entries c.new-2.result.items) c.new.ensures.items (ap entries c.new-2.ensures.items)
 
 pub returns-clause-stands : goal.returns-clause-stands
-returns-clause-stands c = record { live = refl; stands = stands-nothing c.args.limits c.new.result.items (pieces c.new-2.result.items) c.new.ensures.items (ap pieces c.new-2.ensures.items) }
+returns-clause-stands c = record { live = refl; stands = stands-nothing c.args.limits c.new.result.items (entries c.new-2.result.items) c.new.ensures.items (ap entries c.new-2.ensures.items) }

@@ -1,0 +1,39 @@
+use Rattle.std.proofs.Common.{◌≡◌, ℕ, List, take, Result, Ok, Err, sym, ap, ◌∙◌}
+use Rattle.giop_core.specs.declared.header.Header.{Header}
+use Rattle.giop_core.specs.Headers.{header_of}
+use Rattle.giop_frames.specs.declared.fault.StreamFault.{StreamFault}
+use Rattle.giop_frames.specs.declared.limits.Limits.{Limits}
+use Rattle.giop_frames.specs.Frames.{judged_header}
+use Rattle.giop_frames.proofs.Needs.{needs-frame, needs-head, sight-all, sight-early, sight-refused}
+use Rattle.giop_frames.proofs.Sights.{sight-short}
+use Rattle.giop_frames.proofs.deframer.look.Goals as goal
+
+-- the judgement of the first twelve octets
+judgement : (limits : Limits) (b head : List ℕ) (r : Result Header StreamFault) → head ≡ take 12 b → r ≡ judged_header limits (header_of head) → judged_header limits (header_of (take 12 b)) ≡ r
+judgement limits b head r same is = ap (λ (x : List ℕ). judged_header limits (header_of x)) (sym same) ∙ sym is
+
+pub returns-in_default-clause-seen : goal.returns-in_default-clause-seen
+returns-in_default-clause-seen c = sym (sight-short c.args.limits.now c.args.octets.now c.in_default.ensures.cases)
+
+pub returns-in_default-clause-needed : goal.returns-in_default-clause-needed
+returns-in_default-clause-needed c = needs-head c.args.limits.now c.args.octets.now c.in_default.ensures.cases
+
+pub returns-in-Err-clause-seen : goal.returns-in-Err-clause-seen
+returns-in-Err-clause-seen c =
+    sym (sight-refused c.args.limits.now c.args.octets.now c.in-Err.fault c.in-Some.ensures.cases.enough
+    (judgement c.args.limits.now c.args.octets.now c.in-Some.head.now (Err c.in-Err.fault) c.in-Some.ensures.cases.same c.in-Err.ensures))
+
+pub returns-then-octets-size-clause-seen : goal.returns-then-octets-size-clause-seen
+returns-then-octets-size-clause-seen c =
+    sym (sight-early c.args.limits.now c.args.octets.now c.in-Ok.header c.in-Some.ensures.cases.enough
+    (judgement c.args.limits.now c.args.octets.now c.in-Some.head.now (Ok c.in-Ok.header) c.in-Some.ensures.cases.same c.in-Ok.ensures) c.if-octets-size.true)
+
+pub returns-then-octets-size-clause-needed : goal.returns-then-octets-size-clause-needed
+returns-then-octets-size-clause-needed c =
+    needs-frame c.args.limits.now c.args.octets.now c.in-Ok.header c.in-Some.ensures.cases.enough
+    (judgement c.args.limits.now c.args.octets.now c.in-Some.head.now (Ok c.in-Ok.header) c.in-Some.ensures.cases.same c.in-Ok.ensures) c.if-octets-size.true
+
+pub returns-else-octets-size-clause-seen : goal.returns-else-octets-size-clause-seen
+returns-else-octets-size-clause-seen c =
+    sym (sight-all c.args.limits.now c.args.octets.now c.in-Ok.header c.in-Some.ensures.cases.enough
+    (judgement c.args.limits.now c.args.octets.now c.in-Some.head.now (Ok c.in-Ok.header) c.in-Some.ensures.cases.same c.in-Ok.ensures) c.if-octets-size.false)

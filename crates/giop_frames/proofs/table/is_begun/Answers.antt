@@ -1,6 +1,0 @@
-use Rattle.std.proofs.Common.{is_some, ap, ◌∙◌}
-use Rattle.giop_frames.proofs.Found.{place-is_some}
-use Rattle.giop_frames.proofs.table.is_begun.Goals as goal
-
-pub returns : goal.returns
-returns c = c.is_some.ensures ∙ ap is_some c.place_of.ensures ∙ place-is_some c.args.id c.args.parts.now

@@ -1,0 +1,125 @@
+//! Octets to frames: octets are buffered up to the next place where something can be judged.
+
+ghost use Rattle.std.specs.Prelude.{◌≡◌, ◌+◌, ◌<◌, ◌≤◌, ◌++◌, length, take, IfOk};
+ghost use Rattle.giop_core.specs.Headers.{header_of};
+ghost use Rattle.giop_frames.specs.Frames.{admitted, frame_size, is_old_fragment, is_unaligned, judged_header, sight};
+ghost use Rattle.giop_frames.specs.Private.{Needs, IsExact, NeedsAsSeen, sight_at};
+
+use crate::fault::StreamFault;
+use crate::limits::Limits;
+use giop_core::{Header, MessageKind, Version};
+use std::alloc::AllocError;
+
+/// What octets are that begin where a frame begins.
+pub enum Seen {
+    /// Too few: this many more are needed before anything can be judged.
+    Waiting(usize),
+    /// A whole frame under this header.
+    Whole(Header),
+    /// No frame: the fault of its header.
+    Refused(StreamFault),
+}
+
+/// How many octets of a piece were taken, and what the buffered octets are then.
+pub struct Gathered {
+    pub taken: usize,
+    pub seen: Seen,
+}
+
+/// Whether more fragments follow a frame of 1.2 whose length is not divisible by 8 (9.4.9).
+fn is_unaligned(header: &Header) -> bool
+    ensures { result ≡ is_unaligned header.now.version header.now }
+{
+    match header.version {
+        Version::V12 => header.more && !(12 + u64::from(header.size)).is_multiple_of(8),
+        Version::V10 | Version::V11 => false,
+    }
+}
+
+/// Whether a header is that of a frame of a cut message of 1.1, which this crate does not join.
+fn is_old_fragment(header: &Header) -> bool
+    ensures { result ≡ is_old_fragment header.now.version header.now.kind header.now.more }
+{
+    match (header.version, header.kind) {
+        (Version::V11, MessageKind::Fragment) => true,
+        (Version::V11, _) => header.more,
+        (Version::V10 | Version::V12, _) => false,
+    }
+}
+
+/// Judges a header by itself, in the order that this project sets.
+fn admit(limits: &Limits, header: Header) -> Result<Header, StreamFault>
+    ensures { result ≡ admitted limits.now header }
+{
+    if u64::from(limits.message) < 12 + u64::from(header.size) {
+        return Err(StreamFault::TooLarge);
+    }
+    if is_unaligned(&header) {
+        return Err(StreamFault::UnalignedFragment);
+    }
+    if is_old_fragment(&header) {
+        return Err(StreamFault::StrayFragment);
+    }
+    Ok(header)
+}
+
+/// Judges the first twelve octets of a frame.
+fn judge(limits: &Limits, octets: &[u8; 12]) -> Result<Header, StreamFault>
+    ensures { result ≡ judged_header limits.now (header_of octets.now) }
+{
+    let header = Header::read(octets)?;
+    admit(limits, header)
+}
+
+/// What octets are that begin where a frame begins.
+fn look(limits: &Limits, octets: &[u8]) -> Seen
+    ensures seen { sight_at result octets.now ≡ sight limits.now octets.now }
+    ensures needed { NeedsAsSeen result limits.now octets.now }
+{
+    let Some(head) = octets.first_chunk::<12>() else {
+        return Seen::Waiting(12 - octets.len());
+    };
+    match judge(limits, head) {
+        Err(fault) => Seen::Refused(fault),
+        Ok(header) => {
+            let size = 12 + header.size as usize;
+            if octets.len() < size {
+                Seen::Waiting(size - octets.len())
+            } else {
+                Seen::Whole(header)
+            }
+        }
+    }
+}
+
+/// Buffers octets of a piece up to the next place where something can be judged, for which `needed` more
+/// octets are needed.
+pub(crate) fn gather(
+    limits: &Limits,
+    frame: &mut Vec<u8>,
+    needed: usize,
+    piece: &[u8],
+) -> Result<Gathered, AllocError>
+    requires needed { Needs limits.now frame.old.items needed }
+    requires some { 0 < length piece.now }
+    ensures octets { IfOk result (λ g. frame.new.items ≡ frame.old.items ++ take g.taken piece.now) }
+    ensures taken { IfOk result (λ g. (0 < g.taken) × (g.taken ≤ length piece.now)) }
+    ensures seen { IfOk result (λ g. sight_at g.seen frame.new.items ≡ sight limits.now frame.new.items) }
+    ensures exact { IfOk result (λ g. IsExact frame.new.items (sight_at g.seen frame.new.items)) }
+    ensures needed { IfOk result (λ g. NeedsAsSeen g.seen limits.now frame.new.items) }
+{
+    if piece.len() < needed {
+        frame.extend_from_slice(piece)?;
+        return Ok(Gathered {
+            taken: piece.len(),
+            seen: Seen::Waiting(needed - piece.len()),
+        });
+    }
+    let (front, _) = piece.split_at(needed);
+    frame.extend_from_slice(front)?;
+    let seen = look(limits, frame.as_slice());
+    Ok(Gathered {
+        taken: needed,
+        seen,
+    })
+}
