@@ -3,7 +3,7 @@ use Rattle.std.proofs.Common.{◌≡◌, ℕ, ◌+◌, List, [], ◌++◌, lengt
 use Rattle.std.proofs.lemmas.List.{drop-take, take-append-drop, take-take}
 use Rattle.giop_frames.specs.declared.limits.Limits.{Limits}
 use Rattle.giop_frames.specs.Frames.{Frame, split}
-use Rattle.giop_frames.specs.Standing.{told_at, Standing, StandsFor}
+use Rattle.giop_frames.specs.Standing.{completed_at, Standing, StandsFor}
 use Rattle.giop_frames.specs.Streams.{messages_of}
 
 -- no octets have no message
@@ -18,27 +18,27 @@ taken_more k n s = rw (← take-take k (k + n) s (omega arith), ← drop-take k 
 -- what feeding the octets from k on did
 module _ (limits : Limits) (octets : List ℕ) (k n : ℕ) (a b : Standing) (same : a.limits ≡ limits)
     (stands : StandsFor a (take k octets) → StandsFor b (take k octets ++ take n (drop k octets)))
-    (told : StandsFor a (take k octets) → messages_of a.limits (take k octets ++ take n (drop k octets)) ≡ messages_of a.limits (take k octets) ++ told_at (length (take k octets ++ take n (drop k octets))) b.message)
+    (told : StandsFor a (take k octets) → messages_of a.limits (take k octets ++ take n (drop k octets)) ≡ messages_of a.limits (take k octets) ++ completed_at (length (take k octets ++ take n (drop k octets))) b.message)
     (before : StandsFor a (take k octets)) where
   pub stands_on : StandsFor b (take (k + n) octets)
   stands_on = subst (StandsFor b) (taken_more k n octets) (stands before)
 
-  pub told_on : messages_of limits (take (k + n) octets) ≡ messages_of limits (take k octets) ++ told_at (length (take (k + n) octets)) b.message
+  pub told_on : messages_of limits (take (k + n) octets) ≡ messages_of limits (take k octets) ++ completed_at (length (take (k + n) octets)) b.message
   told_on =
-      subst (λ xs. messages_of limits xs ≡ messages_of limits (take k octets) ++ told_at (length xs) b.message) (taken_more k n octets)
-      (subst (λ l. messages_of l (take k octets ++ take n (drop k octets)) ≡ messages_of l (take k octets) ++ told_at (length (take k octets ++ take n (drop k octets))) b.message) same (told before))
+      subst (λ xs. messages_of limits xs ≡ messages_of limits (take k octets) ++ completed_at (length xs) b.message) (taken_more k n octets)
+      (subst (λ l. messages_of l (take k octets ++ take n (drop k octets)) ≡ messages_of l (take k octets) ++ completed_at (length (take k octets ++ take n (drop k octets))) b.message) same (told before))
 
   -- one message more where one is lent, and none where none is
   pub one_more : (f : Frame) → b.message ≡ Some f → length (messages_of limits (take (k + n) octets)) ≡ length (messages_of limits (take k octets)) + 1
   one_more f is =
       let at = length (take (k + n) octets) in
-      ap length told_on ∙ length-append (messages_of limits (take k octets)) (told_at at b.message) ∙ ap (λ m. length (messages_of limits (take k octets)) + length (told_at at m)) is
+      ap length told_on ∙ length-append (messages_of limits (take k octets)) (completed_at at b.message) ∙ ap (λ m. length (messages_of limits (take k octets)) + length (completed_at at m)) is
 
   pub no_more : b.message ≡ None → length (messages_of limits (take (k + n) octets)) ≡ length (messages_of limits (take k octets))
   no_more is =
       let at = length (take (k + n) octets) in
       let none : length (messages_of limits (take k octets)) + 0 ≡ length (messages_of limits (take k octets)) = omega arith in
-      ap length told_on ∙ length-append (messages_of limits (take k octets)) (told_at at b.message) ∙ ap (λ m. length (messages_of limits (take k octets)) + length (told_at at m)) is ∙ none
+      ap length told_on ∙ length-append (messages_of limits (take k octets)) (completed_at at b.message) ∙ ap (λ m. length (messages_of limits (take k octets)) + length (completed_at at m)) is ∙ none
 
 pub one_lent : (P : Frame → Type 0) (m : Option Frame) → IsSomeAnd m P → (f : Frame) × (m ≡ Some f) × P f
 one_lent P None h = absurd h

@@ -1,8 +1,9 @@
 //! Decode a body: read the arguments of a request by the types of the operation's IDL.
 
-ghost use Rattle.std.specs.Prelude.{IfOk};
+ghost use Rattle.std.specs.Prelude.{IfOk, IfSome};
 ghost use Rattle.cdr_core.specs.Fitting.{AreValid};
-ghost use Rattle.cdr_core.specs.View.{forms_of};
+ghost use Rattle.cdr_core.specs.View.{forms_of, values_of};
+ghost use Rattle.uses.specs.Arguments.{AreSpelled};
 
 use cdr_core::{CdrError, Ty, Val};
 use giop_core::Content;
@@ -44,6 +45,7 @@ pub fn first_arguments(
     types: &[Ty],
 ) -> Result<Option<Vec<Val>>, DecodeError>
     requires { AreValid (forms_of types.now) }
+    ensures { IfOk result (λ found. IfSome found (λ arguments. AreSpelled (forms_of types.now) (values_of arguments.items))) }
 {
     let mut assembler = Assembler::new(alloc, limits);
     let mut taken = 0;
@@ -72,11 +74,7 @@ mod tests {
     #[test]
     fn arguments_are_those_of_the_octets(rt: HostRuntime) -> Result<(), Fail> {
         let types = publish_types(rt.alloc())?;
-        let limits = Limits {
-            message: 4096,
-            partials: 1,
-        };
-        let found = first_arguments(rt.alloc(), limits, PUBLISH, types.as_slice())?;
+        let found = first_arguments(rt.alloc(), Limits::default(), PUBLISH, types.as_slice())?;
         let values = found.expect(&rt, "a request");
         let [Val::Seq(quotes), Val::Boolean(is_final)] = values.as_slice() else {
             panic!(rt; "a sequence and a boolean");

@@ -23,7 +23,7 @@ fn note(alloc: Global, message: &Message, operations: &mut Vec<Vec<u8>>) -> Resu
     Ok(())
 }
 
-/// The messages of a capture, fragments joined, up to its end or its first fault.
+/// What a capture holds, fragments joined; or its first fault.
 pub fn read_capture(alloc: Global, limits: Limits, octets: &[u8]) -> Result<Capture, StreamFault>
     ensures { IfOk result (λ c. c.messages ≡ length (messages_of limits octets.now)) }
 {
@@ -66,11 +66,7 @@ mod tests {
         octets.extend_from_slice(PUBLISH)?;
         octets.extend_from_slice(CUT)?;
         octets.extend_from_slice(CANCEL)?;
-        let limits = Limits {
-            message: 4096,
-            partials: 1,
-        };
-        let capture = read_capture(rt.alloc(), limits, octets.as_slice())?;
+        let capture = read_capture(rt.alloc(), Limits::default(), octets.as_slice())?;
         assert_eq!(rt; capture.messages, 3);
         assert_eq!(rt; capture.operations.len(), 2);
         assert_eq!(rt; capture.operations[0].as_slice(), b"publish".as_slice());

@@ -1,7 +1,11 @@
 //! Write a request: with an FT_REQUEST context, and cut into fragments.
 
-ghost use Rattle.std.specs.Prelude.{◌≡◌, ◌≤◌, ◌%◌};
+ghost use Rattle.std.specs.Prelude.{◌≡◌, ◌≤◌, ◌%◌, take, true, false, Ok, IfOk};
 ghost use Rattle.cdr_core.specs.Spelling.{IsClean};
+ghost use Rattle.giop_core.specs.declared.header.Header.{Header as GivenHeader};
+ghost use Rattle.giop_core.specs.Headers.{header_of};
+ghost use Rattle.giop_frames.specs.Cutting.{cut_octets, is_cuttable};
+ghost use Rattle.uses.specs.Invocation.{add_octets};
 
 use cdr_core::{Order, Val};
 use giop_core::{FT_REQUEST, ReplyWish, Target, Version, WriteError, write_ft, write_request};
@@ -26,6 +30,7 @@ pub fn add_request(
     retry: &Retry,
 ) -> Result<Vec<u8>, WriteError>
     requires { IsClean retry.now.client_id.now }
+    ensures { IfOk result (λ message. message.items ≡ add_octets request_id object_key.now amount retry.now) }
 {
     let mut context = Vec::new(alloc);
     write_ft(
@@ -55,6 +60,8 @@ pub fn add_request(
 pub fn cut(alloc: Global, message: &[u8], frame: u32) -> Result<Vec<u8>, AllocError>
     requires least { 24 ≤ frame }
     requires aligned { frame % 8 ≡ 0 }
+    ensures whole { is_cuttable message.now ≡ false → IfOk result (λ out. out.items ≡ message.now) }
+    ensures cut { (h : GivenHeader) → is_cuttable message.now ≡ true → header_of (take 12 message.now) ≡ Ok h → IfOk result (λ out. out.items ≡ cut_octets frame h message.now) }
 {
     if !is_cuttable(message) {
         return Vec::from_slice(alloc, message);
