@@ -9,8 +9,8 @@ use Rattle.cdr_core.specs.Value.{Value, Values}
 use Rattle.cdr_core.specs.Reading.{Read, members_at, value_at}
 use Rattle.cdr_core.specs.Spelling.{Spells, SpellsMembers, Takes}
 use Rattle.cdr_core.specs.Stopping.{Stops}
-use Rattle.cdr_core.specs.Cursor.{Fails, Wants}
-use Rattle.cdr_core.specs.Wanting.{MayWant}
+use Rattle.cdr_core.specs.Private.{Fails, IfMemory}
+use Rattle.cdr_core.specs.Memory.{MayRunOut}
 use Rattle.cdr_core.specs.Answering.{Answers, ListAnswers, ListReads, Reads}
 use Rattle.cdr_core.specs.Laws.{EitherWay, NotBoth, OneFault}
 use Rattle.cdr_core.proofs.Steps.{err_is}
@@ -25,7 +25,7 @@ gets_or_fails {X} A r gets o octets f h x front rest is s =
     let e : ◌≡◌ {A = Read X} (Ok (x, o + length front, rest)) (Err f) = sym (gets x o front rest s) ∙ ap (r o) (sym is) ∙ h in
     absurd cc
 
-pub err_answers : (e : CdrError) (t : Form) (order : Order) (o : ℕ) (octets : List ℕ) → Fails e (value_at t order o octets) → Wants e (MayWant t order o octets) → Answers t order o octets (Err e)
+pub err_answers : (e : CdrError) (t : Form) (order : Order) (o : ℕ) (octets : List ℕ) → Fails e (value_at t order o octets) → IfMemory e (MayRunOut t order o octets) → Answers t order o octets (Err e)
 err_answers errors.Memory t order o octets h may = may
 err_answers (errors.Bad f) t order o octets h may = tells t order o octets f h
 

@@ -2,7 +2,7 @@
 use Rattle.std.proofs.Common.{◌≡◌, ℕ, ◌+◌, true, false, List, [], ◌∷◌, ◌++◌, length, Ok, refl, ap, subst, ◌∙◌, arith}
 use Rattle.cdr_core.specs.declared.order.Order.{Order}
 use Rattle.cdr_core.specs.declared.order.Order.TheVariants.{Big, Little}
-use Rattle.cdr_core.specs.Encapsulation.{byte_order, encapsulated, order_at, order_told, IsEncapsulated}
+use Rattle.cdr_core.specs.Encapsulation.{byte_order, encapsulated, order_at, order_of, IsEncapsulated}
 use Rattle.cdr_core.specs.Form as form
 use Rattle.cdr_core.specs.Laws.{ReadIsSpelled, SpelledIsRead}
 use Rattle.cdr_core.specs.Reading.{◌>>=◌, Read, value_at}
@@ -19,11 +19,11 @@ record Told (octets : List ℕ) (order : Order) (p : ℕ) (rest : List ℕ) : Ty
 told : ReadIsSpelled → (octets : List ℕ) (order : Order) (p : ℕ) (rest : List ℕ) → order_at octets ≡ Ok (order, p, rest) → Told octets order p rest
 unfolding order_at
 told found octets order p rest h =
-    let b = bind_ok (value_at form.boolean Big 0 octets) (λ (x : Value × ℕ × List ℕ). Ok (order_told x.0, x.1, x.2)) (order, p, rest) h in
+    let b = bind_ok (value_at form.boolean Big 0 octets) (λ (x : Value × ℕ × List ℕ). Ok (order_of x.0, x.1, x.2)) (order, p, rest) h in
     let x = b.0 in
-    subst (λ (t : Order × ℕ × List ℕ). Told octets t.0 t.1 t.2) (ok_is (order_told x.0, x.1, x.2) (order, p, rest) b.2) (by x.0 x.1 x.2 (found form.boolean Big 0 octets x.0 x.1 x.2 b.1))
+    subst (λ (t : Order × ℕ × List ℕ). Told octets t.0 t.1 t.2) (ok_is (order_of x.0, x.1, x.2) (order, p, rest) b.2) (by x.0 x.1 x.2 (found form.boolean Big 0 octets x.0 x.1 x.2 b.1))
   where
-    by : (v : Value) (p : ℕ) (rest : List ℕ) → Takes (Spells form.boolean Big v) 0 octets p rest → Told octets (order_told v) p rest
+    by : (v : Value) (p : ℕ) (rest : List ℕ) → Takes (Spells form.boolean Big v) 0 octets p rest → Told octets (order_of v) p rest
     by (value.boolean true) p rest t = record { parts = t.parts ∙ ap (λ f. f ++ rest) t.holds; place = omega (arith, t.place, ap length t.holds) }
     by (value.boolean false) p rest t = record { parts = t.parts ∙ ap (λ f. f ++ rest) t.holds; place = omega (arith, t.place, ap length t.holds) }
     by _ p rest t = absurd t.holds

@@ -6,7 +6,7 @@ pub mod Appending
 pub mod Nul
 pub mod Views
 pub mod Loops
-pub mod Wants
+pub mod Memory
 pub mod Taken
 pub mod Found
 pub mod Gets

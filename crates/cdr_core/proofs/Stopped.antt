@@ -12,7 +12,7 @@ use Rattle.cdr_core.specs.Value.{Value, Values, count}
 use Rattle.cdr_core.specs.Numbers.{padding, number_of}
 use Rattle.cdr_core.specs.Reading.{◌>>=◌, Read, taken, fault, part_at, number_at, length_at, text_at, to_nul, each_at}
 use Rattle.cdr_core.specs.Spelling.{IsNumber, IsClean, Each, Takes}
-use Rattle.cdr_core.specs.Stopping.{told, After, Lacks, LacksNumber, IsBadLong, StopsBehindLength, StopsInText, StopsInEach}
+use Rattle.cdr_core.specs.Stopping.{fault_at, After, Lacks, LacksNumber, IsBadLong, StopsAfterLength, StopsInText, StopsInEach}
 use Rattle.cdr_core.proofs.Steps.{bind_err, ended_ok, test_failed, last_failed}
 use Rattle.cdr_core.proofs.Gets.{Gets, number_gets}
 use Rattle.cdr_core.proofs.Nul.{clean_front, splits, to_nul-append, to_nul-clean}
@@ -54,7 +54,7 @@ after_fails {X} {Y} A S r s x gets fails o octets f h =
 pub after : (A : ℕ → List ℕ → Type 0) (S : ℕ → List ℕ → Fault → Type 0) (o : ℕ) (octets : List ℕ) (p : ℕ) (rest : List ℕ) (f : Fault) → Takes A o octets p rest → S p rest f → After A S o octets f
 after A S o octets p rest f t h = record { front = t.front; rest = rest; parts = t.parts; first = t.holds; second = subst (λ q. S q rest f) t.place h }
 
-pub bad_long : (P : ℕ → Type 0) (kind : Kind) (order : Order) (o : ℕ) (octets : List ℕ) (x p : ℕ) (rest : List ℕ) (f : Fault) → P x → f ≡ told kind (o + padding o 4) → number_at order 4 o octets ≡ Ok (x, p, rest) → IsBadLong P kind order o octets f
+pub bad_long : (P : ℕ → Type 0) (kind : Kind) (order : Order) (o : ℕ) (octets : List ℕ) (x p : ℕ) (rest : List ℕ) (f : Fault) → P x → f ≡ fault_at kind (o + padding o 4) → number_at order 4 o octets ≡ Ok (x, p, rest) → IsBadLong P kind order o octets f
 bad_long P kind order o octets x p rest f h is e =
     let t = number_takes order 4 (omega arith) o octets x p rest e in
     (x, h, t.front, rest, t.parts, t.holds, is)
@@ -66,7 +66,7 @@ module _ {Y : Type 0} (order : Order) (extra bound : ℕ) (S : ℕ → ℕ → L
       let t : ltb bound (h.0 - extra) ≡ true = lt-ltb _ _ h.1 in
       rw (h.4, number_gets order 4 h.0 o h.2 h.3 h.5, t, h.6) refl
 
-  pub length_fails : ((n : ℕ) → Fails (S n) (s n)) → Fails (StopsBehindLength order extra bound S) (λ o octets. length_at order extra bound o octets >>= λ n. s n.0 n.1 n.2)
+  pub length_fails : ((n : ℕ) → Fails (S n) (s n)) → Fails (StopsAfterLength order extra bound S) (λ o octets. length_at order extra bound o octets >>= λ n. s n.0 n.1 n.2)
   unfolding length_at
   length_fails fails o octets f (inl h) = rw (number_fails order 4 (omega arith) o octets f h) refl
   length_fails fails o octets f (inr (inl h)) = ap (λ (r : Read ℕ). r >>= λ n. s n.0 n.1 n.2) (over_fails o octets f h)
@@ -75,7 +75,7 @@ module _ {Y : Type 0} (order : Order) (extra bound : ℕ) (S : ℕ → ℕ → L
       let t : ltb bound (h.0 - extra) ≡ false = le-ltb _ _ h.1 in
       rw (a.parts, number_gets order 4 h.0 o a.front a.rest a.first, t) (fails h.0 (o + length a.front) a.rest f a.second)
 
-  pub length_tells : ((n : ℕ) → Tells (S n) (s n)) → Tells (StopsBehindLength order extra bound S) (λ o octets. length_at order extra bound o octets >>= λ n. s n.0 n.1 n.2)
+  pub length_tells : ((n : ℕ) → Tells (S n) (s n)) → Tells (StopsAfterLength order extra bound S) (λ o octets. length_at order extra bound o octets >>= λ n. s n.0 n.1 n.2)
   unfolding length_at
   length_tells tells o octets f h =
       elim (bind_err (length_at order extra bound o octets) (λ (n : ℕ × ℕ × List ℕ). s n.0 n.1 n.2) f h) [
@@ -86,14 +86,14 @@ module _ {Y : Type 0} (order : Order) (extra bound : ℕ) (S : ℕ → ℕ → L
       judged : ℕ × ℕ × List ℕ → Read ℕ
       judged x = cond (ltb bound (x.0 - extra)) (fault kind.OverBound (o + padding o 4)) (Ok x)
 
-      cut : length_at order extra bound o octets ≡ Err f → StopsBehindLength order extra bound S o octets f
+      cut : length_at order extra bound o octets ≡ Err f → StopsAfterLength order extra bound S o octets f
       cut e = elim (bind_err (number_at order 4 o octets) judged f e) [
         | inl n ↦ inl (number_tells order 4 o octets f n)
-        | inr x ↦ (let g = last_failed (ltb bound (x.0.0 - extra)) (told kind.OverBound (o + padding o 4)) f x.0 x.2 in
+        | inr x ↦ (let g = last_failed (ltb bound (x.0.0 - extra)) (fault_at kind.OverBound (o + padding o 4)) f x.0 x.2 in
             inr (inl (bad_long (λ n. bound < n - extra) kind.OverBound order o octets x.0.0 x.0.1 x.0.2 f (ltb-true _ _ g.0) g.1 x.1)))
       ]
 
-      behind : (x : ℕ × ℕ × List ℕ) → length_at order extra bound o octets ≡ Ok x → s x.0 x.1 x.2 ≡ Err f → StopsBehindLength order extra bound S o octets f
+      behind : (x : ℕ × ℕ × List ℕ) → length_at order extra bound o octets ≡ Ok x → s x.0 x.1 x.2 ≡ Err f → StopsAfterLength order extra bound S o octets f
       behind x e g =
           let t = length_takes order extra bound o octets x.0 x.1 x.2 e in
           inr (inr (x.0, t.1, after (IsNumber order 4 x.0) (S x.0) o octets x.1 x.2 f t.0 (tells x.0 x.1 x.2 f g)))
@@ -195,11 +195,11 @@ full_tells n some o octets f h =
         let t = taken_is n o octets x.0 x.1 x.2 e in
         let le : n ≤ length octets = omega (arith, ap length t.0, length-append x.0 x.2, t.1) in
         let first : take n octets ≡ x.0 = ap (take n) t.0 ∙ take_at x.0 x.2 n t.1 in
-        elim (test_failed (ltb (to_nul x.0) (n - 1)) (told kind.InteriorNul (o + to_nul x.0)) f _ g) [
+        elim (test_failed (ltb (to_nul x.0) (n - 1)) (fault_at kind.InteriorNul (o + to_nul x.0)) f _ g) [
           | inl a ↦ (let lt : to_nul x.0 < n - 1 = ltb-true _ _ a.0 in
               let i = nul_in n (to_nul x.0) octets le (ap to_nul first) (omega arith) in
-              inr (inl (le, i.0, i.1, i.2, i.3, omega (arith, i.4), a.1 ∙ ap (λ m. told kind.InteriorNul (o + m)) (sym i.4))))
-          | inr b ↦ (let k = last_failed (eqb (to_nul x.0) n) (told kind.NoTerminator (o + (n - 1))) f (take (n - 1) x.0, x.1, x.2) b.1 in
+              inr (inl (le, i.0, i.1, i.2, i.3, omega (arith, i.4), a.1 ∙ ap (λ m. fault_at kind.InteriorNul (o + m)) (sym i.4))))
+          | inr b ↦ (let k = last_failed (eqb (to_nul x.0) n) (fault_at kind.NoTerminator (o + (n - 1))) f (take (n - 1) x.0, x.1, x.2) b.1 in
               let all : to_nul x.0 ≡ n = eqb-true _ _ k.0 in
               let clean : IsClean (take (to_nul x.0) x.0) = clean_front x.0 in
               let whole : take (to_nul x.0) x.0 ≡ x.0 = ap (λ m. take m x.0) (all ∙ sym t.1) ∙ take_whole x.0 in

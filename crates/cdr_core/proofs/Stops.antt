@@ -12,7 +12,7 @@ use Rattle.cdr_core.specs.Value.{Value, Values, label}
 use Rattle.cdr_core.specs.Numbers.{padding, meaning}
 use Rattle.cdr_core.specs.Reading.{◌>>=◌, Read, taken, fault, number_at, whole_at, boolean_at, ordinal_at, text_at, string_at, octets_at, each_at, value_at, members_at, chosen_at}
 use Rattle.cdr_core.specs.Spelling.{Chosen, Spells}
-use Rattle.cdr_core.specs.Stopping.{told, Lacks, LacksNumber, IsBadBoolean, StopsInText, StopsInEach, Stops, StopsInMembers, StopsInChosen}
+use Rattle.cdr_core.specs.Stopping.{fault_at, Lacks, LacksNumber, IsBadBoolean, StopsInText, StopsInEach, Stops, StopsInMembers, StopsInChosen}
 use Rattle.cdr_core.proofs.Steps.{bind_err, ended_ok, last_passed}
 use Rattle.cdr_core.proofs.Taken.{number_takes, octet_is, single}
 use Rattle.cdr_core.proofs.Found.{boolean_by, found, some_octets}
@@ -43,7 +43,7 @@ boolean_tells order o octets f h =
       | inr x ↦ inr (bad x.0.0 x.0.1 x.0.2 x.1 x.2)
     ]
   where
-    by : (c d : Bool) (x q : ℕ) (more : List ℕ) → eqb x 0 ≡ c → eqb x 1 ≡ d → cond {A = Read Bool} c (Ok (false, q, more)) (cond {A = Read Bool} d (Ok (true, q, more)) (fault kind.BadBoolean o)) ≡ Err f → (1 < x) × (f ≡ told kind.BadBoolean o)
+    by : (c d : Bool) (x q : ℕ) (more : List ℕ) → eqb x 0 ≡ c → eqb x 1 ≡ d → cond {A = Read Bool} c (Ok (false, q, more)) (cond {A = Read Bool} d (Ok (true, q, more)) (fault kind.BadBoolean o)) ≡ Err f → (1 < x) × (f ≡ fault_at kind.BadBoolean o)
     by true d x q more e g k = absurd cc
     by false true x q more e g k = absurd cc
     by false false x q more e g k = let a : x ≢ 0 = eqb-false _ _ e in let b : x ≢ 1 = eqb-false _ _ g in (omega arith, cc)
@@ -90,7 +90,7 @@ unfolding ordinal_at
 ordinal_tells order n o octets f h =
     elim (bind_err (number_at order 4 o octets) (λ (x : ℕ × ℕ × List ℕ). cond (ltb x.0 n) (Ok x) (fault kind.BadEnum (o + padding o 4))) f h) [
       | inl e ↦ inl (number_tells order 4 o octets f e)
-      | inr x ↦ (let g = last_passed (ltb x.0.0 n) (told kind.BadEnum (o + padding o 4)) f x.0 x.2 in
+      | inr x ↦ (let g = last_passed (ltb x.0.0 n) (fault_at kind.BadEnum (o + padding o 4)) f x.0 x.2 in
           inr (bad_long (λ y. n ≤ y) kind.BadEnum order o octets x.0.0 x.0.1 x.0.2 f (ltb-false _ _ g.0) g.1 x.1))
     ]
 

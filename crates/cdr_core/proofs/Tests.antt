@@ -12,7 +12,8 @@ use Rattle.cdr_core.specs.Form as form
 use Rattle.cdr_core.specs.Form.{Cases, Form, Number}
 use Rattle.cdr_core.specs.Value as value
 use Rattle.cdr_core.specs.Value.{Value, Values}
-use Rattle.cdr_core.specs.Fitting.{AreCases, Fits, FitsChosen, FitsMembers, HasCases, HasChosen, IsLabel, IsNoLabel, IsValid, OneFits}
+use Rattle.cdr_core.specs.Private.{HasCases, HasChosen}
+use Rattle.cdr_core.specs.Fitting.{AreCases, Fits, FitsChosen, FitsMembers, IsLabel, IsNoLabel, IsValid, OneFits}
 use Rattle.cdr_core.specs.Spelling.{Chosen}
 use Rattle.cdr_core.specs.View.{case_of, cases_of, form_of, forms_of, value_of, value_step, values_of}
 

@@ -1,7 +1,7 @@
--- The types of an interface, without where they lie in memory.
-use Rattle.std.specs.Prelude.{ℕ, ℤ, ⊤}
+-- The types of CDR 9.3.1 and 9.3.2, as far as this crate carries them.
+use Rattle.std.specs.Prelude.{ℕ, ℤ}
 
--- the whole numbers, by their names in an interface (CDR 9.3.1)
+-- CDR 9.3.1: the types whose values are whole numbers, by their IDL names
 pub data Number : Type 0 where
   char : Number
   octet : Number
@@ -12,7 +12,7 @@ pub data Number : Type 0 where
   longlong : Number
   ulonglong : Number
 
--- CDR 9.3.1.1: the octets of a number, which are its alignment too
+-- CDR 9.3.1.1: how many octets a number has, which is its alignment too
 abbrev pub size : Number → ℕ
 size char = 1
 size octet = 1
@@ -24,8 +24,8 @@ size longlong = 8
 size ulonglong = 8
 
 mutual
-  -- A string, octets and a sequence have a bound on their length, an array its length, and an
-  -- enumeration its size.
+  -- CDR 9.3.2: strings, octets (a sequence of octet) and sequences have a bound on their length, arrays a length,
+  -- enumerations a number of names
   pub data Form : Type 0 where
     boolean : Form
     number : Number → Form
@@ -37,19 +37,13 @@ mutual
     structure : Forms → Form
     union : Form → Cases → Form
 
+  -- the types of a struct's members, in order
   pub data Forms : Type 0 where
     no_forms : Forms
     form : Form → Forms → Forms
 
-  -- The members of a union by their labels, and what it holds at every other label: nothing, or a default.
+  -- CDR 9.3.2.3: the members of a union by their labels, and at every other label nothing, or a default member
   pub data Cases : Type 0 where
     otherwise_nothing : Cases
     otherwise : Form → Cases
     labelled : ℤ → Form → Cases → Cases
-
--- a boolean, a number or an enumeration
-abbrev pub IsBasic : Form → Type 0
-IsBasic boolean = ⊤
-IsBasic (number kind) = ⊤
-IsBasic (enumeration n) = ⊤
-IsBasic _ = ⊥

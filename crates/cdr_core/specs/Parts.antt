@@ -1,4 +1,4 @@
--- The parts that a cursor reads: their types, and the values that lent or plain data stand for.
+-- The parts that a `Cursor` reads: their types, and the values that the code's numbers and lent octets stand for.
 use Rattle.std.specs.Prelude.{ℕ, ℤ, pos, List}
 use Rattle.std.specs.Borrow.{Bor}
 use Rattle.cdr_core.specs.Form as form
@@ -6,10 +6,11 @@ use Rattle.cdr_core.specs.Form.{Form}
 use Rattle.cdr_core.specs.Value as value
 use Rattle.cdr_core.specs.Value.{Value}
 
--- the greatest length that can be spelled
+-- CDR 9.3.2: the greatest length, since a length is an unsigned long
 abbrev pub most : ℕ
 most = 4294967295
 
+-- the types of numbers
 abbrev pub char : Form
 char = form.number form.char
 
@@ -34,13 +35,14 @@ longlong = form.number form.longlong
 abbrev pub ulonglong : Form
 ulonglong = form.number form.ulonglong
 
--- octets and a string of any length
+-- unbounded octets, and an unbounded string
 abbrev pub raw : Form
 raw = form.octets most
 
 abbrev pub text : Form
 text = form.string most
 
+-- the values of numbers, and of an enumeration's ordinal
 abbrev pub char_value : ℕ → Value
 char_value n = value.number form.char (pos n)
 
@@ -68,6 +70,7 @@ ulonglong_value n = value.number form.ulonglong (pos n)
 abbrev pub enum_value : ℕ → Value
 enum_value n = value.enumeration n
 
+-- the values of lent octets, and of a lent text
 abbrev pub raw_value : Bor (List ℕ) → Value
 raw_value x = value.octets x.now
 

@@ -1,12 +1,71 @@
--- Words for the contracts of private functions, in this crate and in those above it. No public contract cites them.
-use Rattle.std.specs.Prelude.{◌≡◌, ℕ, List, ◌++◌, Ok}
-use Rattle.cdr_core.specs.Reading.{◌>>=◌, Read}
+-- Words for contracts of private functions, in this crate and in those above it. No public contract, definition or law
+-- uses them: a reader who asks what is promised can leave this file out.
+use Rattle.std.specs.Prelude.{◌≡◌, ℕ, ℤ, List, ◌++◌, Result, Ok, Err, ⊤}
+use Rattle.cdr_core.specs.declared.fault.CdrError.{CdrError}
+use Rattle.cdr_core.specs.declared.fault.CdrError.TheVariants as errors
+use Rattle.cdr_core.specs.declared.order.Order.{Order}
+use Rattle.cdr_core.specs.Cursor.{Position}
+use Rattle.cdr_core.specs.Fitting.{AreCases, FitsChosen}
+use Rattle.cdr_core.specs.Form as form
+use Rattle.cdr_core.specs.Form.{Form}
+use Rattle.cdr_core.specs.Memory.{MayRunOut, OrElse}
+use Rattle.cdr_core.specs.Reading.{◌>>=◌, Read, chosen_at, value_at}
+use Rattle.cdr_core.specs.Value as value
+use Rattle.cdr_core.specs.Value.{Value, Values, label}
 
--- what an output held still stands in front, whatever was appended before a growth was refused
+-- an output keeps what it held, and nothing is known of what was appended before an allocation failed
 pub record Keeps (old new : List ℕ) : Type 0 where
   pub more : List ℕ
   pub parts : new ≡ old ++ more
 
--- what was read is passed over
+-- what is read is passed over: its value is dropped
 abbrev pub passing : {A : Type 0} → Read A → Read Unit
 passing read = read >>= λ x. Ok (tt, x.1, x.2)
+
+-- an error is the fault of reading, or an allocation failed
+abbrev pub Fails : {Y : Type 0} → CdrError → Read Y → Type 0
+Fails (errors.Bad f) read = read ≡ Err f
+Fails errors.Memory read = ⊤
+
+-- A holds if the error is that an allocation failed
+abbrev pub IfMemory : CdrError → Type 0 → Type 0
+IfMemory (errors.Bad f) A = ⊤
+IfMemory errors.Memory A = A
+
+-- A call returns what reading gives, and goes to the place after it; or its fault; or an allocation failed, where that
+-- may happen. The cursor isn't used again after an error.
+abbrev pub GivesUnlessMemory : {X Y : Type 0} → (X → Y) → Result X CdrError → (ℕ → List ℕ → Read Y) → (ℕ → List ℕ → Type 0) → Position → Position → Type 0
+GivesUnlessMemory view (Ok x) read may old new = (read old.place old.rest ≡ Ok (view x, new.place, new.rest)) × (new.order ≡ old.order)
+GivesUnlessMemory view (Err e) read may old new = Fails e (read old.place old.rest) × IfMemory e (may old.place old.rest)
+
+-- a value of the form was read, or reading it may run out of memory
+abbrev pub MayStore : Form → Order → ℕ → List ℕ → Type 0
+MayStore t order o octets = OrElse (value_at t order o octets) (MayRunOut t order o octets)
+
+-- a boolean, a number or an enumeration
+abbrev pub IsBasic : Form → Type 0
+IsBasic form.boolean = ⊤
+IsBasic (form.number kind) = ⊤
+IsBasic (form.enumeration n) = ⊤
+IsBasic _ = ⊥
+
+-- the cases of a union are valid; it holds of all other types
+abbrev pub HasCases : Form → Type 0
+HasCases (form.union d cs) = AreCases d cs
+HasCases _ = ⊤
+
+-- the member that a union holds at a label is one of its case's type
+abbrev pub HasChosen : Form → ℤ → Values → Type 0
+HasChosen (form.union d cs) l ms = FitsChosen cs l ms
+HasChosen _ l ms = ⊥
+
+-- the member of a union at a label is read
+abbrev pub union_at : Form → Order → ℤ → ℕ → List ℕ → Read Values
+union_at (form.union d cs) order l o octets = chosen_at cs order l o octets
+union_at _ order l o octets = Ok (value.no_values, o, octets)
+
+-- the member that a discriminator selects is read, and joined with it
+abbrev pub united_at : Form → Order → Value → ℕ → List ℕ → Read Value
+united_at t order d o octets = do
+  m ← union_at t order (label d) o octets
+  Ok (value.union d m.0, m.1, m.2)

@@ -1,4 +1,5 @@
--- Reading from left to right, up to the first fault that is met. Places count on the scale of the alignment.
+-- Reading from left to right, up to the first fault, as a function of the octets and the place o of the first. The laws say
+-- that it agrees with Spelling and Stopping.
 use Rattle.std.specs.Prelude.{ℕ, zero, suc, ◌+◌, ◌-◌, ℤ, Bool, true, false, List, [], length, take, drop, Result, Ok, Err, nat_lt, ◌==◌, if◌then◌else◌}
 use Rattle.std.specs.List.{position_or_len}
 use Rattle.std.specs.Ordering.{int_eq}
@@ -11,34 +12,37 @@ use Rattle.cdr_core.specs.Form.{Form, Forms, Cases, Number, size}
 use Rattle.cdr_core.specs.Value as value
 use Rattle.cdr_core.specs.Value.{Value, Values, label}
 use Rattle.cdr_core.specs.Numbers.{padding, number_of, meaning}
+use Rattle.cdr_core.specs.Stopping.{fault_at}
 
+-- the first fault ends a sequence of steps
 infixl 10 ◌>>=◌
 abbrev pub ◌>>=◌ : {A B : Type 0} → Result A Fault → (A → Result B Fault) → Result B Fault
 (Ok x) >>= f = f x
 (Err e) >>= f = Err e
 
--- What reading gives: a value, the place after it and the octets that are left, or the first fault.
+-- what reading gives: a value, the place after it and the octets from there on; or the first fault
 abbrev pub Read : Type 0 → Type 0
 Read A = Result (A × ℕ × List ℕ) Fault
 
+-- a fault of a kind at a place
 abbrev pub fault : {A : Type 0} → Kind → ℕ → Result A Fault
-fault kind place = Err (record { kind = kind; at = place })
+fault kind place = Err (fault_at kind place)
 
--- n octets, with no padding before them
+-- the next n octets
 abbrev pub taken : ℕ → ℕ → List ℕ → Read (List ℕ)
 taken n o octets = if nat_lt (length octets) n then fault kind.Short o else Ok (take n octets, o + n, drop n octets)
 
--- n octets behind their padding. A place behind the padding is told even where it lies past the end.
+-- CDR 9.3.1.1: the next n octets after their padding; if they are cut off, the fault is at their place, even past the end
 unfoldable pub part_at : ℕ → ℕ → List ℕ → Read (List ℕ)
 part_at n o octets = taken n (o + padding o n) (drop (padding o n) octets)
 
--- CDR 9.3.1.1: a number of n octets behind its padding
+-- CDR 9.3.1.1, 9.3.1.2: a number of n octets after its padding
 unfoldable pub number_at : Order → ℕ → ℕ → List ℕ → Read ℕ
 number_at order n o octets = do
   x ← part_at n o octets
   Ok (number_of order n x.0, x.1, x.2)
 
--- CDR 9.3.1.2: a whole number of a kind
+-- CDR 9.3.1.2, 9.3.1.4, 9.3.1.6: a whole number
 unfoldable pub whole_at : Order → Number → ℕ → List ℕ → Read ℤ
 whole_at order kind o octets = do
   x ← number_at order (size kind) o octets
@@ -56,19 +60,20 @@ ordinal_at order limit o octets = do
   x ← number_at order 4 o octets
   if nat_lt x.0 limit then Ok x else fault kind.BadEnum (o + padding o 4)
 
+-- the NUL is the octet 0
 abbrev pub is_nul : ℕ → Bool
 is_nul x = x == 0
 
--- the place of the first NUL, or the length
+-- the index of the first NUL, or the length if there is none
 abbrev pub to_nul : List ℕ → ℕ
 to_nul octets = position_or_len is_nul octets
 
--- CDR 9.3.2.7: n octets, of which the last alone is a NUL; no octets are the empty text
+-- CDR 9.3.2.7: n octets, of which the last and no other is a NUL. This project's own rule: with n = 0 the text is empty.
 unfoldable pub text_at : ℕ → ℕ → List ℕ → Read (List ℕ)
 text_at n o octets = if n == 0 then Ok ([], o, octets) else (taken n o octets >>= λ x.
     if nat_lt (to_nul x.0) (n - 1) then fault kind.InteriorNul (o + to_nul x.0) else (if to_nul x.0 == n then fault kind.NoTerminator (o + (n - 1)) else Ok (take (n - 1) x.0, x.1, x.2)))
 
--- a length, which is more than the bound only where a fault is told; `extra` of it do not count against the bound
+-- a length, an unsigned long, that is at most the bound; `extra` octets of it do not count against the bound
 unfoldable pub length_at : Order → ℕ → ℕ → ℕ → List ℕ → Read ℕ
 length_at order extra bound o octets = do
   x ← number_at order 4 o octets
@@ -86,7 +91,7 @@ octets_at order bound o octets = do
   x ← length_at order 0 bound o octets
   taken x.0 x.1 x.2
 
--- n values, one after the other
+-- n values, one after another
 unfoldable pub each_at : (ℕ → List ℕ → Read Value) → ℕ → ℕ → List ℕ → Read Values
 each_at one zero o octets = Ok (value.no_values, o, octets)
 each_at one (suc n) o octets = do
@@ -135,21 +140,10 @@ unfoldable mutual
     xs ← members_at ts order x.1 x.2
     Ok (value.value x.0 xs.0, xs.1, xs.2)
 
-  -- the member whose label it is, else the default, else nothing
+  -- 9.3.2.3: the member with that label, else the default, else nothing
   pub chosen_at : Cases → Order → ℤ → ℕ → List ℕ → Read Values
   chosen_at form.otherwise_nothing order l o octets = Ok (value.no_values, o, octets)
   chosen_at (form.otherwise t) order l o octets = do
     x ← value_at t order o octets
     Ok (value.value x.0 value.no_values, x.1, x.2)
   chosen_at (form.labelled k t cs) order l o octets = if int_eq k l then (value_at t order o octets >>= λ x. Ok (value.value x.0 value.no_values, x.1, x.2)) else chosen_at cs order l o octets
-
--- the member of a union at a label
-abbrev pub union_at : Form → Order → ℤ → ℕ → List ℕ → Read Values
-union_at (form.union d cs) order l o octets = chosen_at cs order l o octets
-union_at _ order l o octets = Ok (value.no_values, o, octets)
-
--- a union of a discriminator, with the member that it chooses
-abbrev pub united_at : Form → Order → Value → ℕ → List ℕ → Read Value
-united_at t order d o octets = do
-  m ← union_at t order (label d) o octets
-  Ok (value.union d m.0, m.1, m.2)

@@ -1,4 +1,4 @@
-//! Why octets are not a value.
+//! Why no value was read.
 
 ghost use Rattle.std.specs.Prelude.{◌≡◌};
 ghost use Rattle.cdr_core.specs.declared.fault.CdrError.TheVariants.{Memory};
@@ -6,32 +6,35 @@ ghost use Rattle.cdr_core.specs.declared.fault.CdrError.TheVariants.{Memory};
 use std::alloc::{AllocError, AllocFailed};
 use thiserror::Error;
 
-/// What is wrong with octets.
+/// What is wrong with octets. The strings are the texts that are printed.
 #[derive(Clone, Copy, Debug, PartialEq, Eq, Error)]
 pub enum Kind {
-    /// Fewer octets are left than the part has.
+    /// Fewer octets are left than the part needs.
     #[error("short")]
     Short,
     /// A boolean is neither 0 nor 1.
     #[error("bad boolean")]
     BadBoolean,
-    /// The last octet of a string is no NUL.
+    /// The last octet of a string is not a NUL.
     #[error("no terminator")]
     NoTerminator,
     /// A NUL stands before the last octet of a string.
     #[error("interior nul")]
     InteriorNul,
-    /// An ordinal is not below the size of its enumeration.
+    /// The ordinal of an enumeration is not below the number of its names.
     #[error("bad enum")]
     BadEnum,
-    /// A length or a count is over its bound.
+    /// The length of a string or of octets, or the count of a sequence, is over its bound.
     #[error("over bound")]
     OverBound,
 }
 
-/// The first fault that is met, and its place: where the part's own octets begin behind their
-/// padding, even where that lies past the end; within a string the place of the octet. Places count
-/// on the scale of the alignment.
+/// The first fault in octets that are read from left to right, and its place.
+///
+/// The place is where the faulty part begins after its padding, even if that lies past the last
+/// octet; at a NUL or a missing terminator it is that octet's. It counts from the beginning of the
+/// message or encapsulation. The standard doesn't say which fault is reported: this is a rule of this
+/// project's own.
 #[derive(Clone, Copy, Debug, PartialEq, Eq, Error)]
 #[error("{kind} at {at}")]
 pub struct Fault {
@@ -39,18 +42,18 @@ pub struct Fault {
     pub at: u64,
 }
 
-/// Why a value was not read.
+/// Why no value was read.
 #[derive(Debug, Drop, Error)]
 pub enum CdrError {
-    /// The octets are no value of the type: the first fault.
+    /// No front of the octets is a value of the type: the first fault.
     #[error("{0}")]
     Bad(Fault),
-    /// Memory ran out.
+    /// Out of memory: an allocation failed.
     #[error("memory")]
     Memory,
 }
 
-/// The fault of the octets.
+/// `Bad`, with the fault.
 impl From<Fault> for CdrError {
     ghost use Rattle.cdr_core.specs.declared.fault.CdrError.TheVariants.{Bad};
 
@@ -61,7 +64,7 @@ impl From<Fault> for CdrError {
     }
 }
 
-/// Want of memory.
+/// Out of memory.
 impl From<AllocError> for CdrError {
     ghost from_gives = { λ _ e. e ≡ Memory };
 
@@ -70,7 +73,7 @@ impl From<AllocError> for CdrError {
     }
 }
 
-/// Want of memory; what was not stored is dropped.
+/// Out of memory; the element that was not stored is dropped.
 impl<T: Drop> From<AllocFailed<T>> for CdrError {
     ghost from_gives = { λ _ e. e ≡ Memory };
 

@@ -1,26 +1,35 @@
-//! Common Data Representation (CORBA 3.3 Part 2, 9.3): the octets of values, and where each stands.
+//! Common Data Representation (CORBA 3.3 Part 2, 9.3): values as octets, aligned and in either byte
+//! order.
 //!
 //! `read` and `write` go between octets and a `Val` by a `Ty`; a `Cursor` reads part by part and
-//! lends, a `Writer` appends part by part. Places count on the scale of the alignment.
+//! lends what it reads, a `Writer` appends part by part. Places count octets from the beginning of
+//! the message or encapsulation, on which alignment rests.
 #![tactic(auto)]
 
-pub mod checking;
-pub mod cursor;
-pub mod fault;
+mod cursor;
+mod fault;
+mod fitting;
 pub mod laws;
-pub mod order;
-pub mod reading;
-pub mod types;
-pub mod values;
-pub mod writer;
-pub mod writing;
+mod measuring;
+mod numbers;
+mod order;
+mod parts;
+mod reading;
+mod types;
+mod validity;
+mod values;
+mod writer;
+mod writing;
 
-pub use checking::{are_valid, are_writable, fits, has_no_nul, writable};
 pub use cursor::Cursor;
 pub use fault::{CdrError, Fault, Kind};
+pub use fitting::fits;
+pub use measuring::{end_of, end_of_list};
 pub use order::Order;
+pub use parts::has_no_nul;
 pub use reading::{read, read_list};
 pub use types::{Case, Ty};
+pub use validity::are_valid;
 pub use values::Val;
 pub use writer::Writer;
-pub use writing::{end_of, end_of_list, write, write_list};
+pub use writing::{are_writable, writable, write, write_list};

@@ -1,7 +1,9 @@
 //! The order in which the octets of a number stand.
 
 ghost use Rattle.std.specs.Prelude.{◌≡◌, ◌≤◌, ◌++◌, length, drop, Some};
+ghost use Rattle.cdr_core.specs.Encapsulation.{byte_order, order_of};
 ghost use Rattle.cdr_core.specs.Numbers.{digits_of, number_of, order_text};
+ghost use Rattle.cdr_core.specs.Value as value;
 
 use byteorder::{BigEndian, ByteOrder, LittleEndian};
 use std::fmt;
@@ -16,7 +18,7 @@ pub enum Order {
 }
 
 impl Order {
-    /// The unsigned long in the first four octets; those after them are not looked at.
+    /// The unsigned long in the first four octets. Octets after them are ignored.
     #[inline]
     pub fn ulong_of(self, octets: &[u8]) -> u32
         requires { 4 ≤ length octets.now }
@@ -28,7 +30,7 @@ impl Order {
         }
     }
 
-    /// Writes an unsigned long over the first four octets; those after them stay as they are.
+    /// Writes an unsigned long over the first four octets. Octets after them stay as they are.
     #[inline]
     pub fn put_ulong(self, number: u32, octets: &mut [u8])
         requires { 4 ≤ length octets.old }
@@ -37,6 +39,73 @@ impl Order {
         match self {
             Order::Big => BigEndian::write_u32(octets, number),
             Order::Little => LittleEndian::write_u32(octets, number),
+        }
+    }
+
+    /// The unsigned short in the first two octets.
+    #[inline]
+    pub(crate) fn ushort_of(self, octets: &[u8]) -> u16
+        requires { 2 ≤ length octets.now }
+        ensures { result ≡ number_of self 2 octets.now }
+    {
+        match self {
+            Order::Big => BigEndian::read_u16(octets),
+            Order::Little => LittleEndian::read_u16(octets),
+        }
+    }
+
+    /// Writes an unsigned short over the first two octets.
+    #[inline]
+    pub(crate) fn put_ushort(self, number: u16, octets: &mut [u8])
+        requires { 2 ≤ length octets.old }
+        ensures { octets.new ≡ digits_of self 2 number ++ drop 2 octets.old }
+    {
+        match self {
+            Order::Big => BigEndian::write_u16(octets, number),
+            Order::Little => LittleEndian::write_u16(octets, number),
+        }
+    }
+
+    /// The unsigned long long in the first eight octets.
+    #[inline]
+    pub(crate) fn ulonglong_of(self, octets: &[u8]) -> u64
+        requires { 8 ≤ length octets.now }
+        ensures { result ≡ number_of self 8 octets.now }
+    {
+        match self {
+            Order::Big => BigEndian::read_u64(octets),
+            Order::Little => LittleEndian::read_u64(octets),
+        }
+    }
+
+    /// Writes an unsigned long long over the first eight octets.
+    #[inline]
+    pub(crate) fn put_ulonglong(self, number: u64, octets: &mut [u8])
+        requires { 8 ≤ length octets.old }
+        ensures { octets.new ≡ digits_of self 8 number ++ drop 8 octets.old }
+    {
+        match self {
+            Order::Big => BigEndian::write_u64(octets, number),
+            Order::Little => LittleEndian::write_u64(octets, number),
+        }
+    }
+
+    /// The order that the first octet of an encapsulation names, a boolean: true for little-endian.
+    #[inline]
+    pub(crate) fn of_flag(little: bool) -> Order
+        ensures { result ≡ order_of (value.boolean little) }
+    {
+        if little { Order::Little } else { Order::Big }
+    }
+
+    /// The first octet of an encapsulation in this order.
+    #[inline]
+    pub(crate) fn flag(self) -> u8
+        ensures { result ≡ byte_order self }
+    {
+        match self {
+            Order::Big => 0,
+            Order::Little => 1,
         }
     }
 }

@@ -1,51 +1,26 @@
 //! Reading values of a type.
 
 ghost use Rattle.std.specs.Prelude.{⊤, ◌≡◌, ◌<◌, ◌^◌, ◌++◌, List, ℕ, length};
-ghost use Rattle.std.specs.Ordering.{int_eq};
 ghost use Rattle.cdr_core.specs.Answering.{Answers, ListAnswers, ListReads, Reads};
-ghost use Rattle.cdr_core.specs.Cursor.{Gives, GivesUnlessMemory};
+ghost use Rattle.cdr_core.specs.Cursor.{Gives};
 ghost use Rattle.cdr_core.specs.Fitting.{AreValid, IsValid};
-ghost use Rattle.cdr_core.specs.Form.{octets, sequence, string, IsBasic};
-ghost use Rattle.cdr_core.specs.Reading.{each_at, members_at, union_at, united_at, value_at};
+ghost use Rattle.cdr_core.specs.Form.{octets, sequence, string};
+ghost use Rattle.cdr_core.specs.Private.{union_at, united_at, IsBasic, MayStore, GivesUnlessMemory};
+ghost use Rattle.cdr_core.specs.Reading.{each_at, members_at, value_at};
 ghost use Rattle.cdr_core.specs.Spelling.{Spells, SpellsMembers};
 ghost use Rattle.cdr_core.specs.Value.{label, Value, Values};
-ghost use Rattle.cdr_core.specs.Wanting.{MayStore, MayWant};
+ghost use Rattle.cdr_core.specs.Memory.{MayRunOut};
 ghost use Rattle.cdr_core.specs.View.{form_of, forms_of, held, value_of, values_of};
 
 use crate::cursor::Cursor;
 use crate::fault::{CdrError, Fault};
+use crate::fitting::is_labelled;
 use crate::order::Order;
 use crate::types::{Case, Ty};
 use crate::values::Val;
 use std::alloc::Global;
 
-/// The number of a discriminator, by which it chooses a member.
-fn label_of(value: &Val) -> i128
-    ensures { result ≡ label (value_of value.now) }
-{
-    match value {
-        Val::Boolean(b) => i128::from(*b),
-        Val::Char(c) => i128::from(*c),
-        Val::Octet(n) => i128::from(*n),
-        Val::Short(n) => i128::from(*n),
-        Val::UShort(n) => i128::from(*n),
-        Val::Long(n) => i128::from(*n),
-        Val::ULong(n) => i128::from(*n),
-        Val::LongLong(n) => i128::from(*n),
-        Val::ULongLong(n) => i128::from(*n),
-        Val::Enum(n) => i128::from(*n),
-        _ => 0,
-    }
-}
-
-/// Tells whether a discriminator chooses the case.
-pub(crate) fn is_labelled(case: &Case, discriminator: &Val) -> bool
-    ensures { result ≡ int_eq case.now.label (label (value_of discriminator.now)) }
-{
-    case.label == label_of(discriminator)
-}
-
-/// A value of a basic type: a boolean, a number or the ordinal of an enumeration.
+/// Reads a boolean, a number or an enumeration.
 #[tactic(auto, unfolding(crate::specs::Reading::value_at))]
 fn basic(ty: &Ty, cursor: &mut Cursor) -> Result<Val, Fault>
     requires { IsBasic (form_of ty.now) }
@@ -65,29 +40,29 @@ fn basic(ty: &Ty, cursor: &mut Cursor) -> Result<Val, Fault>
     }
 }
 
-/// A string.
+/// Reads a string.
 #[tactic(auto, unfolding(crate::specs::Reading::value_at))]
 fn string(alloc: Global, bound: u32, cursor: &mut Cursor) -> Result<Val, CdrError>
-    ensures { GivesUnlessMemory value_of result (value_at (string bound) cursor.old.order) (MayWant (string bound) cursor.old.order) cursor.old cursor.new }
+    ensures { GivesUnlessMemory value_of result (value_at (string bound) cursor.old.order) (MayRunOut (string bound) cursor.old.order) cursor.old cursor.new }
 {
     let text = cursor.string_within(bound)?;
     Ok(Val::Str(Vec::from_slice(alloc, text)?))
 }
 
-/// A sequence of octets.
+/// Reads a sequence of octets.
 #[tactic(auto, unfolding(crate::specs::Reading::value_at))]
 fn octets(alloc: Global, bound: u32, cursor: &mut Cursor) -> Result<Val, CdrError>
-    ensures { GivesUnlessMemory value_of result (value_at (octets bound) cursor.old.order) (MayWant (octets bound) cursor.old.order) cursor.old cursor.new }
+    ensures { GivesUnlessMemory value_of result (value_at (octets bound) cursor.old.order) (MayRunOut (octets bound) cursor.old.order) cursor.old cursor.new }
 {
     let all = cursor.octets_within(bound)?;
     Ok(Val::Octets(Vec::from_slice(alloc, all)?))
 }
 
-/// A value of a type.
+/// Reads a value of a type.
 #[cycle(reading)]
 #[tactic(auto, unfolding(crate::specs::Reading::value_at))]
 fn value(alloc: Global, ty: &Ty, cursor: &mut Cursor) -> Result<Val, CdrError>
-    ensures { GivesUnlessMemory value_of result (value_at (form_of ty.now) cursor.old.order) (MayWant (form_of ty.now) cursor.old.order) cursor.old cursor.new }
+    ensures { GivesUnlessMemory value_of result (value_at (form_of ty.now) cursor.old.order) (MayRunOut (form_of ty.now) cursor.old.order) cursor.old cursor.new }
 {
     match ty {
         Ty::Str(bound) => string(alloc, *bound, cursor),
@@ -103,17 +78,17 @@ fn value(alloc: Global, ty: &Ty, cursor: &mut Cursor) -> Result<Val, CdrError>
     }
 }
 
-/// A sequence of values.
+/// Reads a sequence of values.
 #[cycle(reading)]
 #[tactic(auto, unfolding(crate::specs::Reading::value_at))]
 fn sequence(alloc: Global, ty: &Ty, bound: u32, cursor: &mut Cursor) -> Result<Val, CdrError>
-    ensures { GivesUnlessMemory value_of result (value_at (sequence bound (form_of ty.now)) cursor.old.order) (MayWant (sequence bound (form_of ty.now)) cursor.old.order) cursor.old cursor.new }
+    ensures { GivesUnlessMemory value_of result (value_at (sequence bound (form_of ty.now)) cursor.old.order) (MayRunOut (sequence bound (form_of ty.now)) cursor.old.order) cursor.old cursor.new }
 {
     let count = cursor.length(0, bound)?;
     Ok(Val::Seq(each(alloc, ty, count, cursor)?))
 }
 
-/// A union of a discriminator, with the member that this chooses.
+/// Reads the member of a union whose discriminator was read, and joins them.
 #[cycle(reading)]
 fn union(alloc: Global, ty: &Ty, discriminator: Val, cursor: &mut Cursor) -> Result<Val, CdrError>
     ensures { GivesUnlessMemory value_of result (united_at (form_of ty.now) cursor.old.order (value_of discriminator)) (λ o octets. ⊤) cursor.old cursor.new }
@@ -122,7 +97,8 @@ fn union(alloc: Global, ty: &Ty, discriminator: Val, cursor: &mut Cursor) -> Res
     Ok(Val::Union(Box::new(alloc, discriminator)?, member))
 }
 
-/// So many values of one type. Memory is taken as they are read, and not by their count.
+/// Reads `count` values of one type. Memory is taken as they are read: a count that the octets don't
+/// bear out reserves nothing.
 #[cycle(reading)]
 fn each(alloc: Global, ty: &Ty, count: u32, cursor: &mut Cursor) -> Result<Vec<Val>, CdrError>
     ensures { GivesUnlessMemory (λ v. values_of v.items) result (each_at (value_at (form_of ty.now) cursor.old.order) count) (MayStore (form_of ty.now) cursor.old.order) cursor.old cursor.new }
@@ -134,7 +110,7 @@ fn each(alloc: Global, ty: &Ty, count: u32, cursor: &mut Cursor) -> Result<Vec<V
     Ok(all)
 }
 
-/// A value of each type.
+/// Reads a value of each type.
 #[cycle(reading)]
 fn each_of(alloc: Global, types: &[Ty], cursor: &mut Cursor) -> Result<Vec<Val>, CdrError>
     ensures { GivesUnlessMemory (λ v. values_of v.items) result (members_at (forms_of types.now) cursor.old.order) (λ o octets. ⊤) cursor.old cursor.new }
@@ -146,7 +122,7 @@ fn each_of(alloc: Global, types: &[Ty], cursor: &mut Cursor) -> Result<Vec<Val>,
     Ok(all)
 }
 
-/// The member of a union that a discriminator chooses.
+/// Reads the member of a union that a discriminator selects, if it selects one.
 #[cycle(reading)]
 fn chosen(
     alloc: Global,
@@ -174,11 +150,11 @@ fn chosen(
     }
 }
 
-/// The value that a front of the octets spells, the first of which stands at the place `at`, and the
-/// length of that front, the padding before the value included.
+/// Reads a value from the front of the octets, the first of which stands at the place `at`. It returns
+/// the value and how many octets it takes, its padding included; octets after it are ignored.
 ///
-/// At `Bad` it is the first fault, with its place. Octets behind the value are left alone. Memory is
-/// taken as values are read, and never by a count alone; nesting follows the type and not the octets.
+/// `Bad` is the first fault, with its place. `Memory`: an allocation failed. Memory is taken as values
+/// are read, and never by a count alone; the depth of recursion is the type's, not the octets'.
 pub fn read(
     alloc: Global,
     ty: &Ty,
@@ -197,8 +173,8 @@ pub fn read(
     Ok((value, octets.len() - left))
 }
 
-/// The values that a front of the octets spells one after another, one of each type, and the length
-/// of that front. It answers as `read` does.
+/// Reads a value of each type, one after another, from the front of the octets. It returns the values
+/// and how many octets they take, and fails as `read` does.
 pub fn read_list(
     alloc: Global,
     types: &[Ty],

@@ -1,11 +1,11 @@
-//! The values of an interface.
+//! The values of IDL types.
 
 ghost use Rattle.std.specs.Prelude.{◌≡◌, IfOk};
 ghost use Rattle.cdr_core.specs.View.{value_of, values_of};
 
 use std::alloc::{AllocError, Global};
 
-/// A value of an interface. Each variant is one of the type of the same name.
+/// A value of an IDL type. Each variant holds values of the `Ty` of the same name.
 #[derive(Debug, Drop)]
 pub enum Val {
     Boolean(bool),
@@ -22,15 +22,15 @@ pub enum Val {
     Octets(Vec<u8>),
     Seq(Vec<Val>),
     Array(Vec<Val>),
-    /// The ordinal, from 0.
+    /// The ordinal, counted from 0.
     Enum(u32),
     Struct(Vec<Val>),
-    /// The discriminator, and the member that it chooses, if any.
+    /// The discriminator, and the member that it selects, if it selects one.
     Union(Box<Val>, Option<Box<Val>>),
 }
 
 impl Val {
-    /// An equal value, in memory of its own.
+    /// An equal value in memory of its own; an error if an allocation failed.
     pub fn copy(&self, alloc: Global) -> Result<Val, AllocError>
         ensures { IfOk result (λ v. value_of v ≡ value_of self.now) }
     {
@@ -38,6 +38,7 @@ impl Val {
     }
 }
 
+/// An equal value in memory of its own.
 #[cycle(copying)]
 fn copied(alloc: Global, value: &Val) -> Result<Val, AllocError>
     ensures { IfOk result (λ v. value_of v ≡ value_of value.now) }
@@ -71,6 +72,7 @@ fn copied(alloc: Global, value: &Val) -> Result<Val, AllocError>
     }
 }
 
+/// Equal values in memory of their own.
 #[cycle(copying)]
 fn copied_all(alloc: Global, all: &[Val]) -> Result<Vec<Val>, AllocError>
     ensures { IfOk result (λ v. values_of v.items ≡ values_of all.now) }

@@ -1,4 +1,4 @@
-//! A place in an output, at which parts are written one after another.
+//! Writing part by part.
 
 ghost use Rattle.std.specs.Prelude.{◌≡◌, ◌≤◌, ◌<◌, ◌+◌, ◌-◌, ◌^◌, ◌++◌, ◌⊎◌, length, replicate, [], ◌∷◌, MatchResult, OnErr, OnOk};
 ghost use Rattle.cdr_core.specs.Writing.{PutsAll};
@@ -10,34 +10,25 @@ ghost use Rattle.cdr_core.specs.Value as value;
 ghost use Rattle.cdr_core.specs.View.{values_of};
 ghost use Rattle.cdr_core.specs.Writing.{place_in, AreWritable, Puts};
 
+use crate::measuring::{end_of_list, needed};
+use crate::numbers::{gap, put_eight, put_four, put_two, put_zeros};
 use crate::order::Order;
+use crate::parts::{put_raw, put_string};
 use crate::values::Val;
-use crate::writing::{
-    end_of_list, gap, needed, put_all, put_eight, put_four, put_raw, put_string, put_two, put_zeros,
-};
+use crate::writing::put_all;
 use std::alloc::AllocError;
 use std::marker::Model;
 
-/// The order of numbers, and where the next octet of an output stands on the scale of the alignment.
+/// The byte order and the places of an output to which parts are appended. The output itself is an
+/// argument of each call: the one that the writer was made for, and never shorter than it was then.
 ///
-/// Each call appends one part to the output, behind zeros for its padding, as `write` does with the
-/// value of its type, and takes plain or lent data. Where memory runs out the output is as it was.
+/// Each call appends one part after its padding, as `write` appends a value of its type. The error: an
+/// allocation failed, and the output is as it was.
 #[derive(Debug, Drop)]
 pub struct Writer {
     order: Order,
     at: u64,
     start: usize,
-}
-
-/// The octet that tells a byte order.
-#[inline]
-fn byte_order(order: Order) -> u8
-    ensures { result ≡ byte_order order }
-{
-    match order {
-        Order::Big => 0,
-        Order::Little => 1,
-    }
 }
 
 impl Model for Writer {
@@ -52,7 +43,7 @@ impl Model for Writer {
 }
 
 impl Writer {
-    /// A writer whose first octet will stand at the place `at`, behind what the output has now.
+    /// A writer that appends to what `out` holds now. The next octet stands at the place `at`.
     #[inline]
     pub fn new(order: Order, at: u64, out: &Vec<u8>) -> Writer
         requires { at < 2 ^ 32 }
@@ -65,7 +56,8 @@ impl Writer {
         }
     }
 
-    /// Begins an encapsulation with the octet that tells its byte order (CORBA 3.3 Part 2, 9.3.3).
+    /// Appends the first octet of an encapsulation, which names its byte order (CORBA 3.3 Part 2, 9.3.3),
+    /// and returns the writer for what follows. The places of the encapsulation begin at that octet.
     #[inline]
     pub fn encapsulated(order: Order, out: &mut Vec<u8>) -> Result<Writer, AllocError>
         ensures { MatchResult result
@@ -73,7 +65,7 @@ impl Writer {
             (λ e. out.new.items ≡ out.old.items) }
     {
         out.reserve(1)?;
-        out.push_reserved(byte_order(order));
+        out.push_reserved(order.flag());
         Ok(Writer::new(order, 1, out))
     }
 
@@ -86,7 +78,7 @@ impl Writer {
         self.at + (out.len() - self.start) as u64
     }
 
-    /// Zeros up to the next place divisible by `size`.
+    /// Appends zeros up to the next place divisible by `size`.
     #[inline]
     pub fn align(&self, size: u64, out: &mut Vec<u8>) -> Result<(), AllocError>
         requires size { (size ≡ 1) ⊎ ((size ≡ 2) ⊎ ((size ≡ 4) ⊎ (size ≡ 8))) }
@@ -100,7 +92,7 @@ impl Writer {
         Ok(())
     }
 
-    /// An octet.
+    /// Appends an octet.
     #[inline]
     pub fn octet(&self, octet: u8, out: &mut Vec<u8>) -> Result<(), AllocError>
         requires { self.now.start ≤ length out.old.items }
@@ -111,7 +103,7 @@ impl Writer {
         Ok(())
     }
 
-    /// A boolean, the octet 0 or 1.
+    /// Appends a boolean, the octet 0 or 1.
     #[inline]
     pub fn boolean(&self, truth: bool, out: &mut Vec<u8>) -> Result<(), AllocError>
         requires { self.now.start ≤ length out.old.items }
@@ -122,7 +114,7 @@ impl Writer {
         Ok(())
     }
 
-    /// A short.
+    /// Appends a short.
     #[inline]
     pub fn short(&self, number: i16, out: &mut Vec<u8>) -> Result<(), AllocError>
         requires { self.now.start ≤ length out.old.items }
@@ -134,7 +126,7 @@ impl Writer {
         Ok(())
     }
 
-    /// An unsigned short.
+    /// Appends an unsigned short.
     #[inline]
     pub fn ushort(&self, number: u16, out: &mut Vec<u8>) -> Result<(), AllocError>
         requires { self.now.start ≤ length out.old.items }
@@ -146,7 +138,7 @@ impl Writer {
         Ok(())
     }
 
-    /// A long.
+    /// Appends a long.
     #[inline]
     pub fn long(&self, number: i32, out: &mut Vec<u8>) -> Result<(), AllocError>
         requires { self.now.start ≤ length out.old.items }
@@ -158,7 +150,7 @@ impl Writer {
         Ok(())
     }
 
-    /// An unsigned long.
+    /// Appends an unsigned long.
     #[inline]
     pub fn ulong(&self, number: u32, out: &mut Vec<u8>) -> Result<(), AllocError>
         requires { self.now.start ≤ length out.old.items }
@@ -170,7 +162,7 @@ impl Writer {
         Ok(())
     }
 
-    /// An unsigned long long.
+    /// Appends an unsigned long long.
     #[inline]
     pub fn ulonglong(&self, number: u64, out: &mut Vec<u8>) -> Result<(), AllocError>
         requires { self.now.start ≤ length out.old.items }
@@ -182,7 +174,7 @@ impl Writer {
         Ok(())
     }
 
-    /// A string, given without its NUL.
+    /// Appends a string: its length with the NUL, the text, and a NUL. `has_no_nul` tests the text.
     #[inline]
     pub fn string(&self, text: &[u8], out: &mut Vec<u8>) -> Result<(), AllocError>
         requires start { self.now.start ≤ length out.old.items }
@@ -196,7 +188,7 @@ impl Writer {
         Ok(())
     }
 
-    /// A sequence of octets.
+    /// Appends a sequence of octets: its length, and the octets.
     #[inline]
     pub fn octets(&self, all: &[u8], out: &mut Vec<u8>) -> Result<(), AllocError>
         requires start { self.now.start ≤ length out.old.items }
@@ -209,7 +201,7 @@ impl Writer {
         Ok(())
     }
 
-    /// Values one after another.
+    /// Appends values one after another. `are_writable` tests them.
     pub fn values(&self, values: &[Val], out: &mut Vec<u8>) -> Result<(), AllocError>
         requires start { self.now.start ≤ length out.old.items }
         requires writable { AreWritable (values_of values.now) }

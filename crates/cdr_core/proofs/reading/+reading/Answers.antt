@@ -5,7 +5,7 @@ use Rattle.cdr_core.specs.Value.{label}
 use Rattle.cdr_core.specs.View.{form_of, value_of, values_of}
 use Rattle.cdr_core.proofs.Turns.{each_done, each_more}
 use Rattle.cdr_core.proofs.Loops.{each_ends, members_more, members_end, members_done, case_passed, case_chosen, case_fails, default_none, default_chosen, default_fails, sequence_reads, sequence_fails, array_reads, array_fails}
-use Rattle.cdr_core.proofs.Wants.{first_read, may_any, may_store, sequence_wants}
+use Rattle.cdr_core.proofs.Memory.{first_read, may_any, may_store, sequence_wants}
 use Rattle.cdr_core.proofs.Views.{values_of-push, form_of-Array, value_of-Array, value_of-Seq}
 use Rattle.cdr_core.proofs.reading.+reading.Goals as goal
 

@@ -1,8 +1,9 @@
 use Rattle.std.proofs.Common.{◌≡◌, ◌-◌, ◌⊎◌, drop}
-use Rattle.cdr_core.specs.Reading.{chosen_at, each_at, members_at, union_at, value_at}
+use Rattle.cdr_core.specs.Private.{union_at}
+use Rattle.cdr_core.specs.Reading.{chosen_at, each_at, members_at, value_at}
 use Rattle.cdr_core.specs.Value.{label}
 use Rattle.cdr_core.specs.View.{cases_of, form_of, forms_of, value_of, values_of}
-use Rattle.cdr_core.specs.Wanting.{IsRead}
+use Rattle.cdr_core.specs.Memory.{IsRead}
 use Rattle.cdr_core.proofs.Turns.{with_front}
 use Rattle.cdr_core.proofs.reading.+reading.Given as goal
 
