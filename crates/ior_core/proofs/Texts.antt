@@ -16,7 +16,7 @@ use Rattle.ior_core.specs.declared.error.IorError.{IorError}
 use Rattle.ior_core.specs.declared.error.IorError.TheVariants.{BadDigit, BadMajor, Cdr, Memory, NoPrefix, OddDigits}
 use Rattle.ior_core.specs.Calls.{ior_error}
 use Rattle.ior_core.specs.Grammar.{reference}
-use Rattle.ior_core.specs.Text.{behind_prefix, decoded, digits_in, hex_error, reference_in, text_octets, ReadsText}
+use Rattle.ior_core.specs.Text.{after_prefix, decoded, digits_in, hex_error, reference_in, text_octets, ReadsText}
 
 module _ (octets : List ℕ) where
   pub order_fails : (f : Fault) → order_at octets ≡ Err f → reference_in octets ≡ Err f
@@ -62,8 +62,8 @@ digits_told None e h =
 
 pub digits_end : (text : List ℕ) (e : IorError) → (e ≡ Memory) ⊎ (text_octets text ≡ Err e) → ReadsText text (Err e)
 digits_end text e (inl memory) = rw memory tt
-digits_end text (Cdr f) (inr h) = absurd (digits_told (behind_prefix text) (Cdr f) h)
-digits_end text BadMajor (inr h) = absurd (digits_told (behind_prefix text) BadMajor h)
+digits_end text (Cdr f) (inr h) = absurd (digits_told (after_prefix text) (Cdr f) h)
+digits_end text BadMajor (inr h) = absurd (digits_told (after_prefix text) BadMajor h)
 digits_end text Memory (inr h) = tt
 digits_end text NoPrefix (inr h) = h
 digits_end text OddDigits (inr h) = h
