@@ -65,6 +65,9 @@ def edits():
             yield f"{PROMISES}: crates/{crate}/must-fail/{edit}.edit is not named under `{crate}`"
         else:
             yield None
+    for edit in re.findall(r"the edit `(\w+)`", text_of(PROMISES)):
+        is_there = edit in {name for _, name in there}
+        yield None if is_there else f"{PROMISES}: there is no edit {edit}"
 
 
 def quotes():
