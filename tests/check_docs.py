@@ -4,7 +4,8 @@
 - docs/PROMISES.md names each must-fail edit of each crate, and no other: in the last column of the tables
   under the crate's heading.
 - Each block of Rust that README.md and docs/GUIDE.md show stands in a file of crates/uses/src.
-- docs/ARCHITECTURE.md names each crate, with the libraries that it stands on.
+- docs/ARCHITECTURE.md names each crate, with the libraries that it stands on, and each room of the crates
+  whose rooms it lists.
 - Each relative link of a document, and each path such as `crates/NAME/..` that it gives between backquotes,
   leads to something that is there.
 
@@ -96,6 +97,20 @@ def crates():
         yield None if is_named else f"{ARCHITECTURE}: no row of {crate} with {' '.join(sorted(wanted))}"
 
 
+def rooms():
+    """A result for each crate of the table of rooms: whether it names the files of src, and no others."""
+    table = text_of(ARCHITECTURE).split("## The rooms")[1].split("\n## ")[0]
+    named, crate = {}, None
+    for name, cell in re.findall(r"^\| (?:`(\w+)`)? ?\| ([\w, ]+?) \|.*\|$", table, re.M):
+        crate = name or crate
+        if crate:
+            named.setdefault(crate, set()).update(re.findall(r"\w+", cell))
+    for crate, words in named.items():
+        files = {file[:-3] for file in os.listdir(os.path.join(ROOT, "crates", crate, "src")) if file.endswith(".rt")}
+        wrong = words ^ (files - {"lib", "main", "laws"})
+        yield f"{ARCHITECTURE}: the rooms of {crate}: {' '.join(sorted(wrong))}" if wrong else None
+
+
 def documents():
     for folder, folders, names in os.walk(ROOT):
         folders[:] = [f for f in folders if f not in ("out", ".git")]
@@ -119,7 +134,7 @@ def links():
 
 def main():
     passed = failed = 0
-    for part in (edits, quotes, crates, links):
+    for part in (edits, quotes, crates, rooms, links):
         results = list(part())
         if not results:
             results = [f"nothing was checked of {part.__name__}"]
