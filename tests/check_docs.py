@@ -128,7 +128,8 @@ def links():
                 path = os.path.join(ROOT, os.path.dirname(name), target.split("#")[0])
                 yield None if os.path.exists(path) else f"{name}: the link to {target} leads nowhere"
         for path in re.findall(r"`((?:crates|tests|docs|examples|bench)/[\w./]+)`", text):
-            is_there = os.path.exists(os.path.join(ROOT, path))
+            # (a word in capitals stands for any)
+            is_there = re.search(r"/[A-Z]+\b(?!\.)", path) or os.path.exists(os.path.join(ROOT, path))
             yield None if is_there else f"{name}: there is no {path}"
 
 
