@@ -3,6 +3,7 @@
 
 - docs/PROMISES.md names each must-fail edit of each crate, and no other: in the last column of the tables
   under the crate's heading.
+- Each name in the other columns of these tables stands in a source or a definition of some crate.
 - Each block of Rust that README.md and docs/GUIDE.md show stands in a file of crates/uses/src.
 - docs/ARCHITECTURE.md names each crate, with the libraries that it stands on, and each room of the crates
   whose rooms it lists.
@@ -29,9 +30,9 @@ def text_of(name):
         return file.read()
 
 
-def edits_named():
-    """The pairs of a crate and an edit that the tables name."""
-    crate, is_table, named = None, False, set()
+def rows():
+    """The rows of the tables of calls: the crate that the heading names, and the cells."""
+    crate, is_table = None, False
     for line in text_of(PROMISES).split("\n"):
         heading = re.match(r"#+ .*`(\w+)`", line)
         if heading:
@@ -42,8 +43,12 @@ def edits_named():
         elif cells[-1] == LAST_COLUMN:
             is_table = True
         elif is_table:
-            named |= {(crate, edit) for edit in re.findall(r"`(\w+)`", cells[-1])}
-    return named
+            yield crate, cells
+
+
+def edits_named():
+    """The pairs of a crate and an edit that the tables name."""
+    return {(crate, edit) for crate, cells in rows() for edit in re.findall(r"`(\w+)`", cells[-1])}
 
 
 def edits_there():
@@ -69,6 +74,26 @@ def edits():
     for edit in re.findall(r"the edit `(\w+)`", text_of(PROMISES)):
         is_there = edit in {name for _, name in there}
         yield None if is_there else f"{PROMISES}: there is no edit {edit}"
+
+
+def words():
+    """The words of the sources and the definitions of each crate."""
+    found = set()
+    for folder, folders, names in os.walk(os.path.join(ROOT, "crates")):
+        folders[:] = [f for f in folders if f not in ("out", "proofs", "must-fail")]
+        for name in names:
+            if name.endswith((".rt", ".antt")):
+                found.update(re.findall(r"\w+", text_of(os.path.join(folder, name))))
+    return found
+
+
+def calls():
+    """A result for each name in the other columns of the tables of calls."""
+    known = words()
+    for crate, cells in rows():
+        for name in re.findall(r"`(\w+(?:::\w+)*)`", " ".join(cells[:-1])):
+            missing = [word for word in name.split("::") if word not in known]
+            yield f"{PROMISES}: under `{crate}`: there is no {name}" if missing else None
 
 
 def quotes():
@@ -135,7 +160,7 @@ def links():
 
 def main():
     passed = failed = 0
-    for part in (edits, quotes, crates, rooms, links):
+    for part in (edits, calls, quotes, crates, rooms, links):
         results = list(part())
         if not results:
             results = [f"nothing was checked of {part.__name__}"]
