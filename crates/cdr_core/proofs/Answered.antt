@@ -1,4 +1,4 @@
--- What `read` and `read_list` answer where they fail, and that octets are spelled at a front or stop.
+-- What `read` and `read_list` return where they fail; and a front of octets is a spelling, or they have a fault.
 use Rattle.std.proofs.Common.{◌≡◌, ℕ, ◌+◌, List, ◌++◌, length, Ok, Err, refl, sym, ap, ◌∙◌, inl, inr, ◌⊎◌}
 use Rattle.cdr_core.specs.declared.order.Order.{Order}
 use Rattle.cdr_core.specs.declared.fault.Fault.{Fault}
@@ -19,7 +19,7 @@ use Rattle.cdr_core.proofs.Gets.{Gets}
 use Rattle.cdr_core.proofs.Only.{members_only, only}
 use Rattle.cdr_core.proofs.Stops.{fails, members_tell, tells}
 
--- a reader that gets what is so does not fail there
+-- a reader does not fail where a front is a spelling
 gets_or_fails : {X : Type 0} (A : X → ℕ → List ℕ → Type 0) (r : ℕ → List ℕ → Read X) → ((x : X) → Gets (A x) r x) → (o : ℕ) (octets : List ℕ) (f : Fault) → r o octets ≡ Err f → (x : X) (front rest : List ℕ) → octets ≡ front ++ rest → A x o front → ⊥
 gets_or_fails {X} A r gets o octets f h x front rest is s =
     let e : ◌≡◌ {A = Read X} (Ok (x, o + length front, rest)) (Err f) = sym (gets x o front rest s) ∙ ap (r o) (sym is) ∙ h in
@@ -41,7 +41,7 @@ pub list_err_only : (e : CdrError) (ts : Forms) (order : Order) (o : ℕ) (octet
 list_err_only errors.Memory ts order o octets h vs front rest is s = tt
 list_err_only (errors.Bad f) ts order o octets h vs front rest is s = gets_or_fails (SpellsMembers ts order) (members_at ts order) (members_only ts order) o octets f h vs front rest is s
 
--- Octets are spelled at a front or they stop, not both, and with one fault.
+-- A front of octets is a spelling or they have a fault, not both, and one fault.
 pub either_way : EitherWay
 either_way t order o octets = by (value_at t order o octets) (λ v p rest e. found t order o octets v p rest e) (λ f e. tells t order o octets f e)
   where

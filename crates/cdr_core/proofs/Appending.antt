@@ -1,4 +1,4 @@
--- What was appended, part by part.
+-- Octets that are appended part by part.
 use Rattle.std.proofs.Common.{◌≡◌, ℕ, ◌+◌, ◌-◌, ◌<◌, ◌≤◌, List, [], ◌∷◌, ◌++◌, length, take, drop, get_or, map, refl, sym, ap, ◌∙◌, arith, append_assoc, length-append}
 use Rattle.std.proofs.lemmas.List.{append-nil, drop_at, drop_more}
 use Rattle.cdr_core.specs.declared.order.Order.{Order}
@@ -19,7 +19,7 @@ keeps_more old mid new more k e = record { more = k.more ++ more; parts = e ∙ 
 pub keeps_both : (old mid new : List ℕ) → Keeps old mid → Keeps mid new → Keeps old new
 keeps_both old mid new a b = keeps_more old mid new b.more a b.parts
 
--- what is left of them once the rest is dropped
+-- what is left once the rest is dropped
 pub kept : (old new : List ℕ) → Keeps old new → take (length old) new ≡ old
 kept old new k = rw (k.parts) (take_front old k.more)
   where
@@ -30,7 +30,7 @@ kept old new k = rw (k.parts) (take_front old k.more)
 pub begins : (start : ℕ) (old new : List ℕ) → start ≤ length old → Keeps old new → start ≤ length new
 begins start old new le k = omega (arith, le, ap length k.parts, length-append old k.more)
 
--- appends one after another: what there was stands in front of them, and a writer's start with it
+-- one append after another keeps what the output held, and so a writer's start
 abbrev pub Stands : ℕ → List ℕ → List ℕ → Type 0
 Stands start old mid = (start ≤ length mid) × Keeps old mid
 
@@ -51,11 +51,11 @@ keeps_as_kept {start} {old} {mid} {new} s k = keeps_both old mid new s.1 k
 pub keeps_behind : {old mid new : List ℕ} (more : List ℕ) → mid ≡ old ++ more → Keeps mid new → Keeps old new
 keeps_behind {old} {mid} {new} more e k = keeps_both old mid new (record { more = more; parts = e }) k
 
--- a place behind what was appended
+-- the place after what was appended
 pub place_behind : (at start : ℕ) (old new : List ℕ) → start ≤ length old → at + (length (old ++ new) - start) ≡ (at + (length old - start)) + length new
 place_behind at start old new le = omega (arith, length-append old new)
 
--- a part, and what stands behind it at the place where it ends
+-- a part, and what follows it at the place where it ends
 pub appended : (at start : ℕ) (old front mid new : List ℕ) (g : ℕ → List ℕ) → start ≤ length old → mid ≡ old ++ front → new ≡ mid ++ g (at + (length mid - start))
     → new ≡ old ++ (front ++ g ((at + (length old - start)) + length front))
 appended at start old front mid new g le first second =
@@ -81,7 +81,7 @@ list_left f w all i x old new lt is le e =
     puts_next w (f x) vs old new (new ++ octets_of_all w.order vs (place_in w new)) le e refl
     ∙ sym (ap (λ ws. old ++ octets_of_all w.order ws (place_in w old)) (list_next f all i x lt is))
 
--- what is left behind a front, counted from the end
+-- what is left after a front, counted from the end
 pub front_left : (A : ℕ → List ℕ → Type 0) (o : ℕ) (octets : List ℕ) (p : ℕ) (rest : List ℕ) → Takes A o octets p rest
     → (length rest ≤ length octets) × (p ≡ o + (length octets - length rest)) × (rest ≡ drop (length octets - length rest) octets)
 front_left A o octets p rest t =
@@ -89,7 +89,7 @@ front_left A o octets p rest t =
     let n : length t.front ≡ length octets - length rest = omega arith in
     (omega arith, omega (arith, t.place), sym (ap (drop (length octets - length rest)) t.parts ∙ drop_at t.front rest (length octets - length rest) n))
 
--- one part after the other
+-- one part after another
 
 octets-last : (order : Order) (vs : Values) (v : Value) (o : ℕ) → octets_of_all order (with_last vs v) o ≡ octets_of_all order vs o ++ octets_of order v (o + length (octets_of_all order vs o))
 octets-last order value.no_values v o =
@@ -109,7 +109,7 @@ puts_then w vs v old mid new le first second =
 pub puts_one : (w : Writing) (v : Value) (old new : List ℕ) → Appends w v old new → PutsAll w (value.value v value.no_values) old new
 puts_one w v old new e = e ∙ ap (λ xs. old ++ xs) (sym (append-nil (octets_of w.order v (place_in w old))))
 
--- in an encapsulation, behind the octet that tells its byte order
+-- in an encapsulation, after the octet that names its byte order
 pub enclosed_puts : (order : Order) (vs : Values) (w : Writing) (old begun new : List ℕ) → begun ≡ old ++ byte_order order ∷ [] → w ≡ record { order = order; at = 1; start = length begun } → PutsAll w vs begun new
     → new ≡ old ++ byte_order order ∷ octets_of_all order vs 1
 enclosed_puts order vs w old begun new begins is puts =

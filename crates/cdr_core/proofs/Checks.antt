@@ -1,4 +1,4 @@
--- What counts of types and values say.
+-- Counts of types and of values.
 use Rattle.std.proofs.Common.{◌≡◌, ◌≢◌, ◌↔◌, IsTrue, ltb, lt-ltb, List, [], ◌∷◌, length, suc, refl, ap, arith}
 use Rattle.cdr_core.specs.Form as form
 use Rattle.cdr_core.specs.View.{forms_of, values_of}

@@ -1,4 +1,4 @@
--- The octet that tells the byte order of an encapsulation, and what stands behind it.
+-- The octet that names the byte order of an encapsulation, and what follows it.
 use Rattle.std.proofs.Common.{◌≡◌, ℕ, Bool, List, length, Ok, ap, arith, refl}
 use Rattle.cdr_core.specs.declared.order.Order.TheVariants.{Big}
 use Rattle.cdr_core.specs.Encapsulation.{order_at, order_of}

@@ -11,7 +11,7 @@ use Rattle.cdr_core.proofs.Steps.{bind_ok, ok_is}
 use Rattle.cdr_core.specs.Value as value
 use Rattle.cdr_core.specs.Value.{Value}
 
--- what was read first, and the order that it tells
+-- what was read first, and the byte order that it names
 record Told (octets : List ℕ) (order : Order) (p : ℕ) (rest : List ℕ) : Type 0 where
   parts : octets ≡ byte_order order ∷ rest
   place : p ≡ 1

@@ -1,4 +1,4 @@
--- What is read is spelled so, of every type.
+-- What is read is spelled, for every type.
 use Rattle.std.proofs.Common.{◌≡◌, ℕ, ◌+◌, ◌<◌, ◌≤◌, ℤ, Bool, true, false, cond, ltb, eqb, if◌then◌else◌, List, [], ◌∷◌, length, Ok, refl, sym, ap, subst, ◌∙◌, arith}
 use Rattle.std.proofs.lemmas.Bool.{ltb-true, eqb-true}
 use Rattle.std.specs.Ordering.{int_eq}
@@ -14,7 +14,7 @@ use Rattle.cdr_core.specs.Spelling.{InTurn, IsNumber, IsText, Each, OneOf, Chose
 use Rattle.cdr_core.proofs.Steps.{bind_ok, needs, ok_is}
 use Rattle.cdr_core.proofs.Taken.{in_turn_takes, takes_as, nothing_takes, taken_takes, number_takes, single, length_takes, text_takes, each_takes, taken_is}
 
--- a reader takes what is so
+-- what a reader gives is a front that is A
 abbrev pub Finds : {X : Type 0} → (X → ℕ → List ℕ → Type 0) → (ℕ → List ℕ → Read X) → Type 0
 Finds {X} A r = (o : ℕ) (octets : List ℕ) (x : X) (p : ℕ) (rest : List ℕ) → r o octets ≡ Ok (x, p, rest) → Takes (A x) o octets p rest
 

@@ -1,4 +1,4 @@
--- What is spelled is read, whatever follows: numbers, lengths, texts, and one part after the other.
+-- What is spelled is read, whatever follows: numbers, lengths, texts, and one part after another.
 use Rattle.std.proofs.Common.{◌≡◌, ℕ, ◌-◌, ◌+◌, ◌≤◌, false, ltb, eqb, List, [], ◌∷◌, ◌++◌, length, take, drop, length-append, Ok, refl, sym, ap, subst, ◌∙◌, arith, append_assoc, inl, inr}
 use Rattle.std.proofs.lemmas.Bool.{le-ltb, ne_eqb}
 use Rattle.std.proofs.lemmas.List.{take_at, drop_at, length-drop, drop-append-le}
@@ -10,7 +10,7 @@ use Rattle.cdr_core.specs.Reading.{◌>>=◌, Read, taken, part_at, number_at, l
 use Rattle.cdr_core.specs.Spelling.{InTurn, IsNumber, IsText, Each}
 use Rattle.cdr_core.proofs.Nul.{to_nul-append}
 
--- a reader gives x and goes on behind each front that is A
+-- at each front that is A, a reader gives x and goes to the place after it
 abbrev pub Gets : {X : Type 0} → (ℕ → List ℕ → Type 0) → (ℕ → List ℕ → Read X) → X → Type 0
 Gets A r x = (o : ℕ) (front rest : List ℕ) → A o front → r o (front ++ rest) ≡ Ok (x, o + length front, rest)
 

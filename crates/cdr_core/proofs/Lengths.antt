@@ -1,4 +1,4 @@
--- How long what is written is, where it ends, and one part behind another.
+-- The length of what is written, where it ends, and one part after another.
 use Rattle.std.proofs.Common.{MatchOption, ◌≡◌, ℕ, ℤ, ◌+◌, ◌-◌, ◌<◌, ◌≤◌, ◌^◌, List, ◌++◌, length, drop, get_or, replicate, Option, Some, None, refl, sym, ap, ◌∙◌, arith, length-append}
 use Rattle.std.proofs.lemmas.List.{length-replicate, drop_more}
 use Rattle.byteorder.specs.Numbers.{length-bytes_high_first, length-bytes_low_first}

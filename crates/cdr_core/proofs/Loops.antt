@@ -1,4 +1,4 @@
--- Loops that read values one after the other, and the forms that they serve.
+-- Loops that read values one after another: counts, types and cases.
 use Rattle.std.proofs.Common.{◌≡◌, ℕ, ◌+◌, ◌-◌, ◌<◌, ◌≤◌, ℤ, true, false, cond, List, [], length, drop, get_or, Option, Some, None, Box, Global, Ok, refl, sym, ap, subst, ◌∙◌, rules}
 use Rattle.std.proofs.lemmas.List.{drop_more, drop_all}
 use Rattle.std.specs.Ordering.{int_eq}

@@ -1,4 +1,4 @@
--- A value that fits a form can be written.
+-- A value that fits a type can be written.
 use Rattle.std.proofs.Common.{ℤ, Bool, true, false}
 use Rattle.cdr_core.specs.Fitting.{AllFit, Fits, FitsChosen, FitsMembers, OneFits}
 use Rattle.cdr_core.specs.Form as form

@@ -35,7 +35,7 @@ to_by : (b : Bool) (x n : ℕ) → eqb x 0 ≡ b → x ≢ 0 → cond (not b) (1
 to_by true x n e h = absurd (h (eqb-true _ _ e))
 to_by false x n e h = sym (one_more n)
 
--- a clean text before a NUL, and one with none behind it
+-- the first NUL after a clean text, and in a clean text alone
 pub to_nul-append : (text rest : List ℕ) → IsClean text → to_nul (text ++ 0 ∷ rest) ≡ length text
 to_nul-append [] rest h = refl
 to_nul-append (x ∷ text) rest h = to_by (eqb x 0) x (to_nul (text ++ 0 ∷ rest)) refl h.0 ∙ ap suc (to_nul-append text rest h.1)

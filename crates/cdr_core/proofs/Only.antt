@@ -1,4 +1,4 @@
--- What is spelled is read, whatever follows, of every type.
+-- What is spelled is read, whatever follows, for every type.
 use Rattle.std.proofs.Common.{◌≡◌, ℕ, ◌+◌, ◌-◌, ◌≤◌, ℤ, Bool, true, false, cond, ltb, inl, inr, List, [], ◌∷◌, length, Ok, refl, arith}
 use Rattle.std.proofs.lemmas.Bool.{lt-ltb}
 use Rattle.std.specs.Ordering.{int_eq}

@@ -1,4 +1,4 @@
--- What octets spell by a valid form fits it.
+-- What octets spell by a valid type fits it.
 use Rattle.std.proofs.Common.{◌≡◌, ℕ, zero, suc, ◌+◌, ◌<◌, ◌^◌, ℤ, inl, inr, List, [], ◌∷◌, ◌++◌, length, drop, take, get_or, slice_index_or, Ok, subst, sym, arith}
 use Rattle.std.proofs.lemmas.Int.{ints}
 use Rattle.std.proofs.Math.Facts.{Fits-of_lt, sfits_to_z}
@@ -20,7 +20,7 @@ use Rattle.cdr_core.proofs.Found.{found}
 use Rattle.cdr_core.proofs.MayWrite.{may}
 use Rattle.cdr_core.proofs.Written.{chosen_both}
 
--- the octets of a part, and of what stands behind it
+-- the octets of a part, and of what follows it
 front_of : (front rest : List ℕ) → AreOctets (front ++ rest) → AreOctets front × AreOctets rest
 front_of [] rest a = (tt, a)
 front_of (x ∷ front) rest a = let more = front_of front rest a.1 in ((a.0, more.0), more.1)
@@ -53,7 +53,7 @@ number_fits form.ulong x lt = (omega (arith, ints), omega (arith, ints, lt))
 number_fits form.longlong x lt = sfits_to_z (Fits-of_lt {w = w64} lt)
 number_fits form.ulonglong x lt = (omega (arith, ints), omega (arith, ints, lt))
 
--- each value that octets spell fits
+-- each of the values that octets spell fits
 abbrev Fitted : (Value → Type 0) → (Value → ℕ → List ℕ → Type 0) → Type 0
 Fitted P Is = (v : Value) (o : ℕ) (octets : List ℕ) → AreOctets octets → Is v o octets → P v
 

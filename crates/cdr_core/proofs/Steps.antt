@@ -1,9 +1,9 @@
--- What the steps of a reading say where it went well, and where it failed.
+-- The steps of reading: where they all succeed, and where one fails.
 use Rattle.std.proofs.Common.{◌≡◌, Result, Ok, Err, MatchResult, cond, Bool, true, false, refl, ◌⊎◌, inl, inr}
 use Rattle.cdr_core.specs.declared.fault.Fault.{Fault}
 use Rattle.cdr_core.specs.Reading.{◌>>=◌}
 
--- a step that went well, and what came of it
+-- a step that succeeded, and what it gave
 pub bind_ok : {A B : Type 0} (r : Result A Fault) (f : A → Result B Fault) (y : B) → (r >>= f) ≡ Ok y → (x : A) × (r ≡ Ok x) × (f x ≡ Ok y)
 bind_ok (Ok x) f y h = (x, refl, h)
 bind_ok (Err e) f y h = absurd cc
@@ -18,7 +18,7 @@ pub guard_ok : {A : Type 0} (b : Bool) (e : Fault) (x y : A) → cond b (Err e) 
 guard_ok true e x y h = absurd cc
 guard_ok false e x y h = (refl, cc)
 
--- a test that holds where the last step went well
+-- a test that holds where the last step succeeded
 pub needs : {A : Type 0} (b : Bool) (r : Result A Fault) (e : Fault) (y : A) → cond b r (Err e) ≡ Ok y → (b ≡ true) × (r ≡ Ok y)
 needs true r e y h = (refl, h)
 needs false r e y h = absurd cc
@@ -30,7 +30,7 @@ ok_is x y h = cc
 pub err_is : {A : Type 0} (d f : Fault) → ◌≡◌ {A = Result A Fault} (Err d) (Err f) → d ≡ f
 err_is d f h = cc
 
--- a step that failed, or went well before the next that did
+-- the first step failed, or it succeeded and the next failed
 pub bind_err : {A B : Type 0} (r : Result A Fault) (g : A → Result B Fault) (f : Fault) → (r >>= g) ≡ Err f → (r ≡ Err f) ⊎ ((x : A) × (r ≡ Ok x) × (g x ≡ Err f))
 bind_err (Ok x) g f h = inr (x, refl, h)
 bind_err {A} (Err e) g f h = inl cc
@@ -40,7 +40,7 @@ pub ended_ok : {A B : Type 0} (r : Result A Fault) (g : A → B) (f : Fault) →
 ended_ok (Ok x) g f h = absurd cc
 ended_ok (Err e) g f h = cc
 
--- a test failed, or what stands behind it
+-- a test failed, or what follows it
 pub test_failed : {A : Type 0} (b : Bool) (d f : Fault) (r : Result A Fault) → cond b (Err d) r ≡ Err f → ((b ≡ true) × (f ≡ d)) ⊎ ((b ≡ false) × (r ≡ Err f))
 test_failed true d f r h = inl (refl, cc)
 test_failed false d f r h = inr (refl, h)
@@ -54,7 +54,7 @@ pub last_passed : {A : Type 0} (b : Bool) (d f : Fault) (x : A) → cond b (Ok x
 last_passed true d f x h = absurd cc
 last_passed false d f x h = (refl, cc)
 
--- what holds of a result in other words
+-- a property of a result, weakened
 pub match_as : {A E : Type 0} (r : Result A E) (P Q : A → Type 0) (R S : E → Type 0) → ((x : A) → P x → Q x) → ((e : E) → R e → S e) → MatchResult r P R → MatchResult r Q S
 match_as (Ok x) P Q R S f g h = f x h
 match_as (Err e) P Q R S f g h = g e h

@@ -1,4 +1,5 @@
--- Where octets stop so, the reader fails with that fault, and where it fails, they stop so: numbers, lengths, texts, and one part after the other.
+-- Where octets have a fault the reader fails with it, and where it fails they have that fault: numbers, lengths, texts,
+-- and one part after another.
 use Rattle.std.proofs.Common.{◌≡◌, ◌≢◌, ℕ, zero, suc, ◌+◌, ◌-◌, ◌<◌, ◌≤◌, Bool, true, false, cond, ltb, eqb, List, [], ◌∷◌, ◌++◌, length, take, drop, length-append, Ok, Err, refl, sym, ap, subst, ◌∙◌, arith, append_assoc, inl, inr}
 use Rattle.std.proofs.Math.Seq.{take-append-add}
 use Rattle.std.proofs.lemmas.Bool.{ltb-true, lt-ltb, le-ltb, eqb-true, eqb-false, ne_eqb, eq-eqb}
@@ -18,11 +19,11 @@ use Rattle.cdr_core.proofs.Gets.{Gets, number_gets}
 use Rattle.cdr_core.proofs.Nul.{clean_front, splits, to_nul-append, to_nul-clean}
 use Rattle.cdr_core.proofs.Taken.{length_takes, number_takes, taken_is, text_end}
 
--- where octets stop so, the reader fails
+-- where octets have a fault, the reader fails with it
 abbrev pub Fails : {X : Type 0} → (ℕ → List ℕ → Fault → Type 0) → (ℕ → List ℕ → Read X) → Type 0
 Fails S r = (o : ℕ) (octets : List ℕ) (f : Fault) → S o octets f → r o octets ≡ Err f
 
--- where the reader fails, octets stop so
+-- where the reader fails, octets have its fault
 abbrev pub Tells : {X : Type 0} → (ℕ → List ℕ → Fault → Type 0) → (ℕ → List ℕ → Read X) → Type 0
 Tells S r = (o : ℕ) (octets : List ℕ) (f : Fault) → r o octets ≡ Err f → S o octets f
 

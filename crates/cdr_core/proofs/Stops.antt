@@ -1,4 +1,4 @@
--- Of every type, octets stop exactly where the reader fails, and with its fault.
+-- For every type, octets have a fault exactly where the reader fails, and it is the reader's.
 use Rattle.std.proofs.Common.{◌≡◌, ◌≢◌, ℕ, ◌+◌, ◌<◌, ◌≤◌, ℤ, Bool, true, false, cond, ltb, eqb, List, [], ◌∷◌, ◌++◌, Ok, Err, refl, ap, ◌∙◌, arith, inl, inr}
 use Rattle.std.proofs.lemmas.Bool.{ltb-false, le-ltb, eqb-false, ne_eqb}
 use Rattle.std.specs.Ordering.{int_eq}
@@ -20,7 +20,7 @@ use Rattle.cdr_core.proofs.Gets.{number_gets}
 use Rattle.cdr_core.proofs.Only.{alone, only}
 use Rattle.cdr_core.proofs.Stopped.{Fails, Tells, taken_fails, taken_tells, number_fails, number_tells, after_fails, after, bad_long, length_fails, length_tells, each_fails, each_tells, text_fails, text_tells}
 
--- a failure goes over the last step
+-- a failure passes the last step unchanged
 pub ended : {X Y : Type 0} (S : ℕ → List ℕ → Fault → Type 0) (r : ℕ → List ℕ → Read X) (g : X × ℕ × List ℕ → Y × ℕ × List ℕ) → Fails S r → Fails S (λ o octets. r o octets >>= λ x. Ok (g x))
 ended {X} S r g fails o octets f h = ap (λ (t : Read X). t >>= λ x. Ok (g x)) (fails o octets f h)
 

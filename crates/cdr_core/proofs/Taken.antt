@@ -1,4 +1,4 @@
--- What reading took is spelled so: numbers, lengths, texts, and one part after the other.
+-- What is read is spelled: numbers, lengths, texts, and one part after another.
 use Rattle.std.proofs.Common.{◌≡◌, ◌≢◌, ℕ, zero, suc, ◌+◌, ◌-◌, ◌<◌, ◌≤◌, Bool, true, false, cond, ltb, eqb, List, [], ◌∷◌, ◌++◌, length, take, drop, length-append, Ok, refl, sym, ap, subst, ◌∙◌, arith, append_assoc, inl, inr}
 use Rattle.std.proofs.lemmas.Bool.{ltb-false, eqb-true, eqb-false}
 use Rattle.std.proofs.lemmas.List.{take-append-drop, drop_at, length-take-le, length-drop}
@@ -13,7 +13,7 @@ use Rattle.cdr_core.specs.Spelling.{InTurn, IsNumber, IsText, Each, Takes}
 use Rattle.cdr_core.proofs.Steps.{bind_ok, guard, guard_ok, ok_is}
 use Rattle.cdr_core.proofs.Nul.{within, ends}
 
--- a part, and what stands behind it
+-- a part, and what follows it
 pub in_turn_takes : (A B : ℕ → List ℕ → Type 0) (o : ℕ) (octets : List ℕ) (m : ℕ) (more : List ℕ) (p : ℕ) (rest : List ℕ) → Takes A o octets m more → Takes B m more p rest → Takes (InTurn A B) o octets p rest
 in_turn_takes A B o octets m more p rest a b = record {
   front = a.front ++ b.front;
@@ -22,7 +22,7 @@ in_turn_takes A B o octets m more p rest a b = record {
   holds = record { front = a.front; rest = b.front; parts = refl; first = a.holds; second = subst (λ q. B q b.front) a.place b.holds };
 }
 
--- what is so is so in other words
+-- a front that is A is B, where A implies B
 pub takes_as : (A B : ℕ → List ℕ → Type 0) (o : ℕ) (octets : List ℕ) (p : ℕ) (rest : List ℕ) → ((front : List ℕ) → A o front → B o front) → Takes A o octets p rest → Takes B o octets p rest
 takes_as A B o octets p rest f a = record { front = a.front; parts = a.parts; place = a.place; holds = f a.front a.holds }
 
@@ -92,7 +92,7 @@ length_takes order extra bound o octets n p rest h =
     let le : b.0.0 - extra ≤ bound = ltb-false _ _ g.0 in
     (subst (λ (t : ℕ × ℕ × List ℕ). Takes (IsNumber order 4 t.0) o octets t.1 t.2) g.1 (number_takes order 4 (omega arith) o octets b.0.0 b.0.1 b.0.2 b.1), omega arith)
 
--- what stands behind the octets of a text, once they are there
+-- the text in octets that are all there
 abbrev pub text_end : ℕ → ℕ → List ℕ → ℕ → List ℕ → Read (List ℕ)
 text_end n o octets p rest = cond (ltb (to_nul octets) (n - 1)) (fault kind.InteriorNul (o + to_nul octets)) (cond (eqb (to_nul octets) n) (fault kind.NoTerminator (o + (n - 1))) (Ok (take (n - 1) octets, p, rest)))
 
@@ -131,7 +131,7 @@ text_takes n o octets text p rest h = by (eqb n 0) refl h
         (subst (λ (z : List ℕ × ℕ × List ℕ). Takes (IsText n z.0) o octets z.1 z.2) is none, omega (arith, ap length empty))
     by false e k = full_text n o octets text p rest (eqb-false _ _ e) k
 
--- values of one kind, one after the other
+-- values of one type, one after another
 module _ (one : ℕ → List ℕ → Read Value) (Is : Value → ℕ → List ℕ → Type 0) (finds : (o : ℕ) (octets : List ℕ) (v : Value) (p : ℕ) (rest : List ℕ) → one o octets ≡ Ok (v, p, rest) → Takes (Is v) o octets p rest) where
   pub each_takes : (n o : ℕ) (octets : List ℕ) (vs : Values) (p : ℕ) (rest : List ℕ) → each_at one n o octets ≡ Ok (vs, p, rest) → Takes (Each Is vs) o octets p rest × (count vs ≡ n)
   unfolding each_at

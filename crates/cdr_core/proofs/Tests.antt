@@ -1,4 +1,4 @@
--- What tests of the code tell: of one thing, of each in a loop, and of a union.
+-- What a test of the code proves: of one thing, of each in a loop, and of a union.
 use Rattle.std.proofs.Common.{◌≡◌, ◌↔◌, IsTrue, Bool, true, false, ℕ, ◌+◌, ◌<◌, ◌≤◌, ℤ, List, [], ◌∷◌, length, drop, get_or, Option, Some, None, Box, Vec, Global, refl, sym, ap, subst, ◌∙◌, rules}
 use Rattle.std.proofs.lemmas.List.{drop_all, drop_more}
 use Rattle.std.specs.Ordering.{int_eq}
@@ -17,7 +17,7 @@ use Rattle.cdr_core.specs.Fitting.{AreCases, Fits, FitsChosen, FitsMembers, IsLa
 use Rattle.cdr_core.specs.Spelling.{Chosen}
 use Rattle.cdr_core.specs.View.{case_of, cases_of, form_of, forms_of, value_of, value_step, values_of}
 
--- one test
+-- a single test
 
 pub held_so : (A : Type 0) → A → (IsTrue true ↔ A)
 held_so A a = ((λ e. a), (λ x. refl))
@@ -46,7 +46,7 @@ and_then A B a b test is h = ((λ e. (test.0 is, h.0 e)), (λ x. h.1 x.1))
 pub and_not : (A B : Type 0) (a : Bool) → (IsTrue a ↔ A) → a ≡ false → (IsTrue a ↔ (A × B))
 and_not A B a test is = ((λ e. absurd cc), (λ x. test.1 x.0))
 
--- a loop that tests each: R says that each of a list is P
+-- a loop that tests each: R holds of a list where P holds of each element
 
 pub each_passed : (X A : Type 0) (P : X → Type 0) (R : List X → Type 0) (xs : List X) (i : ℕ) (x : X) (b : Bool) → ((ys : List X) → R (x ∷ ys) ↔ (P x × R ys))
     → i < length xs → x ≡ get_or xs i x → (IsTrue b ↔ P x) → b ≡ true → (A ↔ R (drop i xs)) → (A ↔ R (drop (i + 1) xs))

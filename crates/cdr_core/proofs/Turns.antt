@@ -1,4 +1,4 @@
--- What a loop says that reads values one after the other, as often as a count tells.
+-- Loops that read a counted number of values one after another.
 use Rattle.std.proofs.Common.{◌≡◌, ℕ, suc, ◌+◌, ◌-◌, ◌<◌, ◌≤◌, List, [], ◌∷◌, ◌++◌, length, map, Ok, Err, refl, sym, ap, subst, ◌∙◌, arith}
 use Rattle.cdr_core.specs.declared.fault.Fault.{Fault}
 use Rattle.cdr_core.specs.Private.{passing}
@@ -6,7 +6,7 @@ use Rattle.cdr_core.specs.Value as value
 use Rattle.cdr_core.specs.Value.{Value, Values, count, values}
 use Rattle.cdr_core.specs.Reading.{◌>>=◌, Read, each_at}
 
--- a value behind others
+-- a value after others
 abbrev pub with_last : Values → Value → Values
 with_last value.no_values v = value.value v value.no_values
 with_last (value.value w ws) v = value.value w (with_last ws v)
@@ -19,7 +19,7 @@ pub count_values : {A : Type 0} (f : A → Value) (xs : List A) → count (value
 count_values f [] = refl
 count_values f (x ∷ xs) = ap suc (count_values f xs)
 
--- values, and others behind them
+-- values, and others after them
 abbrev pub joined : Values → Values → Values
 joined value.no_values ws = ws
 joined (value.value v vs) ws = value.value v (joined vs ws)

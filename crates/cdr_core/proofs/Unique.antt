@@ -1,4 +1,4 @@
--- One spelling at most, of any reader that takes what is so and gets it again.
+-- At most one front is a spelling, by any reader that finds each spelling and finds nothing else.
 use Rattle.std.proofs.Common.{◌≡◌, ℕ, ◌-◌, ◌+◌, ◌≤◌, List, ◌++◌, length, take, length-append, Ok, refl, sym, ap, subst, ◌∙◌, arith}
 use Rattle.std.proofs.lemmas.List.{take_at}
 use Rattle.cdr_core.specs.Reading.{Read, value_at}
@@ -34,7 +34,7 @@ module _ {X : Type 0} (A : X → ℕ → List ℕ → Type 0) (r : ℕ → List 
       let h = finds o octets v p rest e in
       omega (arith, ap length h.parts, length-append h.front rest)
 
-  -- it is the one front that is so
+  -- it is the one front that is a spelling
   pub same_front : (o : ℕ) (octets : List ℕ) (v : X) (p : ℕ) (rest : List ℕ) (n : ℕ) → r o octets ≡ Ok (v, p, rest) → n ≡ length octets - length rest → (w : X) (other more : List ℕ) → octets ≡ other ++ more → A w o other → (v ≡ w) × (n ≡ length other)
   same_front o octets v p rest n e is w other more parts s =
       let h = finds o octets v p rest e in

@@ -1,4 +1,4 @@
--- What is written for a value is spelled so by every form that the value fits.
+-- What is written for a value is a spelling by every type that the value fits.
 use Rattle.std.proofs.Common.{◌≡◌, ℕ, ◌+◌, ◌<◌, ◌^◌, ℤ, pos, negsuc, ◌≤ℤ◌, ◌<ℤ◌, unsigned_abs, Bool, true, false, inr, List, [], ◌∷◌, ◌++◌, length, replicate, refl, sym, ap, ◌∙◌, arith, append_assoc}
 use Rattle.std.proofs.lemmas.Int.{ints}
 use Rattle.std.proofs.Math.Facts.{Fits-of_z, to_z-of_z}
@@ -42,7 +42,7 @@ bits_back form.ulong z h = natural 4294967296 z h.0 h.1
 bits_back form.longlong z h = ((Fits-of_z {w = w64} h).fits, sym (to_z-of_z {w = w64} h))
 bits_back form.ulonglong z h = natural 18446744073709551616 z h.0 h.1
 
--- each value of which a fact holds is spelled
+-- each of the values is spelled
 abbrev Spelled : (Value → Type 0) → Order → (Value → ℕ → List ℕ → Type 0) → Type 0
 Spelled P order Is = (v : Value) → P v → (o : ℕ) → Is v o (octets_of order v o)
 

@@ -1,8 +1,8 @@
-//! Laws over the definitions: each is what a function with an empty body ensures.
+//! Laws over the definitions. Each is ensured by a function with an empty body, which a crate above
+//! calls where a proof of its own rests on the law.
 //!
-//! They tie what the calls of this crate are said to give (`specs/Reading.antt`, `Writing.antt`) to
-//! the meaning of octets (`specs/Spelling.antt`, `Stopping.antt`). A crate above calls one where a
-//! proof of its own rests on it.
+//! They tie reading and writing (`specs/Reading.antt`, `Writing.antt`) to what octets mean
+//! (`specs/Spelling.antt`, `Stopping.antt`).
 
 ghost use Rattle.cdr_core.specs.Laws.{EitherWay, FaultsStop, FittingIsWritable, NotBoth, OneFault, OneFront, ReadFits, ReadIsSpelled, SpelledFits, SpelledIsRead, StopsAreFaults, WrittenIsSpelled};
 ghost use Rattle.cdr_core.specs.Numbers.{AreOctets};
@@ -25,31 +25,31 @@ pub fn one_front()
     ensures { OneFront }
 {}
 
-/// A front of any octets is a spelling, or they stop.
+/// A front of any octets is a spelling, or they have a fault.
 pub fn either_way()
     ensures { EitherWay }
 {}
 
-/// Octets of which a front is a spelling do not stop.
+/// Octets of which a front is a spelling have no fault.
 #[tactic(auto, using(crate::proofs::Answered::not_both))]
 pub fn not_both()
     ensures { NotBoth }
 {}
 
-/// Octets stop with one fault.
+/// Octets have one first fault.
 #[tactic(auto, using(crate::proofs::Answered::one_fault))]
 pub fn one_fault()
     ensures { OneFault }
 {}
 
-/// Reading ends in the fault with which octets stop, and in no other.
+/// Reading returns the first fault of the octets, and no other.
 #[tactic(auto, using(crate::proofs::Stops::fails, crate::proofs::Stops::tells))]
 pub fn faults_stop()
     ensures stop { FaultsStop }
     ensures faults { StopsAreFaults }
 {}
 
-/// What is written for a value is spelled so by every type that the value fits.
+/// What is written for a value is a spelling by every type that the value fits.
 #[tactic(auto, using(crate::proofs::Written::spelled))]
 pub fn written_is_spelled()
     ensures { WrittenIsSpelled }
@@ -73,7 +73,7 @@ pub fn read_fits()
     ensures { ReadFits }
 {}
 
-/// A slice of `u8` has octets, which the laws of reading ask for.
+/// A slice of `u8` holds octets, a premise of the laws of reading.
 pub fn are_octets(octets: &[u8])
     ensures { AreOctets octets.now }
 {}

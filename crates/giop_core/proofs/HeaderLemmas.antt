@@ -14,7 +14,7 @@ use Rattle.giop_core.specs.declared.header.HeaderFault.{HeaderFault}
 use Rattle.giop_core.specs.declared.header.HeaderFault.TheVariants.{BadType, BadCut}
 use Rattle.giop_core.specs.Headers.{can_be_cut, flags_octet, flags_of, has_kind, header_octets, header_of, is_possible, kind_number, kind_of, minor_of, of_flags, of_kind, of_version, version_of}
 
--- the version, the flags, the kind and the size are those that their octets tell
+-- the version, the flags, the kind and the size are those that their octets say
 
 version_back : (version : Version) → version_of 1 (minor_of version) ≡ Some version
 version_back V10 = refl
@@ -49,7 +49,7 @@ size_back : (order : Order) (x : ℕ) → x < 2 ^ 32 → number_of order 4 (digi
 size_back Big x lt = ap (number_of Big 4) (sym (append-nil (digits_of Big 4 x))) ∙ big_number-reads_back 4 x [] lt
 size_back Little x lt = ap (number_of Little 4) (sym (append-nil (digits_of Little 4 x))) ∙ little_number-reads_back 4 x [] lt
 
--- of a header that can be, no kind and no cut is refused
+-- a possible header has no fault in its kind, nor in its cut
 judged : (known cuts more : Bool) (h : Header) → (known && (not more || cuts)) ≡ true
     → ◌≡◌ {A = Result Header HeaderFault} (if not known then Err BadType else (if more && not cuts then Err BadCut else Ok h)) (Ok h)
 judged false cuts more h e = absurd cc

@@ -53,7 +53,7 @@ module _ (order : Order) (count i o : ℕ) (octets : List ℕ) (w : Writing) (no
   pub put_stopped : (f : Fault) → value_at tagged order o octets ≡ Err f → now ≡ now ++ octets_of_all w.order (item_values order (count - i) o octets) (place_in w now)
   put_stopped f e = sym (ap (λ xs. now ++ octets_of_all w.order (values (map tagged_value xs)) (place_in w now)) (items_stop f order (count - i) o octets e) ∙ append-nil now)
 
--- a context of a list, and what is left behind it
+-- a context of a list, and what is left after it
 module _ (w : Writing) (all : List (ℕ × Bor (List ℕ))) (i : ℕ) (d : ℕ × Bor (List ℕ)) (lt : i < length all) where
   left : values (map lent_value (drop i all)) ≡ value.value (lent_value (get_or all i d)) (values (map lent_value (drop (i + 1) all)))
   left = ap (λ xs. values (map lent_value xs)) (drop_more all i d lt)
@@ -71,6 +71,6 @@ module _ (w : Writing) (all : List (ℕ × Bor (List ℕ))) (i : ℕ) (d : ℕ �
   pub context_long : AreWritable (values (map lent_value (drop i all))) → length ((get_or all i d).1.now) < 2 ^ 32
   context_long h = (subst AreWritable left h).0.1.0
 
--- behind the last context nothing is left
+-- after the last context nothing is left
 pub context_last : (w : Writing) (all : List (ℕ × Bor (List ℕ))) (i : ℕ) (now : List ℕ) → length all ≤ i → now ≡ now ++ octets_of_all w.order (values (map lent_value (drop i all))) (place_in w now)
 context_last w all i now le = sym (ap (λ xs. now ++ octets_of_all w.order (values (map lent_value xs)) (place_in w now)) (drop_of_length-le all le) ∙ append-nil now)

@@ -97,7 +97,7 @@ module _ (all : List (ℕ × Bor (List ℕ))) (i : ℕ) (d : ℕ × Bor (List �
       items_long' : IsLong (value.octets (get_or all i d).1.now) → AreLong (value.value (lent_value (get_or all i d)) (values (map lent_value (drop (i + 1) all))))
       items_long' long = first_long (lent_value (get_or all i d)) (values (map lent_value (drop (i + 1) all))) (item_long (item_at (get_or all i d)) long)
 
--- what was judged of the contexts is judged of their items
+-- what was checked of the contexts is checked of their items
 pub all_writable : (all : List (ℕ × Bor (List ℕ))) → length all < 2 ^ 32 → AreWritable (values (map lent_value all)) → IsWritable (list_value (map item_at all))
 all_writable all lt h = (omega (arith, lt, count_values tagged_value (map item_at all), length-map all item_at), subst (λ vs. AreWritable (values vs)) (lent_items all) h)
 

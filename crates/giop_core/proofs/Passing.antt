@@ -93,7 +93,7 @@ items_are order (suc n) o octets vs p rest h =
     let first = tagged_again order o octets x.0 x.1 x.2 b.1 in
     rw b.1 (ap (λ v. value.value v (values (map tagged_value (items_in order n x.1 x.2)))) first ∙ ap (value.value x.0) others.0 ∙ ap (λ (t : Values × ℕ × List ℕ). t.0) last, ap suc others.1)
 
--- items behind their count
+-- items after their count
 
 pub contexts_short : (f : Fault) (order : Order) (o : ℕ) (octets : List ℕ) → length_at order 0 most o octets ≡ Err f → value_at contexts order o octets ≡ Err f
 contexts_short f order o octets e = sequence_is most tagged order o octets ∙ rw e refl

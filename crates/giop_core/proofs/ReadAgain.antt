@@ -32,7 +32,7 @@ use Rattle.giop_core.specs.Items.{list_value, reference_as, tagged_value}
 use Rattle.giop_core.specs.Laws.{rest_after, written_rest, HaveTags, IsReadAs, IsTarget, WrittenCancelIsRead, WrittenFtIsPresent, WrittenLocateReplyIsRead, WrittenLocateRequestIsRead, WrittenReplyIsRead, WrittenRequestIsRead}
 use Rattle.giop_core.specs.Messages.{is_unknown, rest_at}
 use Rattle.giop_core.specs.Rows.{contexts, ft_request, reserved, row, target}
-use Rattle.giop_core.specs.Written.{behind_gap, behind_header, body_octets, cancel_fields, flags_of, ft_octets, ft_value_of, is_expected, key_of, locate_reply_fields, locate_request_fields, locate_statuses, reply_fields, reply_statuses, request_fields, selected_as, target_of, zeros, CanAddress, CanAsk}
+use Rattle.giop_core.specs.Written.{behind_gap, behind_header, body_octets, cancel_fields, response_flags, ft_octets, ft_value_of, response_expected, key_value, locate_reply_fields, locate_request_fields, locate_statuses, reply_fields, reply_statuses, request_fields, selected_as, target_of, zeros, CanAddress, CanAsk}
 use Rattle.giop_core.proofs.Again.{all_again}
 use Rattle.giop_core.proofs.Longs.{at_least}
 use Rattle.giop_core.proofs.Spelled.{message_only}
@@ -156,7 +156,7 @@ module _ (order : Order) where
       let two = nth_short 1 (ulong_value index ∷ reference_as id profiles ∷ []) one.0 one.1 in
       (((refl, omega arith), ((refl, ulong_fits index is.0), (reference_fits id profiles two.0 is.1 is.2 two.1, tt))), refl)
 
-  key_fits : (to : Addressed) (o : ℕ) → CanAddress V10 to → length (octets_of order (key_of to) o) < 2 ^ 32 → Fits raw (key_of to) × (is_unknown (key_of to) ≡ false)
+  key_fits : (to : Addressed) (o : ℕ) → CanAddress V10 to → length (octets_of order (key_value to) o) < 2 ^ 32 → Fits raw (key_value to) × (is_unknown (key_value to) ≡ false)
   key_fits (content.by_key key) o can small = (raw_fits key o small, refl)
   key_fits (content.by_profile tag octets) o can small = absurd can
   key_fits (content.by_reference index id profiles) o can small = absurd can
@@ -164,7 +164,7 @@ module _ (order : Order) where
   zeros_fit : Fits reserved zeros × (is_unknown zeros ≡ false)
   zeros_fit = ((refl, omega arith, ((refl, omega arith), ((refl, omega arith), ((refl, omega arith), tt)))), refl)
 
-  flags_fit : (wish : ReplyWish) → Fits octet (octet_value (flags_of wish)) × (is_unknown (octet_value (flags_of wish)) ≡ false)
+  flags_fit : (wish : ReplyWish) → Fits octet (octet_value (response_flags wish)) × (is_unknown (octet_value (response_flags wish)) ≡ false)
   flags_fit wish.None = ((refl, omega arith), refl)
   flags_fit wish.Empty = ((refl, omega arith), refl)
   flags_fit wish.Full = ((refl, omega arith), refl)
@@ -237,17 +237,17 @@ target_again (content.by_key key) = refl
 target_again (content.by_profile tag octets) = refl
 target_again (content.by_reference index id profiles) = ap (content.by_reference index id) (all_again profiles)
 
-key_again : (to : Addressed) → CanAddress V10 to → addressed (key_of to) ≡ to
+key_again : (to : Addressed) → CanAddress V10 to → addressed (key_value to) ≡ to
 key_again (content.by_key key) can = refl
 key_again (content.by_profile tag octets) can = absurd can
 key_again (content.by_reference index id profiles) can = absurd can
 
-flags_again : (wish : ReplyWish) → wish_of (octet_value (flags_of wish)) ≡ wish
+flags_again : (wish : ReplyWish) → wish_of (octet_value (response_flags wish)) ≡ wish
 flags_again wish.None = refl
 flags_again wish.Empty = refl
 flags_again wish.Full = refl
 
-expected_again : (wish : ReplyWish) → CanAsk V10 wish → wish_if (is_expected wish) ≡ wish
+expected_again : (wish : ReplyWish) → CanAsk V10 wish → wish_if (response_expected wish) ≡ wish
 expected_again wish.None ask = refl
 expected_again wish.Empty ask = absurd ask
 expected_again wish.Full ask = refl

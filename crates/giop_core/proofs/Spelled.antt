@@ -12,7 +12,7 @@ use Rattle.giop_core.specs.declared.error.MessageFault.TheVariants.{BadAddressin
 use Rattle.giop_core.specs.Content.{Content, content}
 use Rattle.giop_core.specs.Grammar.{SpellsFields}
 use Rattle.giop_core.specs.Laws.{MessagesAreSpelled, SpelledMessagesAreRead}
-use Rattle.giop_core.specs.Messages.{◌>>=◌, field_at, fields_at, is_unknown, judged, message_of, rest_at}
+use Rattle.giop_core.specs.Messages.{◌>>=◌, field_at, fields_at, is_unknown, unless_unknown, message_of, rest_at}
 use Rattle.giop_core.specs.Rows.{row}
 
 abbrev done : {A : Type 0} → A → Result A MessageFault
@@ -29,9 +29,9 @@ known : (b : Bool) (place : ℕ) (x y : Value × ℕ × List ℕ) → cond b (Er
 known true place x y e = absurd cc
 known false place x y e = (refl, done_is x y e)
 
-judged_well : (place : ℕ) (r : Read Value) (v : Value) (p : ℕ) (rest : List ℕ) → judged place r ≡ Ok (v, p, rest) → (r ≡ Ok (v, p, rest)) × (is_unknown v ≡ false)
-judged_well place (Err f) v p rest e = absurd cc
-judged_well place (Ok x) v p rest e =
+known_well : (place : ℕ) (r : Read Value) (v : Value) (p : ℕ) (rest : List ℕ) → unless_unknown place r ≡ Ok (v, p, rest) → (r ≡ Ok (v, p, rest)) × (is_unknown v ≡ false)
+known_well place (Err f) v p rest e = absurd cc
+known_well place (Ok x) v p rest e =
     let k = known (is_unknown x.0) place x (v, p, rest) e in
     (ap (λ (y : Value × ℕ × List ℕ). Ok y) k.1, subst (λ (y : Value × ℕ × List ℕ). is_unknown y.0 ≡ false) k.1 k.0)
 
@@ -41,7 +41,7 @@ fields_found law [] order o octets vs p rest e =
 fields_found law (t ∷ ts) order o octets vs p rest e =
     let a = bind_done (field_at t order o octets) (λ x. fields_at ts order x.1 x.2 >>= λ xs. Ok (x.0 ∷ xs.0, xs.1, xs.2)) (vs, p, rest) e in
     let b = bind_done (fields_at ts order a.0.1 a.0.2) (λ xs. Ok (a.0.0 ∷ xs.0, xs.1, xs.2)) (vs, p, rest) a.2 in
-    let k = judged_well (o + padding o 2) (value_at t order o octets) a.0.0 a.0.1 a.0.2 a.1 in
+    let k = known_well (o + padding o 2) (value_at t order o octets) a.0.0 a.0.1 a.0.2 a.1 in
     let first = law t order o octets a.0.0 a.0.1 a.0.2 k.0 in
     let others = fields_found law ts order a.0.1 a.0.2 b.0.0 b.0.1 b.0.2 b.1 in
     subst (λ (y : List Value × ℕ × List ℕ). Takes (SpellsFields (t ∷ ts) order y.0) o octets y.1 y.2) (done_is (a.0.0 ∷ b.0.0, b.0.1, b.0.2) (vs, p, rest) b.2)

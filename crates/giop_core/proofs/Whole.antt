@@ -1,4 +1,4 @@
--- A message put together: its fields, its body, and the header over the room for it.
+-- A message put together: its fields, its body, and the header over the zeros in its place.
 use Rattle.std.proofs.Common.{◌≡◌, ◌≢◌, ℕ, zero, suc, ◌+◌, ◌-◌, ◌≤◌, ◌^◌, List, [], ◌∷◌, ◌++◌, length, take, drop, replicate, Result, Ok, Err, MatchResult, refl, sym, ap, subst, ◌∙◌, arith, append_assoc, length-append}
 use Rattle.std.proofs.lemmas.List.{append-nil, drop-append-le, drop_at, length-drop, length-replicate, take-append-drop, take-append-le, take_at}
 use Rattle.std.specs.declared.alloc.AllocError.{AllocError}
@@ -63,7 +63,7 @@ module _ (w : Writing) (body : Values) (old aligned new : List ℕ) (le : w.star
 pub front_kept : (n : ℕ) (xs : List ℕ) → Keeps (take n xs) xs
 front_kept n xs = record { more = drop n xs; parts = sym (take-append-drop n xs) }
 
--- the body behind the fields
+-- the body after the fields
 
 module _ (version : Version) (kind : MessageKind) (order : Order) (start : ℕ) (body : Values) (w : Writing) (old bodied : List ℕ)
     (begun : start + 12 ≤ length old) (is : w ≡ record { order = order; at = 12; start = start + 12 })
@@ -82,7 +82,7 @@ module _ (version : Version) (kind : MessageKind) (order : Order) (start : ℕ) 
       → Adds version kind order (with_body version kind order body (drop (start + 12) old)) r (take start old) new
   body_behind r new h = subst (λ xs. Adds version kind order xs r (take start old) new) octets_behind (subst (λ xs. Adds version kind order (drop (start + 12) bodied) r xs new) octets_before h)
 
--- a message that is begun: the room for its header, and a writer of what stands behind that
+-- a partial message: zeros in place of its header, and a writer of what follows
 
 module _ (w : Writing) (order : Order) (old begun : List ℕ) (begins : begun ≡ old ++ replicate 12 0) (is : w ≡ record { order = order; at = 12; start = length begun }) where
   pub starts_begun : w.start ≤ length begun
@@ -98,7 +98,7 @@ module _ (w : Writing) (order : Order) (old begun : List ℕ) (begins : begun �
     pub room_begun : {fielded : List ℕ} (more : List ℕ) → fielded ≡ begun ++ more → start + 12 ≤ length fielded
     room_begun {fielded} more e = omega (arith, ap length e, length-append begun more, behind_room)
 
--- the fields behind the room for the header
+-- the fields after the place of the header
 
 module _ (version : Version) (kind : MessageKind) (order : Order) (fields : List Value) (body : Values) (w : Writing) (old begun fielded : List ℕ)
     (begins : begun ≡ old ++ replicate 12 0) (is : w ≡ record { order = order; at = 12; start = length begun })

@@ -1,5 +1,5 @@
 -- What `Body::read` answers.
-use Rattle.std.specs.Prelude.{◌≡◌, ℕ, ◌≤◌, length, take, List, Result, Ok, Err, ⊤}
+use Rattle.std.specs.Prelude.{◌≡◌, ℕ, ◌≤◌, length, take, Result, Ok, Err, ⊤}
 use Rattle.std.proofs.Common.{Vec, Global}
 use Rattle.cdr_core.specs.declared.values.Val.{Val}
 use Rattle.cdr_core.specs.declared.fault.CdrError.{CdrError}

@@ -95,7 +95,7 @@ abbrev pub addressed : Value → Addressed
 addressed (value.union d vs) = addressed_as (label d) (member 0 vs)
 addressed v = by_key (content_octets v)
 
--- GIOP 9.4.2: bit 0 of response_flags asks for a reply, and bit 1 for its body
+-- GIOP 9.4.2: bit 0 of response_flags asks for a reply, and bit 1 for its body; no other bit counts (own rule)
 abbrev pub wish_by : ℕ → ReplyWish
 wish_by flags = if flags % 2 == 0 then wish.None else (if (flags / 2) % 2 == 0 then wish.Empty else wish.Full)
 

@@ -10,7 +10,7 @@ use Rattle.giop_core.specs.Rows.{row}
 use Rattle.giop_core.specs.Content.{Content, content}
 use Rattle.giop_core.specs.Messages.{is_unknown, rest_at}
 
--- A value of the type. A union holds one of its members: a discriminator that is none of its labels is refused (own rule).
+-- A value of the type. A union holds one of its members: a discriminator that is none of its labels is a fault (own rule).
 abbrev pub SpellsField : Form → Order → Value → ℕ → List ℕ → Type 0
 SpellsField t order v o octets = Spells t order v o octets × (is_unknown v ≡ false)
 

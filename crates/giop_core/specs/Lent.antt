@@ -1,5 +1,5 @@
 -- What a message that is lent says: each type of the code, as what it says without where it lies in memory.
-use Rattle.std.specs.Prelude.{◌≡◌, ℕ, List, Result, Ok, Err}
+use Rattle.std.specs.Prelude.{◌≡◌, Result, Ok, Err}
 use Rattle.giop_core.specs.declared.cancel.CancelRequest.{CancelRequest}
 use Rattle.giop_core.specs.declared.fragment.Fragment.{Fragment}
 use Rattle.giop_core.specs.declared.locate.LocateReply.{LocateReply}

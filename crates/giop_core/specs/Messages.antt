@@ -30,13 +30,13 @@ is_unknown (value.union d value.no_values) = true
 is_unknown _ = false
 
 -- An unknown discriminator is a fault at its place, which is the place of the field (own rule).
-abbrev pub judged : ℕ → Read Value → Found Value
-judged place (Err f) = Err (Cdr f)
-judged place (Ok x) = if is_unknown x.0 then Err (BadAddressing place) else Ok x
+abbrev pub unless_unknown : ℕ → Read Value → Found Value
+unless_unknown place (Err f) = Err (Cdr f)
+unless_unknown place (Ok x) = if is_unknown x.0 then Err (BadAddressing place) else Ok x
 
 -- a field; a discriminator is a short, which stands at a place divisible by 2
 abbrev pub field_at : Form → Order → ℕ → List ℕ → Found Value
-field_at t order o octets = judged (o + padding o 2) (value_at t order o octets)
+field_at t order o octets = unless_unknown (o + padding o 2) (value_at t order o octets)
 
 -- fields one after the other
 abbrev pub fields_at : List Form → Order → ℕ → List ℕ → Found (List Value)
@@ -50,7 +50,8 @@ fields_at (t ∷ ts) order o octets = do
 abbrev pub directly : Order → ℕ → List ℕ → Rest
 directly order place rest = record { order = order; place = place; octets = rest }
 
--- GIOP 9.4.2, 9.4.3: a body of 1.2 stands at a place divisible by 8, even past the end
+-- GIOP 9.4.2, 9.4.3: a body of 1.2 stands at the next place divisible by 8; where the octets end before it the body is
+-- empty (own rule)
 abbrev pub aligned : Order → ℕ → List ℕ → Rest
 aligned order place rest = record { order = order; place = place + padding place 8; octets = drop (padding place 8) rest }
 
@@ -60,8 +61,8 @@ rest_at V12 Request order place rest = aligned order place rest
 rest_at V12 Reply order place rest = aligned order place rest
 rest_at _ _ order place rest = directly order place rest
 
--- What the octets after a header say in a version and kind, or the first fault. The body, or the octets after the fields
--- of a message with no body, may be any (own rule for the latter).
+-- What the octets after a header say in a version and kind, or the first fault. Octets after the fields of a message with
+-- no body are ignored (own rule).
 unfoldable pub message_of : Version → MessageKind → Order → List ℕ → Result Content MessageFault
 message_of version kind order octets = do
   x ← fields_at (row version kind) order 12 octets

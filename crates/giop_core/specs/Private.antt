@@ -28,13 +28,13 @@ use Rattle.giop_core.specs.Written.{message_octets, request_fields, target_of}
 
 -- A call gives what reading gives, seen by view, and goes on to the place after it. After a fault the cursor isn't used
 -- again.
-abbrev pub Tells : {X Y E : Type 0} → (X → Y) → Result X E → Result (Y × ℕ × List ℕ) E → Position → Position → Type 0
-Tells view (Ok x) read old new = (read ≡ Ok (view x, new.place, new.rest)) × (new.order ≡ old.order)
-Tells view (Err f) read old new = read ≡ Err f
+abbrev pub Gives : {X Y E : Type 0} → (X → Y) → Result X E → Result (Y × ℕ × List ℕ) E → Position → Position → Type 0
+Gives view (Ok x) read old new = (read ≡ Ok (view x, new.place, new.rest)) × (new.order ≡ old.order)
+Gives view (Err f) read old new = read ≡ Err f
 
 -- a call that reads a value of a type
 abbrev pub Reads : {X : Type 0} → (X → Value) → Result X Fault → Form → Position → Position → Type 0
-Reads view result t old new = Tells view result (value_at t old.order old.place old.rest) old new
+Reads view result t old new = Gives view result (value_at t old.order old.place old.rest) old new
 
 -- the values of what readers lend: a tag and its octets, ..
 abbrev pub lent_value : ℕ × Bor (List ℕ) → Value

@@ -10,11 +10,11 @@ use Rattle.giop_core.specs.declared.header.Version.TheVariants.{V10, V11, V12}
 use Rattle.giop_core.specs.declared.header.MessageKind.{MessageKind}
 use Rattle.giop_core.specs.declared.header.MessageKind.TheVariants.{Request, Reply, CancelRequest, LocateRequest, LocateReply, CloseConnection, MessageError, Fragment}
 
--- IOP: typedef sequence<ServiceContext> ServiceContextList; a service context is an unsigned long, its id, and octets
+-- IOP 7.7: typedef sequence<ServiceContext> ServiceContextList; a service context is an unsigned long, its id, and octets
 abbrev pub contexts : Form
 contexts = tagged_list
 
--- GIOP 9.4.2: octet reserved[3], which mean nothing
+-- GIOP 9.4.2: octet reserved[3]; any octets are read (own rule)
 abbrev pub reserved : Form
 reserved = form.array 3 octet
 

@@ -1,7 +1,5 @@
 -- The statuses of replies as numbers, and how many of them each version has.
 use Rattle.std.specs.Prelude.{ℕ, ◌==◌, Option, Some, None, if◌then◌else◌}
-use Rattle.giop_core.specs.declared.header.Version.{Version}
-use Rattle.giop_core.specs.declared.header.Version.TheVariants.{V10, V11, V12}
 use Rattle.giop_core.specs.declared.reply.ReplyStatus.{ReplyStatus}
 use Rattle.giop_core.specs.declared.reply.ReplyStatus.TheVariants as reply
 use Rattle.giop_core.specs.declared.locate.LocateStatus.{LocateStatus}

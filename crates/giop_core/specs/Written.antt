@@ -24,14 +24,14 @@ use Rattle.giop_core.specs.Items.{list_value, reference_as, tagged_value}
 -- the values of fields
 
 -- GIOP 9.4.2: response_expected in 1.0 and 1.1, and response_flags in 1.2
-abbrev pub is_expected : ReplyWish → Bool
-is_expected wish.None = false
-is_expected _ = true
+abbrev pub response_expected : ReplyWish → Bool
+response_expected wish.None = false
+response_expected _ = true
 
-abbrev pub flags_of : ReplyWish → ℕ
-flags_of wish.None = 0
-flags_of wish.Empty = 1
-flags_of wish.Full = 3
+abbrev pub response_flags : ReplyWish → ℕ
+response_flags wish.None = 0
+response_flags wish.Empty = 1
+response_flags wish.Full = 3
 
 -- GIOP 9.4.2: octet reserved[3], written as zeros
 abbrev pub zeros : Value
@@ -52,22 +52,22 @@ target_of (content.by_profile tag octets) = alternative (pos 1) (tagged_value (t
 target_of (content.by_reference index type_id profiles) = alternative (pos 2) (selected_as index type_id profiles)
 
 -- GIOP 9.4.2: the object_key of 1.0 and 1.1; no message of theirs is written for another target
-abbrev pub key_of : Addressed → Value
-key_of (content.by_key key) = value.octets key
-key_of _ = value.octets []
+abbrev pub key_value : Addressed → Value
+key_value (content.by_key key) = value.octets key
+key_value _ = value.octets []
 
 -- the target as a version has it
 abbrev pub target_in : Version → Addressed → Value
 target_in V12 to = target_of to
-target_in _ to = key_of to
+target_in _ to = key_value to
 
 -- the fields of messages, in the order of their rows
 
 -- GIOP 9.4.2: a Request; its requesting_principal, in 1.0 and 1.1, is empty (own rule)
 abbrev pub request_fields : Version → ℕ → ReplyWish → Addressed → List ℕ → List (ℕ × List ℕ) → List Value
-request_fields V10 id wish to operation contexts = list_value contexts ∷ ulong_value id ∷ value.boolean (is_expected wish) ∷ key_of to ∷ value.string operation ∷ value.octets [] ∷ []
-request_fields V11 id wish to operation contexts = list_value contexts ∷ ulong_value id ∷ value.boolean (is_expected wish) ∷ zeros ∷ key_of to ∷ value.string operation ∷ value.octets [] ∷ []
-request_fields V12 id wish to operation contexts = ulong_value id ∷ octet_value (flags_of wish) ∷ zeros ∷ target_of to ∷ value.string operation ∷ list_value contexts ∷ []
+request_fields V10 id wish to operation contexts = list_value contexts ∷ ulong_value id ∷ value.boolean (response_expected wish) ∷ key_value to ∷ value.string operation ∷ value.octets [] ∷ []
+request_fields V11 id wish to operation contexts = list_value contexts ∷ ulong_value id ∷ value.boolean (response_expected wish) ∷ zeros ∷ key_value to ∷ value.string operation ∷ value.octets [] ∷ []
+request_fields V12 id wish to operation contexts = ulong_value id ∷ octet_value (response_flags wish) ∷ zeros ∷ target_of to ∷ value.string operation ∷ list_value contexts ∷ []
 
 -- GIOP 9.4.3: a Reply
 abbrev pub reply_fields : Version → ℕ → ℕ → List (ℕ × List ℕ) → List Value

@@ -1,15 +1,13 @@
 //! CancelRequest (CORBA 3.3 Part 2, 9.4.4).
 
-ghost use Rattle.std.specs.Prelude.{◌≡◌, ◌<◌, ◌+◌, ◌++◌, MatchResult};
-ghost use Rattle.giop_core.specs.declared.header.Version.TheVariants.{V10};
+ghost use Rattle.std.specs.Prelude.{◌≡◌, ◌++◌, MatchResult};
+ghost use Rattle.cdr_core.specs.Private.{Keeps};
+ghost use Rattle.cdr_core.specs.Value.{no_values};
 ghost use Rattle.giop_core.specs.Lent.{cancel_of, Shows};
 ghost use Rattle.giop_core.specs.Messages.{message_of};
-ghost use Rattle.cdr_core.specs.Private.{Keeps};
-ghost use Rattle.cdr_core.specs.Writing.{Appends};
-ghost use Rattle.cdr_core.specs.Value.{no_values, values};
 ghost use Rattle.giop_core.specs.Written.{behind_header, cancel_fields, message_octets};
 ghost use Rattle.giop_core.specs.declared.header.MessageKind.TheVariants as kind;
-ghost use Rattle.giop_core.specs.Content as content;
+ghost use Rattle.giop_core.specs.declared.header.Version.TheVariants.{V10};
 
 use crate::error::MessageFault;
 use crate::header::{Header, MessageKind, Version};

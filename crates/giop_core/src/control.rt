@@ -1,11 +1,10 @@
 //! CloseConnection and MessageError (CORBA 3.3 Part 2, 9.4.7 and 9.4.8), which are their headers alone.
 
-ghost use Rattle.std.specs.Prelude.{◌≡◌, ◌<◌, ◌+◌, ◌++◌, [], MatchResult};
-ghost use Rattle.cdr_core.specs.Writing.{Appends};
+ghost use Rattle.std.specs.Prelude.{◌≡◌, ◌++◌, [], MatchResult};
 ghost use Rattle.cdr_core.specs.declared.order.Order.TheVariants.{Big};
-ghost use Rattle.giop_core.specs.declared.header.Version.TheVariants.{V10};
 ghost use Rattle.giop_core.specs.Written.{message_octets};
 ghost use Rattle.giop_core.specs.declared.header.MessageKind.TheVariants as kind;
+ghost use Rattle.giop_core.specs.declared.header.Version.TheVariants.{V10};
 
 use crate::header::{Header, MessageKind, Version};
 use cdr_core::Order;

@@ -1,10 +1,8 @@
 //! Fragment (CORBA 3.3 Part 2, 9.4.9).
 
-ghost use Rattle.giop_core.specs.declared.header.Version.TheVariants.{V10, V11, V12};
 ghost use Rattle.giop_core.specs.Lent.{fragment_of, Shows};
 ghost use Rattle.giop_core.specs.Messages.{message_of};
 ghost use Rattle.giop_core.specs.declared.header.MessageKind.TheVariants as kind;
-ghost use Rattle.giop_core.specs.Content as content;
 
 use crate::error::MessageFault;
 use crate::header::Version;

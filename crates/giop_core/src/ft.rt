@@ -1,15 +1,15 @@
 //! FT_REQUEST, the service context of a request that may be sent again (Fault Tolerant CORBA 23.2.7).
 
-ghost use Rattle.std.specs.Prelude.{◌≡◌, option_map, ◌<◌};
+ghost use Rattle.std.specs.Prelude.{◌≡◌, option_map};
 ghost use Rattle.cdr_core.specs.Encapsulation.{encapsulated};
 ghost use Rattle.cdr_core.specs.Reading.{value_at};
+ghost use Rattle.cdr_core.specs.Spelling.{IsClean};
 ghost use Rattle.giop_core.specs.Ft.{first_of, ft_by, ft_in, ft_seen};
 ghost use Rattle.giop_core.specs.Items.{contexts_left, items_in};
-ghost use Rattle.giop_core.specs.Rows.{ft_request};
-ghost use Rattle.cdr_core.specs.Spelling.{IsClean};
-ghost use Rattle.giop_core.specs.Written.{ft_octets, WroteOctets};
 ghost use Rattle.giop_core.specs.Lent.{Shows};
 ghost use Rattle.giop_core.specs.Private.{Reads, ft_value, AddsOctets};
+ghost use Rattle.giop_core.specs.Rows.{ft_request};
+ghost use Rattle.giop_core.specs.Written.{ft_octets, WroteOctets};
 
 use crate::error::WriteError;
 use crate::service_context::Contexts;

@@ -1,7 +1,6 @@
 //! The header of a message (CORBA 3.3 Part 2, 9.4.1).
 
-ghost use Rattle.std.specs.Prelude.{◌≡◌, ◌≤◌, ◌++◌, length, drop, Ok, Some, IsTrue};
-ghost use Rattle.cdr_core.specs.Numbers.{digits_of, number_of};
+ghost use Rattle.std.specs.Prelude.{◌≡◌, Ok, Some, IsTrue};
 ghost use Rattle.giop_core.specs.Headers.{can_be_cut, flags_octet, flags_of, has_kind, has_magic, header_octets, header_of, is_possible, kind_number, kind_of, minor_of, version_of};
 ghost use Rattle.giop_core.specs.Texts.{kind_text, version_text};
 

@@ -1,5 +1,8 @@
-//! The messages of GIOP 1.0, 1.1 and 1.2 (CORBA 3.3 Part 2, 9.4): read without memory and lent
-//! from their octets, and written.
+//! The messages of GIOP 1.0, 1.1 and 1.2 (CORBA 3.3 Part 2, 9.4).
+//!
+//! `Header::read` and `read_message` turn octets into a `Message`, which is lent from them and takes no
+//! memory. A writer for each kind appends one whole message to a vector. The crate stands on `cdr_core`
+//! for values and on `ior_core` for profiles; streams of messages are the matter of the crate above.
 #![tactic(auto)]
 
 mod cancel;
@@ -18,18 +21,25 @@ mod service_context;
 mod target_address;
 mod writing;
 
+// a message: its header, and what follows
+pub use header::{Header, HeaderFault, MessageKind, Version};
+pub use message::{Body, Content, Message, read_message};
+
+// each kind of message, and its writer
 pub use cancel::{CancelRequest, write_cancel};
 pub use control::{write_close, write_error};
-pub use error::{MessageFault, WriteError};
 pub use fragment::Fragment;
-pub use ft::{FT_REQUEST, FtField, ft_request, write_ft};
-pub use header::{Header, HeaderFault, MessageKind, Version};
-pub use ior_view::IorView;
 pub use locate::{
     LocateReply, LocateRequest, LocateStatus, write_locate_reply, write_locate_request,
 };
-pub use message::{Body, Content, Message, read_message};
 pub use reply::{Reply, ReplyStatus, write_reply};
 pub use request::{ReplyWish, Request, write_request};
+
+// what messages lend
+pub use ft::{FT_REQUEST, FtField, ft_request, write_ft};
+pub use ior_view::IorView;
 pub use service_context::Contexts;
 pub use target_address::Target;
+
+// errors
+pub use error::{MessageFault, WriteError};

@@ -1,18 +1,17 @@
 //! LocateRequest and LocateReply (CORBA 3.3 Part 2, 9.4.5 and 9.4.6).
 
-ghost use Rattle.std.specs.Prelude.{◌≡◌, ◌↔◌, Some, IsTrue, ◌≤◌, ◌<◌, [], length};
-ghost use Rattle.giop_core.specs.declared.header.Version.TheVariants.{V10, V11, V12};
-ghost use Rattle.giop_core.specs.Lent.{locate_request_of, locate_reply_of, addressed_by, rest_of, Shows};
-ghost use Rattle.giop_core.specs.Messages.{message_of};
-ghost use Rattle.cdr_core.specs.Writing.{Appends, AreWritable, IsWritable};
-ghost use Rattle.cdr_core.specs.Value.{no_values, values};
+ghost use Rattle.std.specs.Prelude.{◌≡◌, ◌↔◌, Some, IsTrue, ◌≤◌, ◌<◌, length};
+ghost use Rattle.cdr_core.specs.Value.{no_values};
 ghost use Rattle.cdr_core.specs.View.{values_of};
-ghost use Rattle.giop_core.specs.Written.{behind_header, locate_reply_fields, locate_request_fields, locate_statuses, reply_fields, request_fields, target_in, CanAddress, Wrote};
+ghost use Rattle.cdr_core.specs.Writing.{AreWritable, IsWritable};
+ghost use Rattle.giop_core.specs.Lent.{locate_request_of, locate_reply_of, addressed_by, Shows};
+ghost use Rattle.giop_core.specs.Messages.{message_of};
 ghost use Rattle.giop_core.specs.Private.{Adds, PutsFields};
-ghost use Rattle.giop_core.specs.declared.header.MessageKind.TheVariants as kind;
-ghost use Rattle.giop_core.specs.Content as content;
 ghost use Rattle.giop_core.specs.Statuses.{locate_status_number, locate_status_of};
 ghost use Rattle.giop_core.specs.Texts.{locate_status_text};
+ghost use Rattle.giop_core.specs.Written.{behind_header, locate_reply_fields, locate_request_fields, locate_statuses, target_in, CanAddress, Wrote};
+ghost use Rattle.giop_core.specs.declared.header.MessageKind.TheVariants as kind;
+ghost use Rattle.giop_core.specs.declared.header.Version.TheVariants.{V10, V12};
 
 use crate::error::{MessageFault, WriteError};
 use crate::header::{MessageKind, Version};
@@ -31,7 +30,7 @@ pub struct LocateRequest<'m> {
     pub target: Target<'m>,
 }
 
-/// A LocateReply (CORBA 3.3 Part 2, 9.4.6).
+/// A LocateReply (CORBA 3.3 Part 2, 9.4.6): the answer to the LocateRequest of this id.
 #[derive(Clone, Copy, Debug, Drop)]
 pub struct LocateReply<'m> {
     pub request_id: u32,

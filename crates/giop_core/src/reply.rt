@@ -1,18 +1,18 @@
 //! Reply (CORBA 3.3 Part 2, 9.4.3).
 
 ghost use Rattle.std.specs.Prelude.{◌↔◌, Some, IsTrue, ◌≡◌, IfOk, ◌≤◌, ◌<◌, length, map};
-ghost use Rattle.giop_core.specs.declared.header.Version.TheVariants.{V10, V11, V12};
-ghost use Rattle.giop_core.specs.Lent.{content_of, Shows};
-ghost use Rattle.giop_core.specs.Messages.{message_of};
-ghost use Rattle.cdr_core.specs.Writing.{Appends, AreWritable};
 ghost use Rattle.cdr_core.specs.Value.{values};
 ghost use Rattle.cdr_core.specs.View.{values_of};
+ghost use Rattle.cdr_core.specs.Writing.{AreWritable};
 ghost use Rattle.giop_core.specs.Items.{item_at};
-ghost use Rattle.giop_core.specs.Written.{behind_header, reply_fields, reply_statuses, Wrote};
+ghost use Rattle.giop_core.specs.Lent.{content_of, Shows};
+ghost use Rattle.giop_core.specs.Messages.{message_of};
 ghost use Rattle.giop_core.specs.Private.{Adds, PutsFields};
-ghost use Rattle.giop_core.specs.declared.header.MessageKind.TheVariants as kind;
 ghost use Rattle.giop_core.specs.Statuses.{reply_status_number, reply_status_of};
 ghost use Rattle.giop_core.specs.Texts.{reply_status_text};
+ghost use Rattle.giop_core.specs.Written.{behind_header, reply_fields, reply_statuses, Wrote};
+ghost use Rattle.giop_core.specs.declared.header.MessageKind.TheVariants as kind;
+ghost use Rattle.giop_core.specs.declared.header.Version.TheVariants.{V10, V12};
 
 use crate::error::{MessageFault, WriteError};
 use crate::header::{MessageKind, Version};
@@ -23,7 +23,7 @@ use cdr_core::{Cursor, Order, Val, Writer};
 use std::alloc::AllocError;
 use std::fmt;
 
-/// A Reply (CORBA 3.3 Part 2, 9.4.3).
+/// A Reply (CORBA 3.3 Part 2, 9.4.3): the answer to the Request of this id.
 #[derive(Debug, Drop)]
 pub struct Reply<'m> {
     pub request_id: u32,

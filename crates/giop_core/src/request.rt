@@ -1,22 +1,22 @@
 //! Request (CORBA 3.3 Part 2, 9.4.2).
 
-ghost use Rattle.std.specs.Prelude.{◌↔◌, Some, IsTrue, ◌≡◌, IfOk, ◌<◌, length, ◌≤◌, [], map, MatchResult};
-ghost use Rattle.giop_core.specs.declared.header.Version.TheVariants.{V10, V11, V12};
-ghost use Rattle.giop_core.specs.Content.{wish_by, wish_if};
-ghost use Rattle.giop_core.specs.Lent.{addressed_by, content_of, Shows};
-ghost use Rattle.giop_core.specs.Messages.{message_of};
+ghost use Rattle.std.specs.Prelude.{◌↔◌, Some, IsTrue, ◌≡◌, IfOk, length, ◌≤◌, [], map, MatchResult};
 ghost use Rattle.cdr_core.specs.Private.{Keeps};
-ghost use Rattle.giop_core.specs.Rows.{contexts, reserved, target};
-ghost use Rattle.cdr_core.specs.Writing.{Appends, AreWritable};
 ghost use Rattle.cdr_core.specs.Spelling.{IsClean};
+ghost use Rattle.cdr_core.specs.Value as value;
 ghost use Rattle.cdr_core.specs.Value.{values};
 ghost use Rattle.cdr_core.specs.View.{values_of};
+ghost use Rattle.cdr_core.specs.Writing.{Appends, AreWritable};
+ghost use Rattle.giop_core.specs.Content.{wish_by, wish_if};
 ghost use Rattle.giop_core.specs.Items.{item_at};
-ghost use Rattle.giop_core.specs.Written.{behind_header, flags_of, is_expected, request_fields, CanAddress, CanAsk, Wrote, zeros};
+ghost use Rattle.giop_core.specs.Lent.{addressed_by, content_of, Shows};
+ghost use Rattle.giop_core.specs.Messages.{message_of};
 ghost use Rattle.giop_core.specs.Private.{fields_in, Reads, three_value, Adds, PutsFields};
-ghost use Rattle.giop_core.specs.declared.header.MessageKind.TheVariants as kind;
-ghost use Rattle.cdr_core.specs.Value as value;
+ghost use Rattle.giop_core.specs.Rows.{reserved};
 ghost use Rattle.giop_core.specs.Texts.{wish_text};
+ghost use Rattle.giop_core.specs.Written.{behind_header, response_flags, response_expected, request_fields, CanAddress, CanAsk, Wrote, zeros};
+ghost use Rattle.giop_core.specs.declared.header.MessageKind.TheVariants as kind;
+ghost use Rattle.giop_core.specs.declared.header.Version.TheVariants.{V10, V11, V12};
 
 use crate::error::{MessageFault, WriteError};
 use crate::header::{MessageKind, Version};
@@ -28,14 +28,17 @@ use cdr_core::{Cursor, Fault, Order, Val, Writer};
 use std::alloc::AllocError;
 use std::fmt;
 
-/// A Request (CORBA 3.3 Part 2, 9.4.2).
+/// A Request (CORBA 3.3 Part 2, 9.4.2): an operation is to be performed by an object.
 #[derive(Debug, Drop)]
 pub struct Request<'m> {
     pub request_id: u32,
+    /// Which reply is asked for.
     pub reply: ReplyWish,
     pub target: Target<'m>,
+    /// The name of the operation, without its NUL.
     pub operation: &'m [u8],
     pub contexts: Contexts<'m>,
+    /// The arguments.
     pub body: Body<'m>,
 }
 
@@ -212,8 +215,8 @@ pub(crate) fn read_request(
 }
 
 /// The response_expected for a wish, in 1.0 and 1.1.
-fn is_expected(wish: ReplyWish) -> bool
-    ensures { result ≡ is_expected wish }
+fn response_expected(wish: ReplyWish) -> bool
+    ensures { result ≡ response_expected wish }
 {
     match wish {
         ReplyWish::None => false,
@@ -222,8 +225,8 @@ fn is_expected(wish: ReplyWish) -> bool
 }
 
 /// The response_flags for a wish, in 1.2.
-fn flags_of(wish: ReplyWish) -> u8
-    ensures { result ≡ flags_of wish }
+fn response_flags(wish: ReplyWish) -> u8
+    ensures { result ≡ response_flags wish }
 {
     match wish {
         ReplyWish::None => 0,
@@ -276,7 +279,7 @@ fn put_request_10(
 {
     put_contexts(writer, fields.contexts, out)?;
     writer.ulong(fields.request_id, out)?;
-    writer.boolean(is_expected(fields.wish), out)?;
+    writer.boolean(response_expected(fields.wish), out)?;
     put_key(writer, fields.target, out)?;
     writer.string(fields.operation, out)?;
     put_principal(writer, out)?;
@@ -296,7 +299,7 @@ fn put_request_11(
 {
     put_contexts(writer, fields.contexts, out)?;
     writer.ulong(fields.request_id, out)?;
-    writer.boolean(is_expected(fields.wish), out)?;
+    writer.boolean(response_expected(fields.wish), out)?;
     put_reserved(writer, out)?;
     put_key(writer, fields.target, out)?;
     writer.string(fields.operation, out)?;
@@ -315,7 +318,7 @@ fn put_request_12(
     ensures { PutsFields writer.now (fields_in V12 fields.now) result out.old.items out.new.items }
 {
     writer.ulong(fields.request_id, out)?;
-    writer.octet(flags_of(fields.wish), out)?;
+    writer.octet(response_flags(fields.wish), out)?;
     put_reserved(writer, out)?;
     put_target(writer, fields.target, out)?;
     writer.string(fields.operation, out)?;

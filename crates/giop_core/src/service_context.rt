@@ -1,15 +1,15 @@
-//! Service contexts (CORBA 3.3 Part 2, 9.7.1): a list of ids with octets, in a message and to be written.
+//! Service contexts (CORBA 3.3 Part 2, 7.7): a list of ids with octets, in a message and to be written.
 
-ghost use Rattle.std.specs.Prelude.{◌≡◌, length, ◌<◌, IfOk, ◌≤◌, ◌^◌, map, MatchResult};
-ghost use Rattle.cdr_core.specs.Writing.{IsWritable, Appends, PutsAll, AreWritable};
-ghost use Rattle.giop_core.specs.Items.{contexts_left, item_at, list_value, tagged_value};
-ghost use Rattle.cdr_core.specs.Reading.{each_at, value_at};
-ghost use Rattle.cdr_core.specs.Private.{passing, Keeps};
-ghost use Rattle.ior_core.specs.Grammar.{tagged};
-ghost use Rattle.giop_core.specs.Rows.{contexts};
 ghost use Rattle.std.specs.Iterator.{YieldsFirstBy, item_count};
-ghost use Rattle.giop_core.specs.Private.{Reads, Tells, contexts_value, lent_value, Checks};
+ghost use Rattle.std.specs.Prelude.{◌≡◌, length, ◌<◌, IfOk, ◌≤◌, ◌^◌, map, MatchResult};
+ghost use Rattle.cdr_core.specs.Private.{passing, Keeps};
+ghost use Rattle.cdr_core.specs.Reading.{each_at, value_at};
 ghost use Rattle.cdr_core.specs.Value.{values};
+ghost use Rattle.cdr_core.specs.Writing.{IsWritable, Appends, PutsAll, AreWritable};
+ghost use Rattle.ior_core.specs.Grammar.{tagged};
+ghost use Rattle.giop_core.specs.Items.{contexts_left, item_at, list_value, tagged_value};
+ghost use Rattle.giop_core.specs.Private.{Reads, Gives, contexts_value, lent_value, Checks};
+ghost use Rattle.giop_core.specs.Rows.{contexts};
 
 use crate::error::WriteError;
 use crate::writing::{LONGEST, check_octets};
@@ -17,7 +17,7 @@ use cdr_core::{Cursor, Fault, Writer};
 use ior_core::read_tagged;
 use std::alloc::AllocError;
 
-/// The service contexts of a message (CORBA 3.3 Part 2, 9.7.1), an iterator of the id of each and its
+/// The service contexts of a message (CORBA 3.3 Part 2, 7.7), an iterator of the id of each and its
 /// octets. They are lent from the message and take no memory.
 #[derive(Debug, Drop)]
 pub struct Contexts<'m> {
@@ -27,7 +27,7 @@ pub struct Contexts<'m> {
 
 /// Passes over so many contexts.
 fn pass(cursor: &mut Cursor, count: u32) -> Result<(), Fault>
-    ensures { Tells (λ u. u) result (passing (each_at (value_at tagged cursor.old.order) count cursor.old.place cursor.old.rest)) cursor.old cursor.new }
+    ensures { Gives (λ u. u) result (passing (each_at (value_at tagged cursor.old.order) count cursor.old.place cursor.old.rest)) cursor.old cursor.new }
 {
     for _ in 0..count {
         read_tagged(cursor)?;

@@ -1,18 +1,18 @@
 //! The target of a Request or LocateRequest (CORBA 3.3 Part 2, 9.4.2: TargetAddress).
 
-ghost use Rattle.std.specs.Prelude.{◌↔◌, IsTrue, ◌≡◌, length, ◌<◌, option_map, slice_get, ◌≤◌, map, MatchResult};
-ghost use Rattle.cdr_core.specs.Writing.{IsWritable, Appends, PutsAll, AreWritable};
-ghost use Rattle.giop_core.specs.Items.{contexts_left, items_in, reference_as, item_at, list_value, tagged_value};
+ghost use Rattle.std.specs.Prelude.{◌↔◌, IsTrue, ◌≡◌, length, option_map, ◌≤◌, map, MatchResult};
 ghost use Rattle.cdr_core.specs.Private.{Keeps};
-ghost use Rattle.ior_core.specs.Grammar.{reference, tagged};
+ghost use Rattle.cdr_core.specs.Value.{values};
+ghost use Rattle.cdr_core.specs.Writing.{IsWritable, Appends, PutsAll, AreWritable};
+ghost use Rattle.ior_core.specs.Grammar.{reference};
+ghost use Rattle.giop_core.specs.Items.{contexts_left, items_in, list_value, tagged_value};
+ghost use Rattle.giop_core.specs.Keys.{key_of_addressed};
 ghost use Rattle.giop_core.specs.Lent.{addressed_by};
 ghost use Rattle.giop_core.specs.Messages.{field_at};
-ghost use Rattle.giop_core.specs.Rows.{contexts, selected, target};
-ghost use Rattle.giop_core.specs.Keys.{key_of_addressed};
-ghost use Rattle.giop_core.specs.Private.{Reads, Tells, reference_value, selected_value, target_value, Checks};
-ghost use Rattle.giop_core.specs.Written.{target_in, CanAddress, target_of, key_of};
-ghost use Rattle.cdr_core.specs.Value.{values};
-ghost use Rattle.giop_core.specs.declared.header.Version.TheVariants.{V10, V11, V12};
+ghost use Rattle.giop_core.specs.Private.{Reads, Gives, reference_value, selected_value, target_value, Checks};
+ghost use Rattle.giop_core.specs.Rows.{selected, target};
+ghost use Rattle.giop_core.specs.Written.{target_in, CanAddress, target_of, key_value};
+ghost use Rattle.giop_core.specs.declared.header.Version.TheVariants.{V10};
 
 use crate::error::{MessageFault, WriteError};
 use crate::header::Version;
@@ -59,7 +59,7 @@ fn read_selected<'m>(cursor: &mut Cursor<'m>) -> Result<(u32, IorView<'m>), Faul
 /// Reads the target of a message of 1.2.
 #[tactic(auto, using(crate::proofs::Choices::choice_short, crate::proofs::Choices::choice_0, crate::proofs::Choices::choice_1, crate::proofs::Choices::choice_2, crate::proofs::Choices::choice_0_stops, crate::proofs::Choices::choice_1_stops, crate::proofs::Choices::choice_2_stops, crate::proofs::Choices::choice_unknown))]
 pub(crate) fn read_target<'m>(cursor: &mut Cursor<'m>) -> Result<Target<'m>, MessageFault>
-    ensures { Tells target_value result (field_at target cursor.old.order cursor.old.place cursor.old.rest) cursor.old cursor.new }
+    ensures { Gives target_value result (field_at target cursor.old.order cursor.old.place cursor.old.rest) cursor.old cursor.new }
 {
     let mut ahead = cursor.fork();
     ahead.align(2);
@@ -194,8 +194,8 @@ pub(crate) fn put_target(
 pub(crate) fn put_key(writer: &Writer, target: &Target, out: &mut Vec<u8>) -> Result<(), AllocError>
     requires start { writer.now.start ≤ length out.old.items }
     requires key { CanAddress V10 (addressed_by target.now) }
-    requires writable { IsWritable (key_of (addressed_by target.now)) }
-    ensures { MatchResult result (λ _. Appends writer.now (key_of (addressed_by target.now)) out.old.items out.new.items) (λ _. Keeps out.old.items out.new.items) }
+    requires writable { IsWritable (key_value (addressed_by target.now)) }
+    ensures { MatchResult result (λ _. Appends writer.now (key_value (addressed_by target.now)) out.old.items out.new.items) (λ _. Keeps out.old.items out.new.items) }
 {
     match target {
         Target::Key(key) => writer.octets(key, out),

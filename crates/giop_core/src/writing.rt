@@ -1,15 +1,13 @@
 //! What all writers share: the beginning and the end of a message, and which parts are too long.
 
-ghost use Rattle.std.specs.Prelude.{◌≡◌, ◌≤◌, ◌<◌, ◌+◌, ◌++◌, length, drop, take, replicate, MatchResult};
+ghost use Rattle.std.specs.Prelude.{◌≡◌, ◌≤◌, ◌+◌, ◌++◌, length, drop, take, replicate, MatchResult};
 ghost use Rattle.cdr_core.specs.Private.{Keeps};
-ghost use Rattle.cdr_core.specs.Writing.{Appends, place_in, AreWritable};
 ghost use Rattle.cdr_core.specs.Spelling.{IsClean};
-ghost use Rattle.cdr_core.specs.Value.{values};
-ghost use Rattle.cdr_core.specs.View.{values_of};
-ghost use Rattle.giop_core.specs.declared.header.Version.TheVariants.{V12};
-ghost use Rattle.giop_core.specs.Written.{aligned_octets, body_octets, with_body};
-ghost use Rattle.giop_core.specs.Private.{Adds, Checks};
 ghost use Rattle.cdr_core.specs.Value as value;
+ghost use Rattle.cdr_core.specs.View.{values_of};
+ghost use Rattle.cdr_core.specs.Writing.{place_in, AreWritable};
+ghost use Rattle.giop_core.specs.Private.{Adds, Checks};
+ghost use Rattle.giop_core.specs.Written.{aligned_octets, body_octets, with_body};
 
 use crate::error::WriteError;
 use crate::header::{Header, MessageKind, Version};
@@ -129,7 +127,7 @@ pub(crate) fn finish(
     body: &[Val],
     out: &mut Vec<u8>,
 ) -> Result<(), WriteError>
-    requires begun { start + 12 ≤ length out.old.items }
+    requires header { start + 12 ≤ length out.old.items }
     requires is { writer.now ≡ record { order = order; at = 12; start = start + 12 } }
     requires writable { AreWritable (values_of body.now) }
     ensures { Adds version kind order (with_body version kind order (values_of body.now) (drop (start + 12) out.old.items)) result (take start out.old.items) out.new.items }

@@ -42,8 +42,8 @@ returns-in_err-put_request c =
     let p = err_from_is_err_and c.from_residual-in_err-put_request.result c.from_residual-in_err-put_request.ensures.1 in
     rw (p.1, p.2) (keeps_behind _ c.in_ok-writer.ensures.0 c.in_err-put_request.ensures)
 
-pub finish-requires-clause-begun : goal.finish-requires-clause-begun
-finish-requires-clause-begun c = room_begun c.in_ok-writer.writer c.args.order c.args.out.now.items c.begin.new.out.items c.in_ok-writer.ensures.0 c.in_ok-writer.ensures.1 c.len-start.result (omega (arith, c.len-start.ensures, c.args.out.now.ok.0)) _ c.in_ok-put_request.ensures
+pub finish-requires-clause-header : goal.finish-requires-clause-header
+finish-requires-clause-header c = room_begun c.in_ok-writer.writer c.args.order c.args.out.now.items c.begin.new.out.items c.in_ok-writer.ensures.0 c.in_ok-writer.ensures.1 c.len-start.result (omega (arith, c.len-start.ensures, c.args.out.now.ok.0)) _ c.in_ok-put_request.ensures
 
 pub finish-requires-clause-is : goal.finish-requires-clause-is
 finish-requires-clause-is c = writes_begun c.in_ok-writer.writer c.args.order c.args.out.now.items c.begin.new.out.items c.in_ok-writer.ensures.0 c.in_ok-writer.ensures.1 c.len-start.result (omega (arith, c.len-start.ensures, c.args.out.now.ok.0))

@@ -4,7 +4,7 @@ use Rattle.cdr_core.specs.Writing.{AreWritable}
 use Rattle.giop_core.specs.Private.{lent_value, AreLong}
 use Rattle.giop_core.proofs.service_context.check_contexts.Given as goal
 
--- what is judged of the contexts that are left is judged of all
+-- what is checked of the contexts that are left is checked of all
 abbrev pub invariant-loop-one : goal.invariant-loop-one
 invariant-loop-one l = record {
   short : AreWritable (values (map lent_value (drop l.one-index l.all))) → AreWritable (values (map lent_value l.all));

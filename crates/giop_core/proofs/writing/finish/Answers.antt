@@ -14,4 +14,4 @@ returns-in_err-put_body c =
 pub returns : goal.returns
 returns c =
     let a = c.args in
-    body_behind a.version a.kind a.order a.start (values_of a.body.now) a.writer.now a.out.now.items c.put_body.new.out.items c.requires.begun c.requires.is c.in_ok-put_body.ensures c.put_header.result c.put_header.new.out.items c.put_header.ensures
+    body_behind a.version a.kind a.order a.start (values_of a.body.now) a.writer.now a.out.now.items c.put_body.new.out.items c.requires.header c.requires.is c.in_ok-put_body.ensures c.put_header.result c.put_header.new.out.items c.put_header.ensures

@@ -13,7 +13,7 @@ use Rattle.giop_core.specs.Headers.{can_be_cut, flags_of, has_kind, has_magic, h
 use Rattle.giop_core.proofs.header.Header.read.Goals as goal
 use Rattle.giop_core.proofs.header.Header.read.Goals.{else-more-via-then-more+else-not-can_be_cut, else-more-via-else-more}
 
--- where an option has nothing, the fault that is told in its place
+-- where an option has nothing, the fault in its place
 told : {T : Type 0} (d f : HeaderFault) (o : Option T) → ◌≡◌ {A = Result T HeaderFault} (Err d) (ok_or o f) → o ≡ None → d ≡ f
 told d f None e n = cc
 told d f (Some x) e n = absurd cc
@@ -33,7 +33,7 @@ cuts_is_cut false cuts e = refl
 cuts_is_cut true true e = refl
 cuts_is_cut true false e = absurd cc
 
--- the header so far, with what each test or octet told
+-- the header so far, with what each test or octet said
 module _ (octets : List ℕ) where
   bad_magic : has_magic octets ≡ false → header_of octets ≡ Err BadMagic
   unfolding header_of
