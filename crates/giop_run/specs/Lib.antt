@@ -7,8 +7,10 @@ pub mod Output
 pub mod Layout
 pub mod Standing
 pub mod Script
+pub mod Text
 pub mod ReferenceLines
 pub mod MessageLines
 pub mod Digits
 pub mod StreamEnds
 pub mod StreamLines
+pub mod Private

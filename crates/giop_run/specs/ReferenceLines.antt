@@ -1,29 +1,13 @@
 -- The lines that show a reference.
-use Rattle.std.specs.Prelude.{ℕ, suc, pos, Bool, not, nat_le, ◌==◌, ◌&&◌, List, [], ◌∷◌, ◌++◌, flat_map, codes, decimal, Option, Some, Result, Ok, Err, if◌then◌else◌}
+use Rattle.std.specs.Prelude.{ℕ, suc, pos, ◌==◌, List, [], ◌∷◌, ◌++◌, codes, decimal, Option, Some, Result, Ok, Err, if◌then◌else◌}
 use Rattle.std.specs.List.{concat}
-use Rattle.hex.specs.Hex.{encode_lower}
 use Rattle.cdr_core.specs.declared.fault.Fault.{Fault}
 use Rattle.cdr_core.specs.Value as value
 use Rattle.cdr_core.specs.Value.{Value, Values}
 use Rattle.ior_core.specs.declared.reference.Ior.{Ior}
 use Rattle.ior_core.specs.declared.tagged.Tagged.{Tagged}
 use Rattle.ior_core.specs.Profiles.{body_of, has_major_1, member, Body}
-
--- the octets of ASCII from the space on that print, but the backslash
-abbrev pub is_plain : ℕ → Bool
-is_plain octet = (nat_le 32 octet && nat_le octet 126) && not (octet == 92)
-
--- an octet as it is, or as a backslash, an x and two digits
-abbrev pub shown_octet : ℕ → List ℕ
-shown_octet octet = if is_plain octet then octet ∷ [] else codes "\\x" ++ encode_lower (octet ∷ [])
-
-abbrev pub shown : List ℕ → List ℕ
-shown octets = flat_map shown_octet octets
-
--- hexadecimal digits in lower case, or a dash where there are none
-abbrev pub digits_of : List ℕ → List ℕ
-digits_of [] = codes "-"
-digits_of (octet ∷ octets) = encode_lower (octet ∷ octets)
+use Rattle.giop_run.specs.Text.{digits_of, text_of}
 
 -- the octets of a string or of a sequence of octets
 abbrev pub octets_in : Value → List ℕ
@@ -51,7 +35,7 @@ components_in _ = value.no_values
 -- a profile's head is a structure of a major and a minor version, a host, a port and a key
 abbrev pub iiop_line : ℕ → Value → List ℕ
 iiop_line place v = concat (codes "profile " ∷ decimal place ∷ codes " iiop 1." ∷ decimal (number_in (member 1 v))
-    ∷ codes " host " ∷ shown (octets_in (member 2 v)) ∷ codes " port " ∷ decimal (number_in (member 3 v))
+    ∷ codes " host " ∷ text_of (octets_in (member 2 v)) ∷ codes " port " ∷ decimal (number_in (member 3 v))
     ∷ codes " key " ∷ digits_of (octets_in (member 4 v)) ∷ codes "\n" ∷ [])
 
 abbrev pub bad_line : ℕ → List ℕ
@@ -76,7 +60,7 @@ lines_from place (p ∷ ps) = profile_lines place p ++ lines_from (suc place) ps
 
 abbrev pub lines_of : List ℕ → List Tagged → List ℕ
 lines_of [] [] = codes "nil\n"
-lines_of type_id profiles = concat (codes "type " ∷ shown type_id ∷ codes "\n" ∷ []) ++ lines_from 0 profiles
+lines_of type_id profiles = concat (codes "type " ∷ text_of type_id ∷ codes "\n" ∷ []) ++ lines_from 0 profiles
 
 -- the nil reference has an empty type and no profiles
 abbrev pub reference_lines : Ior → List ℕ

@@ -1,14 +1,11 @@
 -- Which past a server stands for, and what its calls do.
-use Rattle.std.specs.Prelude.{◌≡◌, ℕ, true, false, nat_lt, ◌==◌, List, ◌∷◌, ◌++◌, Option, Some, None, Result, Ok, Err, if◌then◌else◌}
+use Rattle.std.specs.Prelude.{◌≡◌, ℕ, true, false, nat_lt, List, ◌∷◌, ◌++◌, Option, Some, None, Result, Ok, Err, if◌then◌else◌}
 use Rattle.std.specs.Option.{option_map_or}
 use Rattle.std.specs.Ordering.{nat_cmp}
-use Rattle.std.specs.BTreeMap.{get, BTreeMap}
+use Rattle.std.specs.BTreeMap.{get}
 use Rattle.giop_run.specs.Event.{Event}
 use Rattle.giop_run.specs.History.{does_count, is_live, has_ended}
-use Rattle.giop_run.specs.Locate.{Question}
 use Rattle.giop_run.specs.Output.{output, is_refused, needs_memory, cut_short}
-use Rattle.giop_run.specs.declared.events.Note.{Note}
-use Rattle.giop_run.specs.declared.events.Note.TheVariants.{Done, Refused, Memory}
 use Rattle.giop_run.specs.declared.server.Server.{Server}
 use Rattle.giop_run.specs.declared.server.Link.{Link}
 use Rattle.giop_run.specs.declared.server.Link.TheVariants.{Live, Closed}
@@ -38,23 +35,3 @@ Serves past e (Ok x) before now new = (now ≡ before ++ output past e) × (is_r
 Serves past e (Err serving.NoConnection) before now new = (now ≡ before) × (is_refused past e ≡ true) × Stands new (e ∷ past)
 Serves past e (Err (serving.Memory handled answered)) before now new =
     (now ≡ before) × (handled ≡ 0) × (answered ≡ 0) × (needs_memory past e ≡ true) × Stands new (cut_short past e)
-
--- the link of a connection behind what may be a question
-abbrev pub link_after : Option Question → Link
-link_after None = Closed
-link_after (Some q) = Live
-
--- the link of one connection is changed, and no other
-abbrev pub Changes : BTreeMap ℕ Link → BTreeMap ℕ Link → ℕ → Option Link → Type 0
-Changes old new c link = (q : ℕ) → get nat_cmp new q ≡ (if c == q then link else get nat_cmp old q)
-
--- how the calls for an opening, and for a piece or a close, are noted
-abbrev pub note_of_opening : {A : Type 0} → Result A ConnectError → Note
-note_of_opening (Ok x) = Done
-note_of_opening (Err connecting.NotNew) = Refused
-note_of_opening (Err connecting.Memory) = Memory 0 0
-
-abbrev pub note_of_serving : {A : Type 0} → Result A ServeError → Note
-note_of_serving (Ok x) = Done
-note_of_serving (Err serving.NoConnection) = Refused
-note_of_serving (Err (serving.Memory handled answered)) = Memory handled answered

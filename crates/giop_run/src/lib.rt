@@ -1,9 +1,10 @@
-//! What the program `giop` does, over any reader and writers: it plays a script of events on a server
-//! of one counter and prints the octets that are written on each connection; it shows the messages of
-//! a stream, or tells how a stream ends; and it shows the reference that a text is.
+//! What the program `giop` does, over any reader and writers: it shows the messages of a stream and how
+//! the stream ends, or its end alone; it shows an object reference; and it plays a script of events on a
+//! server of one counter and prints the octets that are written on each connection.
 #![tactic(auto)]
 
 mod counter;
+mod digits;
 mod events;
 pub mod laws;
 mod locate;
@@ -14,7 +15,9 @@ mod reference;
 mod script;
 mod server;
 mod setting;
+mod stop;
 mod stream;
+mod text;
 
 pub use program::run;
 pub use setting::Setting;

@@ -4,7 +4,8 @@ ghost use Rattle.std.specs.Prelude.{◌≡◌, List, ◌++◌, length, map, take
 ghost use Rattle.giop_run.specs.Event.{connection_of, event_of};
 ghost use Rattle.giop_run.specs.Event as history;
 ghost use Rattle.giop_run.specs.Output.{after, events_played, Plays, Writes};
-ghost use Rattle.giop_run.specs.Standing.{note_of_opening, note_of_serving, Stands};
+ghost use Rattle.giop_run.specs.Private.{note_of_opening, note_of_serving};
+ghost use Rattle.giop_run.specs.Standing.{Stands};
 
 use crate::events::{Event, Note, PlayError, Written};
 use crate::server::{ConnectError, ServeError, Server};

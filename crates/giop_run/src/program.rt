@@ -3,93 +3,19 @@
 ghost use Rattle.std.specs.Prelude.{◌≤◌};
 
 use crate::counter::Counter;
-use crate::events::{Event, Note, PlayError, Written};
+use crate::events::{Event, Note, Written};
 use crate::play::play;
 use crate::reference::reference_lines;
-use crate::script::{ScriptError, read_script};
+use crate::script::read_script;
 use crate::server::Server;
 use crate::setting::Setting;
-use crate::stream::{DigitError, show_stream};
+use crate::stop::Stop;
+use crate::stream::{Detail, show_stream};
 use giop_frames::Limits;
-use ior_core::{IorError, parse_text};
-use std::alloc::{AllocError, AllocFailed, Global};
+use ior_core::parse_text;
+use std::alloc::Global;
 use std::io;
 use std::io::{BufWriter, ErrorKind, Read, Write};
-
-/// The limits under which a stream is read.
-const LIMITS: Limits = Limits {
-    message: 1_048_576,
-    partials: 8,
-};
-
-/// Why the program ends with status 1.
-#[derive(Debug, Drop)]
-pub(crate) enum Stop {
-    /// Memory ran out.
-    Memory,
-    /// The input can't be read, isn't UTF-8, or hasn't ended.
-    Unreadable,
-    /// The line of the script with that number is no event.
-    BadLine(u64),
-    /// The text is no reference.
-    BadText(IorError),
-    /// The input has an odd number of digits.
-    OddDigits,
-    /// The input has something that is no digit.
-    BadDigit,
-    /// The output can't be written.
-    Unwritable,
-}
-
-impl From<AllocError> for Stop {
-    fn from(_e: AllocError) -> Stop {
-        Stop::Memory
-    }
-}
-
-impl From<ScriptError> for Stop {
-    fn from(error: ScriptError) -> Stop {
-        match error {
-            ScriptError::BadLine(line) => Stop::BadLine(line),
-            ScriptError::Memory => Stop::Memory,
-        }
-    }
-}
-
-impl From<PlayError> for Stop {
-    fn from(_e: PlayError) -> Stop {
-        Stop::Memory
-    }
-}
-
-impl From<IorError> for Stop {
-    fn from(error: IorError) -> Stop {
-        match error {
-            IorError::Memory => Stop::Memory,
-            error => Stop::BadText(error),
-        }
-    }
-}
-
-impl From<DigitError> for Stop {
-    fn from(error: DigitError) -> Stop {
-        match error {
-            DigitError::Odd => Stop::OddDigits,
-            DigitError::Bad => Stop::BadDigit,
-            DigitError::Memory => Stop::Memory,
-        }
-    }
-}
-
-/// An error of a writer.
-impl From<io::Error> for Stop {
-    fn from(error: io::Error) -> Stop {
-        match error.kind() {
-            ErrorKind::OutOfMemory => Stop::Memory,
-            _ => Stop::Unwritable,
-        }
-    }
-}
 
 /// All that a reader gives. A reader that hasn't ended after 4,294,967,295 reads is unreadable.
 fn read_all<R: Read>(alloc: Global, input: &mut R) -> Result<Vec<u8>, Stop> {
@@ -106,7 +32,13 @@ fn read_all<R: Read>(alloc: Global, input: &mut R) -> Result<Vec<u8>, Stop> {
     Err(Stop::Unreadable)
 }
 
-/// Prints a line for an entry with octets.
+/// The text that a reader gives, which is to be UTF-8.
+fn read_text<R: Read>(alloc: Global, input: &mut R) -> Result<String, Stop> {
+    let octets = read_all(alloc, input)?;
+    String::from_utf8(octets).map_err(|_| Stop::Unreadable)
+}
+
+/// Prints a line for an entry, if it has octets.
 fn print_entry<W: Write>(alloc: Global, entry: &Written, out: &mut W) -> Result<(), Stop> {
     if entry.octets.is_empty() {
         return Ok(());
@@ -133,21 +65,20 @@ fn print_written<W: Write>(
     Ok(())
 }
 
-/// Tells whether memory ran out while an entry was made.
+/// Whether an allocation failed while an entry was made.
 fn is_cut_short(entry: &Written) -> bool {
     matches!(entry.note, Note::Memory { .. })
 }
 
 /// The events of the script that a reader gives.
-fn events_in<R: Read>(alloc: Global, input: &mut R) -> Result<Vec<Event>, Stop> {
-    let octets = read_all(alloc, input)?;
-    let script = std::str::from_utf8(octets.as_slice()).map_err(|_| Stop::Unreadable)?;
-    Ok(read_script(alloc, script)?)
+fn read_events<R: Read>(alloc: Global, input: &mut R) -> Result<Vec<Event>, Stop> {
+    let script = read_text(alloc, input)?;
+    Ok(read_script(alloc, &script)?)
 }
 
 /// Plays the script that a reader gives, and prints what is written.
 fn play_script<R: Read, W: Write>(alloc: Global, input: &mut R, out: &mut W) -> Result<(), Stop> {
-    let events = events_in(alloc, input)?;
+    let events = read_events(alloc, input)?;
     let mut server = Server::new(alloc, Counter::new(alloc, 0)?);
     let mut written = Vec::new(alloc);
     play(alloc, &mut server, events.as_slice(), &mut written)?;
@@ -166,21 +97,20 @@ fn print_reference<W: Write>(alloc: Global, text: &str, out: &mut W) -> Result<(
     Ok(())
 }
 
-/// Prints how the stream that a reader gives ends, and the messages in it, if they are to be shown.
-/// Answers whether it ends well.
+/// Prints what is asked for of the stream that a reader gives, under the default limits, and returns
+/// whether it ends well.
 fn print_stream<R: Read, W: Write>(
     alloc: Global,
     input: &mut R,
-    is_shown: bool,
+    detail: Detail,
     out: &mut W,
 ) -> Result<bool, Stop> {
-    let octets = read_all(alloc, input)?;
-    let text = std::str::from_utf8(octets.as_slice()).map_err(|_| Stop::Unreadable)?;
-    show_stream(alloc, LIMITS, text.as_bytes(), is_shown, out)
+    let text = read_text(alloc, input)?;
+    show_stream(alloc, Limits::default(), &text, detail, out)
 }
 
-/// Does what a setting asks for, and answers whether it ended well.
-fn done<R: Read, W: Write>(
+/// Does what a setting asks for, and returns whether it ended well.
+fn perform<R: Read, W: Write>(
     alloc: Global,
     setting: &Setting,
     input: &mut R,
@@ -189,14 +119,14 @@ fn done<R: Read, W: Write>(
     match setting {
         Setting::Play => play_script(alloc, input, out)?,
         Setting::Ior(text) => print_reference(alloc, text, out)?,
-        Setting::Show => return print_stream(alloc, input, true, out),
-        Setting::Check => return print_stream(alloc, input, false, out),
+        Setting::Show => return print_stream(alloc, input, Detail::Messages, out),
+        Setting::Check => return print_stream(alloc, input, Detail::EndAlone, out),
     }
     Ok(true)
 }
 
-/// Prints why the program ends with status 1.
-fn tell<E: Write>(stop: Stop, err: &mut E) -> io::Result<()> {
+/// Prints why the program stops. Nothing is printed where the output can't be written.
+fn print_stop<E: Write>(stop: Stop, err: &mut E) -> io::Result<()> {
     match stop {
         Stop::Memory => writeln!(err, "memory"),
         Stop::Unreadable => writeln!(err, "input: unreadable"),
@@ -208,9 +138,9 @@ fn tell<E: Write>(stop: Stop, err: &mut E) -> io::Result<()> {
     }
 }
 
-/// Does what a setting asks for, and answers the exit status: 0, or 1 where a stream doesn't end behind
-/// a message, the input is refused, the output can't be written or memory runs out, the last of which
-/// are told to `err`.
+/// Does what a setting asks for, and returns the exit status: 0, or 1 where a stream doesn't end after
+/// a message, the input is refused, the output can't be written or an allocation fails. Why the input
+/// is refused, and that an allocation failed, is printed to `err`.
 pub fn run<R: Read, W: Write, E: Write>(
     alloc: Global,
     setting: &Setting,
@@ -220,11 +150,11 @@ pub fn run<R: Read, W: Write, E: Write>(
 ) -> u8
     ensures { result ≤ 1 }
 {
-    match done(alloc, setting, input, out) {
+    match perform(alloc, setting, input, out) {
         Ok(true) => 0,
         Ok(false) => 1,
         Err(stop) => {
-            let _ = tell(stop, err);
+            let _ = print_stop(stop, err);
             1
         }
     }

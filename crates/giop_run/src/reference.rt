@@ -5,56 +5,16 @@ ghost use Rattle.ior_core.specs.Profiles.{body_of, iiop_body};
 ghost use Rattle.ior_core.specs.View.{tagged_value, tagged_values};
 ghost use Rattle.giop_run.specs.ReferenceLines as lines;
 
-use ior_core::{Component, IiopProfile, Ior, IorError, Profile, read_iiop};
+use crate::text::{digits_of, text_of};
+use ior_core::{Component, IiopProfile, Ior, IorError, Profile, TAG_INTERNET_IOP, read_iiop};
 use std::alloc::{AllocError, Global};
-
-/// Tells whether an octet is shown as it is: those of ASCII from the space on that print, but the
-/// backslash.
-fn is_plain(octet: u8) -> bool
-    ensures { result ≡ lines.is_plain octet }
-{
-    matches!(octet, 0x20..=0x7e) && octet != b'\\'
-}
-
-/// Appends an octet as it is, or as `\x` and two digits.
-fn put_octet(alloc: Global, octet: u8, text: &mut String) -> Result<(), AllocError>
-    ensures { OnOk result (string_bytes text.new ≡ string_bytes text.old ++ lines.shown_octet octet) }
-{
-    if is_plain(octet) {
-        return text.push(char::from(octet));
-    }
-    let digits = hex::encode(alloc, [octet])?;
-    text.push_str("\\x")?;
-    text.push_str(&digits)
-}
-
-/// Octets as text.
-pub(crate) fn shown(alloc: Global, octets: &[u8]) -> Result<String, AllocError>
-    ensures { IfOk result (λ text. string_bytes text ≡ lines.shown octets.now) }
-{
-    let mut text = String::new(alloc);
-    for octet in octets {
-        put_octet(alloc, *octet, &mut text)?;
-    }
-    Ok(text)
-}
-
-/// The hexadecimal digits of octets, or a dash where there are none.
-pub(crate) fn digits(alloc: Global, octets: &[u8]) -> Result<String, AllocError>
-    ensures { IfOk result (λ text. string_bytes text ≡ lines.digits_of octets.now) }
-{
-    if octets.is_empty() {
-        return String::from_str(alloc, "-");
-    }
-    hex::encode(alloc, octets)
-}
 
 /// Appends the line of a component.
 fn put_component(alloc: Global, component: &Component, text: &mut String) -> Result<(), AllocError>
     ensures { OnOk result (string_bytes text.new ≡ string_bytes text.old ++ lines.component_line (tagged_value component.now)) }
 {
     let tag = component.tag;
-    let digits = digits(alloc, &component.octets)?;
+    let digits = digits_of(alloc, &component.octets)?;
     write!(text, "  component {tag} {digits}\n")
 }
 
@@ -78,9 +38,9 @@ fn put_iiop(
     ensures { OnOk result (string_bytes text.new ≡ string_bytes text.old ++ lines.iiop_line place (iiop_body profile.now).0) }
 {
     let minor = profile.minor;
-    let host = shown(alloc, &profile.host)?;
+    let host = text_of(alloc, &profile.host)?;
     let port = profile.port;
-    let key = digits(alloc, &profile.object_key)?;
+    let key = digits_of(alloc, &profile.object_key)?;
     write!(
         text,
         "profile {place} iiop 1.{minor} host {host} port {port} key {key}\n"
@@ -116,10 +76,10 @@ fn put_profile(
     ensures { OnOk result (string_bytes text.new ≡ string_bytes text.old ++ lines.profile_lines place profile.now) }
 {
     let tag = profile.tag;
-    if tag == 0 {
+    if tag == TAG_INTERNET_IOP {
         return put_octets(alloc, place, &profile.octets, text);
     }
-    let digits = digits(alloc, &profile.octets)?;
+    let digits = digits_of(alloc, &profile.octets)?;
     write!(text, "profile {place} tag {tag} {digits}\n")
 }
 
@@ -140,7 +100,7 @@ pub fn reference_lines(alloc: Global, ior: &Ior) -> Result<String, AllocError>
     if ior.type_id.is_empty() && ior.profiles.is_empty() {
         return String::from_str(alloc, "nil\n");
     }
-    let type_id = shown(alloc, &ior.type_id)?;
+    let type_id = text_of(alloc, &ior.type_id)?;
     let mut text = format!(in alloc; "type {type_id}\n")?;
     put_profiles(alloc, &ior.profiles, &mut text)?;
     Ok(text)

@@ -5,12 +5,13 @@ ghost use Rattle.std.specs.Ordering.{nat_cmp};
 ghost use Rattle.std.specs.BTreeMap.{get};
 ghost use Rattle.giop_core.specs.Keys.{key_of_addressed};
 ghost use Rattle.giop_core.specs.Lent.{addressed_by};
-ghost use Rattle.giop_core.specs.declared.refusal.WriteError.TheVariants as refusal;
+ghost use Rattle.giop_core.specs.declared.error.WriteError.TheVariants as refusal;
 ghost use Rattle.giop_run.specs.Answer.{reply_to, status_of};
 ghost use Rattle.giop_run.specs.Event.{Opened, Piece, Close, Lost, Event};
 ghost use Rattle.giop_run.specs.History.{is_open};
 ghost use Rattle.giop_run.specs.Locate.{question_of};
-ghost use Rattle.giop_run.specs.Standing.{Changes, Connects, Serves, Stands, link_after};
+ghost use Rattle.giop_run.specs.Private.{Changes, link_after};
+ghost use Rattle.giop_run.specs.Standing.{Connects, Serves, Stands};
 
 use crate::counter::Counter;
 use crate::locate::read_question;

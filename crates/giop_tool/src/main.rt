@@ -1,6 +1,7 @@
-//! The program `giop`: what its words ask for is done on its standard streams.
+//! The program `giop`: it does what its words ask for on its standard streams.
 #![tactic(auto)]
 
+mod help;
 mod settings;
 
 use giop_run::{Setting, run};
@@ -8,8 +9,8 @@ use settings::{SettingError, settings};
 use std::process::ExitCode;
 use std::{env, io};
 
-/// Does what a setting asks for on the standard streams, and gives the exit status.
-fn done(rt: &HostRuntime, setting: &Setting) -> u8 {
+/// Does what a setting asks for on the standard streams, and returns the exit status.
+fn run_setting(rt: &HostRuntime, setting: &Setting) -> u8 {
     run(
         rt.alloc(),
         setting,
@@ -19,8 +20,8 @@ fn done(rt: &HostRuntime, setting: &Setting) -> u8 {
     )
 }
 
-/// Says why words are refused, and gives the exit status.
-fn refused(rt: &HostRuntime, error: &SettingError) -> io::Result<u8> {
+/// Prints the answer to words without a setting, help among them, and returns the exit status.
+fn print_answer(rt: &HostRuntime, error: &SettingError) -> io::Result<u8> {
     match error {
         SettingError::Words(error) => {
             error.print(rt)?;
@@ -33,8 +34,8 @@ fn refused(rt: &HostRuntime, error: &SettingError) -> io::Result<u8> {
     }
 }
 
-/// Does what the words behind the program's name ask for.
-fn status_of(rt: &HostRuntime) -> io::Result<u8> {
+/// Does what the words after the program's name ask for, and returns the exit status.
+fn run_words(rt: &HostRuntime) -> io::Result<u8> {
     let alloc = rt.alloc();
     let words: Vec<String> = env::args(rt)?.collect(alloc)?;
     let mut texts = Vec::with_capacity(alloc, words.len())?;
@@ -42,13 +43,13 @@ fn status_of(rt: &HostRuntime) -> io::Result<u8> {
         texts.push(word.as_str())?;
     }
     match settings(alloc, texts.as_slice()) {
-        Ok(setting) => Ok(done(rt, &setting)),
-        Err(error) => refused(rt, &error),
+        Ok(setting) => Ok(run_setting(rt, &setting)),
+        Err(error) => print_answer(rt, &error),
     }
 }
 
 fn main(rt: HostRuntime) -> ExitCode {
-    match status_of(&rt) {
+    match run_words(&rt) {
         Ok(status) => ExitCode::from(status),
         Err(error) => {
             if error.kind() == io::ErrorKind::OutOfMemory {

@@ -1,8 +1,9 @@
 //! What the words of the command line ask for.
 
 ghost use Rattle.std.specs.Prelude.{IfErr};
-ghost use Rattle.giop_tool.specs.Settings.{IsNoWantOfMemory};
+ghost use Rattle.giop_tool.specs.Settings.{IsOfWords};
 
+use crate::help;
 use clap::error::ErrorKind;
 use clap::{Arg, ArgAction, ArgMatches, Command};
 use giop_run::Setting;
@@ -11,9 +12,9 @@ use std::alloc::{AllocError, Global};
 /// Why the words were refused.
 #[derive(Debug, Drop)]
 pub(crate) enum SettingError {
-    /// The words are not those of the program, or ask for help.
+    /// The words are not those of the program, or ask for help or the version.
     Words(clap::Error),
-    /// Memory ran out.
+    /// An allocation failed.
     Memory,
 }
 
@@ -30,23 +31,23 @@ impl From<AllocError> for SettingError {
 
 /// `giop play`.
 fn play_command<'a>(alloc: Global) -> Command<'a> {
-    Command::new(alloc, "play").about(
-        "Plays a script of events on standard input, and prints what is written",
-    )
+    Command::new(alloc, "play")
+        .about("Plays a script of events on standard input, and prints what is written")
+        .after_help(help::PLAY)
 }
 
 /// `giop show`.
 fn show_command<'a>(alloc: Global) -> Command<'a> {
-    Command::new(alloc, "show").about(
-        "Shows the messages of a stream, which standard input gives in hexadecimal digits",
-    )
+    Command::new(alloc, "show")
+        .about("Shows the messages of a stream, which standard input gives in hexadecimal digits")
+        .after_help(help::SHOW)
 }
 
 /// `giop check`.
 fn check_command<'a>(alloc: Global) -> Command<'a> {
-    Command::new(alloc, "check").about(
-        "Tells how a stream ends, which standard input gives in hexadecimal digits",
-    )
+    Command::new(alloc, "check")
+        .about("Prints how a stream ends, which standard input gives in hexadecimal digits")
+        .after_help(help::CHECK)
 }
 
 /// `giop ior TEXT`.
@@ -57,14 +58,17 @@ fn ior_command<'a>(alloc: Global) -> Result<Command<'a>, AllocError> {
         .action(ArgAction::Set);
     Command::new(alloc, "ior")
         .about("Shows the type and the profiles of an object reference")
+        .after_help(help::IOR)
         .arg(text)
 }
 
 /// `giop` without a subcommand.
-fn base_command<'a>(alloc: Global) -> Command<'a> {
+fn base_command<'a>(alloc: Global) -> Result<Command<'a>, AllocError> {
     Command::new(alloc, "giop")
-        .about("A GIOP server of one counter. Without a subcommand it plays a script")
+        .version(help::VERSION)
+        .about(help::BASE)
         .no_binary_name(true)
+        .bin_name("giop")
 }
 
 /// The subcommands over a stream.
@@ -76,11 +80,11 @@ fn with_streams<'a>(alloc: Global, command: Command<'a>) -> Result<Command<'a>, 
 
 /// The whole command line.
 fn command<'a>(alloc: Global) -> Result<Command<'a>, AllocError> {
-    let command = base_command(alloc).subcommand(play_command(alloc))?;
+    let command = base_command(alloc)?.subcommand(play_command(alloc))?;
     with_streams(alloc, command)?.subcommand(ior_command(alloc)?)
 }
 
-/// What words that were taken ask for.
+/// The setting that parsed words ask for.
 fn setting_of<'a>(matches: &ArgMatches<'a>) -> Setting<'a> {
     if matches.subcommand_matches("show").is_some() {
         return Setting::Show;
@@ -97,9 +101,10 @@ fn setting_of<'a>(matches: &ArgMatches<'a>) -> Setting<'a> {
     }
 }
 
-/// What the words after the program's name ask for. No words ask for `play`.
+/// What the words after the program's name ask for: the setting, or a text to print. No words ask for
+/// `play`.
 pub(crate) fn settings<'a>(alloc: Global, words: &'a [&'a str]) -> Result<Setting<'a>, SettingError>
-    ensures { IfErr result IsNoWantOfMemory }
+    ensures { IfErr result IsOfWords }
 {
     let command = command(alloc)?;
     match command.try_get_matches_from(words) {

@@ -2,7 +2,8 @@ use Rattle.std.proofs.Common.{length, take, ◌-◌, ◌≡◌, ◌≤◌}
 use Rattle.std.specs.Io.KnownBytes.{Appends}
 use Rattle.giop_frames.specs.Standing.{StandsFor}
 use Rattle.giop_frames.specs.Streams.{messages_of}
-use Rattle.giop_run.specs.StreamLines.{printed, stream_lines}
+use Rattle.giop_run.specs.Private.{printed}
+use Rattle.giop_run.specs.StreamLines.{stream_lines}
 use Rattle.giop_run.proofs.stream.read_stream.Given as goal
 
 -- the assembler stands for the octets that were taken, and the messages in them are counted and printed
@@ -13,7 +14,7 @@ invariant-loop-taken g l = record {
   limits : l.assembler.limits ≡ l.fn.limits;
   stands : StandsFor l.assembler (take l.taken l.octets);
   count : l.messages ≡ length (messages_of l.fn.limits (take l.taken l.octets));
-  shown : Appends (g.W.Write.contents l.fn.out) (g.W.Write.contents l.out) (printed l.fn.is_shown (stream_lines l.fn.limits (take l.taken l.octets)));
+  lines : Appends (g.W.Write.contents l.fn.out) (g.W.Write.contents l.out) (printed l.fn.detail (stream_lines l.fn.limits (take l.taken l.octets)));
 }
 
 -- at least one octet is taken each time

@@ -1,5 +1,5 @@
 use Rattle.std.proofs.lemmas.Result.{err_from_is_err_and}
-use Rattle.giop_run.proofs.stream.without_blanks.Goals as goal
+use Rattle.giop_run.proofs.digits.without_blanks.Goals as goal
 
 pub returns-in_err-push : goal.returns-in_err-push
 returns-in_err-push c =

@@ -1,7 +1,7 @@
 use Rattle.std.proofs.Common.{◌≡◌, take, not}
 use Rattle.std.specs.List.{filter}
 use Rattle.giop_run.specs.Digits.{is_blank}
-use Rattle.giop_run.proofs.stream.without_blanks.Given as goal
+use Rattle.giop_run.proofs.digits.without_blanks.Given as goal
 
 -- the octets so far are kept, and no blank
 abbrev pub invariant-loop-octet : goal.invariant-loop-octet

@@ -1,0 +1,19 @@
+-- Octets in lines of text.
+use Rattle.std.specs.Prelude.{ℕ, Bool, not, nat_le, ◌==◌, ◌&&◌, List, [], ◌∷◌, ◌++◌, flat_map, codes, if◌then◌else◌}
+use Rattle.hex.specs.Hex.{encode_lower}
+
+-- the octets of ASCII from the space on that print, but the backslash
+abbrev pub is_plain : ℕ → Bool
+is_plain octet = (nat_le 32 octet && nat_le octet 126) && not (octet == 92)
+
+-- an octet as it is, or as a backslash, an x and two digits
+abbrev pub octet_text : ℕ → List ℕ
+octet_text octet = if is_plain octet then octet ∷ [] else codes "\\x" ++ encode_lower (octet ∷ [])
+
+abbrev pub text_of : List ℕ → List ℕ
+text_of octets = flat_map octet_text octets
+
+-- hexadecimal digits in lower case, or a dash where there are none
+abbrev pub digits_of : List ℕ → List ℕ
+digits_of [] = codes "-"
+digits_of (octet ∷ octets) = encode_lower (octet ∷ octets)
