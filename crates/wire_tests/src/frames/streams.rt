@@ -1,0 +1,303 @@
+//! Streams whole, in pieces of thirteen octets and in pieces of one, and what they give.
+
+use super::samples::{CANCEL, FIRST, LAST, LITTLE_FIRST, LITTLE_LAST, MIDDLE, WHOLE};
+use cdr_core::{Fault, Kind};
+use giop_core::{Content, Message, MessageFault};
+use giop_frames::{Assembler, Limits, StreamFault, feed_all};
+use std::alloc::Global;
+use std::process::Abort;
+
+/// How many octets a piece has.
+static SIZES: [usize; 3] = [1, 13, 4096];
+
+const LIMITS: Limits = Limits {
+    message: 1_048_576,
+    partials: 8,
+};
+
+/// The least limits.
+const LEAST: Limits = Limits {
+    message: 4096,
+    partials: 1,
+};
+
+/// Frames, and what they give: how many messages complete, how many are partial then, and the fault.
+struct Row {
+    frames: &'static [&'static [u8]],
+    messages: usize,
+    partial: usize,
+    fault: Option<StreamFault>,
+}
+
+/// Feeds a piece, and counts the messages that it completes.
+fn feed_piece(assembler: &mut Assembler, piece: &[u8]) -> Result<usize, StreamFault> {
+    let mut count: usize = 0;
+    let mut left = piece;
+    for _ in 0..piece.len() {
+        let taken = assembler.feed(left)?;
+        if assembler.message().is_some() {
+            count = count.saturating_add(1);
+        }
+        let (_, others) = left.split_at(taken);
+        left = others;
+        if left.is_empty() {
+            break;
+        }
+    }
+    Ok(count)
+}
+
+/// Feeds a frame in pieces of as many octets, and counts the messages that complete.
+fn feed_frame(
+    assembler: &mut Assembler,
+    frame: &[u8],
+    size: usize,
+) -> Result<usize, (usize, StreamFault)> {
+    let mut messages: usize = 0;
+    for piece in frame.chunks(size.max(1)) {
+        match feed_piece(assembler, piece) {
+            Ok(more) => messages = messages.saturating_add(more),
+            Err(fault) => return Err((messages, fault)),
+        }
+    }
+    Ok(messages)
+}
+
+/// Whether frames give that, in pieces of as many octets.
+fn gives(alloc: Global, row: &Row, size: usize) -> bool {
+    let mut assembler = Assembler::new(alloc, LIMITS);
+    let mut messages: usize = 0;
+    for frame in row.frames {
+        match feed_frame(&mut assembler, frame, size) {
+            Ok(more) => messages = messages.saturating_add(more),
+            Err((more, fault)) => {
+                return messages.saturating_add(more) == row.messages && Some(fault) == row.fault;
+            }
+        }
+    }
+    let is_partial = assembler.partial() == row.partial;
+    messages == row.messages && row.fault.is_none() && is_partial && assembler.pending() == 0
+}
+
+static ROWS: [Row; 11] = [
+    Row {
+        frames: &[FIRST, MIDDLE, LAST],
+        messages: 1,
+        partial: 0,
+        fault: None,
+    },
+    Row {
+        frames: &[WHOLE, WHOLE],
+        messages: 2,
+        partial: 0,
+        fault: None,
+    },
+    Row {
+        frames: &[FIRST, CANCEL],
+        messages: 1,
+        partial: 0,
+        fault: None,
+    },
+    Row {
+        frames: &[FIRST],
+        messages: 0,
+        partial: 1,
+        fault: None,
+    },
+    // A Fragment of 1.2 with more to come, of 17 octets.
+    Row {
+        frames: &[b"GIOP\x01\x02\x02\x07\x00\x00\x00\x05"],
+        messages: 0,
+        partial: 0,
+        fault: Some(StreamFault::UnalignedFragment),
+    },
+    Row {
+        frames: &[b"GIOP\x01\x02\x00\x07\x00\x00\x00\x04\x00\x00\x00\x09"],
+        messages: 0,
+        partial: 0,
+        fault: Some(StreamFault::StrayFragment),
+    },
+    // A Fragment of 1.2 without its request id.
+    Row {
+        frames: &[b"GIOP\x01\x02\x00\x07\x00\x00\x00\x00"],
+        messages: 0,
+        partial: 0,
+        fault: Some(StreamFault::Body(MessageFault::Cdr(Fault {
+            kind: Kind::Short,
+            at: 12,
+        }))),
+    },
+    Row {
+        frames: &[FIRST, FIRST],
+        messages: 0,
+        partial: 0,
+        fault: Some(StreamFault::TwiceStarted),
+    },
+    // A Fragment in little order.
+    Row {
+        frames: &[
+            FIRST,
+            b"GIOP\x01\x02\x01\x07\x08\x00\x00\x00\x05\x00\x00\x00\x07\x00\x00\x00",
+        ],
+        messages: 0,
+        partial: 0,
+        fault: Some(StreamFault::MixedOrder),
+    },
+    // A Fragment of 1.1.
+    Row {
+        frames: &[b"GIOP\x01\x01\x00\x07\x00\x00\x00\x00"],
+        messages: 0,
+        partial: 0,
+        fault: Some(StreamFault::StrayFragment),
+    },
+    Row {
+        frames: &[FIRST, WHOLE],
+        messages: 0,
+        partial: 0,
+        fault: Some(StreamFault::TwiceStarted),
+    },
+];
+
+/// Asserts what was found of the row of that number.
+fn expect_row(rt: &impl Abort, is_found: bool, number: usize) {
+    assert!(rt; is_found, "row {number}");
+}
+
+/// Asserts what each row gives in pieces of as many octets.
+fn assert_rows(rt: &(impl Abort + AllocGlobal), size: usize) {
+    let mut number: usize = 0;
+    for row in &ROWS {
+        let is_given = gives(rt.alloc(), row, size);
+        expect_row(rt, is_given, number);
+        number = number.saturating_add(1);
+    }
+}
+
+#[test]
+fn streams_give_the_same_in_pieces_of_any_size(rt: HostRuntime) {
+    for size in &SIZES {
+        assert_rows(&rt, *size);
+    }
+}
+
+/// Whether frames that are fed as a list of pieces give that.
+fn gives_at_once(alloc: Global, row: &Row) -> bool {
+    let mut assembler = Assembler::new(alloc, LIMITS);
+    let fed = feed_all(&mut assembler, row.frames);
+    fed.messages == row.messages as u128 && fed.fault == row.fault
+}
+
+#[test]
+fn lists_of_pieces_give_the_same(rt: HostRuntime) {
+    let mut number: usize = 0;
+    for row in &ROWS {
+        let is_given = gives_at_once(rt.alloc(), row);
+        expect_row(&rt, is_given, number);
+        number = number.saturating_add(1);
+    }
+}
+
+/// Feeds frames that come whole. Whether each is taken, and none completes a message but the last.
+fn are_taken(assembler: &mut Assembler, frames: &[&[u8]]) -> bool {
+    for frame in frames {
+        if assembler.message().is_some() || assembler.feed(frame) != Ok(frame.len()) {
+            return false;
+        }
+    }
+    true
+}
+
+/// Whether a message is the Request of id 5: the operation `add` and its body.
+fn is_add(message: &Message, body: &[u8]) -> bool {
+    match &message.content {
+        Content::Request(request) => {
+            request.request_id == 5
+                && request.operation == b"add".as_slice()
+                && request.body.octets == body
+        }
+        _ => false,
+    }
+}
+
+/// Whether frames that come whole complete, with the last, the Request of id 5.
+fn lends(alloc: Global, frames: &[&[u8]], body: &[u8]) -> bool {
+    let mut assembler = Assembler::new(alloc, LIMITS);
+    if !are_taken(&mut assembler, frames) {
+        return false;
+    }
+    match assembler.message() {
+        Some(message) => is_add(&message, body),
+        None => false,
+    }
+}
+
+#[test]
+fn joined_messages_are_lent(rt: HostRuntime) {
+    assert!(rt; lends(rt.alloc(), &[FIRST, MIDDLE, LAST], b"\x00\x00\x00\x07"));
+    assert!(rt;
+        lends(
+            rt.alloc(),
+            &[LITTLE_FIRST, LITTLE_LAST],
+            b"\x07\x00\x00\x00"
+        )
+    );
+}
+
+// Frames of one message, and how many octets are held after each.
+static HELD: [(&[u8], usize); 3] = [(FIRST, 32), (MIDDLE, 48), (LAST, 52)];
+
+/// Feeds a frame. Whether it is taken whole, and as many octets are held then.
+fn holds(assembler: &mut Assembler, frame: &[u8], held: usize) -> bool {
+    assembler.feed(frame) == Ok(frame.len()) && assembler.held() == held
+}
+
+#[test]
+fn held_octets_are_counted(rt: HostRuntime) {
+    let mut assembler = Assembler::new(rt.alloc(), LIMITS);
+    for (frame, held) in &HELD {
+        assert!(rt; holds(&mut assembler, frame, *held));
+    }
+}
+
+/// Feeds frames in pieces of as many octets, one after another, and counts the messages. None where one is
+/// refused, or where more is held than twice the limit of a message.
+fn fed_within(assembler: &mut Assembler, frames: &[&[u8]], size: usize) -> Option<usize> {
+    let mut messages: usize = 0;
+    for frame in frames {
+        messages = messages.saturating_add(feed_within(assembler, frame, size)?);
+    }
+    Some(messages)
+}
+
+/// Feeds a frame in pieces of as many octets, and counts the messages. None where it is refused, or where
+/// more is held than twice the limit of a message.
+fn feed_within(assembler: &mut Assembler, frame: &[u8], size: usize) -> Option<usize> {
+    let mut messages: usize = 0;
+    for piece in frame.chunks(size.max(1)) {
+        messages = messages.saturating_add(feed_piece(assembler, piece).ok()?);
+        if assembler.held() > 8192 {
+            return None;
+        }
+    }
+    Some(messages)
+}
+
+/// Whether a hundred messages complete one after another under the least limits, in pieces of as
+/// many octets, and nothing is left.
+fn are_held_within(alloc: Global, size: usize) -> bool {
+    let mut assembler = Assembler::new(alloc, LEAST);
+    for _ in 0..25 {
+        let frames = [WHOLE, FIRST, MIDDLE, LAST, WHOLE, CANCEL];
+        if fed_within(&mut assembler, &frames, size) != Some(4) {
+            return false;
+        }
+    }
+    assembler.pending() == 0 && assembler.partial() == 0
+}
+
+#[test]
+fn a_hundred_messages_are_held_within_the_least_limits(rt: HostRuntime) {
+    for size in &SIZES {
+        assert!(rt; are_held_within(rt.alloc(), *size), "pieces of {size}");
+    }
+}
