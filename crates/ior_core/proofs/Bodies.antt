@@ -34,19 +34,19 @@ module _ (octets : List ℕ) where
   unfolding encapsulated
   order_fails f e = rw e refl
 
-  module _ (order : Order) (p : ℕ) (rest : List ℕ) (told : order_at octets ≡ Ok (order, p, rest)) where
+  module _ (order : Order) (p : ℕ) (rest : List ℕ) (ordered : order_at octets ≡ Ok (order, p, rest)) where
     pub head_fails : (f : Fault) → value_at profile_1_0 order p rest ≡ Err f → body_of octets ≡ Err f
     unfolding encapsulated body_at
-    head_fails f e = rw (told, e) refl
+    head_fails f e = rw (ordered, e) refl
 
     module _ (h : Value) (q : ℕ) (more : List ℕ) (read : value_at profile_1_0 order p rest ≡ Ok (h, q, more)) where
       pub components_fail : (f : Fault) → components_at (has_minor_0 h) order q more ≡ Err f → body_of octets ≡ Err f
       unfolding encapsulated body_at
-      components_fail f e = rw (told, read, profile_parts (has_minor_0 h) order p rest, read, e) refl
+      components_fail f e = rw (ordered, read, profile_parts (has_minor_0 h) order p rest, read, e) refl
 
       pub body_is : (c : Values) (r : ℕ) (left : List ℕ) → components_at (has_minor_0 h) order q more ≡ Ok (c, r, left) → body_of octets ≡ Ok (extended h c)
       unfolding encapsulated body_at
-      body_is c r left e = rw (told, read, profile_parts (has_minor_0 h) order p rest, read, e) refl
+      body_is c r left e = rw (ordered, read, profile_parts (has_minor_0 h) order p rest, read, e) refl
 
       pub components_end : (e : CdrError) → Fails e (components_at (has_minor_0 h) order q more) → ReadsProfile (body_of octets) (Err (ior_error e))
       components_end (errors.Bad f) e = components_fail f e

@@ -27,13 +27,13 @@ module _ {order : Order} {o : ℕ} {octets : List ℕ} where
   pub member_fails : {t : Form} {ts : Forms} {f : Fault} → value_at t order o octets ≡ Err f → MembersFail (form.form t ts) order o octets f
   member_fails e = record { failed = rw e refl }
 
-  -- a member, and those behind it, read in the order that it left
+  -- a member, and those after it, read in the order that it left
   module _ {t : Form} {ts : Forms} {v : Value} {left : Order} {p : ℕ} {rest : List ℕ} where
     pub then_fails : {f : Fault} → (value_at t order o octets ≡ Ok (v, p, rest)) × (left ≡ order) → MembersFail ts left p rest f → MembersFail (form.form t ts) order o octets f
-    then_fails h behind = record { failed = rw (h.0, rw h.1 at behind.failed) refl }
+    then_fails h next = record { failed = rw (h.0, rw h.1 at next.failed) refl }
 
     pub then_members : {vs : Values} {q : ℕ} {more : List ℕ} → (value_at t order o octets ≡ Ok (v, p, rest)) × (left ≡ order) → Members ts left p rest vs q more → Members (form.form t ts) order o octets (value.value v vs) q more
-    then_members h behind = record { read = rw (h.0, rw h.1 at behind.read) refl }
+    then_members h next = record { read = rw (h.0, rw h.1 at next.read) refl }
 
   pub structure_fails : {ts : Forms} {f : Fault} → MembersFail ts order o octets f → value_at (form.structure ts) order o octets ≡ Err f
   structure_fails {ts} m = rw (structure_is ts order o octets, m.failed) refl

@@ -4,12 +4,10 @@ use Rattle.hex.specs.Hex.{decode_of, encode_lower}
 use Rattle.hex.specs.declared.error.FromHexError.{FromHexError}
 use Rattle.hex.specs.declared.error.FromHexError.TheVariants as digits
 use Rattle.cdr_core.specs.declared.fault.Fault.{Fault}
-use Rattle.cdr_core.specs.declared.order.Order.TheVariants.{Big}
-use Rattle.cdr_core.specs.Encapsulation.{byte_order, encapsulated, IsEncapsulated}
+use Rattle.cdr_core.specs.Encapsulation.{encapsulated, IsEncapsulated}
 use Rattle.cdr_core.specs.Reading.{value_at}
 use Rattle.cdr_core.specs.Spelling.{Spells}
 use Rattle.cdr_core.specs.Value.{Value}
-use Rattle.cdr_core.specs.Writing.{octets_of}
 use Rattle.ior_core.specs.declared.error.IorError.{IorError}
 use Rattle.ior_core.specs.declared.error.IorError.TheVariants.{BadDigit, BadMajor, Cdr, Memory, NoPrefix, OddDigits}
 use Rattle.ior_core.specs.declared.reference.Ior.{Ior}

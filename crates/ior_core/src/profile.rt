@@ -14,7 +14,7 @@ ghost use Rattle.ior_core.specs.Profiles.{body_of, components_of, iiop_body, key
 ghost use Rattle.ior_core.specs.Writing.{encapsulation_of};
 
 use crate::error::IorError;
-use crate::tagged::{Component, skip_list, put_list, read_list};
+use crate::tagged::{Component, put_list, read_list, skip_list};
 use crate::writable::{is_length, is_list_writable, is_string_writable};
 use cdr_core::{CdrError, Cursor, Fault, Order, Writer};
 use std::alloc::{AllocError, Global};

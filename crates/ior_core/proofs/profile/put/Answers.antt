@@ -41,9 +41,9 @@ returns c =
     let p = c.args.profile.now in
     let head = head_values 1 p.minor p.host.items p.port p.object_key.items in
     let components = values (components_of p.minor p.components.items) in
-    let begun = c.encapsulated.new.out.items in
+    let opened = c.encapsulated.new.out.items in
     let mid = c.put_head.new.out.items in
     let new = c.put_components.new.out.items in
-    let told = c.in_ok-writer.ensures in
-    let le = (enclosed_stands told).0 in
-    enclosed_puts Big (joined head components) w c.args.out.now.items begun new told.0 told.1 (puts_joined w head components begun mid new le c.in_ok-put_head.ensures c.in_ok-put_components.ensures)
+    let ordered = c.in_ok-writer.ensures in
+    let le = (enclosed_stands ordered).0 in
+    enclosed_puts Big (joined head components) w c.args.out.now.items opened new ordered.0 ordered.1 (puts_joined w head components opened mid new le c.in_ok-put_head.ensures c.in_ok-put_components.ensures)
