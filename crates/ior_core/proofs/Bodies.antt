@@ -3,7 +3,7 @@ use Rattle.std.proofs.Common.{◌≡◌, ℕ, Bool, true, false, List, [], ◌�
 use Rattle.cdr_core.specs.declared.fault.CdrError.{CdrError}
 use Rattle.cdr_core.specs.declared.fault.CdrError.TheVariants as errors
 use Rattle.cdr_core.specs.declared.fault.Fault.{Fault}
-use Rattle.cdr_core.specs.Cursor.{Fails}
+use Rattle.cdr_core.specs.Private.{Fails}
 use Rattle.cdr_core.specs.Form as form
 use Rattle.cdr_core.specs.Form.{Forms}
 use Rattle.cdr_core.specs.Parts.{octet, raw, text, ushort}

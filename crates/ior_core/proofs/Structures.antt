@@ -4,7 +4,7 @@ use Rattle.cdr_core.specs.declared.fault.CdrError.{CdrError}
 use Rattle.cdr_core.specs.declared.fault.CdrError.TheVariants as errors
 use Rattle.cdr_core.specs.declared.fault.Fault.{Fault}
 use Rattle.cdr_core.specs.declared.order.Order.{Order}
-use Rattle.cdr_core.specs.Cursor.{Fails}
+use Rattle.cdr_core.specs.Private.{Fails}
 use Rattle.cdr_core.proofs.Fields.{fields_at, structure_is}
 use Rattle.cdr_core.specs.Form as form
 use Rattle.cdr_core.specs.Form.{Form, Forms}

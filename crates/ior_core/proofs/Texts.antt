@@ -8,7 +8,7 @@ use Rattle.cdr_core.specs.declared.fault.CdrError.{CdrError}
 use Rattle.cdr_core.specs.declared.fault.CdrError.TheVariants as errors
 use Rattle.cdr_core.specs.declared.fault.Fault.{Fault}
 use Rattle.cdr_core.specs.declared.order.Order.{Order}
-use Rattle.cdr_core.specs.Cursor.{Fails}
+use Rattle.cdr_core.specs.Private.{Fails}
 use Rattle.cdr_core.specs.Encapsulation.{encapsulated, order_at}
 use Rattle.cdr_core.specs.Reading.{value_at}
 use Rattle.cdr_core.specs.Value.{Value}

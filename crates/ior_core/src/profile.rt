@@ -3,7 +3,7 @@
 ghost use Rattle.std.specs.Prelude.{◌≡◌, ◌↔◌, ◌++◌, ◌<◌, ◌≤◌, ◌^◌, length, option_map, pos, Err, IfOk, IsTrue, MatchResult, OnErr, OnOk, ⊤};
 ghost use Rattle.cdr_core.specs.Private.{Keeps, passing};
 ghost use Rattle.cdr_core.specs.Writing.{Appends, AreWritable, PutsAll};
-ghost use Rattle.cdr_core.specs.Cursor.{GivesUnlessMemory};
+ghost use Rattle.cdr_core.specs.Private.{GivesUnlessMemory};
 ghost use Rattle.cdr_core.specs.Reading.{value_at};
 ghost use Rattle.cdr_core.specs.Value.{values};
 ghost use Rattle.ior_core.specs.Calls.{GivesOnce};

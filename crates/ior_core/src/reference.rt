@@ -3,7 +3,7 @@
 ghost use Rattle.std.specs.Prelude.{◌≡◌, ◌↔◌, ◌++◌, ◌<◌, ◌≤◌, ◌^◌, length, option_map, IsTrue, MatchResult, OnErr, OnOk, ⊤};
 ghost use Rattle.cdr_core.specs.Private.{Keeps};
 ghost use Rattle.cdr_core.specs.Writing.{Appends, octets_of, IsWritable};
-ghost use Rattle.cdr_core.specs.Cursor.{GivesUnlessMemory};
+ghost use Rattle.cdr_core.specs.Private.{GivesUnlessMemory};
 ghost use Rattle.cdr_core.specs.Reading.{value_at};
 ghost use Rattle.ior_core.specs.Calls.{ReadsReference};
 ghost use Rattle.ior_core.specs.Grammar.{reference};

@@ -3,7 +3,7 @@
 ghost use Rattle.std.specs.Prelude.{◌≡◌, ◌++◌, ◌<◌, ◌≤◌, ◌^◌, length, map, MatchResult, ⊤};
 ghost use Rattle.cdr_core.specs.Private.{Keeps, passing};
 ghost use Rattle.cdr_core.specs.Writing.{Appends, PutsAll, AreWritable, IsWritable};
-ghost use Rattle.cdr_core.specs.Cursor.{GivesUnlessMemory};
+ghost use Rattle.cdr_core.specs.Private.{GivesUnlessMemory};
 ghost use Rattle.cdr_core.specs.Reading.{each_at, value_at};
 ghost use Rattle.cdr_core.specs.Value.{values};
 ghost use Rattle.ior_core.specs.Calls.{GivesOnce};
