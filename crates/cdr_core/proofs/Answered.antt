@@ -10,7 +10,7 @@ use Rattle.cdr_core.specs.Reading.{Read, members_at, value_at}
 use Rattle.cdr_core.specs.Spelling.{Spells, SpellsMembers, Takes}
 use Rattle.cdr_core.specs.Stopping.{Stops}
 use Rattle.cdr_core.specs.Private.{Fails, IfMemory}
-use Rattle.cdr_core.specs.Memory.{MayRunOut}
+use Rattle.cdr_core.specs.Memory.{Stores, StoresMembers}
 use Rattle.cdr_core.specs.Answering.{Answers, ListAnswers, ListReads, Reads}
 use Rattle.cdr_core.specs.Laws.{EitherWay, NotBoth, OneFault}
 use Rattle.cdr_core.proofs.Steps.{err_is}
@@ -25,17 +25,17 @@ gets_or_fails {X} A r gets o octets f h x front rest is s =
     let e : ◌≡◌ {A = Read X} (Ok (x, o + length front, rest)) (Err f) = sym (gets x o front rest s) ∙ ap (r o) (sym is) ∙ h in
     absurd cc
 
-pub err_answers : (e : CdrError) (t : Form) (order : Order) (o : ℕ) (octets : List ℕ) → Fails e (value_at t order o octets) → IfMemory e (MayRunOut t order o octets) → Answers t order o octets (Err e)
-err_answers errors.Memory t order o octets h may = may
-err_answers (errors.Bad f) t order o octets h may = tells t order o octets f h
+pub err_answers : (e : CdrError) (t : Form) (order : Order) (o : ℕ) (octets : List ℕ) (p : ℕ) → Fails e (value_at t order o octets) → IfMemory e (Stores t order o octets p) → Answers t order o octets (Err e)
+err_answers errors.Memory t order o octets p h may = (p, may)
+err_answers (errors.Bad f) t order o octets p h may = tells t order o octets f h
 
 pub err_only : (e : CdrError) (t : Form) (order : Order) (o : ℕ) (octets : List ℕ) → Fails e (value_at t order o octets) → (v : Value) (front rest : List ℕ) → octets ≡ front ++ rest → Spells t order v o front → Reads v (length front) (Err e)
 err_only errors.Memory t order o octets h v front rest is s = tt
 err_only (errors.Bad f) t order o octets h v front rest is s = gets_or_fails (Spells t order) (value_at t order) (only t order) o octets f h v front rest is s
 
-pub list_err : (e : CdrError) (ts : Forms) (order : Order) (o : ℕ) (octets : List ℕ) → Fails e (members_at ts order o octets) → ListAnswers ts order o octets (Err e)
-list_err errors.Memory ts order o octets h = tt
-list_err (errors.Bad f) ts order o octets h = members_tell ts order o octets f h
+pub list_err : (e : CdrError) (ts : Forms) (order : Order) (o : ℕ) (octets : List ℕ) (p : ℕ) → Fails e (members_at ts order o octets) → IfMemory e (StoresMembers ts order o octets p) → ListAnswers ts order o octets (Err e)
+list_err errors.Memory ts order o octets p h may = (p, may)
+list_err (errors.Bad f) ts order o octets p h may = members_tell ts order o octets f h
 
 pub list_err_only : (e : CdrError) (ts : Forms) (order : Order) (o : ℕ) (octets : List ℕ) → Fails e (members_at ts order o octets) → (vs : Values) (front rest : List ℕ) → octets ≡ front ++ rest → SpellsMembers ts order vs o front → ListReads vs (length front) (Err e)
 list_err_only errors.Memory ts order o octets h vs front rest is s = tt

@@ -25,7 +25,7 @@ each_ends (errors.Bad f) one vs n i o octets total lt e h = each_stops f one vs 
 
 -- a loop over types
 
-forms_next : (types : List Ty) (i : ℕ) (t : Ty) → i < length types → t ≡ get_or types i t → forms_of (drop i types) ≡ form.form (form_of t) (forms_of (drop (i + 1) types))
+pub forms_next : (types : List Ty) (i : ℕ) (t : Ty) → i < length types → t ≡ get_or types i t → forms_of (drop i types) ≡ form.form (form_of t) (forms_of (drop (i + 1) types))
 forms_next types i t lt is = ap forms_of (drop_more types i t lt) ∙ ap (λ x. form.form (form_of x) (forms_of (drop (i + 1) types))) (sym is)
 
 pub members_more : (types : List Ty) (i : ℕ) (t : Ty) (order : Order) (vs : Values) (o : ℕ) (octets : List ℕ) (v : Value) (p : ℕ) (rest : List ℕ) (total : Read Values) → i < length types → t ≡ get_or types i t
@@ -57,7 +57,7 @@ members_done types i order vs o octets total le h =
 case_of-is : (c : Case) → case_of c ≡ (c.label, form_of c.member)
 case_of-is c = search (rules, the_lemmas)
 
-cases_next : (cases : List Case) (default : Option (Box Ty Global)) (i : ℕ) (c : Case) → i < length cases → c ≡ get_or cases i c
+pub cases_next : (cases : List Case) (default : Option (Box Ty Global)) (i : ℕ) (c : Case) → i < length cases → c ≡ get_or cases i c
     → cases_of (drop i cases) default ≡ form.labelled c.label (form_of c.member) (cases_of (drop (i + 1) cases) default)
 cases_next cases default i c lt is =
     ap (λ cs. cases_of cs default) (drop_more cases i c lt)

@@ -11,7 +11,7 @@ use Rattle.cdr_core.specs.Value.{Value, Values}
 use Rattle.cdr_core.specs.View.{value_of, values_of}
 use Rattle.cdr_core.specs.Spelling.{Spells, SpellsMembers}
 use Rattle.cdr_core.specs.Stopping.{Stops, StopsInMembers}
-use Rattle.cdr_core.specs.Memory.{MayRunOut}
+use Rattle.cdr_core.specs.Memory.{MayRunOut, MayRunOutInMembers}
 
 -- A value, and how many octets from the front on spell it; or the first fault; or an allocation failed, where that may
 -- happen.
@@ -36,7 +36,7 @@ Reads = ReturnsThat value_of
 
 -- what `read_list` returns
 abbrev pub ListAnswers : Forms → Order → ℕ → List ℕ → Result (Vec Val Global × ℕ) CdrError → Type 0
-ListAnswers ts order = Returns (λ v. SpellsMembers ts order (values_of v.items)) (StopsInMembers ts order) (λ o octets. ⊤)
+ListAnswers ts order = Returns (λ v. SpellsMembers ts order (values_of v.items)) (StopsInMembers ts order) (MayRunOutInMembers ts order)
 
 -- it is those values and that length, unless an allocation failed
 abbrev pub ListReads : Values → ℕ → Result (Vec Val Global × ℕ) CdrError → Type 0

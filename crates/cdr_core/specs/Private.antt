@@ -1,6 +1,6 @@
 -- Words for contracts of private functions, in this crate and in those above it. No public contract, definition or law
 -- uses them: a reader who asks what is promised can leave this file out.
-use Rattle.std.specs.Prelude.{◌≡◌, ℕ, ℤ, List, ◌++◌, Result, Ok, Err, ⊤}
+use Rattle.std.specs.Prelude.{◌≡◌, ℕ, ℤ, List, ◌++◌, Result, Ok, Err, ⊤, ◌⊎◌}
 use Rattle.cdr_core.specs.declared.fault.CdrError.{CdrError}
 use Rattle.cdr_core.specs.declared.fault.CdrError.TheVariants as errors
 use Rattle.cdr_core.specs.declared.order.Order.{Order}
@@ -8,7 +8,7 @@ use Rattle.cdr_core.specs.Cursor.{Position}
 use Rattle.cdr_core.specs.Fitting.{AreCases, FitsChosen}
 use Rattle.cdr_core.specs.Form as form
 use Rattle.cdr_core.specs.Form.{Form}
-use Rattle.cdr_core.specs.Memory.{MayRunOut, OrElse}
+use Rattle.cdr_core.specs.Memory.{EndsAtPlace, StoresChosen}
 use Rattle.cdr_core.specs.Reading.{◌>>=◌, Read, chosen_at, value_at}
 use Rattle.cdr_core.specs.Value as value
 use Rattle.cdr_core.specs.Value.{Value, Values, label}
@@ -32,15 +32,11 @@ abbrev pub IfMemory : CdrError → Type 0 → Type 0
 IfMemory (errors.Bad f) A = ⊤
 IfMemory errors.Memory A = A
 
--- A call returns what reading gives, and goes to the place after it; or its fault; or an allocation failed, where that
--- may happen. The cursor isn't used again after an error.
-abbrev pub GivesUnlessMemory : {X Y : Type 0} → (X → Y) → Result X CdrError → (ℕ → List ℕ → Read Y) → (ℕ → List ℕ → Type 0) → Position → Position → Type 0
+-- A call returns what reading gives, and goes to the place after it; or its fault; or an allocation failed at a place where
+-- that may happen. The cursor isn't used again after an error.
+abbrev pub GivesUnlessMemory : {X Y : Type 0} → (X → Y) → Result X CdrError → (ℕ → List ℕ → Read Y) → (ℕ → List ℕ → ℕ → Type 0) → Position → Position → Type 0
 GivesUnlessMemory view (Ok x) read may old new = (read old.place old.rest ≡ Ok (view x, new.place, new.rest)) × (new.order ≡ old.order)
-GivesUnlessMemory view (Err e) read may old new = Fails e (read old.place old.rest) × IfMemory e (may old.place old.rest)
-
--- a value of the form was read, or reading it may run out of memory
-abbrev pub MayStore : Form → Order → ℕ → List ℕ → Type 0
-MayStore t order o octets = OrElse (value_at t order o octets) (MayRunOut t order o octets)
+GivesUnlessMemory view (Err e) read may old new = Fails e (read old.place old.rest) × IfMemory e (may old.place old.rest new.place)
 
 -- a boolean, a number or an enumeration
 abbrev pub IsBasic : Form → Type 0
@@ -69,3 +65,8 @@ abbrev pub united_at : Form → Order → Value → ℕ → List ℕ → Read Va
 united_at t order d o octets = do
   m ← union_at t order (label d) o octets
   Ok (value.union d m.0, m.1, m.2)
+
+-- a part of that member that is stored was read, or the member as a whole
+abbrev pub StoresUnion : Form → Order → ℤ → ℕ → List ℕ → ℕ → Type 0
+StoresUnion (form.union d cs) order l o octets p = StoresChosen cs order l o octets p ⊎ EndsAtPlace (chosen_at cs order l o octets) p
+StoresUnion _ order l o octets p = p ≡ o

@@ -1,15 +1,15 @@
 //! Reading values of a type.
 
-ghost use Rattle.std.specs.Prelude.{⊤, ◌≡◌, ◌<◌, ◌^◌, ◌++◌, List, ℕ, length};
+ghost use Rattle.std.specs.Prelude.{◌≡◌, ◌<◌, ◌^◌, ◌++◌, ◌∷◌, [], List, ℕ, length, OnOk};
 ghost use Rattle.cdr_core.specs.Answering.{Answers, ListAnswers, ListReads, Reads};
 ghost use Rattle.cdr_core.specs.Cursor.{Gives};
 ghost use Rattle.cdr_core.specs.Fitting.{AreValid, IsValid};
 ghost use Rattle.cdr_core.specs.Form.{octets, sequence, string};
-ghost use Rattle.cdr_core.specs.Private.{union_at, united_at, IsBasic, MayStore, GivesUnlessMemory};
+ghost use Rattle.cdr_core.specs.Private.{union_at, united_at, IsBasic, StoresUnion, GivesUnlessMemory};
 ghost use Rattle.cdr_core.specs.Reading.{each_at, members_at, value_at};
 ghost use Rattle.cdr_core.specs.Spelling.{Spells, SpellsMembers};
 ghost use Rattle.cdr_core.specs.Value.{label, Value, Values};
-ghost use Rattle.cdr_core.specs.Memory.{MayRunOut};
+ghost use Rattle.cdr_core.specs.Memory.{StoresEach, StoresMembers, Stores};
 ghost use Rattle.cdr_core.specs.View.{form_of, forms_of, held, value_of, values_of};
 
 use crate::cursor::Cursor;
@@ -18,7 +18,7 @@ use crate::fitting::is_labelled;
 use crate::order::Order;
 use crate::types::{Case, Ty};
 use crate::values::Val;
-use std::alloc::Global;
+use std::alloc::{AllocError, Global};
 
 /// Reads a boolean, a number or an enumeration.
 #[tactic(auto, unfolding(crate::specs::Reading::value_at))]
@@ -43,7 +43,7 @@ fn basic(ty: &Ty, cursor: &mut Cursor) -> Result<Val, Fault>
 /// Reads a string.
 #[tactic(auto, unfolding(crate::specs::Reading::value_at))]
 fn string(alloc: Global, bound: u32, cursor: &mut Cursor) -> Result<Val, CdrError>
-    ensures { GivesUnlessMemory value_of result (value_at (string bound) cursor.old.order) (MayRunOut (string bound) cursor.old.order) cursor.old cursor.new }
+    ensures { GivesUnlessMemory value_of result (value_at (string bound) cursor.old.order) (Stores (string bound) cursor.old.order) cursor.old cursor.new }
 {
     let text = cursor.string_within(bound)?;
     Ok(Val::Str(Vec::from_slice(alloc, text)?))
@@ -52,7 +52,7 @@ fn string(alloc: Global, bound: u32, cursor: &mut Cursor) -> Result<Val, CdrErro
 /// Reads a sequence of octets.
 #[tactic(auto, unfolding(crate::specs::Reading::value_at))]
 fn octets(alloc: Global, bound: u32, cursor: &mut Cursor) -> Result<Val, CdrError>
-    ensures { GivesUnlessMemory value_of result (value_at (octets bound) cursor.old.order) (MayRunOut (octets bound) cursor.old.order) cursor.old cursor.new }
+    ensures { GivesUnlessMemory value_of result (value_at (octets bound) cursor.old.order) (Stores (octets bound) cursor.old.order) cursor.old cursor.new }
 {
     let all = cursor.octets_within(bound)?;
     Ok(Val::Octets(Vec::from_slice(alloc, all)?))
@@ -62,7 +62,7 @@ fn octets(alloc: Global, bound: u32, cursor: &mut Cursor) -> Result<Val, CdrErro
 #[cycle(reading)]
 #[tactic(auto, unfolding(crate::specs::Reading::value_at))]
 fn value(alloc: Global, ty: &Ty, cursor: &mut Cursor) -> Result<Val, CdrError>
-    ensures { GivesUnlessMemory value_of result (value_at (form_of ty.now) cursor.old.order) (MayRunOut (form_of ty.now) cursor.old.order) cursor.old cursor.new }
+    ensures { GivesUnlessMemory value_of result (value_at (form_of ty.now) cursor.old.order) (Stores (form_of ty.now) cursor.old.order) cursor.old cursor.new }
 {
     match ty {
         Ty::Str(bound) => string(alloc, *bound, cursor),
@@ -82,7 +82,7 @@ fn value(alloc: Global, ty: &Ty, cursor: &mut Cursor) -> Result<Val, CdrError>
 #[cycle(reading)]
 #[tactic(auto, unfolding(crate::specs::Reading::value_at))]
 fn sequence(alloc: Global, ty: &Ty, bound: u32, cursor: &mut Cursor) -> Result<Val, CdrError>
-    ensures { GivesUnlessMemory value_of result (value_at (sequence bound (form_of ty.now)) cursor.old.order) (MayRunOut (sequence bound (form_of ty.now)) cursor.old.order) cursor.old cursor.new }
+    ensures { GivesUnlessMemory value_of result (value_at (sequence bound (form_of ty.now)) cursor.old.order) (Stores (sequence bound (form_of ty.now)) cursor.old.order) cursor.old cursor.new }
 {
     let count = cursor.length(0, bound)?;
     Ok(Val::Seq(each(alloc, ty, count, cursor)?))
@@ -91,7 +91,7 @@ fn sequence(alloc: Global, ty: &Ty, bound: u32, cursor: &mut Cursor) -> Result<V
 /// Reads the member of a union whose discriminator was read, and joins them.
 #[cycle(reading)]
 fn union(alloc: Global, ty: &Ty, discriminator: Val, cursor: &mut Cursor) -> Result<Val, CdrError>
-    ensures { GivesUnlessMemory value_of result (united_at (form_of ty.now) cursor.old.order (value_of discriminator)) (λ o octets. ⊤) cursor.old cursor.new }
+    ensures { GivesUnlessMemory value_of result (united_at (form_of ty.now) cursor.old.order (value_of discriminator)) (StoresUnion (form_of ty.now) cursor.old.order (label (value_of discriminator))) cursor.old cursor.new }
 {
     let member = chosen(alloc, ty, &discriminator, cursor)?;
     Ok(Val::Union(Box::new(alloc, discriminator)?, member))
@@ -101,7 +101,7 @@ fn union(alloc: Global, ty: &Ty, discriminator: Val, cursor: &mut Cursor) -> Res
 /// bear out reserves nothing.
 #[cycle(reading)]
 fn each(alloc: Global, ty: &Ty, count: u32, cursor: &mut Cursor) -> Result<Vec<Val>, CdrError>
-    ensures { GivesUnlessMemory (λ v. values_of v.items) result (each_at (value_at (form_of ty.now) cursor.old.order) count) (MayStore (form_of ty.now) cursor.old.order) cursor.old cursor.new }
+    ensures { GivesUnlessMemory (λ v. values_of v.items) result (each_at (value_at (form_of ty.now) cursor.old.order) count) (StoresEach (value_at (form_of ty.now) cursor.old.order) (Stores (form_of ty.now) cursor.old.order) count) cursor.old cursor.new }
 {
     let mut all = Vec::new(alloc);
     for _ in 0..count {
@@ -110,14 +110,26 @@ fn each(alloc: Global, ty: &Ty, count: u32, cursor: &mut Cursor) -> Result<Vec<V
     Ok(all)
 }
 
-/// Reads a value of each type.
+/// Appends a struct's member to those before it. Memory for so many is taken with the first.
+fn push_member(member: Val, members: usize, all: &mut Vec<Val>) -> Result<(), AllocError>
+    ensures { OnOk result (all.new.items ≡ all.old.items ++ member ∷ []) }
+{
+    if all.is_empty() {
+        all.reserve_exact(members)?;
+    }
+    all.push(member)?;
+    Ok(())
+}
+
+/// Reads a value of each type. Memory is taken once the first is read.
 #[cycle(reading)]
 fn each_of(alloc: Global, types: &[Ty], cursor: &mut Cursor) -> Result<Vec<Val>, CdrError>
-    ensures { GivesUnlessMemory (λ v. values_of v.items) result (members_at (forms_of types.now) cursor.old.order) (λ o octets. ⊤) cursor.old cursor.new }
+    ensures { GivesUnlessMemory (λ v. values_of v.items) result (members_at (forms_of types.now) cursor.old.order) (StoresMembers (forms_of types.now) cursor.old.order) cursor.old cursor.new }
 {
-    let mut all = Vec::with_capacity(alloc, types.len())?;
+    let mut all = Vec::new(alloc);
     for ty in types {
-        all.push(value(alloc, ty, cursor)?)?;
+        let value = value(alloc, ty, cursor)?;
+        push_member(value, types.len(), &mut all)?;
     }
     Ok(all)
 }
@@ -130,7 +142,7 @@ fn chosen(
     discriminator: &Val,
     cursor: &mut Cursor,
 ) -> Result<Option<Box<Val>>, CdrError>
-    ensures { GivesUnlessMemory held result (union_at (form_of union.now) cursor.old.order (label (value_of discriminator.now))) (λ o octets. ⊤) cursor.old cursor.new }
+    ensures { GivesUnlessMemory held result (union_at (form_of union.now) cursor.old.order (label (value_of discriminator.now))) (StoresUnion (form_of union.now) cursor.old.order (label (value_of discriminator.now))) cursor.old cursor.new }
 {
     let Ty::Union(_, cases, default) = union else {
         return Ok(None);

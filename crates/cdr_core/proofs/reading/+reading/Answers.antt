@@ -1,11 +1,13 @@
-use Rattle.std.proofs.Common.{inr, refl, sym, ap, ◌∙◌}
+use Rattle.std.proofs.Common.{inl, inr, refl, sym, ap, ◌∙◌}
 use Rattle.std.proofs.lemmas.Result.{err_from_is_err_and}
-use Rattle.cdr_core.specs.Reading.{value_at}
+use Rattle.cdr_core.specs.Memory.{Stores, StoresEach}
+use Rattle.cdr_core.specs.Reading.{length_at, value_at}
+use Rattle.cdr_core.specs.Value as value
 use Rattle.cdr_core.specs.Value.{label}
 use Rattle.cdr_core.specs.View.{form_of, value_of, values_of}
 use Rattle.cdr_core.proofs.Turns.{each_done, each_more}
 use Rattle.cdr_core.proofs.Loops.{each_ends, members_more, members_end, members_done, case_passed, case_chosen, case_fails, default_none, default_chosen, default_fails, sequence_reads, sequence_fails, array_reads, array_fails}
-use Rattle.cdr_core.proofs.Memory.{first_read, may_any, may_store, sequence_wants}
+use Rattle.cdr_core.proofs.Memory.{after_read, case_stores, cases_store, default_stores, if_memory, member_stores, members_store, stores_here, stores_later, union_ends}
 use Rattle.cdr_core.proofs.Views.{values_of-push, form_of-Array, value_of-Array, value_of-Seq}
 use Rattle.cdr_core.proofs.reading.+reading.Goals as goal
 
@@ -16,7 +18,7 @@ each-loop-preserved t c =
     let cursor = c.value.new.cursor in
     record {
       order = read.1;
-      first = inr (first_read (form_of c.args.ty.now) c.args.cursor.now c.loop.cursor i.first (value_of c.in_ok-value.field-0) cursor.place cursor.rest read.0);
+      stores = λ p h. i.stores p (stores_later (value_at (form_of c.args.ty.now) c.args.cursor.now.order) (Stores (form_of c.args.ty.now) c.args.cursor.now.order) c.args.count c.loop.counter c.loop.cursor.place c.loop.cursor.rest (value_of c.in_ok-value.field-0) cursor.place cursor.rest p c.loop-test.true read.0 (inr h));
       whole = rw (c.in_ok-push.ensures.items, values_of-push)
           (each_more (value_at (form_of c.args.ty.now) c.args.cursor.now.order) (values_of c.loop.all.items) c.args.count c.loop.counter c.loop.cursor.place c.loop.cursor.rest (value_of c.in_ok-value.field-0) cursor.place cursor.rest _ c.loop-test.true read.0 i.whole);
     }
@@ -26,7 +28,7 @@ each-returns-in_err-value t c =
     let p = err_from_is_err_and c.from_residual.result c.from_residual.ensures.1 in
     let i = c.loop.invariant in
     let read = rw i.order at c.in_err-value.ensures in
-    rw (p.1, p.2) (each_ends c.in_err-value.field-0.0 (value_at (form_of c.args.ty.now) c.args.cursor.now.order) (values_of c.loop.all.items) c.args.count c.loop.counter c.loop.cursor.place c.loop.cursor.rest _ c.loop-test.true read.0 i.whole, may_store c.in_err-value.field-0.0 (form_of c.args.ty.now) c.args.cursor.now c.loop.cursor i.first read.1)
+    rw (p.1, p.2) (each_ends c.in_err-value.field-0.0 (value_at (form_of c.args.ty.now) c.args.cursor.now.order) (values_of c.loop.all.items) c.args.count c.loop.counter c.loop.cursor.place c.loop.cursor.rest _ c.loop-test.true read.0 i.whole, if_memory c.in_err-value.field-0.0 (λ h. i.stores c.value.new.cursor.place (stores_here (value_at (form_of c.args.ty.now) c.args.cursor.now.order) (Stores (form_of c.args.ty.now) c.args.cursor.now.order) c.args.count c.loop.counter c.loop.cursor.place c.loop.cursor.rest c.value.new.cursor.place c.loop-test.true h)) read.1)
 
 pub each-returns : goal.each-returns
 each-returns t c =
@@ -40,16 +42,17 @@ each_of-loop-ty-preserved t c =
     let cursor = c.value.new.cursor in
     record {
       order = read.1;
-      whole = rw (c.in_ok-push.ensures.items, values_of-push)
-          (members_more c.args.types.now c.loop-ty.ty-index c.ty-item.result c.args.cursor.now.order (values_of c.loop-ty.all.items) c.loop-ty.cursor.place c.loop-ty.cursor.rest (value_of c.in_ok-value.field-0) cursor.place cursor.rest _ c.loop-ty-test.true c.ty-item.is read.0 i.whole);
+      stores = λ p h. i.stores p (members_store c.args.types.now c.loop-ty.ty-index c.ty-item.result c.args.cursor.now.order c.loop-ty.cursor.place c.loop-ty.cursor.rest (value_of c.in_ok-value.value) cursor.place cursor.rest p c.loop-ty-test.true c.ty-item.is read.0 (inr h));
+      whole = rw (c.in_ok-push_member.ensures, values_of-push)
+          (members_more c.args.types.now c.loop-ty.ty-index c.ty-item.result c.args.cursor.now.order (values_of c.loop-ty.all.items) c.loop-ty.cursor.place c.loop-ty.cursor.rest (value_of c.in_ok-value.value) cursor.place cursor.rest _ c.loop-ty-test.true c.ty-item.is read.0 i.whole);
     }
 
 pub each_of-returns-in_err-value : goal.each_of-returns-in_err-value
 each_of-returns-in_err-value t c =
-    let p = err_from_is_err_and c.from_residual-in_err-value.result c.from_residual-in_err-value.ensures.1 in
+    let p = err_from_is_err_and c.from_residual.result c.from_residual.ensures.1 in
     let i = c.loop-ty.invariant in
     let read = rw i.order at c.in_err-value.ensures in
-    rw (p.1, p.2) (members_end c.in_err-value.field-0.0 c.args.types.now c.loop-ty.ty-index c.ty-item.result c.args.cursor.now.order (values_of c.loop-ty.all.items) c.loop-ty.cursor.place c.loop-ty.cursor.rest _ c.loop-ty-test.true c.ty-item.is read.0 i.whole, may_any c.in_err-value.field-0.0)
+    rw (p.1, p.2) (members_end c.in_err-value.field-0.0 c.args.types.now c.loop-ty.ty-index c.ty-item.result c.args.cursor.now.order (values_of c.loop-ty.all.items) c.loop-ty.cursor.place c.loop-ty.cursor.rest _ c.loop-ty-test.true c.ty-item.is read.0 i.whole, if_memory c.in_err-value.field-0.0 (λ h. i.stores c.value.new.cursor.place (member_stores c.args.types.now c.loop-ty.ty-index c.ty-item.result c.args.cursor.now.order c.loop-ty.cursor.place c.loop-ty.cursor.rest c.value.new.cursor.place c.loop-ty-test.true c.ty-item.is h)) read.1)
 
 pub each_of-returns : goal.each_of-returns
 each_of-returns t c =
@@ -62,6 +65,7 @@ chosen-loop-case-preserved t c =
     let l = label (value_of c.args.discriminator.now) in
     record {
       same = i.same;
+      stores = λ p h. i.stores p (cases_store c.deref-case-items.result.now c.in-Union.default c.loop-case.case-index c.case-item.result c.args.cursor.now.order l c.args.cursor.now.place c.args.cursor.now.rest p c.loop-case-test.true c.case-item.is (sym c.is_labelled.ensures ∙ c.if-is_labelled.false) h);
       whole = case_passed c.deref-case-items.result.now c.in-Union.default c.loop-case.case-index c.case-item.result c.args.cursor.now.order l c.args.cursor.now.place c.args.cursor.now.rest _ c.loop-case-test.true c.case-item.is (sym c.is_labelled.ensures ∙ c.if-is_labelled.false) i.whole;
     }
 
@@ -79,7 +83,7 @@ chosen-returns-in_err-member t c =
     let i = c.loop-case.invariant in
     let l = label (value_of c.args.discriminator.now) in
     let read = rw i.same at c.in_err-member.ensures in
-    rw (p.1, p.2) (case_fails c.in_err-member.field-0.0 c.deref-case-items.result.now c.in-Union.default c.loop-case.case-index c.case-item.result c.args.cursor.now.order l c.args.cursor.now.place c.args.cursor.now.rest _ c.loop-case-test.true c.case-item.is (sym c.is_labelled.ensures ∙ c.if-is_labelled.true) read.0 i.whole, may_any c.in_err-member.field-0.0)
+    rw (p.1, p.2) (case_fails c.in_err-member.field-0.0 c.deref-case-items.result.now c.in-Union.default c.loop-case.case-index c.case-item.result c.args.cursor.now.order l c.args.cursor.now.place c.args.cursor.now.rest _ c.loop-case-test.true c.case-item.is (sym c.is_labelled.ensures ∙ c.if-is_labelled.true) read.0 i.whole, if_memory c.in_err-member.field-0.0 (λ h. i.stores c.value.new.cursor.place (case_stores c.deref-case-items.result.now c.in-Union.default c.loop-case.case-index c.case-item.result c.args.cursor.now.order l c.args.cursor.now.place c.args.cursor.now.rest c.value.new.cursor.place c.loop-case-test.true c.case-item.is (sym c.is_labelled.ensures ∙ c.if-is_labelled.true) h)) read.1)
 
 pub chosen-returns-in-None : goal.chosen-returns-in-None
 chosen-returns-in-None t c =
@@ -101,7 +105,7 @@ chosen-returns-in_err-member-in-Some t c =
     let i = c.loop-case.invariant in
     let l = label (value_of c.args.discriminator.now) in
     let read = rw (i.same, c.deref.ensures) at c.in_err-member-in-Some.ensures in
-    rw (p.1, p.2) (default_fails c.in_err-member-in-Some.field-0.0 c.deref-case-items.result.now c.in-Union.default c.loop-case.case-index c.in-Some.ty c.args.cursor.now.order l c.args.cursor.now.place c.args.cursor.now.rest _ c.loop-case-test.false c.in-Some.is read.0 i.whole, may_any c.in_err-member-in-Some.field-0.0)
+    rw (p.1, p.2) (default_fails c.in_err-member-in-Some.field-0.0 c.deref-case-items.result.now c.in-Union.default c.loop-case.case-index c.in-Some.ty c.args.cursor.now.order l c.args.cursor.now.place c.args.cursor.now.rest _ c.loop-case-test.false c.in-Some.is read.0 i.whole, if_memory c.in_err-member-in-Some.field-0.0 (λ h. i.stores c.value-in-Some.new.cursor.place (default_stores c.deref-case-items.result.now c.in-Union.default c.loop-case.case-index c.in-Some.ty c.args.cursor.now.order l c.args.cursor.now.place c.args.cursor.now.rest c.value-in-Some.new.cursor.place c.loop-case-test.false c.in-Some.is h)) read.1)
 
 pub sequence-returns : goal.sequence-returns
 sequence-returns t c =
@@ -121,7 +125,7 @@ sequence-returns-in_err-each t c =
     let n = c.in_ok-count.ensures in
     let read = rw n.1 at c.in_err-each.ensures in
     rw (p.1, p.2)
-    (sequence_fails c.in_err-each.field-0.0 c.args.bound (form_of c.args.ty.now) old.order old.place old.rest c.in_ok-count.count mid.place mid.rest n.0 read.0, sequence_wants c.in_err-each.field-0.0 c.args.bound (form_of c.args.ty.now) old.order old.place old.rest c.in_ok-count.count mid.place mid.rest n.0 read.1)
+    (sequence_fails c.in_err-each.field-0.0 c.args.bound (form_of c.args.ty.now) old.order old.place old.rest c.in_ok-count.count mid.place mid.rest n.0 read.0, if_memory c.in_err-each.field-0.0 (after_read (length_at old.order 0 c.args.bound old.place old.rest) c.in_ok-count.count mid.place mid.rest (λ n q rest. StoresEach (value_at (form_of c.args.ty.now) old.order) (Stores (form_of c.args.ty.now) old.order) n q rest c.each.new.cursor.place) n.0) read.1)
 
 pub value-returns-in_ok-each-in-Array : goal.value-returns-in_ok-each-in-Array
 value-returns-in_ok-each-in-Array t c =
@@ -140,3 +144,43 @@ value-returns-in_err-each-in-Array t c =
     let read = rw c.deref-in-Array.ensures at c.in_err-each-in-Array.ensures in
     rw (p.1, p.2, ap form_of a.is ∙ form_of-Array a.count a.member)
     (array_fails c.in_err-each-in-Array.field-0.0 a.count (form_of a.member.value) old.order old.place old.rest read.0, read.1)
+
+pub each-returns-in_err-push : goal.each-returns-in_err-push
+each-returns-in_err-push t c =
+    let p = err_from_is_err_and c.from_residual-in_err-push.result c.from_residual-in_err-push.ensures.1 in
+    let i = c.loop.invariant in
+    let read = rw i.order at c.in_ok-value.ensures in
+    let cursor = c.value.new.cursor in
+    rw (p.1, p.2) (tt, i.stores cursor.place (stores_later (value_at (form_of c.args.ty.now) c.args.cursor.now.order) (Stores (form_of c.args.ty.now) c.args.cursor.now.order) c.args.count c.loop.counter c.loop.cursor.place c.loop.cursor.rest (value_of c.in_ok-value.field-0) cursor.place cursor.rest cursor.place c.loop-test.true read.0 (inl refl)))
+
+pub each_of-returns-in_err-push_member : goal.each_of-returns-in_err-push_member
+each_of-returns-in_err-push_member t c =
+    let p = err_from_is_err_and c.from_residual-in_err-push_member.result c.from_residual-in_err-push_member.ensures.1 in
+    let i = c.loop-ty.invariant in
+    let read = rw i.order at c.in_ok-value.ensures in
+    let cursor = c.value.new.cursor in
+    rw (p.1, p.2) (tt, i.stores cursor.place (members_store c.args.types.now c.loop-ty.ty-index c.ty-item.result c.args.cursor.now.order c.loop-ty.cursor.place c.loop-ty.cursor.rest (value_of c.in_ok-value.value) cursor.place cursor.rest cursor.place c.loop-ty-test.true c.ty-item.is read.0 (inl refl)))
+
+pub chosen-returns-in_err-new : goal.chosen-returns-in_err-new
+chosen-returns-in_err-new t c =
+    let p = err_from_is_err_and c.from_residual-in_err-new.result c.from_residual-in_err-new.ensures.1 in
+    let i = c.loop-case.invariant in
+    let l = label (value_of c.args.discriminator.now) in
+    let v = value_of c.in_ok-member.member in
+    let read = rw i.same at c.in_ok-member.ensures in
+    let old = c.args.cursor.now in
+    let cursor = c.value.new.cursor in
+    rw (p.1, p.2) (tt, union_ends (form_of c.args.union.now) old.order l old.place old.rest (value.value v value.no_values) cursor.place cursor.rest
+        (case_chosen c.deref-case-items.result.now c.in-Union.default c.loop-case.case-index c.case-item.result old.order l old.place old.rest v cursor.place cursor.rest _ c.loop-case-test.true c.case-item.is (sym c.is_labelled.ensures ∙ c.if-is_labelled.true) read.0 i.whole))
+
+pub chosen-returns-in_err-new-in-Some : goal.chosen-returns-in_err-new-in-Some
+chosen-returns-in_err-new-in-Some t c =
+    let p = err_from_is_err_and c.from_residual-in_err-new-in-Some.result c.from_residual-in_err-new-in-Some.ensures.1 in
+    let i = c.loop-case.invariant in
+    let l = label (value_of c.args.discriminator.now) in
+    let v = value_of c.in_ok-member-in-Some.member in
+    let read = rw (i.same, c.deref.ensures) at c.in_ok-member-in-Some.ensures in
+    let old = c.args.cursor.now in
+    let cursor = c.value-in-Some.new.cursor in
+    rw (p.1, p.2) (tt, union_ends (form_of c.args.union.now) old.order l old.place old.rest (value.value v value.no_values) cursor.place cursor.rest
+        (default_chosen c.deref-case-items.result.now c.in-Union.default c.loop-case.case-index c.in-Some.ty old.order l old.place old.rest v cursor.place cursor.rest _ c.loop-case-test.false c.in-Some.is read.0 i.whole))

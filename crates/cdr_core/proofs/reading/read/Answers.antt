@@ -13,7 +13,7 @@ pub returns-in_err-value-clause-answers : goal.returns-in_err-value-clause-answe
 returns-in_err-value-clause-answers c =
     let p = err_from_is_err_and c.from_residual.result c.from_residual.ensures.1 in
     let h = rw c.new-cursor.ensures at c.in_err-value.ensures in
-    rw (p.1, p.2) (err_answers c.in_err-value.field-0.0 (form_of c.args.ty.now) c.args.order c.args.at c.args.octets.now h.0 h.1)
+    rw (p.1, p.2) (err_answers c.in_err-value.field-0.0 (form_of c.args.ty.now) c.args.order c.args.at c.args.octets.now c.value.new.cursor.place h.0 h.1)
 
 pub returns-in_err-value-clause-only : goal.returns-in_err-value-clause-only
 returns-in_err-value-clause-only c =

@@ -13,7 +13,7 @@ pub returns-in_err-values-clause-answers : goal.returns-in_err-values-clause-ans
 returns-in_err-values-clause-answers c =
     let p = err_from_is_err_and c.from_residual.result c.from_residual.ensures.1 in
     let h = rw c.new-cursor.ensures at c.in_err-values.ensures in
-    rw (p.1, p.2) (list_err c.in_err-values.field-0.0 (forms_of c.args.types.now) c.args.order c.args.at c.args.octets.now h.0)
+    rw (p.1, p.2) (list_err c.in_err-values.field-0.0 (forms_of c.args.types.now) c.args.order c.args.at c.args.octets.now c.each_of.new.cursor.place h.0 h.1)
 
 pub returns-in_err-values-clause-only : goal.returns-in_err-values-clause-only
 returns-in_err-values-clause-only c =
