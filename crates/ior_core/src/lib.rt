@@ -13,10 +13,8 @@ mod tagged;
 mod text;
 mod writable;
 
-pub use reference::{Ior, object_key, read_ior, write_ior};
-pub use text::{parse_text, print_text};
-
-pub use profile::{IiopProfile, TAG_INTERNET_IOP, iiop_key, profile_key, read_iiop, write_iiop};
-pub use tagged::{Component, Profile, Tagged, read_tagged};
-
 pub use error::IorError;
+pub use profile::{IiopProfile, TAG_INTERNET_IOP, iiop_key, profile_key, read_iiop, write_iiop};
+pub use reference::{Ior, object_key, read_ior, write_ior};
+pub use tagged::{Component, Profile, Tagged, read_tagged};
+pub use text::{parse_text, print_text};
