@@ -1,5 +1,5 @@
 -- References and profiles in encapsulations are spelled where they are read, and read where they are spelled.
-use Rattle.std.proofs.Common.{◌≡◌, ℕ, zero, suc, ◌+◌, Bool, true, false, List, [], ◌∷◌, ◌++◌, length, Option, Some, None, Ok, refl, sym, ap, subst, ◌∙◌, arith, append_assoc, length-append}
+use Rattle.std.proofs.Common.{◌≡◌, ℕ, zero, suc, ◌+◌, Bool, List, [], ◌∷◌, ◌++◌, length, Ok, refl, sym, ap, subst, ◌∙◌, arith}
 use Rattle.std.proofs.lemmas.List.{append-nil}
 use Rattle.hex.specs.Hex.{IsBytes}
 use Rattle.hex.proofs.HexLemmas.{decode_of-encode_lower}
@@ -10,14 +10,19 @@ use Rattle.cdr_core.specs.Encapsulation.{byte_order}
 use Rattle.cdr_core.specs.Laws.{ReadIsSpelled, SpelledIsRead, WrittenIsSpelled}
 use Rattle.cdr_core.specs.Numbers.{AreOctets}
 use Rattle.cdr_core.specs.Reading.{◌>>=◌, value_at}
-use Rattle.cdr_core.specs.Spelling.{InTurn, Spells, Takes}
+use Rattle.cdr_core.specs.Spelling.{Spells, Takes}
 use Rattle.cdr_core.proofs.Steps.{bind_ok, ok_is}
-use Rattle.cdr_core.specs.Value.{Value}
-use Rattle.cdr_core.specs.Writing.{octets_of, octets_of_all}
-use Rattle.ior_core.specs.Grammar.{profile_1_0, reference, tagged_list}
-use Rattle.ior_core.specs.Laws.{FitsBehind, ProfilesAreSpelled, ReferencesAreSpelled, SpelledProfilesAreRead, SpelledReferencesAreRead, WrittenProfileIsRead, WrittenTextIsRead}
-use Rattle.ior_core.specs.Profiles.{behind_at, body_at, has_minor_0, held, profile_octets, Body, IsBehind, IsBody}
-use Rattle.ior_core.specs.Text.{decoded, reference_octets}
+use Rattle.cdr_core.specs.Value as value
+use Rattle.cdr_core.specs.Value.{Value, Values}
+use Rattle.cdr_core.specs.Writing.{octets_of}
+use Rattle.ior_core.specs.Grammar.{profile_1_0, reference}
+use Rattle.ior_core.specs.Laws.{ProfilesAreSpelled, ReferencesAreSpelled, SpelledProfilesAreRead, SpelledReferencesAreRead, WrittenProfileIsRead, WrittenTextIsRead}
+use Rattle.ior_core.specs.Private.{components_at}
+use Rattle.ior_core.specs.Profiles.{body_at, has_minor_0, type_of, type_where, IsBody}
+use Rattle.ior_core.proofs.Bodies.{profile_parts}
+use Rattle.ior_core.proofs.Structures.{extended}
+use Rattle.ior_core.specs.Text.{decoded}
+use Rattle.ior_core.specs.Writing.{encapsulation_of}
 
 pub references_found : ReadIsSpelled → ReferencesAreSpelled
 references_found found octets v h = enclosed_found found (λ order v. Spells reference order v) (value_at reference) (λ order o octets v p rest h. found reference order o octets v p rest h) octets v h
@@ -25,59 +30,45 @@ references_found found octets v h = enclosed_found found (λ order v. Spells ref
 pub references_only : SpelledIsRead → SpelledReferencesAreRead
 references_only only octets v h = enclosed_only only (λ order v. Spells reference order v) (value_at reference) (λ order v o front rest h. only reference order v o front rest h) octets v h
 
--- a part, and what stands behind it
-in_turn_takes : (A B : ℕ → List ℕ → Type 0) (o : ℕ) (octets : List ℕ) (m : ℕ) (more : List ℕ) (p : ℕ) (rest : List ℕ) → Takes A o octets m more → Takes B m more p rest → Takes (InTurn A B) o octets p rest
-in_turn_takes A B o octets m more p rest a b = record {
-  front = a.front ++ b.front;
-  parts = a.parts ∙ ap (λ r. a.front ++ r) b.parts ∙ sym (append_assoc a.front b.front rest);
-  place = omega (arith, a.place, b.place, length-append a.front b.front);
-  holds = record { front = a.front; rest = b.front; parts = refl; first = a.holds; second = subst (λ q. B q b.front) a.place b.holds };
-}
+-- a profile has the version with which it is read as 1.0
+same_type : ReadIsSpelled → (order : Order) (o : ℕ) (octets : List ℕ) (none : Bool) (h x : Value) (q p : ℕ) (more rest : List ℕ) → value_at profile_1_0 order o octets ≡ Ok (h, q, more) → value_at (type_where none) order o octets ≡ Ok (x, p, rest)
+    → has_minor_0 x ≡ has_minor_0 h
+same_type found order o octets none h x q p more rest first second =
+    let parts = rw first at (sym (profile_parts none order o octets) ∙ second) in
+    let b = bind_ok (components_at none order q more) (λ (c : Values × ℕ × List ℕ). Ok (extended h c.0, c.1, c.2)) (x, p, rest) parts in
+    let is : extended h b.0.0 ≡ x = ap (λ (t : Value × ℕ × List ℕ). t.0) (ok_is (extended h b.0.0, b.0.1, b.0.2) (x, p, rest) b.2) in
+    let t = found profile_1_0 order o octets h q more first in
+    subst (λ z. has_minor_0 z ≡ has_minor_0 h) is (same_minor h o t.front b.0.0 t.holds)
+  where
+    same_minor : (v : Value) (o : ℕ) (front : List ℕ) (c : Values) → Spells profile_1_0 order v o front → has_minor_0 (extended v c) ≡ has_minor_0 v
+    same_minor (value.structure (value.value major (value.value minor vs))) o front c s = refl
+    same_minor (value.structure (value.value major value.no_values)) o front c s = absurd s.second
+    same_minor (value.structure value.no_values) o front c s = absurd s
+    same_minor _ o front c s = absurd s
 
-behind_found : ReadIsSpelled → (none : Bool) (order : Order) (o : ℕ) (octets : List ℕ) (c : Option Value) (p : ℕ) (rest : List ℕ) → behind_at none order o octets ≡ Ok (c, p, rest) → Takes (IsBehind none order c) o octets p rest
-behind_found found true order o octets c p rest h =
-    let none : Takes (IsBehind true order None) o octets o octets = record { front = []; parts = refl; place = omega arith; holds = refl } in
-    subst (λ (z : Option Value × ℕ × List ℕ). Takes (IsBehind true order z.0) o octets z.1 z.2) (ok_is (None, o, octets) (c, p, rest) h) none
-behind_found found false order o octets c p rest h =
-    let b = bind_ok (value_at tagged_list order o octets) (λ (x : Value × ℕ × List ℕ). Ok (Some x.0, x.1, x.2)) (c, p, rest) h in
-    let t = found tagged_list order o octets b.0.0 b.0.1 b.0.2 b.1 in
-    let some : Takes (IsBehind false order (Some b.0.0)) o octets b.0.1 b.0.2 = record { front = t.front; parts = t.parts; place = t.place; holds = t.holds } in
-    subst (λ (z : Option Value × ℕ × List ℕ). Takes (IsBehind false order z.0) o octets z.1 z.2) (ok_is (Some b.0.0, b.0.1, b.0.2) (c, p, rest) b.2) some
-
-body_found : ReadIsSpelled → (order : Order) (o : ℕ) (octets : List ℕ) (x : Body) (p : ℕ) (rest : List ℕ) → body_at order o octets ≡ Ok (x, p, rest) → Takes (IsBody order x) o octets p rest
+body_found : ReadIsSpelled → (order : Order) (o : ℕ) (octets : List ℕ) (x : Value) (p : ℕ) (rest : List ℕ) → body_at order o octets ≡ Ok (x, p, rest) → Takes (IsBody order x) o octets p rest
 unfolding body_at
 body_found found order o octets x p rest h =
-    let b = bind_ok (value_at profile_1_0 order o octets) (λ (h : Value × ℕ × List ℕ). behind_at (has_minor_0 h.0) order h.1 h.2 >>= λ (c : Option Value × ℕ × List ℕ). Ok ((h.0, c.0), c.1, c.2)) (x, p, rest) h in
+    let b = bind_ok (value_at profile_1_0 order o octets) (λ (v : Value × ℕ × List ℕ). value_at (type_of v.0) order o octets) (x, p, rest) h in
     let v = b.0 in
-    let d = bind_ok (behind_at (has_minor_0 v.0) order v.1 v.2) (λ (c : Option Value × ℕ × List ℕ). Ok ((v.0, c.0), c.1, c.2)) (x, p, rest) b.2 in
-    let c = d.0 in
-    let first = found profile_1_0 order o octets v.0 v.1 v.2 b.1 in
-    let second = behind_found found (has_minor_0 v.0) order v.1 v.2 c.0 c.1 c.2 d.1 in
-    let both : Takes (IsBody order (v.0, c.0)) o octets c.1 c.2 = in_turn_takes (Spells profile_1_0 order v.0) (IsBehind (has_minor_0 v.0) order c.0) o octets v.1 v.2 c.1 c.2 first second in
-    subst (λ (z : Body × ℕ × List ℕ). Takes (IsBody order z.0) o octets z.1 z.2) (ok_is ((v.0, c.0), c.1, c.2) (x, p, rest) d.2) both
+    let same = same_type found order o octets (has_minor_0 v.0) v.0 x v.1 p v.2 rest b.1 b.2 in
+    subst (λ none. Takes (Spells (type_where none) order x) o octets p rest) (sym same) (found (type_of v.0) order o octets x p rest b.2)
 
 pub profiles_found : ReadIsSpelled → ProfilesAreSpelled
-profiles_found found octets p h = enclosed_found found (λ order p. IsBody order p) body_at (body_found found) octets p h
+profiles_found found octets v h = enclosed_found found (λ order v. IsBody order v) body_at (body_found found) octets v h
 
-behind_reads : SpelledIsRead → (none : Bool) (order : Order) (c : Option Value) (o : ℕ) (front rest : List ℕ) → IsBehind none order c o front → behind_at none order o (front ++ rest) ≡ Ok (c, o + length front, rest)
-behind_reads only true order None o front rest h =
-    let here : o + 0 ≡ o = omega arith in
-    rw (h, here) refl
-behind_reads only true order (Some v) o front rest h = absurd h
-behind_reads only false order None o front rest h = absurd h
-behind_reads only false order (Some v) o front rest h = rw (only tagged_list order v o front rest h) refl
-
-body_reads : SpelledIsRead → (order : Order) (x : Body) (o : ℕ) (front rest : List ℕ) → IsBody order x o front → body_at order o (front ++ rest) ≡ Ok (x, o + length front, rest)
+body_reads : ReadIsSpelled → SpelledIsRead → (order : Order) (x : Value) (o : ℕ) (front rest : List ℕ) → IsBody order x o front → body_at order o (front ++ rest) ≡ Ok (x, o + length front, rest)
 unfolding body_at
-body_reads only order x o front rest h =
-    let whole : front ++ rest ≡ h.front ++ (h.rest ++ rest) = ap (λ xs. xs ++ rest) h.parts ∙ append_assoc h.front h.rest rest in
-    let first = only profile_1_0 order x.0 o h.front (h.rest ++ rest) h.first in
-    let second = behind_reads only (has_minor_0 x.0) order x.1 (o + length h.front) h.rest rest h.second in
-    let place : (o + length h.front) + length h.rest ≡ o + length front = omega (arith, ap length h.parts, length-append h.front h.rest) in
-    rw (whole, first, second, place) refl
+body_reads found only order x o front rest h =
+    let whole = only (type_of x) order x o front rest h in
+    let parts = sym (profile_parts (has_minor_0 x) order o (front ++ rest)) ∙ whole in
+    let b = bind_ok (value_at profile_1_0 order o (front ++ rest)) (λ (v : Value × ℕ × List ℕ). components_at (has_minor_0 x) order v.1 v.2 >>= λ (c : Values × ℕ × List ℕ). Ok (extended v.0 c.0, c.1, c.2)) (x, o + length front, rest) parts in
+    let v = b.0 in
+    let same = same_type found order o (front ++ rest) (has_minor_0 x) v.0 x v.1 (o + length front) v.2 rest b.1 whole in
+    rw (b.1, ← same) whole
 
-pub profiles_only : SpelledIsRead → SpelledProfilesAreRead
-profiles_only only octets p h = enclosed_only only (λ order p. IsBody order p) body_at (body_reads only) octets p h
+pub profiles_only : ReadIsSpelled → SpelledIsRead → SpelledProfilesAreRead
+profiles_only found only octets v h = enclosed_only only (λ order v. IsBody order v) body_at (body_reads found only) octets v h
 
 -- what is written
 
@@ -86,25 +77,18 @@ are_bytes [] h i = omega arith
 are_bytes (x ∷ xs) h zero = h.0
 are_bytes (x ∷ xs) h (suc i) = are_bytes xs h.1 i
 
-behind_byte_order : (order : Order) (octets : List ℕ) → AreOctets octets → IsBytes (byte_order order ∷ octets)
-behind_byte_order Big octets h = are_bytes (0 ∷ octets) (omega arith, h)
-behind_byte_order Little octets h = are_bytes (1 ∷ octets) (omega arith, h)
+after_byte_order : (order : Order) (octets : List ℕ) → AreOctets octets → IsBytes (byte_order order ∷ octets)
+after_byte_order Big octets h = are_bytes (0 ∷ octets) (omega arith, h)
+after_byte_order Little octets h = are_bytes (1 ∷ octets) (omega arith, h)
 
 pub text_read : SpelledIsRead → WrittenIsSpelled → WrittenTextIsRead
 text_read only written v fits octets =
-    let whole : reference_octets v ≡ byte_order Big ∷ (octets_of Big v 1 ++ []) = ap (λ xs. byte_order Big ∷ xs) (sym (append-nil (octets_of Big v 1))) in
-    let bytes : IsBytes (reference_octets v) = behind_byte_order Big (octets_of Big v 1) octets in
-    (ap decoded (decode_of-encode_lower (reference_octets v) bytes), references_only only (reference_octets v) v (record { order = Big; front = octets_of Big v 1; rest = []; parts = whole; holds = written reference Big v fits 1 }))
+    let whole : encapsulation_of v ≡ byte_order Big ∷ (octets_of Big v 1 ++ []) = ap (λ xs. byte_order Big ∷ xs) (sym (append-nil (octets_of Big v 1))) in
+    let bytes : IsBytes (encapsulation_of v) = after_byte_order Big (octets_of Big v 1) octets in
+    (ap decoded (decode_of-encode_lower (encapsulation_of v) bytes), references_only only (encapsulation_of v) v (record { order = Big; front = octets_of Big v 1; rest = []; parts = whole; holds = written reference Big v fits 1 }))
 
-behind_written : WrittenIsSpelled → (none : Bool) (c : Option Value) → FitsBehind none c → (o : ℕ) → IsBehind none Big c o (octets_of_all Big (held c) o)
-behind_written written true None fits o = refl
-behind_written written true (Some v) fits o = absurd fits
-behind_written written false None fits o = absurd fits
-behind_written written false (Some v) fits o = subst (λ xs. Spells tagged_list Big v o xs) (sym (append-nil (octets_of Big v o))) (written tagged_list Big v fits o)
-
-pub profile_read : SpelledIsRead → WrittenIsSpelled → WrittenProfileIsRead
-profile_read only written p head behind =
-    let front = octets_of Big p.0 1 in
-    let rest = octets_of_all Big (held p.1) (1 + length front) in
-    let whole : profile_octets p ≡ byte_order Big ∷ ((front ++ rest) ++ []) = ap (λ xs. byte_order Big ∷ xs) (sym (append-nil (front ++ rest))) in
-    profiles_only only (profile_octets p) p (record { order = Big; front = front ++ rest; rest = []; parts = whole; holds = record { front = front; rest = rest; parts = refl; first = written profile_1_0 Big p.0 head 1; second = behind_written written (has_minor_0 p.0) p.1 behind (1 + length front) } })
+pub profile_read : ReadIsSpelled → SpelledIsRead → WrittenIsSpelled → WrittenProfileIsRead
+profile_read found only written v fits =
+    let front = octets_of Big v 1 in
+    let whole : encapsulation_of v ≡ byte_order Big ∷ (front ++ []) = ap (λ xs. byte_order Big ∷ xs) (sym (append-nil front)) in
+    profiles_only found only (encapsulation_of v) v (record { order = Big; front = front; rest = []; parts = whole; holds = written (type_of v) Big v fits 1 })

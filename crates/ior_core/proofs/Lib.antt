@@ -1,6 +1,6 @@
 pub mod Steps
 pub mod Structures
-pub mod Behind
+pub mod Appended
 pub mod Bodies
 pub mod Texts
 pub mod Enclosed

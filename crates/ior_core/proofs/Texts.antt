@@ -16,21 +16,21 @@ use Rattle.ior_core.specs.declared.error.IorError.{IorError}
 use Rattle.ior_core.specs.declared.error.IorError.TheVariants.{BadDigit, BadMajor, Cdr, Memory, NoPrefix, OddDigits}
 use Rattle.ior_core.specs.Calls.{ior_error}
 use Rattle.ior_core.specs.Grammar.{reference}
-use Rattle.ior_core.specs.Text.{behind_prefix, decoded, digits_in, hex_error, reference_in, text_octets, ReadsText}
+use Rattle.ior_core.specs.Text.{after_prefix, decoded, digits_in, hex_error, reference_in, text_octets, ReadsText}
 
 module _ (octets : List ℕ) where
   pub order_fails : (f : Fault) → order_at octets ≡ Err f → reference_in octets ≡ Err f
   unfolding encapsulated
   order_fails f e = rw e refl
 
-  module _ (order : Order) (p : ℕ) (rest : List ℕ) (told : order_at octets ≡ Ok (order, p, rest)) where
+  module _ (order : Order) (p : ℕ) (rest : List ℕ) (ordered : order_at octets ≡ Ok (order, p, rest)) where
     pub reference_fails : (f : Fault) → value_at reference order p rest ≡ Err f → reference_in octets ≡ Err f
     unfolding encapsulated
-    reference_fails f e = rw (told, e) refl
+    reference_fails f e = rw (ordered, e) refl
 
     pub reference_is : (v : Value) (q : ℕ) (left : List ℕ) → value_at reference order p rest ≡ Ok (v, q, left) → reference_in octets ≡ Ok v
     unfolding encapsulated
-    reference_is v q left e = rw (told, e) refl
+    reference_is v q left e = rw (ordered, e) refl
 
     pub reference_ends : (text : List ℕ) → text_octets text ≡ Ok octets → (e : CdrError) → Fails e (value_at reference order p rest) → ReadsText text (Err (ior_error e))
     reference_ends text t (errors.Bad f) h = (octets, t, reference_fails f h)
@@ -42,28 +42,28 @@ IsOfDigits (Cdr f) = ⊥
 IsOfDigits BadMajor = ⊥
 IsOfDigits _ = ⊤
 
-hex_told : (x : FromHexError) → IsOfDigits (hex_error x)
-hex_told (digits.InvalidHexCharacter c i) = tt
-hex_told digits.OddLength = tt
-hex_told digits.InvalidStringLength = tt
-hex_told digits.OutOfMemory = tt
+hex_of_digits : (x : FromHexError) → IsOfDigits (hex_error x)
+hex_of_digits (digits.InvalidHexCharacter c i) = tt
+hex_of_digits digits.OddLength = tt
+hex_of_digits digits.InvalidStringLength = tt
+hex_of_digits digits.OutOfMemory = tt
 
-decoded_told : (r : Result (List ℕ) FromHexError) (e : IorError) → decoded r ≡ Err e → IsOfDigits e
-decoded_told (Ok octets) e h = absurd cc
-decoded_told (Err x) e h =
+decoded_of_digits : (r : Result (List ℕ) FromHexError) (e : IorError) → decoded r ≡ Err e → IsOfDigits e
+decoded_of_digits (Ok octets) e h = absurd cc
+decoded_of_digits (Err x) e h =
     let is : hex_error x ≡ e = cc in
-    subst IsOfDigits is (hex_told x)
+    subst IsOfDigits is (hex_of_digits x)
 
-digits_told : (found : Option (List ℕ)) (e : IorError) → digits_in found ≡ Err e → IsOfDigits e
-digits_told (Some digits) e h = decoded_told (decode_of digits) e h
-digits_told None e h =
+digits_of_digits : (found : Option (List ℕ)) (e : IorError) → digits_in found ≡ Err e → IsOfDigits e
+digits_of_digits (Some digits) e h = decoded_of_digits (decode_of digits) e h
+digits_of_digits None e h =
     let is : NoPrefix ≡ e = cc in
     subst IsOfDigits is tt
 
 pub digits_end : (text : List ℕ) (e : IorError) → (e ≡ Memory) ⊎ (text_octets text ≡ Err e) → ReadsText text (Err e)
 digits_end text e (inl memory) = rw memory tt
-digits_end text (Cdr f) (inr h) = absurd (digits_told (behind_prefix text) (Cdr f) h)
-digits_end text BadMajor (inr h) = absurd (digits_told (behind_prefix text) BadMajor h)
+digits_end text (Cdr f) (inr h) = absurd (digits_of_digits (after_prefix text) (Cdr f) h)
+digits_end text BadMajor (inr h) = absurd (digits_of_digits (after_prefix text) BadMajor h)
 digits_end text Memory (inr h) = tt
 digits_end text NoPrefix (inr h) = h
 digits_end text OddDigits (inr h) = h

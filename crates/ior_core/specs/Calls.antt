@@ -1,4 +1,4 @@
--- What errors say, and what calls give that other calls rest on.
+-- What errors say, and what calls give.
 use Rattle.std.specs.Prelude.{◌≡◌, ℕ, ◌+◌, ◌≤◌, List, length, drop, Result, Ok, Err, ⊤}
 use Rattle.cdr_core.specs.declared.fault.CdrError.{CdrError}
 use Rattle.cdr_core.specs.declared.fault.CdrError.TheVariants as errors
@@ -12,17 +12,17 @@ use Rattle.ior_core.specs.Grammar.{reference}
 use Rattle.ior_core.specs.View.{ior_value}
 use Rattle.ior_core.specs.declared.error.IorError.TheVariants.{Cdr, Memory}
 
--- the same reason
+-- the error of cdr_core that an error stands for
 abbrev pub ior_error : CdrError → IorError
 ior_error (errors.Bad f) = Cdr f
 ior_error errors.Memory = Memory
 
--- A reader that isn't used again after a fault gives what reading gives, seen by view.
+-- A call gives what reading gives, seen by view, and goes on after it. After a fault the cursor is not used again.
 abbrev pub GivesOnce : {X Y : Type 0} → (X → Y) → Result X Fault → (ℕ → List ℕ → Read Y) → Position → Position → Type 0
 GivesOnce view (Ok x) read old new = (read old.place old.rest ≡ Ok (view x, new.place, new.rest)) × (new.order ≡ old.order)
 GivesOnce view (Err f) read old new = read old.place old.rest ≡ Err f
 
--- a reference and the length of the front that spells it, or the first fault, or that memory ran out
+-- a reference and the length of the front that spells it, or the first fault, or out of memory
 abbrev pub ReadsReference : Order → ℕ → List ℕ → Result (Ior × ℕ) IorError → Type 0
 ReadsReference order o octets (Ok x) = (x.1 ≤ length octets) × (value_at reference order o octets ≡ Ok (ior_value x.0, o + x.1, drop x.1 octets))
 ReadsReference order o octets (Err (Cdr f)) = value_at reference order o octets ≡ Err f

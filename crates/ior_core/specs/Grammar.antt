@@ -17,6 +17,10 @@ abbrev pub reference : Form
 reference = form.structure (forms (text ∷ tagged_list ∷ []))
 
 -- IIOP 9.7.2: struct ProfileBody_1_0 { Version iiop_version; string host; unsigned short port; sequence<octet> object_key; },
--- where a version is an octet major and an octet minor. From 1.1 on a sequence<TaggedComponent> follows.
+-- where a version is an octet major and an octet minor
 abbrev pub profile_1_0 : Form
 profile_1_0 = form.structure (forms (octet ∷ octet ∷ text ∷ ushort ∷ raw ∷ []))
+
+-- IIOP 9.7.2: struct ProfileBody_1_1, which has a sequence<TaggedComponent> components as its last member
+abbrev pub profile_1_1 : Form
+profile_1_1 = form.structure (forms (octet ∷ octet ∷ text ∷ ushort ∷ raw ∷ tagged_list ∷ []))

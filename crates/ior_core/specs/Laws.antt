@@ -1,38 +1,35 @@
 -- The laws, each over the definitions alone.
-use Rattle.std.specs.Prelude.{◌≡◌, true, false, Bool, List, ℕ, Option, Some, None, Ok, ⊤}
+use Rattle.std.specs.Prelude.{◌≡◌, List, ℕ, Ok}
 use Rattle.cdr_core.specs.declared.order.Order.TheVariants.{Big}
 use Rattle.cdr_core.specs.Encapsulation.{IsEncapsulated}
 use Rattle.cdr_core.specs.Fitting.{Fits}
 use Rattle.cdr_core.specs.Numbers.{AreOctets}
 use Rattle.cdr_core.specs.Value.{Value}
 use Rattle.cdr_core.specs.Writing.{octets_of}
-use Rattle.ior_core.specs.Grammar.{profile_1_0, reference, tagged_list}
-use Rattle.ior_core.specs.Profiles.{body_of, has_minor_0, profile_octets, Body, IsBody}
-use Rattle.ior_core.specs.Text.{reference_in, reference_octets, reference_text, text_octets, IsReference}
+use Rattle.ior_core.specs.Grammar.{reference}
+use Rattle.ior_core.specs.Profiles.{body_of, type_of, IsBody}
+use Rattle.ior_core.specs.Text.{reference_in, reference_text, text_octets, IsReference}
+use Rattle.ior_core.specs.Writing.{encapsulation_of}
 
--- The reference that is read in an encapsulation is spelled there, and what is spelled there is read.
+-- The reference that is read in an encapsulation is spelled there ..
 abbrev pub ReferencesAreSpelled : Type 0
 ReferencesAreSpelled = (octets : List ℕ) (v : Value) → reference_in octets ≡ Ok v → IsReference v octets
 
+-- .. and the one that is spelled there is read.
 abbrev pub SpelledReferencesAreRead : Type 0
 SpelledReferencesAreRead = (octets : List ℕ) (v : Value) → IsReference v octets → reference_in octets ≡ Ok v
 
--- The same of the octets of a profile.
+-- The same two of the octets of a profile.
 abbrev pub ProfilesAreSpelled : Type 0
-ProfilesAreSpelled = (octets : List ℕ) (p : Body) → body_of octets ≡ Ok p → IsEncapsulated (λ order. IsBody order p) octets
+ProfilesAreSpelled = (octets : List ℕ) (v : Value) → body_of octets ≡ Ok v → IsEncapsulated (λ order. IsBody order v) octets
 
 abbrev pub SpelledProfilesAreRead : Type 0
-SpelledProfilesAreRead = (octets : List ℕ) (p : Body) → IsEncapsulated (λ order. IsBody order p) octets → body_of octets ≡ Ok p
+SpelledProfilesAreRead = (octets : List ℕ) (v : Value) → IsEncapsulated (λ order. IsBody order v) octets → body_of octets ≡ Ok v
 
--- A text that is written gives the octets of its reference, and they are read as the same reference.
+-- A text that was written has the digits of an encapsulation, and this is read as the same reference.
 abbrev pub WrittenTextIsRead : Type 0
-WrittenTextIsRead = (v : Value) → Fits reference v → AreOctets (octets_of Big v 1) → (text_octets (reference_text v) ≡ Ok (reference_octets v)) × (reference_in (reference_octets v) ≡ Ok v)
+WrittenTextIsRead = (v : Value) → Fits reference v → AreOctets (octets_of Big v 1) → (text_octets (reference_text v) ≡ Ok (encapsulation_of v)) × (reference_in (encapsulation_of v) ≡ Ok v)
 
-abbrev pub FitsBehind : Bool → Option Value → Type 0
-FitsBehind true None = ⊤
-FitsBehind false (Some v) = Fits tagged_list v
-FitsBehind _ _ = ⊥
-
--- A profile that is written is read as the same profile.
+-- A profile that was written is read as the same profile.
 abbrev pub WrittenProfileIsRead : Type 0
-WrittenProfileIsRead = (p : Body) → Fits profile_1_0 p.0 → FitsBehind (has_minor_0 p.0) p.1 → body_of (profile_octets p) ≡ Ok p
+WrittenProfileIsRead = (v : Value) → Fits (type_of v) v → body_of (encapsulation_of v) ≡ Ok v

@@ -1,4 +1,4 @@
--- The values that references and profiles of the code stand for.
+-- The values that references, tagged profiles and components of the code stand for.
 use Rattle.std.specs.Prelude.{ℕ, List, [], ◌∷◌, map}
 use Rattle.std.specs.Borrow.{Bor}
 use Rattle.cdr_core.specs.Parts.{ulong_value}
@@ -13,6 +13,7 @@ tag_and_octets tag octets = value.structure (values (ulong_value tag ∷ value.o
 abbrev pub tagged_value : Tagged → Value
 tagged_value t = tag_and_octets t.tag t.octets.items
 
+-- octets that are lent, with their tag
 abbrev pub lent_value : ℕ × Bor (List ℕ) → Value
 lent_value x = tag_and_octets x.0 x.1.now
 

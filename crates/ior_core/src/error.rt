@@ -1,4 +1,4 @@
-//! Why a reference was not read.
+//! Why a reference or a profile was not read.
 
 ghost use Rattle.std.specs.Prelude.{◌≡◌};
 ghost use Rattle.ior_core.specs.Calls.{ior_error};
@@ -9,31 +9,32 @@ use hex::FromHexError;
 use std::alloc::AllocError;
 use thiserror::Error;
 
-/// Why a reference or a profile was not read. Where several apply the first in this order is told;
-/// want of memory whenever it is met.
-#[derive(Debug, Drop, Error)]
+/// Why a reference or a profile was not read. Where several apply it is the first in this order,
+/// which is this project's own; `Memory` comes as soon as an allocation fails.
+#[derive(Clone, Copy, Debug, PartialEq, Eq, Error)]
 pub enum IorError {
-    /// The text does not begin with `IOR:`, whose letters may stand in either case.
+    /// The text does not begin with `IOR:`, whose letters may be in either case.
     #[error("no prefix")]
     NoPrefix,
     /// The number of digits is odd.
     #[error("odd digits")]
     OddDigits,
-    /// No hexadecimal digit stands at this place, counted in octets from 0 behind the prefix.
+    /// There is no hexadecimal digit at this place, counted in octets from 0 after the prefix.
     #[error("bad digit at {0}")]
     BadDigit(u64),
-    /// The octets are no reference or no profile: the first fault.
+    /// The octets are no reference or no profile: their first fault, whose place counts from the
+    /// encapsulation's first octet, or for `read_ior` from where its caller says.
     #[error("{0}")]
     Cdr(Fault),
-    /// The octets are a profile of IIOP of another major version than 1.
+    /// The octets are a whole profile of another major version of IIOP than 1.
     #[error("bad major")]
     BadMajor,
-    /// Memory ran out.
+    /// Out of memory: an allocation failed.
     #[error("memory")]
     Memory,
 }
 
-/// The same reason.
+/// The same reason: the fault of the octets, or out of memory.
 impl From<CdrError> for IorError {
     ghost from_gives = { λ c e. e ≡ ior_error c };
 
@@ -56,7 +57,7 @@ impl From<Fault> for IorError {
     }
 }
 
-/// Want of memory.
+/// Out of memory.
 impl From<AllocError> for IorError {
     ghost from_gives = { λ _ e. e ≡ Memory };
 
@@ -65,7 +66,7 @@ impl From<AllocError> for IorError {
     }
 }
 
-/// What is wrong with digits.
+/// What is wrong with the digits: `OddDigits`, `BadDigit`, or out of memory.
 impl From<FromHexError> for IorError {
     ghost use Rattle.ior_core.specs.Text.{hex_error};
 

@@ -2,8 +2,7 @@
 
 ghost use Rattle.ior_core.specs.Laws.{ProfilesAreSpelled, ReferencesAreSpelled, SpelledProfilesAreRead, SpelledReferencesAreRead, WrittenProfileIsRead, WrittenTextIsRead};
 
-/// The reference that is read in an encapsulation is spelled there, and what is spelled there is
-/// read.
+/// A reference is read from an encapsulation exactly where the octets spell it.
 #[tactic(auto, using(crate::proofs::Enclosed::references_found))]
 pub fn references_are_spelled()
     ensures spelled { ReferencesAreSpelled }
@@ -13,7 +12,7 @@ pub fn references_are_spelled()
     cdr_core::laws::spelled_is_read();
 }
 
-/// The profile that is read in an encapsulation is spelled there, and what is spelled there is read.
+/// A profile is read from an encapsulation exactly where the octets spell it.
 #[tactic(auto, using(crate::proofs::Enclosed::profiles_found))]
 pub fn profiles_are_spelled()
     ensures spelled { ProfilesAreSpelled }
@@ -23,12 +22,13 @@ pub fn profiles_are_spelled()
     cdr_core::laws::spelled_is_read();
 }
 
-/// What is written is read as the same reference and the same profile.
+/// A text or a profile that was written is read as the same reference or the same profile.
 #[tactic(auto, using(crate::proofs::Enclosed::text_read, crate::proofs::Enclosed::profile_read))]
 pub fn written_is_read()
     ensures text { WrittenTextIsRead }
     ensures profile { WrittenProfileIsRead }
 {
+    cdr_core::laws::read_is_spelled();
     cdr_core::laws::spelled_is_read();
     cdr_core::laws::written_is_spelled();
 }

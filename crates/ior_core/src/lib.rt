@@ -1,8 +1,8 @@
-//! Object references: IORs, their IIOP profiles, and their text.
+//! Object references (CORBA 3.3 Part 2, 7.6 and 9.7): IORs, their IIOP profiles, and their text.
 //!
-//! A reference is a value of the grammar that the standard's IDL gives (CORBA 3.3 Part 2, 7.6.2 and
-//! 9.7.2), in octets that `cdr_core` reads and writes. A profile is an encapsulation. The text of a
-//! reference is `IOR:` and the hexadecimal digits of an encapsulation (7.6.9).
+//! It reads and writes what `cdr_core` has no types for: a reference is a structure of the
+//! standard's IDL, a profile is an encapsulation, and a reference's text is `IOR:` with the
+//! hexadecimal digits of an encapsulation. What is written is read as the same value (`laws`).
 #![tactic(auto)]
 
 mod error;
@@ -13,8 +13,10 @@ mod tagged;
 mod text;
 mod writable;
 
-pub use error::IorError;
-pub use profile::{IiopProfile, TAG_INTERNET_IOP, iiop_key, profile_key, read_iiop, write_iiop};
 pub use reference::{Ior, object_key, read_ior, write_ior};
-pub use tagged::{Component, Profile, Tagged, read_tagged};
 pub use text::{parse_text, print_text};
+
+pub use profile::{IiopProfile, TAG_INTERNET_IOP, iiop_key, profile_key, read_iiop, write_iiop};
+pub use tagged::{Component, Profile, Tagged, read_tagged};
+
+pub use error::IorError;

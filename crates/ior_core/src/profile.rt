@@ -1,17 +1,20 @@
-//! IIOP profiles.
+//! IIOP profiles (CORBA 3.3 Part 2, 9.7.2).
 
 ghost use Rattle.std.specs.Prelude.{◌≡◌, ◌↔◌, ◌++◌, ◌<◌, ◌≤◌, ◌^◌, length, option_map, pos, Err, IfOk, IsTrue, MatchResult, OnErr, OnOk, ⊤};
 ghost use Rattle.cdr_core.specs.Private.{Keeps, passing};
 ghost use Rattle.cdr_core.specs.Writing.{Appends, AreWritable, PutsAll};
 ghost use Rattle.cdr_core.specs.Cursor.{GivesUnlessMemory};
 ghost use Rattle.cdr_core.specs.Reading.{value_at};
+ghost use Rattle.cdr_core.specs.Value.{values};
 ghost use Rattle.ior_core.specs.Calls.{GivesOnce};
 ghost use Rattle.ior_core.specs.Grammar.{profile_1_0};
 ghost use Rattle.ior_core.specs.Keys.{profile_key};
-ghost use Rattle.ior_core.specs.Profiles.{behind_at, behind_value, body_of, head_value, held, iiop_body, is_0, key_of, profile_octets, HasNone, IsWritableProfile, ReadsProfile};
+ghost use Rattle.ior_core.specs.Private.{components_at, head_value, head_values, is_0};
+ghost use Rattle.ior_core.specs.Profiles.{body_of, components_of, iiop_body, key_of, HasNone, IsWritableProfile, ReadsProfile};
+ghost use Rattle.ior_core.specs.Writing.{encapsulation_of};
 
 use crate::error::IorError;
-use crate::tagged::{Component, pass_list, put_list, read_list};
+use crate::tagged::{Component, put_list, read_list, skip_list};
 use crate::writable::{is_length, is_list_writable, is_string_writable};
 use cdr_core::{CdrError, Cursor, Fault, Order, Writer};
 use std::alloc::{AllocError, Global};
@@ -19,9 +22,10 @@ use std::alloc::{AllocError, Global};
 /// The tag of an IIOP profile (CORBA 3.3 Part 2, 7.6.2).
 pub const TAG_INTERNET_IOP: u32 = 0;
 
-/// A profile of IIOP 1 (IIOP::ProfileBody_1_0 and _1_1): where an object is reached, and its key. A
-/// profile of 1.0 has no components.
-#[derive(Debug, Drop)]
+/// A profile of IIOP 1 (IIOP::ProfileBody_1_0 and _1_1): the host and the TCP port where the object
+/// is reached, and its key there. The host is the octets of a string without its NUL. A profile of
+/// 1.0 has no components; that each other minor version has them is this project's own rule.
+#[derive(Debug, Drop, PartialEq)]
 pub struct IiopProfile {
     pub minor: u8,
     pub host: Vec<u8>,
@@ -31,8 +35,8 @@ pub struct IiopProfile {
 }
 
 impl IiopProfile {
-    /// Whether the profile can be written: its host has no NUL, its lengths and the number of its
-    /// components fit an unsigned long, and one of 1.0 has no components.
+    /// Whether the profile can be written: its host has no NUL, each length and the number of
+    /// components fit an unsigned long, and a profile of 1.0 has no components.
     pub fn is_writable(&self) -> bool
         ensures { IsTrue result ↔ IsWritableProfile self.now }
     {
@@ -43,7 +47,7 @@ impl IiopProfile {
 
 /// Whether a profile of this minor version can be written with these components.
 fn are_components_writable(minor: u8, components: &[Component]) -> bool
-    ensures { IsTrue result ↔ (AreWritable (held (behind_value minor components.now)) × HasNone minor components.now) }
+    ensures { IsTrue result ↔ (AreWritable (values (components_of minor components.now)) × HasNone minor components.now) }
 {
     if minor == 0 {
         return components.is_empty();
@@ -51,7 +55,7 @@ fn are_components_writable(minor: u8, components: &[Component]) -> bool
     is_list_writable(components)
 }
 
-/// What a profile of each version has, lent.
+/// The members that a profile of each version has; strings and octets are lent.
 #[derive(Clone, Copy)]
 struct Head<'a> {
     major: u8,
@@ -61,7 +65,7 @@ struct Head<'a> {
     object_key: &'a [u8],
 }
 
-/// What a profile of each version has.
+/// Reads the members that a profile of each version has.
 #[tactic(auto, using(crate::proofs::Steps::profile_is))]
 fn read_head<'a>(cursor: &mut Cursor<'a>) -> Result<Head<'a>, Fault>
     ensures { GivesOnce (λ h. head_value h.major h.minor h.host.now h.port h.object_key.now) result (value_at profile_1_0 cursor.old.order) cursor.old cursor.new }
@@ -80,19 +84,23 @@ fn read_head<'a>(cursor: &mut Cursor<'a>) -> Result<Head<'a>, Fault>
     })
 }
 
-/// Passes over what stands behind the head of a profile.
-fn pass_behind(minor: u8, cursor: &mut Cursor) -> Result<(), Fault>
-    ensures { GivesOnce (λ u. u) result (λ o octets. passing (behind_at (is_0 (pos minor)) cursor.old.order o octets)) cursor.old cursor.new }
+/// Skips the components of a profile of this minor version.
+fn skip_components(minor: u8, cursor: &mut Cursor) -> Result<(), Fault>
+    ensures { GivesOnce (λ u. u) result (λ o octets. passing (components_at (is_0 minor) cursor.old.order o octets)) cursor.old cursor.new }
 {
     if minor == 0 {
         return Ok(());
     }
-    pass_list(cursor)
+    skip_list(cursor)
 }
 
-/// What stands behind the head of a profile.
-fn read_behind(alloc: Global, minor: u8, cursor: &mut Cursor) -> Result<Vec<Component>, CdrError>
-    ensures gives { GivesUnlessMemory (λ v. behind_value minor v.items) result (behind_at (is_0 (pos minor)) cursor.old.order) (λ o octets. ⊤) cursor.old cursor.new }
+/// Reads the components of a profile of this minor version: none in 1.0.
+fn read_components(
+    alloc: Global,
+    minor: u8,
+    cursor: &mut Cursor,
+) -> Result<Vec<Component>, CdrError>
+    ensures gives { GivesUnlessMemory (λ v. values (components_of minor v.items)) result (components_at (is_0 minor) cursor.old.order) (λ o octets. ⊤) cursor.old cursor.new }
     ensures none { IfOk result (λ v. HasNone minor v.items) }
 {
     if minor == 0 {
@@ -101,19 +109,19 @@ fn read_behind(alloc: Global, minor: u8, cursor: &mut Cursor) -> Result<Vec<Comp
     read_list(alloc, cursor)
 }
 
-/// The key in the octets of a profile that reads, if its major version is 1.
+/// The key in the octets of a valid profile, if its major version is 1.
 #[tactic(auto, using(crate::proofs::Bodies::order_fails, crate::proofs::Bodies::head_fails, crate::proofs::Bodies::pass_fails, crate::proofs::Bodies::key_is))]
 fn key_in(octets: &[u8]) -> Result<Option<&[u8]>, Fault>
     ensures { MatchResult result (λ k. option_map (λ key. key.now) k ≡ key_of (body_of octets.now)) (λ f. body_of octets.now ≡ Err f) }
 {
     let mut cursor = Cursor::encapsulated(octets)?;
     let head = read_head(&mut cursor)?;
-    pass_behind(head.minor, &mut cursor)?;
+    skip_components(head.minor, &mut cursor)?;
     Ok((head.major == 1).then_some(head.object_key))
 }
 
-/// The object key in the octets of an IIOP profile, where `read_iiop` would read them. It takes no
-/// memory.
+/// The object key in the octets of an IIOP profile. None where `read_iiop` would report a fault or
+/// `BadMajor`. It takes no memory.
 pub fn iiop_key(octets: &[u8]) -> Option<&[u8]>
     ensures { option_map (λ key. key.now) result ≡ key_of (body_of octets.now) }
 {
@@ -123,8 +131,8 @@ pub fn iiop_key(octets: &[u8]) -> Option<&[u8]>
     }
 }
 
-/// The object key in a profile with this tag and these octets, where the tag is `TAG_INTERNET_IOP`
-/// and `read_iiop` would read the octets. It takes no memory.
+/// The object key in a tagged profile: where the tag is `TAG_INTERNET_IOP`, the `iiop_key` of its
+/// octets; else None. It takes no memory.
 pub fn profile_key(tag: u32, octets: &[u8]) -> Option<&[u8]>
     ensures { option_map (λ key. key.now) result ≡ profile_key (tag, octets.now) }
 {
@@ -134,17 +142,20 @@ pub fn profile_key(tag: u32, octets: &[u8]) -> Option<&[u8]>
     iiop_key(octets)
 }
 
-/// The profile of IIOP 1 that the octets are: an encapsulation with a version, a host, a port, an
-/// object key, and from 1.1 on components. What stands behind them is ignored.
+/// Reads the octets of an IIOP profile: an encapsulation of a version, a host, a port, an object key,
+/// and from 1.1 on components.
 ///
-/// `BadMajor` is told only of octets that read as a profile of another major version.
-#[tactic(auto, using(crate::proofs::Bodies::order_fails, crate::proofs::Bodies::head_fails, crate::proofs::Bodies::behind_fails, crate::proofs::Bodies::body_is))]
+/// Errors are `Cdr`, the first fault, with its place counted from the encapsulation's first octet;
+/// `BadMajor`; and `Memory`. These rules are this project's own: octets after the last member are
+/// ignored, and `BadMajor` is reported only where the whole profile is valid apart from its major
+/// version.
+#[tactic(auto, using(crate::proofs::Bodies::order_fails, crate::proofs::Bodies::head_fails, crate::proofs::Bodies::components_fail, crate::proofs::Bodies::body_is))]
 pub fn read_iiop(alloc: Global, octets: &[u8]) -> Result<IiopProfile, IorError>
     ensures { ReadsProfile (body_of octets.now) result }
 {
     let mut cursor = Cursor::encapsulated(octets)?;
     let head = read_head(&mut cursor)?;
-    let components = read_behind(alloc, head.minor, &mut cursor)?;
+    let components = read_components(alloc, head.minor, &mut cursor)?;
     if head.major != 1 {
         return Err(IorError::BadMajor);
     }
@@ -157,11 +168,11 @@ pub fn read_iiop(alloc: Global, octets: &[u8]) -> Result<IiopProfile, IorError>
     })
 }
 
-/// Appends what a profile of each version has.
+/// Appends the members that a profile of each version has.
 fn put_head(writer: &Writer, profile: &IiopProfile, out: &mut Vec<u8>) -> Result<(), AllocError>
     requires start { writer.now.start ≤ length out.old.items }
     requires writable { IsWritableProfile profile.now }
-    ensures { MatchResult result (λ _. Appends writer.now (iiop_body profile.now).0 out.old.items out.new.items) (λ _. Keeps out.old.items out.new.items) }
+    ensures { MatchResult result (λ _. PutsAll writer.now (head_values 1 profile.now.minor profile.now.host.items profile.now.port profile.now.object_key.items) out.old.items out.new.items) (λ _. Keeps out.old.items out.new.items) }
 {
     writer.octet(1, out)?;
     writer.octet(profile.minor, out)?;
@@ -171,11 +182,15 @@ fn put_head(writer: &Writer, profile: &IiopProfile, out: &mut Vec<u8>) -> Result
     Ok(())
 }
 
-/// Appends what stands behind the head of a profile.
-fn put_behind(writer: &Writer, profile: &IiopProfile, out: &mut Vec<u8>) -> Result<(), AllocError>
+/// Appends the components of a profile, where its version has them.
+fn put_components(
+    writer: &Writer,
+    profile: &IiopProfile,
+    out: &mut Vec<u8>,
+) -> Result<(), AllocError>
     requires start { writer.now.start ≤ length out.old.items }
     requires writable { IsWritableProfile profile.now }
-    ensures { MatchResult result (λ _. PutsAll writer.now (held (iiop_body profile.now).1) out.old.items out.new.items) (λ _. Keeps out.old.items out.new.items) }
+    ensures { MatchResult result (λ _. PutsAll writer.now (values (components_of profile.now.minor profile.now.components.items)) out.old.items out.new.items) (λ _. Keeps out.old.items out.new.items) }
 {
     if profile.minor == 0 {
         return Ok(());
@@ -183,23 +198,24 @@ fn put_behind(writer: &Writer, profile: &IiopProfile, out: &mut Vec<u8>) -> Resu
     put_list(writer, &profile.components, out)
 }
 
-/// Appends a profile.
+/// Appends a profile; at an error a part of it may be appended.
 fn put(profile: &IiopProfile, out: &mut Vec<u8>) -> Result<(), AllocError>
     requires writable { IsWritableProfile profile.now }
-    ensures { MatchResult result (λ _. out.new.items ≡ out.old.items ++ profile_octets (iiop_body profile.now)) (λ _. Keeps out.old.items out.new.items) }
+    ensures { MatchResult result (λ _. out.new.items ≡ out.old.items ++ encapsulation_of (iiop_body profile.now)) (λ _. Keeps out.old.items out.new.items) }
 {
     let writer = Writer::encapsulated(Order::Big, out)?;
     put_head(&writer, profile, out)?;
-    put_behind(&writer, profile, out)?;
+    put_components(&writer, profile, out)?;
     Ok(())
 }
 
-/// Appends the octets of a profile of IIOP 1: an encapsulation in big order.
+/// Appends the octets of a profile of IIOP 1, which is an encapsulation. It is big-endian, which is
+/// this project's own choice; padding is zeros.
 ///
-/// Where memory runs out `out` is as it was.
+/// At an error, which means out of memory, `out` is as it was.
 pub fn write_iiop(profile: &IiopProfile, out: &mut Vec<u8>) -> Result<(), AllocError>
     requires { IsWritableProfile profile.now }
-    ensures ok { OnOk result (out.new.items ≡ out.old.items ++ profile_octets (iiop_body profile.now)) }
+    ensures ok { OnOk result (out.new.items ≡ out.old.items ++ encapsulation_of (iiop_body profile.now)) }
     ensures err { OnErr result (out.new.items ≡ out.old.items) }
 {
     let start = out.len();

@@ -1,4 +1,4 @@
-//! Object references.
+//! Object references (CORBA 3.3 Part 2, 7.6.2).
 
 ghost use Rattle.std.specs.Prelude.{◌≡◌, ◌↔◌, ◌++◌, ◌<◌, ◌≤◌, ◌^◌, length, option_map, IsTrue, MatchResult, OnErr, OnOk, ⊤};
 ghost use Rattle.cdr_core.specs.Private.{Keeps};
@@ -17,17 +17,18 @@ use crate::writable::{is_list_writable, is_string_writable};
 use cdr_core::{CdrError, Cursor, Order, Writer};
 use std::alloc::{AllocError, Global};
 
-/// A reference to an object (IOP::IOR): the repository id of its type, and where it is reached. The
-/// nil reference has an empty type and no profiles.
-#[derive(Debug, Drop)]
+/// A reference to an object (IOP::IOR): the repository id of its type, as octets of a string without
+/// its NUL, and a profile for each way to reach it. The nil reference has an empty type and no
+/// profiles.
+#[derive(Debug, Drop, PartialEq)]
 pub struct Ior {
     pub type_id: Vec<u8>,
     pub profiles: Vec<Profile>,
 }
 
 impl Ior {
-    /// Whether the reference can be written: its type has no NUL, and it, each profile and the
-    /// number of profiles fit an unsigned long.
+    /// Whether the reference can be written: its type has no NUL, and each length and the number of
+    /// profiles fit an unsigned long.
     pub fn is_writable(&self) -> bool
         ensures { IsTrue result ↔ IsWritable (ior_value self.now) }
     {
@@ -35,9 +36,9 @@ impl Ior {
     }
 }
 
-/// A reference.
+/// Reads a reference where the cursor stands.
 #[tactic(auto, using(crate::proofs::Steps::reference_is))]
-pub(crate) fn reference(alloc: Global, cursor: &mut Cursor) -> Result<Ior, CdrError>
+pub(crate) fn read(alloc: Global, cursor: &mut Cursor) -> Result<Ior, CdrError>
     ensures { GivesUnlessMemory ior_value result (value_at reference cursor.old.order) (λ o octets. ⊤) cursor.old cursor.new }
 {
     let type_id = Vec::from_slice(alloc, cursor.string()?)?;
@@ -45,7 +46,7 @@ pub(crate) fn reference(alloc: Global, cursor: &mut Cursor) -> Result<Ior, CdrEr
     Ok(Ior { type_id, profiles })
 }
 
-/// Appends a reference.
+/// Appends a reference at the writer's place.
 pub(crate) fn put(writer: &Writer, ior: &Ior, out: &mut Vec<u8>) -> Result<(), AllocError>
     requires start { writer.now.start ≤ length out.old.items }
     requires writable { IsWritable (ior_value ior.now) }
@@ -55,11 +56,13 @@ pub(crate) fn put(writer: &Writer, ior: &Ior, out: &mut Vec<u8>) -> Result<(), A
     put_list(writer, &ior.profiles, out)
 }
 
-/// The reference that a front of the octets spells, the first of which stands at the place `at`, and
-/// the length of that front, the padding before it included.
+/// Reads the reference at the front of the octets, as a member or an argument of type Object holds
+/// it: in the byte order and on the alignment of the octets around it, and in no encapsulation. `at`
+/// is the place of the first octet on the scale of the alignment.
 ///
-/// It stands in the order and on the alignment of what is around it, and is no encapsulation. At
-/// `Cdr` it is the first fault.
+/// The number is how many octets were read, padding before the reference included; octets after it
+/// are not looked at. Errors are `Cdr`, the first fault, with its place on the same scale as `at`,
+/// and `Memory`.
 pub fn read_ior(
     alloc: Global,
     order: Order,
@@ -71,14 +74,15 @@ pub fn read_ior(
 {
     cdr_core::laws::read_is_spelled();
     let mut cursor = Cursor::new(octets, order, at);
-    let ior = reference(alloc, &mut cursor)?;
+    let ior = read(alloc, &mut cursor)?;
     let left = cursor.rest().len();
     Ok((ior, octets.len() - left))
 }
 
-/// Appends a reference, whose first octet stands at the place `at`.
+/// Appends a reference in the given byte order, as `read_ior` reads it. `at` is the place, on the
+/// scale of the alignment, of the first octet that is appended; padding is zeros.
 ///
-/// Where memory runs out `out` is as it was.
+/// At an error, which means out of memory, `out` is as it was.
 pub fn write_ior(order: Order, at: u64, ior: &Ior, out: &mut Vec<u8>) -> Result<(), AllocError>
     requires at { at < 2 ^ 32 }
     requires writable { IsWritable (ior_value ior.now) }
@@ -94,8 +98,8 @@ pub fn write_ior(order: Order, at: u64, ior: &Ior, out: &mut Vec<u8>) -> Result<
     result
 }
 
-/// The object key in the profile of an index, counted from 0, where the profile is one of IIOP that
-/// reads. It takes no memory.
+/// The object key in the reference's profile of this index, counted from 0: its `profile_key`. None
+/// where there is no such profile. It takes no memory.
 pub fn object_key(ior: &Ior, index: u32) -> Option<&[u8]>
     ensures { option_map (λ key. key.now) result ≡ key_at ior.now.profiles.items index }
 {

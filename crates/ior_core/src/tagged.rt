@@ -1,4 +1,4 @@
-//! Octets with a tag: tagged profiles and tagged components.
+//! Octets with a tag: tagged profiles and tagged components (CORBA 3.3 Part 2, 7.6.2).
 
 ghost use Rattle.std.specs.Prelude.{◌≡◌, ◌++◌, ◌<◌, ◌≤◌, ◌^◌, length, map, MatchResult, ⊤};
 ghost use Rattle.cdr_core.specs.Private.{Keeps, passing};
@@ -13,18 +13,18 @@ ghost use Rattle.ior_core.specs.View.{lent_value, list_value, tagged_value, tagg
 use cdr_core::{CdrError, Cursor, Fault, Writer};
 use std::alloc::{AllocError, Global};
 
-/// A tag, and octets whose meaning the tag gives.
-#[derive(Debug, Drop)]
+/// A tag, and octets whose meaning the tag gives. Tags are the OMG's numbers; unknown ones are kept.
+#[derive(Debug, Drop, PartialEq)]
 pub struct Tagged {
     pub tag: u32,
     pub octets: Vec<u8>,
 }
 
-/// A profile of a reference (IOP::TaggedProfile). Tag 0 is TAG_INTERNET_IOP, tag 1 is
-/// TAG_MULTIPLE_COMPONENTS.
+/// A profile of a reference (IOP::TaggedProfile): one way to reach the object. That of
+/// `TAG_INTERNET_IOP` is read by `read_iiop`.
 pub type Profile = Tagged;
 
-/// A component of a profile (IOP::TaggedComponent).
+/// A component of a profile (IOP::TaggedComponent): a property of the object or of the way to it.
 pub type Component = Tagged;
 
 /// Reads a tag and its octets, as a tagged profile, a tagged component or a service context has
@@ -41,8 +41,8 @@ pub fn read_tagged<'a>(cursor: &mut Cursor<'a>) -> Result<(u32, &'a [u8]), Fault
     Ok((tag, octets))
 }
 
-/// So many tags with their octets. Memory is taken as they are read, and not by their count.
-fn each(alloc: Global, count: u32, cursor: &mut Cursor) -> Result<Vec<Tagged>, CdrError>
+/// Reads `count` items. The vector grows as they are read, since the count may be any number.
+fn read_each(alloc: Global, count: u32, cursor: &mut Cursor) -> Result<Vec<Tagged>, CdrError>
     ensures { GivesUnlessMemory (λ v. tagged_values v.items) result (each_at (value_at tagged cursor.old.order) count) (λ o octets. ⊤) cursor.old cursor.new }
 {
     let mut all = Vec::new(alloc);
@@ -54,17 +54,17 @@ fn each(alloc: Global, count: u32, cursor: &mut Cursor) -> Result<Vec<Tagged>, C
     Ok(all)
 }
 
-/// A sequence of tags with their octets.
+/// Reads a sequence of items: their count, and then each.
 #[tactic(auto, using(crate::proofs::Steps::list_is))]
 pub(crate) fn read_list(alloc: Global, cursor: &mut Cursor) -> Result<Vec<Tagged>, CdrError>
     ensures { GivesUnlessMemory (λ v. list_value v.items) result (value_at tagged_list cursor.old.order) (λ o octets. ⊤) cursor.old cursor.new }
 {
     let count = cursor.count()?;
-    each(alloc, count, cursor)
+    read_each(alloc, count, cursor)
 }
 
-/// Passes over so many tags with their octets.
-fn pass(count: u32, cursor: &mut Cursor) -> Result<(), Fault>
+/// Skips `count` items.
+fn skip(count: u32, cursor: &mut Cursor) -> Result<(), Fault>
     ensures { GivesOnce (λ u. u) result (λ o octets. passing (each_at (value_at tagged cursor.old.order) count o octets)) cursor.old cursor.new }
 {
     for _ in 0..count {
@@ -73,16 +73,16 @@ fn pass(count: u32, cursor: &mut Cursor) -> Result<(), Fault>
     Ok(())
 }
 
-/// Passes over a sequence of tags with their octets.
+/// Skips a sequence of items.
 #[tactic(auto, using(crate::proofs::Steps::list_is))]
-pub(crate) fn pass_list(cursor: &mut Cursor) -> Result<(), Fault>
+pub(crate) fn skip_list(cursor: &mut Cursor) -> Result<(), Fault>
     ensures { GivesOnce (λ u. u) result (λ o octets. passing (value_at tagged_list cursor.old.order o octets)) cursor.old cursor.new }
 {
     let count = cursor.count()?;
-    pass(count, cursor)
+    skip(count, cursor)
 }
 
-/// Appends a tag and its octets.
+/// Appends one item.
 fn put(writer: &Writer, one: &Tagged, out: &mut Vec<u8>) -> Result<(), AllocError>
     requires start { writer.now.start ≤ length out.old.items }
     requires long { length one.now.octets.items < 2 ^ 32 }
@@ -92,7 +92,7 @@ fn put(writer: &Writer, one: &Tagged, out: &mut Vec<u8>) -> Result<(), AllocErro
     writer.octets(&one.octets, out)
 }
 
-/// Appends a sequence of tags with their octets.
+/// Appends a sequence of items: their count, and then each.
 pub(crate) fn put_list(writer: &Writer, all: &[Tagged], out: &mut Vec<u8>) -> Result<(), AllocError>
     requires start { writer.now.start ≤ length out.old.items }
     requires writable { IsWritable (list_value all.now) }
@@ -102,7 +102,7 @@ pub(crate) fn put_list(writer: &Writer, all: &[Tagged], out: &mut Vec<u8>) -> Re
     put_each(writer, all, out)
 }
 
-/// Appends tags with their octets.
+/// Appends items, one after another.
 fn put_each(writer: &Writer, all: &[Tagged], out: &mut Vec<u8>) -> Result<(), AllocError>
     requires start { writer.now.start ≤ length out.old.items }
     requires writable { AreWritable (tagged_values all.now) }

@@ -1,24 +1,12 @@
-//! Which parts of references and profiles can be written.
+//! Which strings and lists of references and profiles can be written.
 
 ghost use Rattle.std.specs.Prelude.{◌↔◌, ◌<◌, ◌^◌, IsTrue};
-ghost use Rattle.cdr_core.specs.Spelling.{IsClean};
 ghost use Rattle.cdr_core.specs.Value as value;
 ghost use Rattle.cdr_core.specs.Writing.{AreWritable, IsWritable};
 ghost use Rattle.ior_core.specs.View.{list_value, tagged_values};
 
 use crate::tagged::Tagged;
-
-/// Whether no octet is NUL.
-fn has_no_nul(octets: &[u8]) -> bool
-    ensures { IsTrue result ↔ IsClean octets.now }
-{
-    for octet in octets {
-        if *octet == 0 {
-            return false;
-        }
-    }
-    true
-}
+use cdr_core::has_no_nul;
 
 /// Whether a length or a count fits an unsigned long.
 pub(crate) fn is_length(length: usize) -> bool
@@ -27,14 +15,15 @@ pub(crate) fn is_length(length: usize) -> bool
     length <= u32::MAX as usize
 }
 
-/// Whether octets can be written as a string: with its NUL, its length fits an unsigned long.
+/// Whether octets can be written as a string: none is NUL, and the length with the NUL at the end
+/// fits an unsigned long.
 pub(crate) fn is_string_writable(octets: &[u8]) -> bool
     ensures { IsTrue result ↔ IsWritable (value.string octets.now) }
 {
     octets.len() < u32::MAX as usize && has_no_nul(octets)
 }
 
-/// Whether tags with their octets can be written, one after another.
+/// Whether each item's octets can be written.
 fn are_writable(all: &[Tagged]) -> bool
     ensures { IsTrue result ↔ AreWritable (tagged_values all.now) }
 {
@@ -46,7 +35,7 @@ fn are_writable(all: &[Tagged]) -> bool
     true
 }
 
-/// Whether tags with their octets can be written as a sequence.
+/// Whether the items can be written as a sequence.
 #[tactic(auto, using(cdr_core::proofs::Turns::count_values))]
 pub(crate) fn is_list_writable(all: &[Tagged]) -> bool
     ensures { IsTrue result ↔ IsWritable (list_value all.now) }

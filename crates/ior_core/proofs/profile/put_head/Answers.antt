@@ -26,10 +26,10 @@ pub string-requires-clause-start : goal.string-requires-clause-start
 string-requires-clause-start c = (then_stands _ (then_stands _ (stands c.requires.start) c.in_ok-octet.ensures) c.in_ok-octet-2.ensures).0
 
 pub string-requires-clause-long : goal.string-requires-clause-long
-string-requires-clause-long c = rw c.deref.ensures.value (c.requires.writable.0.0.1.1.0.0)
+string-requires-clause-long c = rw c.deref.ensures.value (c.requires.writable.0.1.1.0.0)
 
 pub string-requires-clause-clean : goal.string-requires-clause-clean
-string-requires-clause-clean c = rw c.deref.ensures.value (c.requires.writable.0.0.1.1.0.1)
+string-requires-clause-clean c = rw c.deref.ensures.value (c.requires.writable.0.1.1.0.1)
 
 pub returns-in_err-string : goal.returns-in_err-string
 returns-in_err-string c =
@@ -48,7 +48,7 @@ pub octets-requires-clause-start : goal.octets-requires-clause-start
 octets-requires-clause-start c = (then_stands _ (then_stands _ (then_stands _ (then_stands _ (stands c.requires.start) c.in_ok-octet.ensures) c.in_ok-octet-2.ensures) c.in_ok-string.ensures) c.in_ok-ushort.ensures).0
 
 pub octets-requires-clause-long : goal.octets-requires-clause-long
-octets-requires-clause-long c = rw c.deref-2.ensures.value (c.requires.writable.0.0.1.1.1.1.0)
+octets-requires-clause-long c = rw c.deref-2.ensures.value (c.requires.writable.0.1.1.1.1.0)
 
 pub returns-in_err-octets : goal.returns-in_err-octets
 returns-in_err-octets c =

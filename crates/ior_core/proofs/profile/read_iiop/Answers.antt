@@ -1,7 +1,10 @@
 use Rattle.std.proofs.Common.{◌≡◌, rules}
 use Rattle.std.proofs.lemmas.Result.{err_from_is_err_and}
-use Rattle.ior_core.specs.Profiles.{behind_value, body_of, head_value}
-use Rattle.ior_core.proofs.Bodies.{behind_ends, body_is, profile_again}
+use Rattle.ior_core.specs.Private.{head_value}
+use Rattle.ior_core.specs.Profiles.{body_of, components_of}
+use Rattle.cdr_core.specs.Value.{values}
+use Rattle.ior_core.proofs.Structures.{extended}
+use Rattle.ior_core.proofs.Bodies.{components_end, body_is, profile_again}
 use Rattle.ior_core.proofs.profile.read_iiop.Goals as goal
 
 pub returns-in_err-components : goal.returns-in_err-components
@@ -11,28 +14,28 @@ returns-in_err-components c =
     let h = c.in_ok-head.head in
     let mid = c.read_head.new.cursor in
     let fails = rw (c.in_ok-head.ensures.1) at c.in_err-components.ensures.gives.0 in
-    rw (p.1, p.2) (behind_ends c.args.octets.now start.order start.place start.rest c.in_ok-cursor.ensures (head_value h.major h.minor h.host.now h.port h.object_key.now) mid.place mid.rest c.in_ok-head.ensures.0 c.in_err-components.field-0.0 fails)
+    rw (p.1, p.2) (components_end c.args.octets.now start.order start.place start.rest c.in_ok-cursor.ensures (head_value h.major h.minor h.host.now h.port h.object_key.now) mid.place mid.rest c.in_ok-head.ensures.0 c.in_err-components.field-0.0 fails)
 
 pub returns-then-head-ne1 : goal.returns-then-head-ne1
 returns-then-head-ne1 c =
     let start = c.in_ok-cursor.cursor in
     let h = c.in_ok-head.head in
     let mid = c.read_head.new.cursor in
-    let new = c.read_behind.new.cursor in
+    let new = c.read_components.new.cursor in
     let all = c.in_ok-components.components.items in
-    let behind = rw (c.in_ok-head.ensures.1) at c.in_ok-components.ensures.gives.0 in
+    let components = rw (c.in_ok-head.ensures.1) at c.in_ok-components.ensures.gives.0 in
     let head = head_value h.major h.minor h.host.now h.port h.object_key.now in
-    ((head, behind_value h.minor all), body_is c.args.octets.now start.order start.place start.rest c.in_ok-cursor.ensures head mid.place mid.rest c.in_ok-head.ensures.0 (behind_value h.minor all) new.place new.rest behind, search rules)
+    (extended head (values (components_of h.minor all)), body_is c.args.octets.now start.order start.place start.rest c.in_ok-cursor.ensures head mid.place mid.rest c.in_ok-head.ensures.0 (values (components_of h.minor all)) new.place new.rest components, search rules)
 
 pub returns : goal.returns
 returns c =
     let start = c.in_ok-cursor.cursor in
     let h = c.in_ok-head.head in
     let mid = c.read_head.new.cursor in
-    let new = c.read_behind.new.cursor in
+    let new = c.read_components.new.cursor in
     let all = c.in_ok-components.components.items in
-    let behind = rw (c.in_ok-head.ensures.1) at c.in_ok-components.ensures.gives.0 in
+    let components = rw (c.in_ok-head.ensures.1) at c.in_ok-components.ensures.gives.0 in
     let head = head_value h.major h.minor h.host.now h.port h.object_key.now in
-    let body = body_is c.args.octets.now start.order start.place start.rest c.in_ok-cursor.ensures head mid.place mid.rest c.in_ok-head.ensures.0 (behind_value h.minor all) new.place new.rest behind in
+    let body = body_is c.args.octets.now start.order start.place start.rest c.in_ok-cursor.ensures head mid.place mid.rest c.in_ok-head.ensures.0 (values (components_of h.minor all)) new.place new.rest components in
     let one : h.major ≡ 1 = search rules in
-    (profile_again (body_of c.args.octets.now) h.major h.minor h.host.now h.port h.object_key.now c.in_ok-from_slice.field-0.items c.in_ok-from_slice-2.field-0.items (behind_value h.minor all) body one c.in_ok-from_slice.ensures.items c.in_ok-from_slice-2.ensures.items, c.in_ok-components.ensures.none)
+    (profile_again (body_of c.args.octets.now) h.major h.minor h.host.now h.port h.object_key.now c.in_ok-from_slice.field-0.items c.in_ok-from_slice-2.field-0.items (values (components_of h.minor all)) body one c.in_ok-from_slice.ensures.items c.in_ok-from_slice-2.ensures.items, c.in_ok-components.ensures.none)

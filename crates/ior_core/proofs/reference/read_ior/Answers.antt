@@ -9,7 +9,7 @@ pub overflow_sub-result : goal.overflow_sub-result
 overflow_sub-result c =
     let a = c.args in
     let h = rw c.new-cursor.ensures at c.in_ok-ior.ensures.0 in
-    let new = c.reference.new.cursor in
+    let new = c.read.new.cursor in
     let v = ior_value c.in_ok-ior.ior in
     let t = c.read_is_spelled.ensures reference a.order a.at a.octets.now v new.place new.rest h in
     rw c.rest-left.ensures (front_left (Spells reference a.order v) a.at a.octets.now new.place new.rest t).0
@@ -18,7 +18,7 @@ pub returns : goal.returns
 returns c =
     let a = c.args in
     let h = rw c.new-cursor.ensures at c.in_ok-ior.ensures.0 in
-    let new = c.reference.new.cursor in
+    let new = c.read.new.cursor in
     let v = ior_value c.in_ok-ior.ior in
     let t = c.read_is_spelled.ensures reference a.order a.at a.octets.now v new.place new.rest h in
     let f = front_left (Spells reference a.order v) a.at a.octets.now new.place new.rest t in

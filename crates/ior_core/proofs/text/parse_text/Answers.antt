@@ -14,17 +14,17 @@ returns-in_err-cursor c =
     let octets = c.in_ok-octets.octets.items in
     rw (p.1, p.2) (octets, c.in_ok-octets.ensures, order_fails octets c.in_err-cursor.field-0.0 (rw (c.deref.ensures.value) at c.in_err-cursor.ensures))
 
-pub returns-in_err-reference : goal.returns-in_err-reference
-returns-in_err-reference c =
-    let p = err_from_is_err_and c.from_residual-in_err-reference.result c.from_residual-in_err-reference.ensures.1 in
+pub returns-in_err-read : goal.returns-in_err-read
+returns-in_err-read c =
+    let p = err_from_is_err_and c.from_residual-in_err-read.result c.from_residual-in_err-read.ensures.1 in
     let start = c.in_ok-cursor.cursor in
-    let told = rw (c.deref.ensures.value) at c.in_ok-cursor.ensures in
-    rw (p.1, p.2) (reference_ends c.in_ok-octets.octets.items start.order start.place start.rest told c.args.text.now c.in_ok-octets.ensures c.in_err-reference.field-0.0 c.in_err-reference.ensures.0)
+    let ordered = rw (c.deref.ensures.value) at c.in_ok-cursor.ensures in
+    rw (p.1, p.2) (reference_ends c.in_ok-octets.octets.items start.order start.place start.rest ordered c.args.text.now c.in_ok-octets.ensures c.in_err-read.field-0.0 c.in_err-read.ensures.0)
 
 pub returns : goal.returns
 returns c =
     let octets = c.in_ok-octets.octets.items in
     let start = c.in_ok-cursor.cursor in
-    let new = c.reference.new.cursor in
-    let told = rw (c.deref.ensures.value) at c.in_ok-cursor.ensures in
-    (octets, c.in_ok-octets.ensures, reference_is octets start.order start.place start.rest told (ior_value c.in_ok-reference.field-0) new.place new.rest c.in_ok-reference.ensures.0)
+    let new = c.read.new.cursor in
+    let ordered = rw (c.deref.ensures.value) at c.in_ok-cursor.ensures in
+    (octets, c.in_ok-octets.ensures, reference_is octets start.order start.place start.rest ordered (ior_value c.in_ok-read.field-0) new.place new.rest c.in_ok-read.ensures.0)

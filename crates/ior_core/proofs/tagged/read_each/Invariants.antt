@@ -3,7 +3,7 @@ use Rattle.cdr_core.specs.Reading.{each_at, value_at}
 use Rattle.cdr_core.proofs.Turns.{with_front}
 use Rattle.ior_core.specs.Grammar.{tagged}
 use Rattle.ior_core.specs.View.{tagged_values}
-use Rattle.ior_core.proofs.tagged.each.Given as goal
+use Rattle.ior_core.proofs.tagged.read_each.Given as goal
 
 -- what was read so far and what is left give the whole
 abbrev pub invariant-loop : goal.invariant-loop

@@ -4,7 +4,7 @@ use Rattle.cdr_core.specs.Form as form
 use Rattle.cdr_core.specs.Parts.{text}
 use Rattle.ior_core.specs.Grammar.{tagged_list}
 use Rattle.ior_core.proofs.Structures.{member_fails, no_member, second_fails, structure_fails, structure_read, then_members}
-use Rattle.ior_core.proofs.reference.reference.Goals as goal
+use Rattle.ior_core.proofs.reference.read.Goals as goal
 
 pub returns-in_err-string : goal.returns-in_err-string
 returns-in_err-string c =

@@ -2,7 +2,7 @@ use Rattle.std.proofs.Common.{◌≡◌, ◌-◌}
 use Rattle.cdr_core.specs.Reading.{each_at, value_at}
 use Rattle.cdr_core.specs.Private.{passing}
 use Rattle.ior_core.specs.Grammar.{tagged}
-use Rattle.ior_core.proofs.tagged.pass.Given as goal
+use Rattle.ior_core.proofs.tagged.skip.Given as goal
 
 -- to pass over what is left is to pass over all
 abbrev pub invariant-loop : goal.invariant-loop

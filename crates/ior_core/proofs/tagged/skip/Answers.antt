@@ -3,7 +3,7 @@ use Rattle.cdr_core.specs.Reading.{value_at}
 use Rattle.cdr_core.proofs.Turns.{pass_done, pass_more, pass_stops}
 use Rattle.ior_core.specs.Grammar.{tagged}
 use Rattle.ior_core.specs.View.{lent_value}
-use Rattle.ior_core.proofs.tagged.pass.Goals as goal
+use Rattle.ior_core.proofs.tagged.skip.Goals as goal
 
 pub returns-in_err-read_tagged : goal.returns-in_err-read_tagged
 returns-in_err-read_tagged c =

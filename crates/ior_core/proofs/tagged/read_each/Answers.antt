@@ -3,7 +3,7 @@ use Rattle.cdr_core.specs.Reading.{value_at}
 use Rattle.cdr_core.proofs.Turns.{each_done, each_more, each_stops, values_push}
 use Rattle.ior_core.specs.Grammar.{tagged}
 use Rattle.ior_core.specs.View.{tag_and_octets, tagged_value, tagged_values}
-use Rattle.ior_core.proofs.tagged.each.Goals as goal
+use Rattle.ior_core.proofs.tagged.read_each.Goals as goal
 
 pub returns-in_err-tag : goal.returns-in_err-tag
 returns-in_err-tag c =
