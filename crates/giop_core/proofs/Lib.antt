@@ -1,5 +1,4 @@
 pub mod Steps
-pub mod After
 pub mod Choices
 pub mod Passing
 pub mod Again

@@ -1,6 +1,6 @@
 use Rattle.cdr_core.specs.Value as value
 use Rattle.giop_core.specs.Items.{contexts_left, list_value}
-use Rattle.giop_core.proofs.After.{puts_second}
+use Rattle.ior_core.proofs.Appended.{puts_second}
 use Rattle.giop_core.proofs.target_address.put_reference.Goals as goal
 
 pub returns : goal.returns

@@ -6,7 +6,7 @@ use Rattle.cdr_core.specs.Value as value
 use Rattle.giop_core.specs.Items.{contexts_left, tagged_value}
 use Rattle.giop_core.specs.Private.{reference_value}
 use Rattle.giop_core.specs.Written.{selected_as}
-use Rattle.giop_core.proofs.After.{puts_or_keeps, puts_second}
+use Rattle.ior_core.proofs.Appended.{puts_or_keeps, puts_second}
 use Rattle.giop_core.proofs.target_address.put_target.Goals as goal
 
 pub octets-requires-clause-long : goal.octets-requires-clause-long
