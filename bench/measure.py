@@ -70,8 +70,8 @@ def main():
     engines = {"ours": ([given.ours], []), "twice": ([given.plain], []), "once": ([given.plain], ["once"])}
 
     def words(name, count, size):
-        before, behind = engines[name]
-        return before + [str(count), str(size)] + behind
+        program, last = engines[name]
+        return program + [str(count), str(size)] + last
 
     best, printed = {}, {}
     for _ in range(given.rounds):

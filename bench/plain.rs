@@ -461,7 +461,7 @@ impl Assembler {
         }
     }
 
-    /// Takes octets up to the end of the next message that completes, or all, and tells how many.
+    /// Takes octets up to the end of the next message that completes, or all, and returns how many.
     pub fn feed(&mut self, piece: &[u8]) -> Result<usize, Fault> {
         let result = self.advance(piece).and_then(|(taken, complete)| {
             if let Some(header) = complete {
@@ -714,8 +714,8 @@ fn check(digits: &str, size: usize, once: bool) -> String {
                 assembler.feed(left).map(|taken| (taken, assembler.message().is_some()))
             };
             match fed {
-                Ok((taken, told)) => {
-                    count += u64::from(told);
+                Ok((taken, completes)) => {
+                    count += u64::from(completes);
                     left = &left[taken..];
                 }
                 Err(fault) => return format!("fault after {count} messages: {fault}"),

@@ -4,33 +4,27 @@
 usage: run_cases.py PROGRAM [FOLDER..]
 
 A case NAME is the files NAME.args (the words after the program's name, one a line), NAME.stdin,
-NAME.status, NAME.stdout and NAME.stderr. Where NAME.stderr is missing nothing is printed there;
-where NAME.stdout is missing too, the texts are left open. The folders stand for the parts of the
-program in the order in which it has them. NAME.until names a part that changes the case: the case
-holds as long as the program lacks that part. The last line is 'N passed, M failed'.
+NAME.status, NAME.stdout and NAME.stderr. Where NAME.stderr is missing, nothing may be printed there;
+where NAME.stdout is missing too, any text may be. The folders are the program's subcommands, and
+`words` for help, the version and words that are refused. Without FOLDER all of them run.
+
+The last line is 'N passed, M failed'.
 """
 import os
 import subprocess
 import sys
 
 HERE = os.path.join(os.path.dirname(os.path.abspath(__file__)), "cases")
-PARTS = ["first_path", "references", "messages", "streams", "dispatch", "retention", "hostile",
-         "fragments_1_1", "shares"]
 SECONDS = 60
 
 
 def content(path):
+    """The octets of a file, or None where there is no such file."""
     try:
         with open(path, "rb") as f:
             return f.read()
     except FileNotFoundError:
         return None
-
-
-def holds(base):
-    """Whether the program still lacks the part that changes the case."""
-    until = content(base + ".until")
-    return until is None or not os.path.isdir(os.path.join(HERE, until.decode().strip()))
 
 
 def fault_of(program, base):
@@ -55,30 +49,27 @@ def fault_of(program, base):
     return None
 
 
+def names_in(folder):
+    """The names of the cases of a folder, in order."""
+    files = sorted(os.listdir(os.path.join(HERE, folder)))
+    return [file[:-len(".args")] for file in files if file.endswith(".args")]
+
+
 def main():
     program = os.path.abspath(sys.argv[1])
-    unknown = [f for f in os.listdir(HERE) if f not in PARTS]
-    folders = sys.argv[2:] or [part for part in PARTS if os.path.isdir(os.path.join(HERE, part))]
     passed = failed = 0
-    for folder in unknown:
-        failed += 1
-        print(f"FAILS {folder}: no part of the program has this name")
-    for folder in folders:
-        ran = 0
-        for name in sorted(os.listdir(os.path.join(HERE, folder))):
-            base = os.path.join(HERE, folder, name[:-len(".args")])
-            if not name.endswith(".args") or not holds(base):
-                continue
-            ran += 1
-            fault = fault_of(program, base)
+    for folder in sys.argv[2:] or sorted(os.listdir(HERE)):
+        names = names_in(folder)
+        if not names:
+            failed += 1
+            print(f"FAILS {folder}: it has no case")
+        for name in names:
+            fault = fault_of(program, os.path.join(HERE, folder, name))
             if fault is None:
                 passed += 1
             else:
                 failed += 1
-                print(f"FAILS {folder}/{os.path.basename(base)}: {fault}")
-        if ran == 0:
-            failed += 1
-            print(f"FAILS {folder}: no case ran")
+                print(f"FAILS {folder}/{name}: {fault}")
     print(f"{passed} passed, {failed} failed")
     return 1 if failed else 0
 

@@ -3,21 +3,20 @@
 
 usage: run_rows.py PROGRAM [FILE..]
 
-A row is a stream of octets and what is to be printed of it. An empty line ends it, and the first
-word of each of its lines tells what the line is:
+A row is a stream of octets and the lines to print for it. An empty line ends it. Its lines are
 
-    # TEXT        what this row and those behind it show
-    send DIGITS   octets of the stream, which goes on where another such line follows
-    want LINE     a line that is to be printed; a row has them all
+    # TEXT        a comment on this row and those after it
+    send DIGITS   octets of the stream; those of a second such line follow those of the first
+    want LINE     a line that is printed; a row has them all
     fault TEXT    the same as 'want fault after 0 messages: TEXT'
-    parts B-E ..  the parts that must stand behind the header of the message, each from its place B
-                  up to E, counted from the beginning of the message
+    parts B-E ..  the parts of the message after its header, each from its place B up to E, counted
+                  from the beginning of the message
 
-The status that is wanted is 0 where the last line begins with 'end', and else 1.
+The wanted status is 0 where the last line begins with 'end', and else 1.
 
-A row with 'parts' has no wanted lines. Its message is sent once for each number of octets from the
-header's twelve up to all, with that many octets and their number in the header. Where a part ends
-behind them the fault of the first such part is wanted, 'body: short at B', and else one message.
+A row with 'parts' has no wanted lines. Its message is sent cut short, once for each length from the
+header's twelve octets up to all of them, with that length in the header. Where a part ends after the
+cut, the fault of the first such part is wanted, 'body: short at B', and else one message.
 
 The last line is 'N passed, M failed', where each stream that is sent counts.
 """
@@ -98,7 +97,7 @@ def fault_of(program, octets, wanted):
 
 
 def cut_to(octets, length):
-    """A message cut to a length, which its header tells."""
+    """A message cut to a length, with that length in its header."""
     order = "little" if octets[6] & 1 else "big"
     return octets[:8] + (length - HEADER).to_bytes(4, order) + octets[HEADER:length]
 

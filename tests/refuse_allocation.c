@@ -1,6 +1,6 @@
-/* Loaded before the C library: refuses one growth of memory, and counts all that were asked for.
-   REFUSE_GROWTH is the number of the growth that is refused, from 1 (0: none). REFUSE_COUNT names a
-   file of 8 octets in which the count is kept, so that it stands there however the program ends. */
+/* Loaded before the C library: refuses one allocation, and counts all that were asked for. An allocation
+   is a call of malloc or realloc. REFUSE_ALLOCATION is the number of the one that is refused, from 1
+   (0: none). REFUSE_COUNT names a file of 8 octets that holds the count, however the program ends. */
 #define _GNU_SOURCE
 #include <dlfcn.h>
 #include <errno.h>
@@ -16,7 +16,7 @@ static void *(*next_malloc)(size_t);
 static void *(*next_realloc)(void *, size_t);
 
 __attribute__((constructor)) static void begin(void) {
-    const char *number = getenv("REFUSE_GROWTH");
+    const char *number = getenv("REFUSE_ALLOCATION");
     const char *path = getenv("REFUSE_COUNT");
     next_malloc = dlsym(RTLD_NEXT, "malloc");
     next_realloc = dlsym(RTLD_NEXT, "realloc");
@@ -33,7 +33,7 @@ __attribute__((constructor)) static void begin(void) {
     count = place;
 }
 
-/* Whether this growth is the one that is refused. */
+/* Whether this allocation is the one that is refused. */
 static int is_refused(void) {
     if (count == NULL)
         return 0;

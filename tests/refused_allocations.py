@@ -1,20 +1,21 @@
 #!/usr/bin/env python3
-"""Runs a program with growth N of its memory refused, for each N from 1 until none is refused.
+"""Runs a program with allocation N refused, for each N from 1 until none is refused.
 
-usage: refused_growths.py PROGRAM            the program `giop`, on the inputs below
-       refused_growths.py --calls PROGRAM    the program `refusals`, on each call that it lists
+usage: refused_allocations.py PROGRAM            the program `giop`, on the inputs below
+       refused_allocations.py --calls PROGRAM    the program `memory_tests`, on each call that it lists
 
-An input: each run must end as the run with ample memory does, or print `memory` on standard error
-and end with status 1.
+An allocation is a call of malloc or realloc. With one refused,
 
-A call: each run must end with `done`, with `refused`, which says that growth N was the call's own,
-that nothing changed and that the same call then gave what it is to give, or with `memory` as above,
-where growth N came before the call. At least one run must end with `refused`; of a call whose name
-ends in `without_growth` none may.
+- a run on an input must end as it does with ample memory, or print `memory` on standard error and end
+  with status 1;
+- a run of a call must print `done`; or `refused`, where the refused allocation was the call's own,
+  nothing changed, and the same call then gave what it is to give; or it ends with `memory` as above,
+  where the refused allocation came before the call. At least one run of each call must print `refused`,
+  and of a call whose suite ends in `without_allocation` none may.
 
-A pair: the calls X_once/SAMPLE and X_a_hundred_times/SAMPLE. The least N at which no growth is refused
-must be the same for both, since what is done again keeps the room that it took. A call with one of these
-endings must have its other.
+A pair is the calls X_once/SAMPLE and X_a_hundred_times/SAMPLE. Both must take the same number of
+allocations, since a call that is repeated keeps the memory that it took. A call whose suite has one of
+these endings must have its other.
 
 The last run, in which nothing is refused, must end as with ample memory. Each input, each call and each
 pair counts as one case. The last line is 'N passed, M failed'.
@@ -39,12 +40,12 @@ LOCATE = "47494f50010200030000000d00000001000000000000000163"
 
 
 def words_of(case):
-    """The words of a case."""
+    """The words of a case of tests/cases."""
     with open(os.path.join(HERE, "cases", case + ".args"), encoding="utf-8") as f:
         return f.read().splitlines()
 
 
-# a name, the words, and the standard input
+# what is run: a name, the words after the program's name, and the standard input
 INPUTS = [
     ("an empty script", [], b""),
     ("a locate request", ["play"], f"open 1\nbytes 1 0 {LOCATE}\nclose 1\n".encode()),
@@ -52,18 +53,20 @@ INPUTS = [
         f"open {c}\nbytes {c} 0 {LOCATE}\nbytes {c} 1 00\nclose {c}\n" for c in range(25)).encode()),
     ("a bad line", [], b"open 1\nclose\n"),
     ("input that is no text", [], b"open 1\n\xff\n"),
-    ("a reference", words_of("references/counter"), b""),
+    ("a reference", words_of("ior/counter"), b""),
     ("a request with its contexts", ["show"], REQUEST.encode()),
     ("a message in three fragments", ["show"], FRAGMENTS.encode()),
     ("a stream that ends in a fault", ["check"], (REQUEST + "00" * 12).encode()),
     ("digits that are none", ["check"], b"47 4g"),
     ("an unknown word", ["swim"], b""),
     ("help", ["--help"], b""),
+    ("the version", ["--version"], b""),
 ]
 
-# how the names of the two suites of a pair end
+# how the names of the two suites of a pair end, and of a suite that takes no memory
 ONCE = "_once"
 A_HUNDRED_TIMES = "_a_hundred_times"
+WITHOUT = "without_allocation"
 
 # how a call ends: the status, the standard output and the standard error
 DONE = (0, b"done\n", b"")
@@ -71,40 +74,41 @@ REFUSED = (0, b"refused\n", b"")
 
 
 class Run:
-    """How a run ended, and whether a growth was refused in it."""
+    """How a run ended, and whether an allocation was refused in it."""
 
     def __init__(self, end, is_refused):
         self.end = end
         self.is_refused = is_refused
 
-    def told_memory(self):
+    def is_out_of_memory(self):
+        """Whether the program reported that it ran out of memory."""
         return self.end[0] == 1 and self.end[2] == b"memory\n"
 
 
 class Program:
-    """A program under the library that refuses a growth."""
+    """A program under the library that refuses an allocation."""
 
     def __init__(self, path, folder):
         self.path = os.path.abspath(path)
-        self.library = os.path.join(folder, "refuse_growth.so")
+        self.library = os.path.join(folder, "refuse_allocation.so")
         self.count = os.path.join(folder, "count")
         subprocess.run(["cc", "-O2", "-Wall", "-shared", "-fPIC", "-o", self.library,
-                        os.path.join(HERE, "refuse_growth.c"), "-ldl"], check=True)
+                        os.path.join(HERE, "refuse_allocation.c"), "-ldl"], check=True)
 
     def run(self, number, words, given=b""):
-        """The run with that growth refused, or none at 0."""
+        """The run with allocation `number` refused, or none at 0."""
         with open(self.count, "wb") as f:
             f.write(bytes(8))
-        env = dict(os.environ, LD_PRELOAD=self.library, REFUSE_GROWTH=str(number),
+        env = dict(os.environ, LD_PRELOAD=self.library, REFUSE_ALLOCATION=str(number),
                    REFUSE_COUNT=self.count)
         run = subprocess.run([self.path] + words, input=given, capture_output=True, env=env,
                              timeout=60)
         with open(self.count, "rb") as f:
-            growths = struct.unpack("=Q", f.read())[0]
-        return Run((run.returncode, run.stdout, run.stderr), 0 < number <= growths)
+            asked = struct.unpack("=Q", f.read())[0]
+        return Run((run.returncode, run.stdout, run.stderr), 0 < number <= asked)
 
     def runs(self, words, given=b""):
-        """The number and the run for growth 1, 2 and so on, up to the one in which none is refused."""
+        """Numbers from 1 and the runs with that allocation refused, up to the first run in which none is."""
         for number in itertools.count(1):
             run = self.run(number, words, given)
             yield number, run
@@ -115,20 +119,20 @@ class Program:
 def fault_of_input(program, words, given):
     """What is wrong with the runs on one input, or None; and what was seen."""
     ample = program.run(0, words, given)
-    if ample.told_memory():
-        return "told want of memory where nothing was refused", ""
+    if ample.is_out_of_memory():
+        return "out of memory where nothing was refused", ""
     for number, run in program.runs(words, given):
-        if run.end != ample.end and not (run.is_refused and run.told_memory()):
-            return f"with growth {number} refused it ended with {run.end!r}", ""
+        if run.end != ample.end and not (run.is_refused and run.is_out_of_memory()):
+            return f"with allocation {number} refused it ended with {run.end!r}", ""
     if number == 1:
-        return "no growth was asked for", ""
-    return None, f"{number - 1} growths refused in turn"
+        return "it asked for no allocation", ""
+    return None, f"{number - 1} allocations refused in turn"
 
 
-def fault_of_call(program, name, least):
+def fault_of_call(program, name, taken):
     """What is wrong with the runs of one call, or None; and what was seen.
 
-    The least number at which no growth is refused is noted in `least` where nothing is wrong.
+    Where nothing is wrong, `taken` gets how many allocations the run takes.
     """
     ample = program.run(0, [name])
     if ample.end != DONE:
@@ -137,28 +141,28 @@ def fault_of_call(program, name, least):
     for number, run in program.runs([name]):
         if run.is_refused and run.end == REFUSED:
             refused += 1
-        elif run.end != DONE and not (run.is_refused and run.told_memory()):
-            return f"with growth {number} refused it ended with {run.end!r}", ""
-    if name.split("/")[0].endswith("without_growth"):
+        elif run.end != DONE and not (run.is_refused and run.is_out_of_memory()):
+            return f"with allocation {number} refused it ended with {run.end!r}", ""
+    if name.split("/")[0].endswith(WITHOUT):
         if refused:
-            return f"{refused} growths of the call were refused", ""
+            return f"{refused} allocations of the call were refused", ""
     elif not refused:
-        return "no growth of the call was refused", ""
-    least[name] = number
-    return None, f"{number - 1} growths refused in turn, {refused} of them in the call"
+        return "no allocation of the call was refused", ""
+    taken[name] = number - 1
+    return None, f"{number - 1} allocations refused in turn, {refused} of them in the call"
 
 
-def fault_of_pair(_program, once, often, least):
-    """What is wrong with the least numbers of the two calls of a pair, or None; and what was seen."""
-    if once not in least or often not in least:
+def fault_of_pair(_program, once, often, taken):
+    """What is wrong with how many allocations the two calls of a pair take, or None; and what was seen."""
+    if once not in taken or often not in taken:
         return "one of its two calls is missing or fails", ""
-    if least[once] != least[often]:
-        return f"growth {least[once]} is the first to meet no refusal once, {least[often]} a hundred times", ""
-    return None, f"growth {least[once]} is the first to meet no refusal, once and a hundred times"
+    if taken[once] != taken[often]:
+        return f"{taken[once]} allocations once, {taken[often]} a hundred times", ""
+    return None, f"{taken[once]} allocations, once and a hundred times"
 
 
 def pairs_of(names):
-    """What the names of a pair begin with, and the two names, for each pair of which a call is named."""
+    """The pairs of which a call is named: what both names begin with, and the two names."""
     pairs = {}
     for name in names:
         suite, sample = name.split("/")
@@ -180,9 +184,9 @@ def main():
     with tempfile.TemporaryDirectory() as folder:
         program = Program(sys.argv[-1], folder)
         if sys.argv[1:-1] == ["--calls"]:
-            names, least = calls_of(program), {}
-            cases = [(name, fault_of_call, (name, least)) for name in names]
-            cases += [(f"the pair {pair}", fault_of_pair, (once, often, least))
+            names, taken = calls_of(program), {}
+            cases = [(name, fault_of_call, (name, taken)) for name in names]
+            cases += [(f"the pair {pair}", fault_of_pair, (once, often, taken))
                       for pair, (once, often) in pairs_of(names).items()]
         else:
             cases = [(name, fault_of_input, (words, given)) for name, words, given in INPUTS]
