@@ -6,6 +6,7 @@ mod faults;
 mod forms;
 mod lists;
 mod octets;
+mod orders;
 mod samples;
 mod spelling;
 mod writer;

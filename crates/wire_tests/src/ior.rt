@@ -1,8 +1,9 @@
 //! References and profiles.
 
+mod conditions;
 mod places;
 mod profiles;
 mod refused;
 mod samples;
+mod tagged;
 mod texts;
-mod writable;

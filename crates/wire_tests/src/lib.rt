@@ -1,9 +1,11 @@
-//! Tests of the libraries: octets written out by hand from the standard's rules, and what is read,
-//! written and judged of them. What the program shows of messages stands in tests/rows.
+//! Tests of the libraries, a module for each: octets written out by hand from the standard's rules, and
+//! what is read, written and judged of them. What the program shows of messages stands in tests/rows.
 #![tactic(auto)]
 
 #[cfg(test)]
 mod cdr;
+#[cfg(test)]
+mod frames;
 #[cfg(test)]
 mod ior;
 #[cfg(test)]

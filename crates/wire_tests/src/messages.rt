@@ -1,7 +1,6 @@
-//! Headers, messages and streams written out from the standard's layouts, read and written.
+//! Headers and messages written out from the standard's layouts, read and written.
 
-mod cutting;
-mod frame_samples;
+mod bodies;
 mod header;
 mod lent;
 mod printed;
@@ -9,7 +8,7 @@ mod put;
 mod read;
 mod references;
 mod said;
-mod streams;
+mod versions;
 mod written_locates;
 mod written_others;
 mod written_replies;

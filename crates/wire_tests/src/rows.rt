@@ -1,5 +1,7 @@
 //! What is asserted of the rows of the tables.
 
+use std::alloc::Global;
+use std::fmt::Display;
 use std::process::Abort;
 
 /// Asserts what holds of the row of that name.
@@ -15,4 +17,22 @@ pub fn assert_at(rt: &impl Abort, holds: bool, name: &str, at: u64) {
 /// Asserts what holds of the octets at a place.
 pub fn assert_octets(rt: &impl Abort, holds: bool, octets: &[u8], at: u32) {
     assert!(rt; holds, "{octets:?} at {at}");
+}
+
+/// Whether that is printed so.
+fn is_printed<T: Display + Drop>(alloc: Global, found: T, wanted: &str) -> bool {
+    match format!(in alloc; "{found}") {
+        Ok(text) => text.as_str() == wanted,
+        Err(_) => false,
+    }
+}
+
+/// Asserts that each of these is printed so.
+pub fn assert_printed<T: Display + Copy + Drop>(
+    rt: &(impl Abort + AllocGlobal),
+    rows: &[(T, &str)],
+) {
+    for (found, wanted) in rows {
+        assert_named(rt, is_printed(rt.alloc(), *found, wanted), wanted);
+    }
 }

@@ -3,7 +3,7 @@
 use super::forms::{Form, Label, Sample, type_of, value_of};
 use super::samples::{CHOICE, DEFAULTED, HI, NONE_AT_5, PAIRS, TWO_PAIRS};
 use crate::rows::{assert_at, assert_named};
-use cdr_core::{fits, writable};
+use cdr_core::{Ty, Val, are_valid, are_writable, fits, has_no_nul, writable};
 use std::alloc::{AllocError, Global};
 use std::process::Abort;
 
@@ -120,7 +120,7 @@ static UNIONS: &[TypeRow] = &[
     (Form::Union(&Form::Short, &[], None), true),
 ];
 
-/// Tells whether the type is valid or not, as expected.
+/// Whether the type is valid or not, as expected.
 fn is_valid_as(alloc: Global, form: &Form, expected: bool) -> Result<bool, AllocError> {
     Ok(type_of(alloc, form)?.is_valid() == expected)
 }
@@ -179,7 +179,7 @@ static FORMS: &[FormRow] = &[
     ),
 ];
 
-/// Tells whether the value fits the type, which is valid, or not, as expected.
+/// Whether the value fits the type, which is valid, or not, as expected.
 fn fits_as(
     alloc: Global,
     form: &Form,
@@ -446,7 +446,7 @@ static WRITABLE: &[(Sample, bool)] = &[
     (Sample::Union(&Sample::Str(&[b'h', 0, b'i']), None), false),
 ];
 
-/// Tells whether the value can be written or not, as expected.
+/// Whether the value can be written or not, as expected.
 fn is_writable_as(alloc: Global, sample: &Sample, expected: bool) -> Result<bool, AllocError> {
     Ok(writable(&value_of(alloc, sample)?) == expected)
 }
@@ -465,4 +465,25 @@ fn strings_without_a_nul_are_writable(rt: HostRuntime) {
         let holds = is_writable_as(rt.alloc(), sample, *expected).unwrap_or(false);
         assert_at(&rt, holds, "writable", row as u64);
     }
+}
+
+/// Whether a list of two types and one of two values are all right, and with a third that isn't, not.
+fn are_judged(alloc: Global) -> Result<bool, AllocError> {
+    let mut types = vec![in alloc; Ty::Octet, Ty::Str(8)]?;
+    let mut values = vec![in alloc; Val::Octet(1), Val::Str([b'h', b'i'].to_vec(alloc)?)]?;
+    let are_right = are_valid(&types) && are_writable(&values);
+    types.push(Ty::Enum(0))?;
+    values.push(Val::Str([b'h', 0].to_vec(alloc)?))?;
+    Ok(are_right && !are_valid(&types) && !are_writable(&values))
+}
+
+#[test]
+fn lists_are_judged_whole(rt: HostRuntime) {
+    assert!(rt; are_judged(rt.alloc()).unwrap_or(false));
+}
+
+#[test]
+fn texts_without_a_nul(rt: HostRuntime) {
+    assert!(rt; has_no_nul(b"") && has_no_nul(b"add"));
+    assert!(rt; !has_no_nul(b"\0") && !has_no_nul(b"a\0b"));
 }

@@ -315,7 +315,7 @@ fn made<'a>(cursor: &mut Cursor<'a>, call: Call) -> Result<Part<'a>, Fault> {
     }
 }
 
-/// Goes to the next place that the number divides, where that is 1, 2, 4 or 8, and tells whether.
+/// Goes to the next place that the number divides, where that is 1, 2, 4 or 8, and returns whether there is one.
 fn align(cursor: &mut Cursor, size: u64) -> bool {
     match size {
         1 => cursor.align(1),
@@ -327,17 +327,17 @@ fn align(cursor: &mut Cursor, size: u64) -> bool {
     true
 }
 
-/// Tells whether the call gives this part, or stops with this fault.
+/// Whether the call gives this part, or stops with this fault.
 fn is_found(cursor: &mut Cursor, call: Call, wanted: Result<Part, Fault>) -> bool {
     made(cursor, call) == wanted
 }
 
-/// Tells whether the cursor stands at the place, before these octets.
+/// Whether the cursor stands at the place, before these octets.
 fn is_at(cursor: &Cursor, place: u64, rest: &[u8]) -> bool {
     cursor.place() == place && cursor.rest() == rest
 }
 
-/// Makes a step, and tells whether it does what it says.
+/// Makes a step, and returns whether it does what it says.
 fn is_made(cursor: &mut Cursor, step: &Step) -> bool {
     match step {
         Gives(call, part) => is_found(cursor, *call, Ok(*part)),
@@ -403,13 +403,13 @@ fn assert_encapsulated(rt: &impl Abort, rows: &[Encapsulated]) {
     }
 }
 
-/// Tells whether the octets are no encapsulation, by a fault of this kind at the first.
+/// Whether the octets are no encapsulation, by a fault of this kind at the first.
 fn is_none(octets: &[u8], kind: Kind) -> bool {
     Cursor::encapsulated(octets).err() == Some(Fault { kind, at: 0 })
 }
 
 #[test]
-fn an_encapsulation_tells_its_order(rt: HostRuntime) {
+fn an_encapsulation_has_its_order(rt: HostRuntime) {
     assert_encapsulated(&rt, ENCAPSULATED);
     assert!(rt; is_none(&[2, 0], BadBoolean));
     assert!(rt; is_none(&[], Short));
@@ -422,7 +422,7 @@ static BEFORE: &[Step] = &[Gives(Call::Octet, Number(1))];
 static FORKED: &[Step] = &[At(1, &[9, 2, 0]), Gives(Call::Short, Number(2)), At(4, &[])];
 
 /// The steps of the cursor from there on.
-static BEHIND: &[Step] = &[At(1, &[9, 2, 0]), Gives(Call::Octet, Number(9))];
+static AFTER: &[Step] = &[At(1, &[9, 2, 0]), Gives(Call::Octet, Number(9))];
 
 #[test]
 fn a_fork_reads_on_alone(rt: HostRuntime) {
@@ -430,5 +430,5 @@ fn a_fork_reads_on_alone(rt: HostRuntime) {
     assert_steps(&rt, &mut cursor, "before the fork", BEFORE);
     let mut other = cursor.fork();
     assert_steps(&rt, &mut other, "the fork", FORKED);
-    assert_steps(&rt, &mut cursor, "behind the fork", BEHIND);
+    assert_steps(&rt, &mut cursor, "after the fork", AFTER);
 }

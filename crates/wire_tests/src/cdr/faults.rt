@@ -13,7 +13,7 @@ use std::process::Abort;
 /// A type, octets that are no value of it, and the kind and the place of their first fault.
 type Row = (Form, Octets, Kind, u64);
 
-/// Numbers, booleans and ordinals. A number stands behind its gap, even where that ends past the
+/// Numbers, booleans and ordinals. A number stands after its gap, even where that ends past the
 /// end.
 static NUMBERS: &[Row] = &[
     (Form::Octet, (Big, 5, &[]), Short, 5),
@@ -198,7 +198,7 @@ static STRUCTS: &[Row] = &[
 /// A struct of a boolean, an enumeration of one name, and an empty string.
 const THREE_PARTS: Form = Form::Struct(&[Form::Boolean, Form::Enum(1), Form::Str(0)]);
 
-/// Tells whether the octets are no value of the type, which is valid, by their first fault.
+/// Whether the octets are no value of the type, which is valid, by their first fault.
 fn is_stopped(alloc: Global, form: &Form, (order, at, octets): Octets, fault: Fault) -> bool {
     let Ok(ty) = type_of(alloc, form) else {
         return false;

@@ -148,7 +148,7 @@ fn values_of(alloc: Global, samples: &[Sample]) -> Result<Vec<Val>, AllocError> 
     Ok(all)
 }
 
-/// Tells whether the value, which has no parts, is the one of the constant.
+/// Whether the value, which has no parts, is the one of the constant.
 fn is_plain(found: &Val, wanted: &Sample) -> bool {
     match (found, wanted) {
         (Val::Boolean(a), Sample::Boolean(b)) => a == b,
@@ -164,7 +164,7 @@ fn is_plain(found: &Val, wanted: &Sample) -> bool {
     }
 }
 
-/// Tells whether the value is the one of the constant.
+/// Whether the value is the one of the constant.
 #[cycle(same)]
 pub fn is_value(found: &Val, wanted: &Sample) -> bool {
     match (found, wanted) {
@@ -177,7 +177,7 @@ pub fn is_value(found: &Val, wanted: &Sample) -> bool {
     }
 }
 
-/// Tells whether the values are those of the constants.
+/// Whether the values are those of the constants.
 #[cycle(same)]
 pub fn are_values(found: &[Val], wanted: &[Sample]) -> bool {
     if found.len() != wanted.len() {

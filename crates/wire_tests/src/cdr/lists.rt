@@ -1,7 +1,7 @@
 //! Values read and written one after another.
 
 use super::forms::{Form, Sample, are_values, type_of, value_of};
-use super::octets::{Octets, assert_writes, is_behind};
+use super::octets::{Octets, assert_writes, is_after};
 use super::samples::{HI, OCTET_AND_ULONG, ONE_AND_TWO};
 use crate::rows::assert_octets;
 use cdr_core::Kind::{BadBoolean, BadEnum, OverBound, Short};
@@ -102,7 +102,7 @@ fn listed(
     }
 }
 
-/// Tells whether the first `used` of the octets are read as the members of the struct.
+/// Whether the first `used` of the octets are read as the members of the struct.
 fn is_list_read(alloc: Global, ty: &Ty, wanted: &Sample, from: Octets, used: usize) -> bool {
     let Some(Ok((values, length))) = listed(alloc, ty, from) else {
         return false;
@@ -113,13 +113,13 @@ fn is_list_read(alloc: Global, ty: &Ty, wanted: &Sample, from: Octets, used: usi
     }
 }
 
-/// Tells whether the octets of a row are read as its values.
+/// Whether the octets of a row are read as its values.
 fn is_row_read(alloc: Global, (form, wanted, from, used): &Row) -> Result<bool, AllocError> {
     let ty = type_of(alloc, form)?;
     Ok(is_list_read(alloc, &ty, wanted, *from, *used))
 }
 
-/// Tells whether the octets are written for the members of the struct, behind another.
+/// Whether the octets are written for the members of the struct, after another.
 fn is_list_written(alloc: Global, value: &Val, to: Octets) -> Result<bool, AllocError> {
     let (order, at, _) = to;
     if !writable(value) {
@@ -130,10 +130,10 @@ fn is_list_written(alloc: Global, value: &Val, to: Octets) -> Result<bool, Alloc
     };
     let mut out = [7].to_vec(alloc)?;
     write_list(order, u64::from(at), values, &mut out)?;
-    Ok(is_behind(&out, to, end_of_list(u64::from(at), values)))
+    Ok(is_after(&out, to, end_of_list(u64::from(at), values)))
 }
 
-/// Tells whether the octets of a row are written for its values.
+/// Whether the octets of a row are written for its values.
 fn is_row_written(alloc: Global, (_, sample, to, _): &Row) -> Result<bool, AllocError> {
     let value = value_of(alloc, sample)?;
     is_list_written(alloc, &value, *to)
@@ -156,7 +156,7 @@ fn values_stand_one_after_another(rt: HostRuntime) {
     assert_each_spells(&rt, READ);
 }
 
-/// Tells whether the octets are no such values, by their first fault.
+/// Whether the octets are no such values, by their first fault.
 fn is_list_stopped(alloc: Global, ty: &Ty, from: Octets, fault: Fault) -> bool {
     match listed(alloc, ty, from) {
         Some(Err(CdrError::Bad(found))) => found == fault,
@@ -182,7 +182,7 @@ fn any_values_are_written_one_after_another(rt: HostRuntime) {
     }
 }
 
-/// Tells whether no octet is read as no value.
+/// Whether no octet is read as no value.
 fn is_none_read(alloc: Global) -> bool {
     match read_list(alloc, &[], Little, 3, &[1, 2]) {
         Ok((values, used)) => values.is_empty() && used == 0,
@@ -208,7 +208,7 @@ fn turned(alloc: Global, octets: &[u8]) -> Result<Vec<u8>, CdrError> {
     Ok(out)
 }
 
-/// Tells whether the octets of the string are turned into these.
+/// Whether the octets of the string are turned into these.
 fn is_turned(alloc: Global, octets: &[u8], wanted: &[u8]) -> bool {
     match turned(alloc, octets) {
         Ok(out) => out.as_slice() == wanted,
@@ -216,7 +216,7 @@ fn is_turned(alloc: Global, octets: &[u8], wanted: &[u8]) -> bool {
     }
 }
 
-/// Tells whether the octets of the string are over its bound.
+/// Whether the octets of the string are over its bound.
 fn is_over_bound(alloc: Global, octets: &[u8]) -> bool {
     let (kind, at) = (OverBound, 0);
     match turned(alloc, octets) {

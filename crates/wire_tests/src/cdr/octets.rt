@@ -9,7 +9,7 @@ use std::process::Abort;
 /// The order of numbers, a place, and octets from that place on.
 pub type Octets = (Order, u32, &'static [u8]);
 
-/// Tells whether the first `used` of the octets are read as the value.
+/// Whether the first `used` of the octets are read as the value.
 fn is_read(
     alloc: Global,
     ty: &Ty,
@@ -38,13 +38,13 @@ pub fn assert_reads(
     assert_octets(rt, holds, from.2, from.1);
 }
 
-/// Tells whether the octets stand in the output behind another, and end at that place.
-pub fn is_behind(out: &[u8], (_, at, octets): Octets, end: Option<u64>) -> bool {
+/// Whether the octets stand in the output after another, and end at that place.
+pub fn is_after(out: &[u8], (_, at, octets): Octets, end: Option<u64>) -> bool {
     let wanted = u64::from(at) + octets.len() as u64;
     out.first() == Some(&7) && out.get(1..) == Some(octets) && end == Some(wanted)
 }
 
-/// Tells whether the octets are written for the value, behind another.
+/// Whether the octets are written for the value, after another.
 fn is_written(alloc: Global, value: &Val, to: Octets) -> Result<bool, AllocError> {
     let (order, at, _) = to;
     if !writable(value) {
@@ -52,10 +52,10 @@ fn is_written(alloc: Global, value: &Val, to: Octets) -> Result<bool, AllocError
     }
     let mut out = [7].to_vec(alloc)?;
     write(order, u64::from(at), value, &mut out)?;
-    Ok(is_behind(&out, to, end_of(u64::from(at), value)))
+    Ok(is_after(&out, to, end_of(u64::from(at), value)))
 }
 
-/// Asserts that the octets are written for the value, behind another.
+/// Asserts that the octets are written for the value, after another.
 pub fn assert_writes(rt: &(impl Abort + AllocGlobal), value: &Val, to: Octets) {
     let holds = is_written(rt.alloc(), value, to).unwrap_or(false);
     assert_octets(rt, holds, to.2, to.1);

@@ -1,4 +1,4 @@
-//! Values and their octets, read and written, in both orders and behind gaps.
+//! Values and their octets, read and written, in both orders and after gaps.
 
 use super::forms::{Form, Label, Sample, is_value, type_of, value_of};
 use super::octets::{Octets, assert_reads, assert_writes};

@@ -1,4 +1,4 @@
-//! Each call of a writer: the octets that it appends, behind which gap.
+//! Each call of a writer: the octets that it appends, after which gap.
 
 ghost use Rattle.std.specs.Prelude.{◌≡◌, ◌≤◌, length};
 
@@ -242,7 +242,7 @@ fn octets(rt: &impl Abort, writer: &Writer, all: &[u8], out: &mut Vec<u8>) -> Re
     writer.octets(all, out)
 }
 
-/// Tells whether the next octet stands at that place, behind these octets.
+/// Whether the next octet stands at that place, after these octets.
 fn is_at(place: u64, out: &[u8], wanted: u64, octets: &[u8]) -> bool {
     place == wanted && out == octets
 }
@@ -276,7 +276,7 @@ fn append(
     }
 }
 
-/// A writer behind what the output has, or behind the byte order of an encapsulation.
+/// A writer after what the output has, or after the byte order of an encapsulation.
 fn started(rt: &impl Abort, order: Order, at: Option<u32>, out: &mut Vec<u8>) -> Writer
     ensures { result.start ≡ length out.new.items }
 {
@@ -286,7 +286,7 @@ fn started(rt: &impl Abort, order: Order, at: Option<u32>, out: &mut Vec<u8>) ->
     }
 }
 
-/// Makes the calls one after another, behind what the output has.
+/// Makes the calls one after another, after what the output has.
 fn append_all(
     rt: &(impl Abort + AllocGlobal),
     (name, order, at, _, calls): &Row,

@@ -1,7 +1,6 @@
 //! References in the middle of a message: on the alignment of the places there, in either order.
 
-use super::samples::{NIL, Reference, is_behind, is_same, octets, reference};
-use super::writable::can_write;
+use super::samples::{NIL, Reference, is_after, is_same, octets, reference};
 use crate::rows::assert_at;
 use cdr_core::Kind::{InteriorNul, NoTerminator, Short};
 use cdr_core::Order::{Big, Little};
@@ -11,7 +10,7 @@ use ior_core::{Ior, IorError, read_ior, write_ior};
 use std::alloc::{AllocError, Global};
 
 /// The order of numbers, a place, and the digits of the octets from that place on: those of a gap,
-/// and those behind it.
+/// and those after it.
 type Place = (Order, u32, &'static str, &'static str);
 
 /// A reference, and a place where its octets stand.
@@ -82,7 +81,7 @@ static BAD: &[(Place, Kind, u64)] = &[
     ),
 ];
 
-/// Tells whether so many of the octets are read as the reference.
+/// Whether so many of the octets are read as the reference.
 fn is_read(
     alloc: Global,
     (order, at, _, _): Place,
@@ -96,22 +95,22 @@ fn is_read(
     length == used && is_same(&found, wanted)
 }
 
-/// Tells whether the octets are written for the reference behind others.
+/// Whether the octets are written for the reference after others.
 fn is_written(
     alloc: Global,
     (order, at, _, _): Place,
     octets: &[u8],
     ior: &Ior,
 ) -> Result<bool, AllocError> {
-    if !can_write(alloc, ior) {
+    if !ior.is_writable() {
         return Ok(false);
     }
     let mut out = [7, 8, 9].to_vec(alloc)?;
     write_ior(order, u64::from(at), ior, &mut out)?;
-    Ok(is_behind(&out, octets))
+    Ok(is_after(&out, octets))
 }
 
-/// Tells whether the octets are read as the reference, also where octets stand behind them.
+/// Whether the octets are read as the reference, also where octets stand after them.
 fn is_read_on(
     alloc: Global,
     place: Place,
@@ -128,7 +127,7 @@ fn is_read_on(
     Ok(true)
 }
 
-/// Tells whether the octets are written for the reference, and read as it.
+/// Whether the octets are written for the reference, and read as it.
 fn stands(alloc: Global, (sample, place): &Row) -> Result<bool, FromHexError> {
     let ior = reference(alloc, sample)?;
     let mut octets = octets(alloc, place.2, place.3)?;
@@ -145,7 +144,7 @@ fn gaps_depend_on_the_place(rt: HostRuntime) {
     }
 }
 
-/// Tells whether so many of the octets are read as the reference to nothing.
+/// Whether so many of the octets are read as the reference to nothing.
 fn is_nil(alloc: Global, place: Place, used: usize) -> Result<bool, FromHexError> {
     let nil = reference(alloc, &NIL)?;
     let octets = octets(alloc, place.2, place.3)?;
@@ -161,7 +160,7 @@ fn what_is_read_counts_the_gaps(rt: HostRuntime) {
     }
 }
 
-/// Tells whether the octets are no reference, by their first fault.
+/// Whether the octets are no reference, by their first fault.
 fn is_stopped(
     alloc: Global,
     (order, at, gap, digits): Place,
@@ -175,7 +174,7 @@ fn is_stopped(
 }
 
 #[test]
-fn faults_are_told_at_the_place(rt: HostRuntime) {
+fn faults_are_reported_at_the_place(rt: HostRuntime) {
     for (place, kind, at) in BAD {
         let (kind, at) = (*kind, *at);
         let holds = is_stopped(rt.alloc(), *place, Fault { kind, at }).unwrap_or(false);

@@ -1,9 +1,8 @@
 //! Profiles of IIOP: what is read and written of each minor version, and where the gaps stand.
 
 use super::samples::{
-    BIG, Iiop, WITH_COMPONENTS, WITHOUT_COMPONENTS, is_behind, is_same_profile, octets, profile,
+    BIG, Iiop, WITH_COMPONENTS, WITHOUT_COMPONENTS, is_after, is_same_profile, octets, profile,
 };
-use super::writable::can_write_profile;
 use crate::rows::assert_named;
 use hex::FromHexError;
 use ior_core::{IiopProfile, iiop_key, read_iiop, write_iiop};
@@ -105,7 +104,7 @@ const EMPTY: Iiop = Iiop {
 static READ: &[(Iiop, &str)] = &[
     (FIRST, "01010000 02000000 6800 0100 01000000 63"),
     (FIRST, "000100ff 00000002 6800 0001 00000001 63"),
-    // What stands behind the key is ignored.
+    // What stands after the key is ignored.
     (
         FIRST,
         "00010000 00000002 6800 0001 00000001 63000000 00000001 00000001 00000001 00",
@@ -119,7 +118,7 @@ static READ: &[(Iiop, &str)] = &[
         SECOND,
         "01010100 02000000 6800 0100 01000000 63000000 01000000 01000000 01000000 00",
     ),
-    // Any octets may stand in a gap, and behind the components.
+    // Any octets may stand in a gap, and after the components.
     (
         SECOND,
         "000101aa 00000002 6800 0001 00000001 63bbccdd 00000001 00000001 00000001 00 eeff",
@@ -179,7 +178,7 @@ const COMPONENTS: &[(u32, &str)] = &[
     ),
 ];
 
-/// Tells whether the octets are read as the profile, and its key is found in them.
+/// Whether the octets are read as the profile, and its key is found in them.
 fn is_read(alloc: Global, octets: &[u8], wanted: &IiopProfile) -> bool {
     let Ok(found) = read_iiop(alloc, octets) else {
         return false;
@@ -187,17 +186,17 @@ fn is_read(alloc: Global, octets: &[u8], wanted: &IiopProfile) -> bool {
     is_same_profile(&found, wanted) && iiop_key(octets) == Some(wanted.object_key.as_slice())
 }
 
-/// Tells whether the octets are written for the profile behind others.
+/// Whether the octets are written for the profile after others.
 fn is_written(alloc: Global, octets: &[u8], profile: &IiopProfile) -> Result<bool, AllocError> {
-    if !can_write_profile(alloc, profile) {
+    if !profile.is_writable() {
         return Ok(false);
     }
     let mut out = [7, 8, 9].to_vec(alloc)?;
     write_iiop(profile, &mut out)?;
-    Ok(is_behind(&out, octets))
+    Ok(is_after(&out, octets))
 }
 
-/// Tells whether the digits are written for the profile, and read as it.
+/// Whether the digits are written for the profile, and read as it.
 fn stands(alloc: Global, sample: &Iiop, digits: &str) -> Result<bool, FromHexError> {
     let profile = profile(alloc, sample)?;
     let octets = octets(alloc, "", digits)?;
@@ -212,7 +211,7 @@ fn profiles_are_written_and_read_again(rt: HostRuntime) {
     }
 }
 
-/// Tells whether the digits are read as the profile.
+/// Whether the digits are read as the profile.
 fn spells(alloc: Global, sample: &Iiop, digits: &str) -> Result<bool, FromHexError> {
     let wanted = profile(alloc, sample)?;
     let octets = octets(alloc, "", digits)?;

@@ -83,7 +83,7 @@ static NO_REFERENCE: &[Bad] = &[
     ("IOR:00000000 00000005 4142", Short, 8),
     ("IOR:01000000 05000000 41424344", Short, 8),
     ("IOR:00000000 ffffffff 4142", Short, 8),
-    // The length stands in the order that the first octet tells.
+    // The length stands in the order of the first octet.
     ("IOR:01000000 00000001 00000000 00000000", Short, 8),
     ("IOR:00000000 00000003 41004200 00000000", InteriorNul, 9),
     ("IOR:00000000 00000003 00414200 00000000", InteriorNul, 8),
@@ -114,7 +114,7 @@ static NO_REFERENCE: &[Bad] = &[
         Short,
         24,
     ),
-    // A second tag behind a gap.
+    // A second tag after a gap.
     (
         "IOR:00000000 00000001 00000000 00000002 00000000 00000001 ff",
         Short,
@@ -138,7 +138,7 @@ static NO_HEAD: &[Bad] = &[
     ("00010200 00000003 6800", Short, 8),
     ("00010200 00000003 680068 00", InteriorNul, 9),
     ("00010200 00000002 6868 0001", NoTerminator, 9),
-    // Behind a host of an even length the port stands at once, else behind a gap.
+    // After a host of an even length the port stands at once, else after a gap.
     ("00010000 00000002 6800", Short, 10),
     ("00010000 00000002 6800 00", Short, 10),
     ("00010000 00000003 686900", Short, 12),
@@ -156,7 +156,7 @@ static NO_HEAD: &[Bad] = &[
 /// A profile of 1.1 up to its key, which ends at 17.
 const HEAD: &str = "00010100 00000002 6800 0001 00000001 63";
 
-/// What stands behind that head and is no list of components.
+/// What stands after that head and is no list of components.
 static NO_COMPONENTS: &[Bad] = &[
     // The count.
     ("", Short, 20),
@@ -169,7 +169,7 @@ static NO_COMPONENTS: &[Bad] = &[
     ("000000 00000001 00000001 000000", Short, 28),
     ("000000 00000001 00000001 00000001", Short, 32),
     ("000000 00000001 00000001 ffffffff 00", Short, 32),
-    // A second tag behind a gap.
+    // A second tag after a gap.
     ("000000 00000002 00000001 00000001 00", Short, 36),
     (
         "000000 00000002 00000001 00000001 00000000 000000",
@@ -207,7 +207,7 @@ static BEFORE_MAJOR: &[Bad] = &[
     ),
 ];
 
-/// Tells whether the text is refused for that reason.
+/// Whether the text is refused for that reason.
 fn is_refused(alloc: Global, sample: &str, wanted: &IorError) -> Result<bool, AllocError> {
     let text = text(alloc, "", sample)?;
     match parse_text(alloc, text.as_str()) {
@@ -240,7 +240,7 @@ fn texts_are_refused(rt: HostRuntime) {
     }
 }
 
-/// Tells whether the octets are no profile for that reason, and give no key.
+/// Whether the octets are no profile for that reason, and give no key.
 fn is_no_profile(
     alloc: Global,
     head: &str,
@@ -254,7 +254,7 @@ fn is_no_profile(
     }
 }
 
-/// Asserts the first fault of each row behind the head.
+/// Asserts the first fault of each row after the head.
 fn assert_each_faulty(rt: &(impl Abort + AllocGlobal), head: &str, rows: &[Bad]) {
     for (digits, kind, at) in rows {
         let (kind, at) = (*kind, *at);
@@ -291,7 +291,7 @@ static REASONS: &[(IorError, &str)] = &[
     (IorError::Memory, "memory"),
 ];
 
-/// Tells whether the reason is printed so.
+/// Whether the reason is printed so.
 fn is_printed(alloc: Global, reason: &IorError, wanted: &str) -> Result<bool, AllocError> {
     let printed = format!(in alloc; "{reason}")?;
     Ok(printed.as_str() == wanted)

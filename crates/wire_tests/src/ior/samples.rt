@@ -36,7 +36,7 @@ pub const WITH_COMPONENTS: &str = "01010200 0a000000 3132372e302e302e3100 f90a 0
 /// A profile of 1.0 in little order: 21011 is 0x5213.
 pub const WITHOUT_COMPONENTS: &str = "01010000 0a000000 3132372e302e302e3100 1352 01000000 63";
 
-/// A text, and one behind it from which the spaces are taken.
+/// A text, and one after it from which the spaces are taken.
 pub fn text(alloc: Global, front: &str, text: &str) -> Result<String, AllocError> {
     let mut all = String::from_str(alloc, front)?;
     for part in text.split(' ') {
@@ -45,10 +45,10 @@ pub fn text(alloc: Global, front: &str, text: &str) -> Result<String, AllocError
     Ok(all)
 }
 
-/// The octets that digits give, and digits behind them, between which spaces may stand.
-pub fn octets(alloc: Global, front: &str, behind: &str) -> Result<Vec<u8>, FromHexError> {
+/// The octets that digits give, and digits after them, between which spaces may stand.
+pub fn octets(alloc: Global, front: &str, after: &str) -> Result<Vec<u8>, FromHexError> {
     let front = text(alloc, "", front)?;
-    let digits = text(alloc, front.as_str(), behind)?;
+    let digits = text(alloc, front.as_str(), after)?;
     hex::decode(alloc, digits.as_bytes())
 }
 
@@ -82,7 +82,7 @@ pub fn profile(alloc: Global, iiop: &Iiop) -> Result<IiopProfile, FromHexError> 
     })
 }
 
-/// Tells whether the tags and their octets are equal.
+/// Whether the tags and their octets are equal.
 fn are_alike(found: &[Tagged], wanted: &[Tagged]) -> bool {
     if found.len() != wanted.len() {
         return false;
@@ -95,13 +95,13 @@ fn are_alike(found: &[Tagged], wanted: &[Tagged]) -> bool {
     true
 }
 
-/// Tells whether two references are equal.
+/// Whether two references are equal.
 pub fn is_same(found: &Ior, wanted: &Ior) -> bool {
     found.type_id.as_slice() == wanted.type_id.as_slice()
         && are_alike(&found.profiles, &wanted.profiles)
 }
 
-/// Tells whether two profiles are equal.
+/// Whether two profiles are equal.
 pub fn is_same_profile(found: &IiopProfile, wanted: &IiopProfile) -> bool {
     found.minor == wanted.minor
         && found.host.as_slice() == wanted.host.as_slice()
@@ -110,7 +110,7 @@ pub fn is_same_profile(found: &IiopProfile, wanted: &IiopProfile) -> bool {
         && are_alike(&found.components, &wanted.components)
 }
 
-/// Tells whether two reasons are the same.
+/// Whether two reasons are the same.
 pub fn is_reason(found: &IorError, wanted: &IorError) -> bool {
     match (found, wanted) {
         (IorError::BadDigit(a), IorError::BadDigit(b)) => a == b,
@@ -123,8 +123,8 @@ pub fn is_reason(found: &IorError, wanted: &IorError) -> bool {
     }
 }
 
-/// Tells whether the octets are in the output behind three others.
-pub fn is_behind(out: &[u8], octets: &[u8]) -> bool {
+/// Whether the octets are in the output after three others.
+pub fn is_after(out: &[u8], octets: &[u8]) -> bool {
     match out {
         [7, 8, 9, written @ ..] => written == octets,
         _ => false,

@@ -3,13 +3,12 @@
 use super::samples::{
     BIG, COUNTER, NIL, Reference, WITH_COMPONENTS, WITHOUT_COMPONENTS, is_same, reference, text,
 };
-use super::writable::can_write;
 use crate::rows::{assert_at, assert_named};
 use hex::FromHexError;
 use ior_core::{Ior, object_key, parse_text, print_text};
 use std::alloc::{AllocError, Global};
 
-/// Behind the prefix, a reference of which another ORB printed the text.
+/// After the prefix, a reference of which another ORB printed the text.
 const PRINTED_WITH_COMPONENTS: &str =
     "010000001000000049444c3a436f756e7465723a312e3000010000000000000054000000\
     010102000a0000003132372e302e302e3100f90a0100000063000000\
@@ -60,7 +59,7 @@ const UNTYPED: Reference = ("", &[(5, ""), (0x0102_0304, "ff")]);
 /// A reference whose digits have letters.
 const LETTERS: Reference = ("JKLMNO", &[(0xabcd_ef00, "abcdef")]);
 
-/// A reference, what is written for it behind the prefix, and what is read as it.
+/// A reference, what is written for it after the prefix, and what is read as it.
 type Row = (Reference, &'static str, &'static [&'static str]);
 
 /// Each way to spell a reference.
@@ -93,7 +92,7 @@ static ROWS: &[Row] = &[
             // An empty type of the length 0, which is never written.
             "00000000 00000000 00000000",
             "01000000 00000000 00000000",
-            // Any octets may stand in a gap, and behind the reference.
+            // Any octets may stand in a gap, and after the reference.
             "00aabbcc 00000001 00ddeeff 00000000",
             "00000000 00000001 00000000 00000000 ffee",
             "01ffffff 00000000 00000000 00",
@@ -148,7 +147,7 @@ static DIGITS: &[&str] = &[
     "00000000 00000007 4a4B4C4d4e4F00 00 00000001 aBCdEf00 00000003 AbcDeF",
 ];
 
-/// Tells whether the text is read as the reference.
+/// Whether the text is read as the reference.
 fn is_read(alloc: Global, text: &str, wanted: &Ior) -> bool {
     match parse_text(alloc, text) {
         Ok(found) => is_same(&found, wanted),
@@ -156,7 +155,7 @@ fn is_read(alloc: Global, text: &str, wanted: &Ior) -> bool {
     }
 }
 
-/// Tells whether each text behind the prefix is read as the reference.
+/// Whether each text after the prefix is read as the reference.
 fn are_read(
     alloc: Global,
     prefix: &str,
@@ -172,16 +171,16 @@ fn are_read(
     Ok(true)
 }
 
-/// Tells whether the text is written for the reference, and read as that reference again.
+/// Whether the text is written for the reference, and read as that reference again.
 fn is_printed(alloc: Global, ior: &Ior, wanted: &str) -> Result<bool, AllocError> {
-    if !can_write(alloc, ior) {
+    if !ior.is_writable() {
         return Ok(false);
     }
     let printed = print_text(alloc, ior)?;
     Ok(printed.as_str() == wanted && is_read(alloc, wanted, ior))
 }
 
-/// Tells of a row whether its text is written, and whether each of its texts is read.
+/// Whether the text of a row is written, and each of its texts is read.
 fn stands(alloc: Global, (sample, written, texts): &Row) -> Result<bool, FromHexError> {
     let ior = reference(alloc, sample)?;
     let written = text(alloc, "IOR:", written)?;
@@ -196,7 +195,7 @@ fn references_and_their_texts(rt: HostRuntime) {
     }
 }
 
-/// Tells whether the digits in either case are read behind the prefix.
+/// Whether the digits in either case are read after the prefix.
 fn are_letters(alloc: Global, prefix: &str) -> Result<bool, FromHexError> {
     let wanted = reference(alloc, &LETTERS)?;
     Ok(are_read(alloc, prefix, DIGITS, &wanted)?)
@@ -223,7 +222,7 @@ fn long_text(alloc: Global) -> Result<String, AllocError> {
     Ok(text)
 }
 
-/// Tells whether each octet is 2a.
+/// Whether each octet is 2a.
 fn are_2a(octets: &[u8]) -> bool {
     for octet in octets {
         if *octet != 0x2a {
@@ -233,7 +232,7 @@ fn are_2a(octets: &[u8]) -> bool {
     true
 }
 
-/// Tells whether the reference has a profile with the long key, and no other.
+/// Whether the reference has a profile with the long key, and no other.
 fn has_long_key(ior: &Ior) -> bool {
     let Some(key) = object_key(ior, 0) else {
         return false;
@@ -241,7 +240,7 @@ fn has_long_key(ior: &Ior) -> bool {
     key.len() == 960 && are_2a(key) && object_key(ior, 1).is_none()
 }
 
-/// Tells whether the long text is read, and written for what is read.
+/// Whether the long text is read, and written for what is read.
 fn is_long_text_read(alloc: Global) -> Result<bool, AllocError> {
     let text = long_text(alloc)?;
     let Ok(ior) = parse_text(alloc, text.as_str()) else {
@@ -289,7 +288,7 @@ static KEYS: &[(Reference, u32, Option<&[u8]>)] = &[
     (("X", &[]), 0, None),
 ];
 
-/// Tells whether the profile of that index has the key.
+/// Whether the profile of that index has the key.
 fn has_key(
     alloc: Global,
     sample: &Reference,

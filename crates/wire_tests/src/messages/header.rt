@@ -1,7 +1,7 @@
 //! Headers as they are read and written.
 
 use cdr_core::Order;
-use giop_core::{Header, MessageKind, Version};
+use giop_core::{FT_REQUEST, Header, MessageKind, Version};
 use std::process::Abort;
 
 // Each kind, the flags that its version lets it have, and sizes whose octets tell their order.
@@ -128,7 +128,7 @@ static HEADERS: [([u8; 12], Header); 12] = [
     ),
 ];
 
-/// Tells whether octets read as the header, and it is written so.
+/// Whether octets are the header, and it is written so.
 fn is_header(octets: &[u8; 12], header: &Header) -> bool {
     Header::read(octets) == Ok(*header) && header.is_possible() && header.write() == *octets
 }
@@ -138,4 +138,9 @@ fn headers_are_read_and_written(rt: HostRuntime) {
     for (octets, header) in &HEADERS {
         assert!(rt; is_header(octets, header), "{header:?}");
     }
+}
+
+#[test]
+fn numbers_of_the_standard(rt: HostRuntime) {
+    assert!(rt; Header::LEN == 12 && FT_REQUEST == 13);
 }

@@ -49,7 +49,7 @@ enum Ft {
     Present(&'static [u8], i32, u64),
 }
 
-/// Tells whether contexts say that.
+/// Whether contexts say that.
 fn is_ft(contexts: &Contexts, wanted: &Ft) -> bool {
     match (ft_request(contexts), wanted) {
         (FtField::Absent, Ft::Absent) | (FtField::Bad, Ft::Bad) => true,
@@ -65,7 +65,7 @@ fn is_ft(contexts: &Contexts, wanted: &Ft) -> bool {
     }
 }
 
-// What is said before each of three contexts is taken, and behind the last.
+// What is said before each of three contexts is taken, and after the last.
 static LEFT: [Ft; 4] = [
     Ft::Present(b"A", 1, 100),
     Ft::Present(b"B", 2, 200),

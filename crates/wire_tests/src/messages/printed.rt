@@ -1,27 +1,11 @@
-//! The texts of faults and refusals.
+//! The texts of versions, kinds, wishes, statuses, faults and errors.
 
-use super::said::expect;
+use crate::rows::assert_printed;
 use cdr_core::{Fault, Kind};
-use giop_core::{HeaderFault, MessageFault, WriteError};
-use std::alloc::Global;
-use std::fmt::Display;
-use std::process::Abort;
-
-/// Tells whether that is printed so.
-fn prints<T: Display + Drop>(alloc: Global, told: T, wanted: &str) -> bool {
-    match format!(in alloc; "{told}") {
-        Ok(text) => text.as_str() == wanted,
-        Err(_) => false,
-    }
-}
-
-/// Asserts that each of these is printed so.
-fn assert_printed<T: Display + Copy + Drop>(rt: &(impl Abort + AllocGlobal), rows: &[(T, &str)]) {
-    for (told, wanted) in rows {
-        let is_printed = prints(rt.alloc(), *told, wanted);
-        expect(rt, is_printed, wanted);
-    }
-}
+use giop_core::{
+    HeaderFault, LocateStatus, MessageFault, MessageKind, ReplyStatus, ReplyWish, Version,
+    WriteError,
+};
 
 static HEADER_FAULTS: [(HeaderFault, &str); 5] = [
     (HeaderFault::BadMagic, "bad magic"),
@@ -42,14 +26,71 @@ static MESSAGE_FAULTS: [(MessageFault, &str); 2] = [
     (MessageFault::BadAddressing(16), "bad addressing at 16"),
 ];
 
-static REFUSALS: [(WriteError, &str); 2] = [
+static WRITE_ERRORS: [(WriteError, &str); 2] = [
     (WriteError::TooLong, "too long"),
     (WriteError::Memory, "memory"),
 ];
 
 #[test]
-fn faults_and_refusals_are_printed(rt: HostRuntime) {
+fn faults_and_errors_are_printed(rt: HostRuntime) {
     assert_printed(&rt, &HEADER_FAULTS);
     assert_printed(&rt, &MESSAGE_FAULTS);
-    assert_printed(&rt, &REFUSALS);
+    assert_printed(&rt, &WRITE_ERRORS);
+}
+
+static VERSIONS: [(Version, &str); 3] = [
+    (Version::V10, "1.0"),
+    (Version::V11, "1.1"),
+    (Version::V12, "1.2"),
+];
+
+static KINDS: [(MessageKind, &str); 8] = [
+    (MessageKind::Request, "Request"),
+    (MessageKind::Reply, "Reply"),
+    (MessageKind::CancelRequest, "CancelRequest"),
+    (MessageKind::LocateRequest, "LocateRequest"),
+    (MessageKind::LocateReply, "LocateReply"),
+    (MessageKind::CloseConnection, "CloseConnection"),
+    (MessageKind::MessageError, "MessageError"),
+    (MessageKind::Fragment, "Fragment"),
+];
+
+static WISHES: [(ReplyWish, &str); 3] = [
+    (ReplyWish::None, "none"),
+    (ReplyWish::Empty, "empty"),
+    (ReplyWish::Full, "full"),
+];
+
+#[test]
+fn versions_kinds_and_wishes_are_printed(rt: HostRuntime) {
+    assert_printed(&rt, &VERSIONS);
+    assert_printed(&rt, &KINDS);
+    assert_printed(&rt, &WISHES);
+}
+
+static REPLY_STATUSES: [(ReplyStatus, &str); 6] = [
+    (ReplyStatus::NoException, "NO_EXCEPTION"),
+    (ReplyStatus::UserException, "USER_EXCEPTION"),
+    (ReplyStatus::SystemException, "SYSTEM_EXCEPTION"),
+    (ReplyStatus::LocationForward, "LOCATION_FORWARD"),
+    (ReplyStatus::LocationForwardPerm, "LOCATION_FORWARD_PERM"),
+    (ReplyStatus::NeedsAddressingMode, "NEEDS_ADDRESSING_MODE"),
+];
+
+static LOCATE_STATUSES: [(LocateStatus, &str); 6] = [
+    (LocateStatus::UnknownObject, "UNKNOWN_OBJECT"),
+    (LocateStatus::ObjectHere, "OBJECT_HERE"),
+    (LocateStatus::ObjectForward, "OBJECT_FORWARD"),
+    (LocateStatus::ObjectForwardPerm, "OBJECT_FORWARD_PERM"),
+    (LocateStatus::SystemException, "LOC_SYSTEM_EXCEPTION"),
+    (
+        LocateStatus::NeedsAddressingMode,
+        "LOC_NEEDS_ADDRESSING_MODE",
+    ),
+];
+
+#[test]
+fn statuses_are_printed(rt: HostRuntime) {
+    assert_printed(&rt, &REPLY_STATUSES);
+    assert_printed(&rt, &LOCATE_STATUSES);
 }

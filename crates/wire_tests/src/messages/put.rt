@@ -1,21 +1,16 @@
 //! Writing what messages say.
 
-ghost use Rattle.std.specs.Prelude.{◌≡◌, ◌↔◌, IsTrue};
-ghost use Rattle.cdr_core.specs.Spelling.{IsClean};
 ghost use Rattle.cdr_core.specs.View.{values_of};
 ghost use Rattle.cdr_core.specs.Writing.{AreWritable};
-ghost use Rattle.giop_core.specs.Lent.{addressed_by};
-ghost use Rattle.giop_core.specs.Written.{locate_statuses, reply_statuses, CanAddress, CanAsk};
 
 use super::said::{
     Aim, Asked, Row, Said, assert_octets, assert_written, expect, octets_in, target_in,
 };
-use cdr_core::{Order, Val, writable};
+use cdr_core::{Order, Val, are_writable, has_no_nul};
 use giop_core::{
-    ReplyWish, Target, Version, write_cancel, write_close, write_error, write_ft,
-    write_locate_reply, write_locate_request, write_reply, write_request,
+    Target, Version, write_cancel, write_close, write_error, write_ft, write_locate_reply,
+    write_locate_request, write_reply, write_request,
 };
-use std::alloc::Global;
 use std::process::Abort;
 
 /// What is written as a body.
@@ -47,59 +42,8 @@ fn target_of<'m>(rt: &impl Abort, said: &Said, source: &'m [u8]) -> Target<'m> {
     }
 }
 
-/// Tells whether a version has such a target.
-fn can_address(version: Version, target: &Target) -> bool
-    ensures { IsTrue result ↔ CanAddress version (addressed_by target.now) }
-{
-    match target {
-        Target::Key(_) => true,
-        Target::Profile(_, _) | Target::Reference(_, _) => version == Version::V12,
-    }
-}
-
-/// Tells whether a version has such a wish.
-fn can_ask(version: Version, wish: ReplyWish) -> bool
-    ensures { IsTrue result ↔ CanAsk version wish }
-{
-    match wish {
-        ReplyWish::None | ReplyWish::Full => true,
-        ReplyWish::Empty => version == Version::V12,
-    }
-}
-
-/// How many statuses a Reply has.
-fn reply_statuses(version: Version) -> u32
-    ensures { result ≡ reply_statuses version }
-{
-    match version {
-        Version::V10 | Version::V11 => 4,
-        Version::V12 => 6,
-    }
-}
-
-/// How many statuses a LocateReply has.
-fn locate_statuses(version: Version) -> u32
-    ensures { result ≡ locate_statuses version }
-{
-    match version {
-        Version::V10 | Version::V11 => 3,
-        Version::V12 => 6,
-    }
-}
-
-/// Tells whether a text has no NUL.
-fn is_clean(alloc: Global, text: &[u8]) -> bool
-    ensures { IsTrue result → IsClean text.now }
-{
-    match Vec::from_slice(alloc, text) {
-        Ok(copy) => writable(&Val::Str(copy)),
-        Err(_) => false,
-    }
-}
-
-/// Writes a Request. Tells whether it can be written and is.
+/// Writes a Request. Whether it can be written and is.
 fn put_request(
-    alloc: Global,
     version: Version,
     order: Order,
     asked: &Asked,
@@ -109,10 +53,8 @@ fn put_request(
 ) -> bool
     requires { AreWritable (values_of body.now) }
 {
-    if !can_address(version, target) || !can_ask(version, asked.wish) {
-        return false;
-    }
-    if !is_clean(alloc, asked.operation) {
+    let is_asked = version.can_address(target) && version.can_ask(asked.wish);
+    if !is_asked || !has_no_nul(asked.operation) {
         return false;
     }
     let written = write_request(
@@ -129,24 +71,24 @@ fn put_request(
     written.is_ok()
 }
 
-/// Writes what a Reply or a LocateReply says. Tells whether it can be written and is.
+/// Writes what a Reply or a LocateReply says. Whether it can be written and is.
 fn put_answer(version: Version, order: Order, said: &Said, body: &[Val], out: &mut Vec<u8>) -> bool
     requires { AreWritable (values_of body.now) }
 {
     match said {
         Said::Reply(id, status, contexts, _) => {
-            *status < reply_statuses(version)
+            version.has_reply_status(*status)
                 && write_reply(version, order, *id, *status, contexts, body, out).is_ok()
         }
         Said::LocateReply(id, status, _) => {
-            *status < locate_statuses(version)
+            version.has_locate_status(*status)
                 && write_locate_reply(version, order, *id, *status, body, out).is_ok()
         }
         _ => false,
     }
 }
 
-/// Writes what a message without a target or a body says. Tells whether it can be written and is.
+/// Writes what a message without a target or a body says. Whether it can be written and is.
 fn put_bare(version: Version, order: Order, said: &Said, out: &mut Vec<u8>) -> bool {
     match said {
         Said::Cancel(id) => write_cancel(version, order, *id, out).is_ok(),
@@ -156,16 +98,16 @@ fn put_bare(version: Version, order: Order, said: &Said, out: &mut Vec<u8>) -> b
     }
 }
 
-/// Writes what a message says, for that target and with that body. Tells whether it can be written and
+/// Writes what a message says, for that target and with that body. Whether it can be written and
 /// is.
-fn put_said(alloc: Global, row: &Row, target: &Target, body: &[Val], out: &mut Vec<u8>) -> bool
+fn put_said(row: &Row, target: &Target, body: &[Val], out: &mut Vec<u8>) -> bool
     requires { AreWritable (values_of body.now) }
 {
     let (version, order) = (row.0, row.1);
     match &row.3 {
-        Said::Request(asked) => put_request(alloc, version, order, asked, target, body, out),
+        Said::Request(asked) => put_request(version, order, asked, target, body, out),
         Said::LocateRequest(id, _) => {
-            can_address(version, target)
+            version.can_address(target)
                 && write_locate_request(version, order, *id, target, out).is_ok()
         }
         Said::Reply(_, _, _, _) | Said::LocateReply(_, _, _) => {
@@ -191,7 +133,7 @@ fn push_exception(rt: &(impl Abort + AllocGlobal), members: &mut Vec<Val>, name:
     push(rt, members, Val::Enum(1));
 }
 
-/// What is written as a body, as the members of a struct.
+/// The values that are written as a body.
 fn members_of(rt: &(impl Abort + AllocGlobal), values: Values) -> Vec<Val> {
     let mut members = Vec::new(rt.alloc());
     match values {
@@ -209,17 +151,8 @@ fn members_of(rt: &(impl Abort + AllocGlobal), values: Values) -> Vec<Val> {
     members
 }
 
-/// Writes what a message says, for that target and with the members of a struct as its body. Tells
-/// whether it can be written and is.
-fn put_members(alloc: Global, row: &Row, target: &Target, body: &Val, out: &mut Vec<u8>) -> bool {
-    match body {
-        Val::Struct(members) => writable(body) && put_said(alloc, row, target, members, out),
-        _ => false,
-    }
-}
-
 /// Writes what a message says, with these values as its body. The octets of a LocateRequest lend a
-/// target that is a reference. Tells whether it can be written and is.
+/// target that is a reference. Whether it can be written and is.
 fn put(
     rt: &(impl Abort + AllocGlobal),
     values: Values,
@@ -228,20 +161,19 @@ fn put(
     out: &mut Vec<u8>,
 ) -> bool {
     let target = target_of(rt, &row.3, source);
-    let body = Val::Struct(members_of(rt, values));
-    put_members(rt.alloc(), row, &target, &body, out)
+    let body = members_of(rt, values);
+    are_writable(&body) && put_said(row, &target, &body, out)
 }
 
-/// One octet, from which no place counts in what is written behind it.
-fn begun(rt: &(impl Abort + AllocGlobal)) -> Vec<u8> {
+/// One octet: no place counts from it in what is written after it.
+fn one_octet(rt: &(impl Abort + AllocGlobal)) -> Vec<u8> {
     match [0xca].to_vec(rt.alloc()) {
         Ok(out) => out,
         Err(_) => rt.abort(),
     }
 }
 
-/// Asserts that a message is written so behind others, with these values as its body, and that it
-/// reads again.
+/// Asserts that a message is written so after others, with these values as its body, and read again.
 fn assert_next(rt: &(impl Abort + AllocGlobal), values: Values, row: &Row, out: &mut Vec<u8>) {
     let start = out.len();
     let is_put = put(rt, values, row, &[], out);
@@ -252,10 +184,10 @@ fn assert_next(rt: &(impl Abort + AllocGlobal), values: Values, row: &Row, out: 
     assert_written(rt, written, row);
 }
 
-/// Asserts that messages are written so one behind another, with these values as their bodies, and
-/// that each reads again. The first stands behind an octet, from which no place counts.
+/// Asserts that messages are written so one after another, with these values as their bodies, and that
+/// each is read again. The first stands after an octet, from which no place counts.
 pub(super) fn assert_sent(rt: &(impl Abort + AllocGlobal), values: Values, rows: &[Row]) {
-    let mut out = begun(rt);
+    let mut out = one_octet(rt);
     for row in rows {
         assert_next(rt, values, row, &mut out);
     }
@@ -284,15 +216,15 @@ pub(super) fn assert_turned(rt: &(impl Abort + AllocGlobal), values: Values, row
 /// digits.
 pub(super) type Client = (Order, &'static [u8], i32, u64, &'static str);
 
-/// Writes a context. Tells whether it can be written and is.
-fn put_client(alloc: Global, row: &Client, out: &mut Vec<u8>) -> bool {
-    is_clean(alloc, row.1) && write_ft(row.0, row.1, row.2, row.3, out).is_ok()
+/// Writes a context. Whether it can be written and is.
+fn put_client(row: &Client, out: &mut Vec<u8>) -> bool {
+    has_no_nul(row.1) && write_ft(row.0, row.1, row.2, row.3, out).is_ok()
 }
 
-/// Asserts that a context is written so, behind another octet, from which no place counts.
+/// Asserts that a context is written so, after another octet, from which no place counts.
 pub(super) fn assert_client(rt: &(impl Abort + AllocGlobal), row: &Client) {
-    let mut out = begun(rt);
-    let is_put = put_client(rt.alloc(), row, &mut out);
+    let mut out = one_octet(rt);
+    let is_put = put_client(row, &mut out);
     expect(rt, is_put, row.4);
     assert_octets(rt, &out, row.4);
 }

@@ -120,7 +120,7 @@ fn each_kind_is_read(rt: HostRuntime) {
     assert_rows(&rt, &FRAGMENTS);
 }
 
-/// Tells whether a target names that key.
+/// Whether a target names that key.
 fn names(target: &Target, key: &[u8]) -> bool {
     target.object_key() == Some(key)
 }

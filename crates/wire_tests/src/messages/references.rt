@@ -7,7 +7,7 @@ use std::process::Abort;
 /// The digits of a LocateRequest, its target, and the key that it names.
 type Naming = (&'static str, Aim, Option<&'static [u8]>);
 
-/// Tells whether a target is that of the row, and names its key.
+/// Whether a target is that of the row, and names its key.
 fn names(target: &Target, row: &Naming) -> bool {
     is_target(target, &row.1) && target.object_key() == row.2
 }
@@ -222,7 +222,7 @@ static NUMBERED: [(u32, Option<(u32, &[u8])>); 8] = [
     (2, Some((5, &[2, 3]))),
 ];
 
-/// Tells whether a target is the first profile of a reference of three.
+/// Whether a target is the first profile of a reference of three.
 fn is_of_three(target: &Target) -> bool {
     match target {
         Target::Reference(0, found) => found.type_id() == b"X/".as_slice() && found.count() == 3,
@@ -230,7 +230,7 @@ fn is_of_three(target: &Target) -> bool {
     }
 }
 
-/// Tells whether a target is a reference that has that profile at that number, or none.
+/// Whether a target is a reference that has that profile at that number, or none.
 fn has_profile(target: &Target, row: &(u32, Option<(u32, &[u8])>)) -> bool {
     match target {
         Target::Reference(_, found) => found.profile(row.0) == row.1,

@@ -2,8 +2,8 @@
 
 use cdr_core::Order;
 use giop_core::{
-    Body, Contexts, Header, IorView, Message, Part, Reply, ReplyWish, Request, Target, Version,
-    read_message,
+    Body, Content, Contexts, Header, IorView, LocateReply, LocateRequest, Message, Reply,
+    ReplyWish, Request, Target, Version, read_message,
 };
 use std::process::Abort;
 
@@ -63,8 +63,7 @@ fn push(rt: &impl Abort, octets: &mut Vec<u8>, octet: u8) {
     }
 }
 
-/// Takes the next digit: appends the octet of which it is the low half, or answers that it is a high
-/// half.
+/// Takes the next digit: appends the octet whose low half it is, or returns it as a high half.
 fn take_digit(rt: &impl Abort, octets: &mut Vec<u8>, high: Option<u8>, number: u8) -> Option<u8> {
     match high {
         None => Some(number),
@@ -90,24 +89,24 @@ pub(super) fn octets_in(rt: &(impl Abort + AllocGlobal), text: &str) -> Vec<u8> 
     octets
 }
 
-/// The header of a whole message, and the octets behind it.
+/// The header of a whole message, and the octets after it.
 fn parted<'m>(rt: &impl Abort, octets: &'m [u8]) -> (Header, &'m [u8]) {
-    let Some((first, behind)) = octets.split_first_chunk::<12>() else {
+    let Some((first, after)) = octets.split_first_chunk::<{ Header::LEN }>() else {
         rt.abort()
     };
     let Ok(header) = Header::read(first) else {
         rt.abort()
     };
-    if header.more || header.size as usize != behind.len() {
+    if header.more || header.size as usize != after.len() {
         rt.abort();
     }
-    (header, behind)
+    (header, after)
 }
 
 /// The whole message that octets are.
 fn whole<'m>(rt: &impl Abort, octets: &'m [u8]) -> Message<'m> {
-    let (header, behind) = parted(rt, octets);
-    match read_message(&header, behind) {
+    let (header, after) = parted(rt, octets);
+    match read_message(&header, after) {
         Ok(message) => message,
         Err(_) => rt.abort(),
     }
@@ -115,21 +114,21 @@ fn whole<'m>(rt: &impl Abort, octets: &'m [u8]) -> Message<'m> {
 
 /// The Request that octets are.
 pub(super) fn request_in<'m>(rt: &impl Abort, octets: &'m [u8]) -> Request<'m> {
-    match whole(rt, octets).part {
-        Part::Request(request) => request,
+    match whole(rt, octets).content {
+        Content::Request(request) => request,
         _ => rt.abort(),
     }
 }
 
 /// The target of the LocateRequest that octets are.
 pub(super) fn target_in<'m>(rt: &impl Abort, octets: &'m [u8]) -> Target<'m> {
-    match whole(rt, octets).part {
-        Part::LocateRequest(_, target) => target,
+    match whole(rt, octets).content {
+        Content::LocateRequest(request) => request.target,
         _ => rt.abort(),
     }
 }
 
-/// Tells whether items are these, one after another, and no more.
+/// Whether items are these, one after another, and no more.
 fn are_items(mut found: Contexts, wanted: Items) -> bool {
     for item in wanted {
         if found.next() != Some(*item) {
@@ -143,7 +142,7 @@ fn is_body(body: &Body, order: Order, wanted: Placed) -> bool {
     body.order == order && body.at == wanted.0 && body.octets == wanted.1
 }
 
-/// Tells whether a reference is of that type and has these profiles.
+/// Whether a reference is of that type and has these profiles.
 fn is_reference(found: &IorView, type_id: &[u8], profiles: Items) -> bool {
     if found.type_id() != type_id || found.count() as usize != profiles.len() {
         return false;
@@ -158,7 +157,7 @@ fn is_reference(found: &IorView, type_id: &[u8], profiles: Items) -> bool {
     found.profile(at).is_none()
 }
 
-/// Tells whether a target is that.
+/// Whether a target is that.
 pub(super) fn is_target(found: &Target, wanted: &Aim) -> bool {
     match (found, wanted) {
         (Target::Key(found), Aim::Key(key)) => found == key,
@@ -172,7 +171,7 @@ pub(super) fn is_target(found: &Target, wanted: &Aim) -> bool {
     }
 }
 
-/// Tells whether a Request of that order says that.
+/// Whether a Request of that order says that.
 fn is_request(found: Request, order: Order, wanted: &Said) -> bool {
     let Said::Request(asked) = wanted else {
         return false;
@@ -185,7 +184,7 @@ fn is_request(found: Request, order: Order, wanted: &Said) -> bool {
         && are_items(found.contexts, asked.contexts)
 }
 
-/// Tells whether a Reply of that order says that.
+/// Whether a Reply of that order says that.
 fn is_reply(found: Reply, order: Order, wanted: &Said) -> bool {
     let Said::Reply(id, status, contexts, body) = wanted else {
         return false;
@@ -196,55 +195,47 @@ fn is_reply(found: Reply, order: Order, wanted: &Said) -> bool {
         && are_items(found.contexts, contexts)
 }
 
-/// Tells whether a LocateReply of that order says that.
-fn is_located(found: (u32, u32), rest: &Body, order: Order, wanted: &Said) -> bool {
-    match wanted {
-        Said::LocateReply(id, status, body) => {
-            found == (*id, *status) && is_body(rest, order, *body)
+/// Whether a LocateReply of that order says that.
+fn is_located(found: &LocateReply, order: Order, wanted: &Said) -> bool {
+    let Said::LocateReply(id, status, body) = wanted else {
+        return false;
+    };
+    found.request_id == *id && found.status == *status && is_body(&found.body, order, *body)
+}
+
+/// Whether a LocateRequest says that.
+fn is_locating(found: &LocateRequest, id: u32, aim: &Aim) -> bool {
+    found.request_id == id && is_target(&found.target, aim)
+}
+
+/// Whether the content of a message that has neither contexts nor a body says that.
+fn is_plain(found: &Content, wanted: &Said) -> bool {
+    match (found, wanted) {
+        (Content::Cancel(found), Said::Cancel(id)) => found.request_id == *id,
+        (Content::LocateRequest(found), Said::LocateRequest(id, aim)) => {
+            is_locating(found, *id, aim)
         }
+        (Content::Fragment(found), Said::Fragment(id, payload)) => {
+            found.request_id == *id && found.payload == *payload
+        }
+        (Content::Close, Said::Close) | (Content::Error, Said::Error) => true,
         _ => false,
     }
 }
 
-/// Tells whether a part that has neither contexts nor a body says that.
-fn is_plain(found: &Part, wanted: &Said) -> bool {
-    match wanted {
-        Said::Cancel(id) => matches!(found, Part::Cancel(found) if found == id),
-        Said::LocateRequest(id, aim) => is_asked_for(found, *id, aim),
-        Said::Close => matches!(found, Part::Close),
-        Said::Error => matches!(found, Part::Error),
-        Said::Fragment(id, data) => is_fragment(found, *id, data),
-        _ => false,
-    }
-}
-
-fn is_asked_for(found: &Part, id: u32, aim: &Aim) -> bool {
+/// Whether the content of a message of that order says that.
+fn is_said(found: Content, order: Order, wanted: &Said) -> bool {
     match found {
-        Part::LocateRequest(found, target) => *found == id && is_target(target, aim),
-        _ => false,
-    }
-}
-
-fn is_fragment(found: &Part, id: Option<u32>, data: &[u8]) -> bool {
-    match found {
-        Part::Fragment(found, rest) => *found == id && *rest == data,
-        _ => false,
-    }
-}
-
-/// Tells whether a part of that order says that.
-fn is_said(found: Part, order: Order, wanted: &Said) -> bool {
-    match found {
-        Part::Request(found) => is_request(found, order, wanted),
-        Part::Reply(found) => is_reply(found, order, wanted),
-        Part::LocateReply(id, status, rest) => is_located((id, status), &rest, order, wanted),
+        Content::Request(found) => is_request(found, order, wanted),
+        Content::Reply(found) => is_reply(found, order, wanted),
+        Content::LocateReply(found) => is_located(&found, order, wanted),
         plain => is_plain(&plain, wanted),
     }
 }
 
-/// Tells whether a message is of that version and order, and says that.
+/// Whether a message is of that version and order, and says that.
 fn is_message(found: Message, row: &Row) -> bool {
-    found.version == row.0 && found.order == row.1 && is_said(found.part, row.1, &row.3)
+    found.version == row.0 && found.order == row.1 && is_said(found.content, row.1, &row.3)
 }
 
 /// Asserts what was found of the row of that text.
@@ -258,7 +249,7 @@ fn assert_message(rt: &impl Abort, octets: &[u8], row: &Row) {
     expect(rt, is_message(message, row), row.2);
 }
 
-/// Asserts that each message reads, and what it says.
+/// Asserts that each row is a message, and what it says.
 pub(super) fn assert_rows(rt: &(impl Abort + AllocGlobal), rows: &[Row]) {
     for row in rows {
         let octets = octets_in(rt, row.2);

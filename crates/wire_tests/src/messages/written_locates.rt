@@ -101,7 +101,7 @@ fn locate_requests_by_reference_are_written(rt: HostRuntime) {
     assert_turned(&rt, Values::Nothing, &BY_REFERENCE);
 }
 
-// In 1.2 too the body stands directly behind the status.
+// In 1.2 too the body stands directly after the status.
 static REPLIES: [Row; 6] = [
     (
         Version::V10,

@@ -1,5 +1,5 @@
 //! CancelRequest, CloseConnection, MessageError and the context FT_REQUEST as they are written, and
-//! messages behind other octets.
+//! messages after other octets.
 
 use super::put::{Client, Values, assert_client, assert_sent};
 use super::said::{Aim, Asked, Row, Said};
@@ -68,8 +68,8 @@ fn messages_without_bodies_are_written(rt: HostRuntime) {
     assert_sent(&rt, Values::Nothing, &BARE);
 }
 
-// Client `A`, behind whose name there is a gap of two octets; client `ABCD`, with gaps of three and
-// four; and the client without a name. Each stands behind an octet, from which no place counts.
+// Client `A`, after whose name there is a gap of two octets; client `ABCD`, with gaps of three and
+// four; and the client without a name. Each stands after an octet, from which no place counts.
 static CLIENTS: [Client; 6] = [
     (
         Order::Big,
@@ -122,7 +122,7 @@ fn clients_are_written(rt: HostRuntime) {
     }
 }
 
-// Messages of each kind, each behind a number of octets that no 4 divides. Its places count from its
+// Messages of each kind, each after a number of octets that no 4 divides. Its places count from its
 // own beginning.
 static CHAIN: [Row; 5] = [
     (
@@ -195,7 +195,7 @@ static ALIGNED: [Row; 3] = [
 ];
 
 #[test]
-fn messages_are_written_behind_one_another(rt: HostRuntime) {
+fn messages_are_written_one_after_another(rt: HostRuntime) {
     assert_sent(&rt, Values::Octet(10), &CHAIN);
     assert_sent(&rt, Values::LongLong(7), &ALIGNED);
 }

@@ -5,7 +5,7 @@ use super::said::{Row, Said};
 use cdr_core::Order;
 use giop_core::Version;
 
-// A context of one octet before the id and the status, and behind them the body directly: an octet
+// A context of one octet before the id and the status, and after them the body directly: an octet
 // and an unsigned short.
 static EARLY: [Row; 4] = [
     (
@@ -40,7 +40,7 @@ static EARLY: [Row; 4] = [
 
 const EARLY_SAID: Said = Said::Reply(0x0102_0304, 2, CONTEXTS, (36, &[10, 0, 11, 11]));
 
-// The same context behind the id and the status, and seven octets before the body.
+// The same context after the id and the status, and seven octets before the body.
 static LATE: [Row; 2] = [
     (
         Version::V12,
@@ -90,7 +90,7 @@ static RESULTS: [Row; 4] = [
     ),
 ];
 
-// The fields end at 36 and at 33, and there is no gap behind them.
+// The fields end at 36 and at 33, and there is no gap after them.
 static BARE: [Row; 3] = [
     (
         Version::V10,
@@ -200,7 +200,7 @@ static STATUSES: [Row; 14] = [
     ),
 ];
 
-// The minor code 0 and the completion NO stand behind the name.
+// The minor code 0 and the completion NO stand after the name.
 static MARSHAL: [Row; 1] = [(
     Version::V12,
     Order::Big,

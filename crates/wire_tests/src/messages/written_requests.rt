@@ -7,7 +7,7 @@ use cdr_core::Order;
 use giop_core::{ReplyWish, Version};
 
 // Two contexts, of which the second is empty; a key of five octets; and an octet and an unsigned
-// short as the body, directly behind the empty principal.
+// short as the body, directly after the empty principal.
 static EARLY: [Row; 4] = [
     (
         Version::V10,
@@ -79,7 +79,7 @@ const LATE_SAID: Said = Said::Request(Asked {
 
 const CONTEXTS: &[(u32, &[u8])] = &[(1, &[0, 0xab, 0xcd]), (7, &[])];
 
-// A request without a reply whose fields end at 44, and no gap behind them.
+// A request without a reply whose fields end at 44, and no gap after them.
 static BARE: [Row; 4] = [
     (
         Version::V10,
@@ -129,7 +129,7 @@ const LATE_BARE: Said = Said::Request(Asked {
     body: (48, &[]),
 });
 
-// A wish for an empty reply; and fields that end at 48, behind which the body stands directly.
+// A wish for an empty reply; and fields that end at 48, after which the body stands directly.
 static WITHOUT_RESULT: [Row; 1] = [(
     Version::V12,
     Order::Big,
@@ -145,7 +145,7 @@ static WITHOUT_RESULT: [Row; 1] = [(
     }),
 )];
 
-// The operation stands behind a target of any length, with three octets between them.
+// The operation stands after a target of any length, with three octets between them.
 static BY_PROFILE: [Row; 2] = [
     (
         Version::V12,

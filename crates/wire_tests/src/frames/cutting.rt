@@ -1,22 +1,22 @@
 //! Messages that are cut.
 
-use super::frame_samples::{FIRST, LAST, MIDDLE, WHOLE};
+use super::samples::{FIRST, LAST, MIDDLE, WHOLE};
 use giop_frames::{fragments, is_cuttable};
 use std::process::Abort;
 
-/// The frames of at most as many octets that the message is cut into, one behind another.
-fn cut(rt: &(impl Abort + AllocGlobal), piece: u32) -> Vec<u8> {
-    if !is_cuttable(WHOLE) || piece < 24 || !piece.is_multiple_of(8) {
+/// The frames of at most `size` octets that the message is cut into, one after another.
+fn cut(rt: &(impl Abort + AllocGlobal), size: u32) -> Vec<u8> {
+    if !is_cuttable(WHOLE) || size < 24 || !size.is_multiple_of(8) {
         rt.abort();
     }
     let mut out = Vec::new(rt.alloc());
-    if fragments(WHOLE, piece, &mut out).is_err() {
+    if fragments(WHOLE, size, &mut out).is_err() {
         rt.abort();
     }
     out
 }
 
-/// Frames, one behind another.
+/// Frames, one after another.
 fn joined(rt: &(impl Abort + AllocGlobal), frames: &[&[u8]]) -> Vec<u8> {
     let mut out = Vec::new(rt.alloc());
     for frame in frames {
@@ -27,9 +27,9 @@ fn joined(rt: &(impl Abort + AllocGlobal), frames: &[&[u8]]) -> Vec<u8> {
     out
 }
 
-/// Asserts that the message is cut into these frames, of at most as many octets.
-fn assert_cut(rt: &(impl Abort + AllocGlobal), piece: u32, frames: &[&[u8]]) {
-    let found = cut(rt, piece);
+/// Asserts that the message is cut into these frames, of at most `size` octets.
+fn assert_cut(rt: &(impl Abort + AllocGlobal), size: u32, frames: &[&[u8]]) {
+    let found = cut(rt, size);
     let wanted = joined(rt, frames);
     assert!(rt; found.as_slice() == wanted.as_slice());
 }

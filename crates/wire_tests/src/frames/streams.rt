@@ -1,10 +1,9 @@
 //! Streams whole, in pieces of thirteen octets and in pieces of one, and what they give.
 
-use super::frame_samples::{CANCEL, FIRST, LAST, LITTLE_FIRST, LITTLE_LAST, MIDDLE, WHOLE};
+use super::samples::{CANCEL, FIRST, LAST, LITTLE_FIRST, LITTLE_LAST, MIDDLE, WHOLE};
 use cdr_core::{Fault, Kind};
-use giop_core::{Message, MessageFault, Part};
-use giop_frames::feeding::feed_all;
-use giop_frames::{Assembler, Limits, StreamFault};
+use giop_core::{Content, Message, MessageFault};
+use giop_frames::{Assembler, Limits, StreamFault, feed_all};
 use std::alloc::Global;
 use std::process::Abort;
 
@@ -22,7 +21,7 @@ const LEAST: Limits = Limits {
     partials: 1,
 };
 
-/// Frames, and what they give: how many messages complete, how many are begun then, and the fault.
+/// Frames, and what they give: how many messages complete, how many are partial then, and the fault.
 struct Row {
     frames: &'static [&'static [u8]],
     messages: usize,
@@ -64,7 +63,7 @@ fn feed_frame(
     Ok(messages)
 }
 
-/// Tells whether frames give that, in pieces of as many octets.
+/// Whether frames give that, in pieces of as many octets.
 fn gives(alloc: Global, row: &Row, size: usize) -> bool {
     let mut assembler = Assembler::new(alloc, LIMITS);
     let mut messages: usize = 0;
@@ -76,8 +75,8 @@ fn gives(alloc: Global, row: &Row, size: usize) -> bool {
             }
         }
     }
-    let is_begun = assembler.partial() == row.partial;
-    messages == row.messages && row.fault.is_none() && is_begun && assembler.pending() == 0
+    let is_partial = assembler.partial() == row.partial;
+    messages == row.messages && row.fault.is_none() && is_partial && assembler.pending() == 0
 }
 
 static ROWS: [Row; 11] = [
@@ -181,7 +180,7 @@ fn streams_give_the_same_in_pieces_of_any_size(rt: HostRuntime) {
     }
 }
 
-/// Tells whether frames that are fed as a list of pieces give that.
+/// Whether frames that are fed as a list of pieces give that.
 fn gives_at_once(alloc: Global, row: &Row) -> bool {
     let mut assembler = Assembler::new(alloc, LIMITS);
     let fed = feed_all(&mut assembler, row.frames);
@@ -198,7 +197,7 @@ fn lists_of_pieces_give_the_same(rt: HostRuntime) {
     }
 }
 
-/// Feeds frames that come whole. Tells whether each is taken, and none completes a message but the last.
+/// Feeds frames that come whole. Whether each is taken, and none completes a message but the last.
 fn are_taken(assembler: &mut Assembler, frames: &[&[u8]]) -> bool {
     for frame in frames {
         if assembler.message().is_some() || assembler.feed(frame) != Ok(frame.len()) {
@@ -208,10 +207,10 @@ fn are_taken(assembler: &mut Assembler, frames: &[&[u8]]) -> bool {
     true
 }
 
-/// Tells whether a message is the Request of id 5: the operation `add` and its body.
+/// Whether a message is the Request of id 5: the operation `add` and its body.
 fn is_add(message: &Message, body: &[u8]) -> bool {
-    match &message.part {
-        Part::Request(request) => {
+    match &message.content {
+        Content::Request(request) => {
             request.request_id == 5
                 && request.operation == b"add".as_slice()
                 && request.body.octets == body
@@ -220,7 +219,7 @@ fn is_add(message: &Message, body: &[u8]) -> bool {
     }
 }
 
-/// Tells whether frames that come whole complete, with the last, the Request of id 5.
+/// Whether frames that come whole complete, with the last, the Request of id 5.
 fn lends(alloc: Global, frames: &[&[u8]], body: &[u8]) -> bool {
     let mut assembler = Assembler::new(alloc, LIMITS);
     if !are_taken(&mut assembler, frames) {
@@ -244,16 +243,16 @@ fn joined_messages_are_lent(rt: HostRuntime) {
     );
 }
 
-// Frames of one message, and how many octets are held behind each.
+// Frames of one message, and how many octets are held after each.
 static HELD: [(&[u8], usize); 3] = [(FIRST, 32), (MIDDLE, 48), (LAST, 52)];
 
-/// Feeds a frame. Tells whether it is taken whole, and as many octets are held then.
+/// Feeds a frame. Whether it is taken whole, and as many octets are held then.
 fn holds(assembler: &mut Assembler, frame: &[u8], held: usize) -> bool {
     assembler.feed(frame) == Ok(frame.len()) && assembler.held() == held
 }
 
 #[test]
-fn what_is_held_is_told(rt: HostRuntime) {
+fn held_octets_are_counted(rt: HostRuntime) {
     let mut assembler = Assembler::new(rt.alloc(), LIMITS);
     for (frame, held) in &HELD {
         assert!(rt; holds(&mut assembler, frame, *held));
@@ -283,7 +282,7 @@ fn feed_within(assembler: &mut Assembler, frame: &[u8], size: usize) -> Option<u
     Some(messages)
 }
 
-/// Tells whether a hundred messages complete one after another under the least limits, in pieces of as
+/// Whether a hundred messages complete one after another under the least limits, in pieces of as
 /// many octets, and nothing is left.
 fn are_held_within(alloc: Global, size: usize) -> bool {
     let mut assembler = Assembler::new(alloc, LEAST);
