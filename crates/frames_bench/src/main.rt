@@ -1,10 +1,10 @@
 //! The program `frames_bench`: feeds an assembler with a stream of Requests, to be timed.
 //!
-//! The words are how many Requests the stream has, and how many octets a piece. It prints how many
-//! messages completed and a sum of their parts. With pieces of 0 octets it makes the stream alone.
+//! The words are how many Requests the stream has, and how many octets a piece has. It prints how many
+//! messages completed and a checksum of their fields. With pieces of 0 octets it only makes the stream.
 #![tactic(auto)]
 
-use giop_core::{Message, Part};
+use giop_core::{Content, Message};
 use giop_frames::{Assembler, Limits};
 use std::alloc::{AllocError, Global};
 use std::process::ExitCode;
@@ -24,22 +24,22 @@ const LIMITS: Limits = Limits {
     partials: 8,
 };
 
-/// How many messages completed, and a sum of their parts.
+/// How many messages completed, and a checksum of their fields.
 #[derive(Clone, Copy)]
 struct Tally {
     messages: u64,
     sum: u64,
 }
 
-/// A sum with one part more.
-fn mixed(sum: u64, part: u64) -> u64 {
-    sum.wrapping_mul(31).wrapping_add(part)
+/// A checksum with one number more.
+fn mixed(sum: u64, number: u64) -> u64 {
+    sum.wrapping_mul(31).wrapping_add(number)
 }
 
 /// A tally with one message more.
 fn added(tally: Tally, message: &Message) -> Tally {
-    let sum = match &message.part {
-        Part::Request(request) => mixed(
+    let sum = match &message.content {
+        Content::Request(request) => mixed(
             mixed(
                 mixed(tally.sum, u64::from(request.request_id)),
                 request.operation.len() as u64,
@@ -54,7 +54,7 @@ fn added(tally: Tally, message: &Message) -> Tally {
     }
 }
 
-/// A stream of so many Requests.
+/// A stream of `count` Requests.
 fn stream_of(alloc: Global, count: u32) -> Result<Vec<u8>, AllocError> {
     let mut stream = Vec::with_capacity(alloc, count as usize * REQUEST.len())?;
     for _ in 0..count {
@@ -82,7 +82,7 @@ fn feed_piece(assembler: &mut Assembler, piece: &[u8], before: Tally) -> Option<
     None
 }
 
-/// Feeds a stream in pieces of so many octets.
+/// Feeds a stream in pieces of `size` octets.
 fn drive(alloc: Global, stream: &[u8], size: usize) -> Option<Tally> {
     let mut assembler = Assembler::new(alloc, LIMITS);
     let mut tally = Tally {

@@ -1,0 +1,80 @@
+//! The calls that take memory. A new one is a variant of `Call`, its trial in `Call::run`, and its rows in
+//! `suites`.
+
+use crate::clients::ClientWriting;
+use crate::copying::Copying;
+use crate::cutting::Cutting;
+use crate::feeding::Feeding;
+use crate::messages::MessageWriting;
+use crate::output::Room;
+use crate::profiles::{ProfileReading, ProfileWriting};
+use crate::reading::{ListReading, Reading};
+use crate::references::{Parsing, Printing, ReferenceReading, ReferenceWriting};
+use crate::samples::Sample;
+use crate::trial::{Ending, Miss, Trial, tried};
+use crate::writing::{ListWriting, Writing};
+use std::alloc::Global;
+
+/// A call that takes memory.
+#[derive(Clone, Copy)]
+pub enum Call {
+    /// `read`.
+    Read,
+    /// `read_list`.
+    ReadList,
+    /// `write` into a vector with such room.
+    Write(Room),
+    /// `write_list` into a vector with such room.
+    WriteList(Room),
+    /// `Val::copy`.
+    Copy,
+    /// `read_ior`.
+    ReadReference,
+    /// `write_ior` into a vector with such room.
+    WriteReference(Room),
+    /// `read_iiop`.
+    ReadProfile,
+    /// `write_iiop` into a vector with such room.
+    WriteProfile(Room),
+    /// `parse_text`.
+    Parse,
+    /// `print_text`.
+    Print,
+    /// The writer of a message into a vector with such room.
+    WriteMessage(Room),
+    /// `write_ft` into a vector with such room.
+    WriteClient(Room),
+    /// An assembler that is fed so many times, in pieces of as many octets.
+    Feed(u32, usize),
+    /// `fragments` into a vector with such room.
+    Cut(Room),
+}
+
+/// Makes a call on these inputs, and once more where an allocation of it was refused.
+fn ended<T: Trial + Drop>(alloc: Global, inputs: Result<T, Miss>) -> Result<Ending, Miss> {
+    Ok(tried(alloc, &mut inputs?)?)
+}
+
+impl Call {
+    /// Makes the call on a sample, and once more where an allocation of it was refused. At `Memory`
+    /// the call was not made, since an allocation for its inputs was refused.
+    pub fn run(self, alloc: Global, sample: &'static Sample) -> Result<Ending, Miss> {
+        match self {
+            Call::Read => ended(alloc, Reading::new(alloc, sample)),
+            Call::ReadList => ended(alloc, ListReading::new(alloc, sample)),
+            Call::Write(room) => ended(alloc, Writing::new(alloc, sample, room)),
+            Call::WriteList(room) => ended(alloc, ListWriting::new(alloc, sample, room)),
+            Call::Copy => ended(alloc, Copying::new(alloc, sample)),
+            Call::ReadReference => ended(alloc, Ok(ReferenceReading { sample })),
+            Call::WriteReference(room) => ended(alloc, ReferenceWriting::new(alloc, sample, room)),
+            Call::ReadProfile => ended(alloc, Ok(ProfileReading { sample })),
+            Call::WriteProfile(room) => ended(alloc, ProfileWriting::new(alloc, sample, room)),
+            Call::Parse => ended(alloc, Ok(Parsing { sample })),
+            Call::Print => ended(alloc, Printing::new(alloc, sample)),
+            Call::WriteMessage(room) => ended(alloc, MessageWriting::new(alloc, sample, room)),
+            Call::WriteClient(room) => ended(alloc, ClientWriting::new(alloc, sample, room)),
+            Call::Feed(times, size) => ended(alloc, Ok(Feeding::new(alloc, sample, times, size))),
+            Call::Cut(room) => ended(alloc, Cutting::new(alloc, sample, room)),
+        }
+    }
+}

@@ -1,0 +1,55 @@
+//! `fragments` of the messages of samples.
+
+ghost use Rattle.std.specs.Prelude.{◌≡◌, ◌++◌};
+
+use crate::output::{Output, Room};
+use crate::samples::{Gives, Sample};
+use crate::trial::{Miss, Trial, Wrong};
+use giop_frames::{fragments, is_cuttable};
+use std::alloc::Global;
+
+/// How many octets a frame may have.
+const SIZE: u32 = 32;
+
+/// `fragments` of the message of a sample.
+#[derive(Drop)]
+pub struct Cutting {
+    message: &'static [u8],
+    /// The octets of its frames.
+    frames: &'static [u8],
+    output: Output,
+}
+
+impl Cutting {
+    /// The inputs.
+    pub fn new(alloc: Global, sample: &'static Sample, room: Room) -> Result<Cutting, Miss> {
+        let Gives::Frames(frames) = sample.gives else {
+            return Err(Wrong::Inputs.into());
+        };
+        Ok(Cutting {
+            message: sample.octets,
+            frames,
+            output: Output::new(alloc, room)?,
+        })
+    }
+}
+
+impl Trial for Cutting {
+    // The octets of the frames stand after those from before.
+    ghost is_right = { λ c. c.output.out.items ≡ c.output.before.now ++ c.frames.now };
+
+    fn call(&mut self, _alloc: Global) -> Result<(), Miss> {
+        if !is_cuttable(self.message) {
+            return Err(Wrong::Inputs.into());
+        }
+        fragments(self.message, SIZE, &mut self.output.out)?;
+        if !self.output.has_gained(self.frames) {
+            return Err(Wrong::Octets.into());
+        }
+        Ok(())
+    }
+
+    fn is_unchanged(&self) -> bool {
+        self.output.has_gained(&[])
+    }
+}

@@ -1,0 +1,52 @@
+//! The program `memory_tests`: calls of `cdr_core`, `ior_core`, `giop_core` and `giop_frames` that take
+//! memory, each made by name.
+//!
+//! A case is one call on fixed inputs. Where an allocation of it is refused, the program checks that
+//! nothing changed, and makes the same call again. What the calls give is compared with octets and
+//! texts written out in `samples`, `message_samples` and `stream_samples`. tests/refused_allocations.py
+//! runs it under a `malloc` that refuses one allocation.
+#![tactic(auto)]
+
+mod calls;
+mod cases;
+mod clients;
+mod copying;
+mod cutting;
+mod feeding;
+mod message_samples;
+mod messages;
+mod output;
+mod profiles;
+mod reading;
+mod references;
+mod run;
+mod samples;
+mod shapes;
+mod stream_samples;
+mod suites;
+mod text;
+mod trial;
+mod writing;
+
+use std::process::ExitCode;
+use std::{env, io};
+
+/// Runs the case that the first word names.
+fn status_of(rt: &HostRuntime) -> io::Result<u8> {
+    let alloc = rt.alloc();
+    let words: Vec<String> = env::args(rt)?.collect(alloc)?;
+    let word = words.get(1).map_or("", |word| word.as_str());
+    Ok(run::run(alloc, word, &mut rt.stdout(), &mut rt.stderr()))
+}
+
+fn main(rt: HostRuntime) -> ExitCode {
+    match status_of(&rt) {
+        Ok(status) => ExitCode::from(status),
+        Err(error) => {
+            if error.kind() == io::ErrorKind::OutOfMemory {
+                let _ = eprintln!(&rt; "memory");
+            }
+            ExitCode::from(1)
+        }
+    }
+}

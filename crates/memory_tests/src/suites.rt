@@ -1,0 +1,299 @@
+//! The samples on which each call is made.
+
+use crate::calls::Call;
+use crate::message_samples::{
+    CANCELS, CLIENTS, CLOSINGS, ERRORS, LOCATE_REPLIES, LOCATE_REQUESTS, REPLIES, REQUESTS,
+};
+use crate::output::Room;
+use crate::samples::{
+    FAULTS, LISTS, PROFILE_FAULTS, PROFILES, REFERENCE_FAULTS, REFERENCES, Sample, TEXT_FAULTS,
+    TEXTS, VALUES,
+};
+use crate::stream_samples::{CUT, CUTTABLE, STREAMS, UNCUT};
+
+/// A set of samples.
+#[derive(Clone, Copy)]
+pub enum Set {
+    /// A value of each kind of type for which memory is taken.
+    Values,
+    /// The structs, whose members are lists of values.
+    Lists,
+    /// Octets that are faulty after a part for which memory is taken.
+    Faults,
+    /// References.
+    References,
+    /// Octets that are faulty after a part of a reference.
+    ReferenceFaults,
+    /// Texts of references.
+    Texts,
+    /// Texts of octets that are faulty after a part of a reference.
+    TextFaults,
+    /// IIOP profiles.
+    Profiles,
+    /// Octets that are faulty after a component of a profile.
+    ProfileFaults,
+    /// Requests.
+    Requests,
+    /// Replies.
+    Replies,
+    /// CancelRequests.
+    Cancels,
+    /// LocateRequests.
+    LocateRequests,
+    /// LocateReplies.
+    LocateReplies,
+    /// CloseConnection.
+    Closings,
+    /// MessageError.
+    Errors,
+    /// Contexts FT_REQUEST.
+    Clients,
+    /// Streams.
+    Streams,
+    /// Streams of whole messages, none of them cut.
+    Uncut,
+    /// Messages whose fragments all come.
+    Cut,
+    /// Messages that can be cut, and the octets of their frames of at most 32 octets.
+    Cuttable,
+}
+
+impl Set {
+    /// The samples of this set.
+    pub fn samples(self) -> &'static [Sample] {
+        match self {
+            Set::Values => &VALUES,
+            Set::Lists => &LISTS,
+            Set::Faults => &FAULTS,
+            Set::References => &REFERENCES,
+            Set::ReferenceFaults => &REFERENCE_FAULTS,
+            Set::Texts => &TEXTS,
+            Set::TextFaults => &TEXT_FAULTS,
+            Set::Profiles => &PROFILES,
+            Set::ProfileFaults => &PROFILE_FAULTS,
+            Set::Requests => &REQUESTS,
+            Set::Replies => &REPLIES,
+            Set::Cancels => &CANCELS,
+            Set::LocateRequests => &LOCATE_REQUESTS,
+            Set::LocateReplies => &LOCATE_REPLIES,
+            Set::Closings => &CLOSINGS,
+            Set::Errors => &ERRORS,
+            Set::Clients => &CLIENTS,
+            Set::Streams => &STREAMS,
+            Set::Uncut => &UNCUT,
+            Set::Cut => &CUT,
+            Set::Cuttable => &CUTTABLE,
+        }
+    }
+}
+
+/// A name, a call, and the samples on which it is made. The name ends in `without_allocation` where the
+/// call may take no memory.
+#[derive(Clone, Copy)]
+pub struct Suite(pub &'static str, pub Call, pub Set);
+
+/// As many octets as a piece needs to hold any stream of the samples.
+const WHOLE: usize = 4096;
+
+/// The calls of `cdr_core` and `ior_core`, those of the writers of `giop_core`, and those of `giop_frames`.
+pub static SUITES: [Suite; 59] = [
+    Suite("read", Call::Read, Set::Values),
+    Suite("read_faulty", Call::Read, Set::Faults),
+    Suite("read_list", Call::ReadList, Set::Lists),
+    Suite("write_empty", Call::Write(Room::Empty), Set::Values),
+    Suite("write_full", Call::Write(Room::Full), Set::Values),
+    Suite(
+        "write_without_allocation",
+        Call::Write(Room::Ample),
+        Set::Values,
+    ),
+    Suite("write_list_empty", Call::WriteList(Room::Empty), Set::Lists),
+    Suite("write_list_full", Call::WriteList(Room::Full), Set::Lists),
+    Suite(
+        "write_list_without_allocation",
+        Call::WriteList(Room::Ample),
+        Set::Lists,
+    ),
+    Suite("copy", Call::Copy, Set::Values),
+    Suite("read_ior", Call::ReadReference, Set::References),
+    Suite("read_ior_faulty", Call::ReadReference, Set::ReferenceFaults),
+    Suite(
+        "write_ior_empty",
+        Call::WriteReference(Room::Empty),
+        Set::References,
+    ),
+    Suite(
+        "write_ior_full",
+        Call::WriteReference(Room::Full),
+        Set::References,
+    ),
+    Suite(
+        "write_ior_without_allocation",
+        Call::WriteReference(Room::Ample),
+        Set::References,
+    ),
+    Suite("read_iiop", Call::ReadProfile, Set::Profiles),
+    Suite("read_iiop_faulty", Call::ReadProfile, Set::ProfileFaults),
+    Suite(
+        "write_iiop_empty",
+        Call::WriteProfile(Room::Empty),
+        Set::Profiles,
+    ),
+    Suite(
+        "write_iiop_full",
+        Call::WriteProfile(Room::Full),
+        Set::Profiles,
+    ),
+    Suite(
+        "write_iiop_without_allocation",
+        Call::WriteProfile(Room::Ample),
+        Set::Profiles,
+    ),
+    Suite("parse_text", Call::Parse, Set::Texts),
+    Suite("parse_text_faulty", Call::Parse, Set::TextFaults),
+    Suite("print_text", Call::Print, Set::Texts),
+    Suite(
+        "write_request_empty",
+        Call::WriteMessage(Room::Empty),
+        Set::Requests,
+    ),
+    Suite(
+        "write_request_full",
+        Call::WriteMessage(Room::Full),
+        Set::Requests,
+    ),
+    Suite(
+        "write_request_without_allocation",
+        Call::WriteMessage(Room::Ample),
+        Set::Requests,
+    ),
+    Suite(
+        "write_reply_empty",
+        Call::WriteMessage(Room::Empty),
+        Set::Replies,
+    ),
+    Suite(
+        "write_reply_full",
+        Call::WriteMessage(Room::Full),
+        Set::Replies,
+    ),
+    Suite(
+        "write_reply_without_allocation",
+        Call::WriteMessage(Room::Ample),
+        Set::Replies,
+    ),
+    Suite(
+        "write_cancel_empty",
+        Call::WriteMessage(Room::Empty),
+        Set::Cancels,
+    ),
+    Suite(
+        "write_cancel_full",
+        Call::WriteMessage(Room::Full),
+        Set::Cancels,
+    ),
+    Suite(
+        "write_cancel_without_allocation",
+        Call::WriteMessage(Room::Ample),
+        Set::Cancels,
+    ),
+    Suite(
+        "write_locate_request_empty",
+        Call::WriteMessage(Room::Empty),
+        Set::LocateRequests,
+    ),
+    Suite(
+        "write_locate_request_full",
+        Call::WriteMessage(Room::Full),
+        Set::LocateRequests,
+    ),
+    Suite(
+        "write_locate_request_without_allocation",
+        Call::WriteMessage(Room::Ample),
+        Set::LocateRequests,
+    ),
+    Suite(
+        "write_locate_reply_empty",
+        Call::WriteMessage(Room::Empty),
+        Set::LocateReplies,
+    ),
+    Suite(
+        "write_locate_reply_full",
+        Call::WriteMessage(Room::Full),
+        Set::LocateReplies,
+    ),
+    Suite(
+        "write_locate_reply_without_allocation",
+        Call::WriteMessage(Room::Ample),
+        Set::LocateReplies,
+    ),
+    Suite(
+        "write_close_empty",
+        Call::WriteMessage(Room::Empty),
+        Set::Closings,
+    ),
+    Suite(
+        "write_close_full",
+        Call::WriteMessage(Room::Full),
+        Set::Closings,
+    ),
+    Suite(
+        "write_close_without_allocation",
+        Call::WriteMessage(Room::Ample),
+        Set::Closings,
+    ),
+    Suite(
+        "write_error_empty",
+        Call::WriteMessage(Room::Empty),
+        Set::Errors,
+    ),
+    Suite(
+        "write_error_full",
+        Call::WriteMessage(Room::Full),
+        Set::Errors,
+    ),
+    Suite(
+        "write_error_without_allocation",
+        Call::WriteMessage(Room::Ample),
+        Set::Errors,
+    ),
+    Suite(
+        "write_ft_empty",
+        Call::WriteClient(Room::Empty),
+        Set::Clients,
+    ),
+    Suite("write_ft_full", Call::WriteClient(Room::Full), Set::Clients),
+    Suite(
+        "write_ft_without_allocation",
+        Call::WriteClient(Room::Ample),
+        Set::Clients,
+    ),
+    Suite("feed_whole", Call::Feed(1, WHOLE), Set::Streams),
+    Suite("feed_by_thirteen", Call::Feed(1, 13), Set::Streams),
+    Suite("feed_by_one", Call::Feed(1, 1), Set::Streams),
+    Suite("feed_uncut_whole_once", Call::Feed(1, WHOLE), Set::Uncut),
+    Suite(
+        "feed_uncut_whole_a_hundred_times",
+        Call::Feed(100, WHOLE),
+        Set::Uncut,
+    ),
+    Suite("feed_uncut_by_thirteen_once", Call::Feed(1, 13), Set::Uncut),
+    Suite(
+        "feed_uncut_by_thirteen_a_hundred_times",
+        Call::Feed(100, 13),
+        Set::Uncut,
+    ),
+    Suite("feed_a_hundred_cut_whole", Call::Feed(100, WHOLE), Set::Cut),
+    Suite(
+        "feed_a_hundred_cut_by_thirteen",
+        Call::Feed(100, 13),
+        Set::Cut,
+    ),
+    Suite("fragments_empty", Call::Cut(Room::Empty), Set::Cuttable),
+    Suite("fragments_full", Call::Cut(Room::Full), Set::Cuttable),
+    Suite(
+        "fragments_without_allocation",
+        Call::Cut(Room::Ample),
+        Set::Cuttable,
+    ),
+];

@@ -1,6 +1,0 @@
-use Rattle.std.proofs.Common.{◌↔◌, drop}
-use Rattle.cdr_core.specs.Spelling.{IsClean}
-use Rattle.refusals.proofs.sizes.is_clean.Given as goal
-
-abbrev pub invariant-loop-octet : goal.invariant-loop-octet
-invariant-loop-octet l = IsClean l.octets ↔ IsClean (drop l.octet-index l.octets)
