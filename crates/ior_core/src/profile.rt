@@ -100,7 +100,7 @@ fn read_components(
     minor: u8,
     cursor: &mut Cursor,
 ) -> Result<Vec<Component>, CdrError>
-    ensures gives { GivesUnlessMemory (λ v. values (components_of minor v.items)) result (components_at (is_0 minor) cursor.old.order) (λ o octets. ⊤) cursor.old cursor.new }
+    ensures gives { GivesUnlessMemory (λ v. values (components_of minor v.items)) result (components_at (is_0 minor) cursor.old.order) (λ o octets p. ⊤) cursor.old cursor.new }
     ensures none { IfOk result (λ v. HasNone minor v.items) }
 {
     if minor == 0 {

@@ -39,7 +39,7 @@ impl Ior {
 /// Reads a reference where the cursor stands.
 #[tactic(auto, using(crate::proofs::Steps::reference_is))]
 pub(crate) fn read(alloc: Global, cursor: &mut Cursor) -> Result<Ior, CdrError>
-    ensures { GivesUnlessMemory ior_value result (value_at reference cursor.old.order) (λ o octets. ⊤) cursor.old cursor.new }
+    ensures { GivesUnlessMemory ior_value result (value_at reference cursor.old.order) (λ o octets p. ⊤) cursor.old cursor.new }
 {
     let type_id = Vec::from_slice(alloc, cursor.string()?)?;
     let profiles = read_list(alloc, cursor)?;

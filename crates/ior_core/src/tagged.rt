@@ -43,7 +43,7 @@ pub fn read_tagged<'a>(cursor: &mut Cursor<'a>) -> Result<(u32, &'a [u8]), Fault
 
 /// Reads `count` items. The vector grows as they are read, since the count may be any number.
 fn read_each(alloc: Global, count: u32, cursor: &mut Cursor) -> Result<Vec<Tagged>, CdrError>
-    ensures { GivesUnlessMemory (λ v. tagged_values v.items) result (each_at (value_at tagged cursor.old.order) count) (λ o octets. ⊤) cursor.old cursor.new }
+    ensures { GivesUnlessMemory (λ v. tagged_values v.items) result (each_at (value_at tagged cursor.old.order) count) (λ o octets p. ⊤) cursor.old cursor.new }
 {
     let mut all = Vec::new(alloc);
     for _ in 0..count {
@@ -57,7 +57,7 @@ fn read_each(alloc: Global, count: u32, cursor: &mut Cursor) -> Result<Vec<Tagge
 /// Reads a sequence of items: their count, and then each.
 #[tactic(auto, using(crate::proofs::Steps::list_is))]
 pub(crate) fn read_list(alloc: Global, cursor: &mut Cursor) -> Result<Vec<Tagged>, CdrError>
-    ensures { GivesUnlessMemory (λ v. list_value v.items) result (value_at tagged_list cursor.old.order) (λ o octets. ⊤) cursor.old cursor.new }
+    ensures { GivesUnlessMemory (λ v. list_value v.items) result (value_at tagged_list cursor.old.order) (λ o octets p. ⊤) cursor.old cursor.new }
 {
     let count = cursor.count()?;
     read_each(alloc, count, cursor)
