@@ -9,7 +9,7 @@ use Rattle.giop_frames.specs.declared.fault.StreamFault.{StreamFault}
 use Rattle.giop_frames.specs.declared.fault.StreamFault.TheVariants as fault
 use Rattle.giop_frames.specs.declared.limits.Limits.{Limits}
 use Rattle.giop_frames.specs.Frames.{Frame, split}
-use Rattle.giop_frames.specs.Standing.{told_at, IsFault, IsLent, Standing}
+use Rattle.giop_frames.specs.Standing.{completed_at, IsFault, IsLent, Standing}
 use Rattle.giop_frames.specs.Streams.{messages_of}
 use Rattle.giop_run.specs.declared.stop.Stop.{Stop}
 use Rattle.giop_run.specs.declared.stream.Detail.{Detail}
@@ -18,8 +18,8 @@ use Rattle.giop_run.specs.declared.stream.Ending.TheVariants.{Fault}
 use Rattle.giop_run.specs.declared.stream.Summary.{Summary}
 use Rattle.giop_run.specs.MessageLines.{message_lines}
 use Rattle.giop_run.specs.Private.{printed}
-use Rattle.giop_run.specs.StreamLines.{stream_lines, told_lines}
-use Rattle.giop_run.proofs.Endings.{told_fault}
+use Rattle.giop_run.specs.StreamLines.{stream_lines, completed_lines}
+use Rattle.giop_run.proofs.Endings.{reported_fault}
 
 -- nothing is printed at first
 pub none_printed : (known : Option (List ℕ)) (detail : Detail) (limits : Limits) → Appends known known (printed detail (stream_lines limits []))
@@ -43,13 +43,13 @@ printed_on (Some a) (Some b) (Some c) Messages xs ys zs e p q = rw (q, p, e, app
 printed_on (Some a) (Some b) (Some c) EndAlone xs ys zs e p q = rw (q, p, append_assoc) refl
 
 -- the lines of a message that is lent
-pub lent_lines : (m : Message) (f : Frame) (place : ℕ) → IsLent m f → told_lines (record { place = place; message = f }) ≡ message_lines m.version m.order (lent.content_of m.part)
+pub lent_lines : (m : Message) (f : Frame) (place : ℕ) → IsLent m f → completed_lines (record { place = place; message = f }) ≡ message_lines m.version m.order (lent.content_of m.content)
 lent_lines m f place is = rw (is.content, is.version, is.order) refl
 
 -- messages, and what follows them
 module _ (limits : Limits) (before after : List ℕ) (message : Option Frame) (place : ℕ)
-    (on : messages_of limits after ≡ messages_of limits before ++ told_at place message) where
-  pub lines_on : (m : Message) (f : Frame) → message ≡ Some f → IsLent m f → stream_lines limits after ≡ stream_lines limits before ++ message_lines m.version m.order (lent.content_of m.part)
+    (on : messages_of limits after ≡ messages_of limits before ++ completed_at place message) where
+  pub lines_on : (m : Message) (f : Frame) → message ≡ Some f → IsLent m f → stream_lines limits after ≡ stream_lines limits before ++ message_lines m.version m.order (lent.content_of m.content)
   lines_on m f is lent =
       let more : messages_of limits after ≡ messages_of limits before ++ (record { place = place; message = f }) ∷ [] = rw is at on in
       rw (more, flat_map-append, append-nil, lent_lines m f place lent) refl
@@ -67,6 +67,6 @@ pub ended_printed : (limits : Limits) (octets : List ℕ) (k : ℕ) (a : Standin
     → OnOk r (Appends first last (printed detail (stream_lines limits octets)))
 ended_printed limits octets k a e messages same h (Err stop) is first last detail p = tt
 ended_printed limits octets k a e messages same h (Ok x) is first last detail p =
-    let f = told_fault limits (take k octets) (drop k octets) e is.2 (subst (λ l. IsFault l (take k octets) (drop k octets) e) same h) in
+    let f = reported_fault limits (take k octets) (drop k octets) e is.2 (subst (λ l. IsFault l (take k octets) (drop k octets) e) same h) in
     let all : messages_of limits octets ≡ messages_of limits (take k octets) = ap (messages_of limits) (sym (take-append-drop k octets)) ∙ f.same in
     rw all p

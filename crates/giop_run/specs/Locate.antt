@@ -1,6 +1,6 @@
 -- Which LocateRequest a piece is.
 use Rattle.std.specs.Prelude.{ℕ, Bool, not, ◌&&◌, ◌==◌, nat_le, List, length, take, drop, Result, Ok, Err, Option, Some, None, if◌then◌else◌}
-use Rattle.giop_core.specs.declared.fault.MessageFault.{MessageFault}
+use Rattle.giop_core.specs.declared.error.MessageFault.{MessageFault}
 use Rattle.giop_core.specs.declared.header.Header.{Header}
 use Rattle.giop_core.specs.declared.header.HeaderFault.{HeaderFault}
 use Rattle.giop_core.specs.declared.header.Version.{Version}
@@ -26,18 +26,18 @@ abbrev pub asked_by : Version → Result Content MessageFault → Option Questio
 asked_by version (Ok (content.locate_request id target)) = Some (record { version = version; id = id; target = target })
 asked_by version _ = None
 
--- GIOP 9.4.1: a message is whole where no fragments are to follow, and its header tells as many octets as stand behind it
+-- GIOP 9.4.1: a message is whole where no fragments are to follow, and as many octets stand after its header as it says
 abbrev pub is_whole : Header → List ℕ → Bool
-is_whole h behind = not h.more && (h.size == length behind)
+is_whole h body = not h.more && (h.size == length body)
 
 -- what a whole message asks
 abbrev pub question_in : Header → List ℕ → Option Question
-question_in h behind = if is_whole h behind then asked_by h.version (message_of h.version h.kind h.order behind) else None
+question_in h body = if is_whole h body then asked_by h.version (message_of h.version h.kind h.order body) else None
 
-abbrev pub question_behind : Result Header HeaderFault → List ℕ → Option Question
-question_behind (Ok h) behind = question_in h behind
-question_behind (Err f) behind = None
+abbrev pub question_after : Result Header HeaderFault → List ℕ → Option Question
+question_after (Ok h) body = question_in h body
+question_after (Err f) body = None
 
 -- the question that octets are, if they are one whole LocateRequest: its header is the first twelve
 unfoldable pub question_of : List ℕ → Option Question
-question_of octets = if nat_le 12 (length octets) then question_behind (header_of (take 12 octets)) (drop 12 octets) else None
+question_of octets = if nat_le 12 (length octets) then question_after (header_of (take 12 octets)) (drop 12 octets) else None

@@ -2,77 +2,16 @@
 
 ghost use Rattle.std.specs.Prelude.{◌≡◌, ◌++◌, string_bytes, OnOk};
 ghost use Rattle.giop_core.specs.Ft.{ft_seen};
-ghost use Rattle.giop_core.specs.Lent.{addressed_by, content_of, contexts_left, reply_of, request_of};
+ghost use Rattle.giop_core.specs.Items.{contexts_left};
+ghost use Rattle.giop_core.specs.Lent.{addressed_by, content_of, reply_of, request_of};
 ghost use Rattle.giop_run.specs.MessageLines as lines;
 
 use crate::text::{digits_of, text_of};
-use cdr_core::Order;
 use giop_core::{
-    Body, Contexts, FtField, Message, Part, Reply, ReplyWish, Request, Target, Version, ft_request,
+    Body, Content, Contexts, FtField, LocateReply, LocateRequest, LocateStatus, Message, Reply,
+    ReplyStatus, Request, Target, ft_request,
 };
 use std::alloc::{AllocError, Global};
-
-/// The name of the status of a Reply (CORBA 3.3 Part 2, 9.4.3).
-fn reply_status(status: u32) -> &'static str
-    ensures { result.now ≡ lines.name_at lines.reply_statuses status }
-{
-    match status {
-        0 => "NO_EXCEPTION",
-        1 => "USER_EXCEPTION",
-        2 => "SYSTEM_EXCEPTION",
-        3 => "LOCATION_FORWARD",
-        4 => "LOCATION_FORWARD_PERM",
-        5 => "NEEDS_ADDRESSING_MODE",
-        _ => "?",
-    }
-}
-
-/// The name of the status of a LocateReply (CORBA 3.3 Part 2, 9.4.6).
-fn locate_status(status: u32) -> &'static str
-    ensures { result.now ≡ lines.name_at lines.locate_statuses status }
-{
-    match status {
-        0 => "UNKNOWN_OBJECT",
-        1 => "OBJECT_HERE",
-        2 => "OBJECT_FORWARD",
-        3 => "OBJECT_FORWARD_PERM",
-        4 => "LOC_SYSTEM_EXCEPTION",
-        5 => "LOC_NEEDS_ADDRESSING_MODE",
-        _ => "?",
-    }
-}
-
-/// The name of a version.
-fn version_name(version: Version) -> &'static str
-    ensures { result.now ≡ lines.version_name version }
-{
-    match version {
-        Version::V10 => "1.0",
-        Version::V11 => "1.1",
-        Version::V12 => "1.2",
-    }
-}
-
-/// The name of a byte order.
-fn order_name(order: Order) -> &'static str
-    ensures { result.now ≡ lines.order_name order }
-{
-    match order {
-        Order::Big => "big",
-        Order::Little => "little",
-    }
-}
-
-/// The name of a wish.
-fn wish_name(wish: ReplyWish) -> &'static str
-    ensures { result.now ≡ lines.wish_name wish }
-{
-    match wish {
-        ReplyWish::None => "none",
-        ReplyWish::Empty => "empty",
-        ReplyWish::Full => "full",
-    }
-}
 
 /// Appends what a target is.
 fn put_target(alloc: Global, target: &Target, text: &mut String) -> Result<(), AllocError>
@@ -135,7 +74,7 @@ fn put_request_line(alloc: Global, request: &Request, text: &mut String) -> Resu
     ensures { OnOk result (string_bytes text.new ≡ string_bytes text.old ++ lines.request_line request.now.request_id request.now.reply (addressed_by request.now.target) request.now.operation.now request.now.body.octets.now) }
 {
     let id = request.request_id;
-    let wish = wish_name(request.reply);
+    let wish = request.reply;
     write!(text, "Request id {id} reply {wish} ")?;
     put_target(alloc, &request.target, text)?;
     let operation = text_of(alloc, request.operation)?;
@@ -153,27 +92,39 @@ fn put_request(alloc: Global, request: Request, text: &mut String) -> Result<(),
     put_ft(alloc, field, text)
 }
 
-/// Appends the end of the line of an answer: its id, its status and its body.
-fn put_answer(
-    alloc: Global,
-    id: u32,
-    status: &str,
-    body: &Body,
-    text: &mut String,
-) -> Result<(), AllocError>
-    ensures { OnOk result (string_bytes text.new ≡ string_bytes text.old ++ lines.answer_text id status.now body.now.octets.now) }
+/// Appends the end of a line that shows a body.
+fn put_body(alloc: Global, body: &Body, text: &mut String) -> Result<(), AllocError>
+    ensures { OnOk result (string_bytes text.new ≡ string_bytes text.old ++ lines.body_text body.now.octets.now) }
 {
     let body = digits_of(alloc, body.octets)?;
-    write!(text, "id {id} status {status} body {body}\n")
+    write!(text, " body {body}\n")
+}
+
+/// Appends the name of the status of a Reply, or a question mark for a number that has none.
+fn put_reply_status(status: u32, text: &mut String) -> Result<(), AllocError>
+    ensures { OnOk result (string_bytes text.new ≡ string_bytes text.old ++ lines.reply_status status) }
+{
+    match ReplyStatus::from_number(status) {
+        Some(status) => write!(text, "{status}"),
+        None => text.push('?'),
+    }
+}
+
+/// Appends the line of a Reply.
+fn put_reply_line(alloc: Global, reply: &Reply, text: &mut String) -> Result<(), AllocError>
+    ensures { OnOk result (string_bytes text.new ≡ string_bytes text.old ++ lines.reply_line reply.now.request_id reply.now.status reply.now.body.octets.now) }
+{
+    let id = reply.request_id;
+    write!(text, "Reply id {id} status ")?;
+    put_reply_status(reply.status, text)?;
+    put_body(alloc, &reply.body, text)
 }
 
 /// Appends the lines of a Reply.
 fn put_reply(alloc: Global, reply: Reply, text: &mut String) -> Result<(), AllocError>
     ensures { OnOk result (string_bytes text.new ≡ string_bytes text.old ++ lines.content_lines (reply_of reply.entry)) }
 {
-    let status = reply_status(reply.status);
-    text.push_str("Reply ")?;
-    put_answer(alloc, reply.request_id, status, &reply.body, text)?;
+    put_reply_line(alloc, &reply, text)?;
     put_contexts(alloc, reply.contexts, text)
 }
 
@@ -187,53 +138,64 @@ fn put_cancel(id: u32, text: &mut String) -> Result<(), AllocError>
 /// Appends the line of a LocateRequest.
 fn put_locate_request(
     alloc: Global,
-    id: u32,
-    target: &Target,
+    request: &LocateRequest,
     text: &mut String,
 ) -> Result<(), AllocError>
-    ensures { OnOk result (string_bytes text.new ≡ string_bytes text.old ++ lines.locate_request_line id (addressed_by target.now)) }
+    ensures { OnOk result (string_bytes text.new ≡ string_bytes text.old ++ lines.locate_request_line request.now.request_id (addressed_by request.now.target)) }
 {
+    let id = request.request_id;
     write!(text, "LocateRequest id {id} ")?;
-    put_target(alloc, target, text)?;
+    put_target(alloc, &request.target, text)?;
     text.push('\n')
+}
+
+/// Appends the name of the status of a LocateReply, or a question mark for a number that has none.
+fn put_locate_status(status: u32, text: &mut String) -> Result<(), AllocError>
+    ensures { OnOk result (string_bytes text.new ≡ string_bytes text.old ++ lines.locate_status status) }
+{
+    match LocateStatus::from_number(status) {
+        Some(status) => write!(text, "{status}"),
+        None => text.push('?'),
+    }
 }
 
 /// Appends the line of a LocateReply.
 fn put_locate_reply(
     alloc: Global,
-    id: u32,
-    status: u32,
-    body: &Body,
+    reply: &LocateReply,
     text: &mut String,
 ) -> Result<(), AllocError>
-    ensures { OnOk result (string_bytes text.new ≡ string_bytes text.old ++ lines.locate_reply_line id status body.now.octets.now) }
+    ensures { OnOk result (string_bytes text.new ≡ string_bytes text.old ++ lines.locate_reply_line reply.now.request_id reply.now.status reply.now.body.octets.now) }
 {
-    text.push_str("LocateReply ")?;
-    put_answer(alloc, id, locate_status(status), body, text)
+    let id = reply.request_id;
+    write!(text, "LocateReply id {id} status ")?;
+    put_locate_status(reply.status, text)?;
+    put_body(alloc, &reply.body, text)
 }
 
 /// Appends the lines of what a message says.
-fn put_part(alloc: Global, part: Part, text: &mut String) -> Result<(), AllocError>
-    ensures { OnOk result (string_bytes text.new ≡ string_bytes text.old ++ lines.content_lines (content_of part.entry)) }
+fn put_content(alloc: Global, content: Content, text: &mut String) -> Result<(), AllocError>
+    ensures { OnOk result (string_bytes text.new ≡ string_bytes text.old ++ lines.content_lines (content_of content.entry)) }
 {
-    match part {
-        Part::Request(request) => put_request(alloc, request, text),
-        Part::Reply(reply) => put_reply(alloc, reply, text),
-        Part::Cancel(id) => put_cancel(id, text),
-        Part::LocateRequest(id, target) => put_locate_request(alloc, id, &target, text),
-        Part::LocateReply(id, status, body) => put_locate_reply(alloc, id, status, &body, text),
-        Part::Close => text.push_str("CloseConnection\n"),
-        Part::Error => text.push_str("MessageError\n"),
-        Part::Fragment(_, _) => text.push_str("Fragment\n"),
+    match content {
+        Content::Request(request) => put_request(alloc, request, text),
+        Content::Reply(reply) => put_reply(alloc, reply, text),
+        Content::Cancel(cancel) => put_cancel(cancel.request_id, text),
+        Content::LocateRequest(request) => put_locate_request(alloc, &request, text),
+        Content::LocateReply(reply) => put_locate_reply(alloc, &reply, text),
+        Content::Close => text.push_str("CloseConnection\n"),
+        Content::Error => text.push_str("MessageError\n"),
+        Content::Fragment(_) => text.push_str("Fragment\n"),
     }
 }
 
-/// Appends the lines that show a message: its version, its byte order, and what it says.
+/// Appends the lines that show a message: its version, its byte order, and what it says. Octets of
+/// keys, contexts and bodies are shown as hexadecimal digits, texts as they are where they print.
 pub fn put_message(alloc: Global, message: Message, text: &mut String) -> Result<(), AllocError>
-    ensures { OnOk result (string_bytes text.new ≡ string_bytes text.old ++ lines.message_lines message.entry.version message.entry.order (content_of message.entry.part)) }
+    ensures { OnOk result (string_bytes text.new ≡ string_bytes text.old ++ lines.message_lines message.entry.version message.entry.order (content_of message.entry.content)) }
 {
-    let version = version_name(message.version);
-    let order = order_name(message.order);
+    let version = message.version;
+    let order = message.order;
     write!(text, "{version} {order} ")?;
-    put_part(alloc, message.part, text)
+    put_content(alloc, message.content, text)
 }

@@ -17,12 +17,6 @@ use std::alloc::Global;
 use std::io;
 use std::io::{BufWriter, ErrorKind, Read, Write};
 
-/// The limits under which `show` and `check` read a stream.
-const LIMITS: Limits = Limits {
-    message: 1_048_576,
-    partials: 8,
-};
-
 /// All that a reader gives. A reader that hasn't ended after 4,294,967,295 reads is unreadable.
 fn read_all<R: Read>(alloc: Global, input: &mut R) -> Result<Vec<u8>, Stop> {
     let mut all = Vec::new(alloc);
@@ -103,7 +97,8 @@ fn print_reference<W: Write>(alloc: Global, text: &str, out: &mut W) -> Result<(
     Ok(())
 }
 
-/// Prints what is asked for of the stream that a reader gives, and returns whether it ends well.
+/// Prints what is asked for of the stream that a reader gives, under the default limits, and returns
+/// whether it ends well.
 fn print_stream<R: Read, W: Write>(
     alloc: Global,
     input: &mut R,
@@ -111,7 +106,7 @@ fn print_stream<R: Read, W: Write>(
     out: &mut W,
 ) -> Result<bool, Stop> {
     let text = read_text(alloc, input)?;
-    show_stream(alloc, LIMITS, &text, detail, out)
+    show_stream(alloc, Limits::default(), &text, detail, out)
 }
 
 /// Does what a setting asks for, and returns whether it ended well.

@@ -6,7 +6,7 @@ ghost use Rattle.ior_core.specs.View.{tagged_value, tagged_values};
 ghost use Rattle.giop_run.specs.ReferenceLines as lines;
 
 use crate::text::{digits_of, text_of};
-use ior_core::{Component, IiopProfile, Ior, IorError, Profile, read_iiop};
+use ior_core::{Component, IiopProfile, Ior, IorError, Profile, TAG_INTERNET_IOP, read_iiop};
 use std::alloc::{AllocError, Global};
 
 /// Appends the line of a component.
@@ -76,7 +76,7 @@ fn put_profile(
     ensures { OnOk result (string_bytes text.new ≡ string_bytes text.old ++ lines.profile_lines place profile.now) }
 {
     let tag = profile.tag;
-    if tag == 0 {
+    if tag == TAG_INTERNET_IOP {
         return put_octets(alloc, place, &profile.octets, text);
     }
     let digits = digits_of(alloc, &profile.octets)?;

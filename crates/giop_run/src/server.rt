@@ -5,7 +5,7 @@ ghost use Rattle.std.specs.Ordering.{nat_cmp};
 ghost use Rattle.std.specs.BTreeMap.{get};
 ghost use Rattle.giop_core.specs.Keys.{key_of_addressed};
 ghost use Rattle.giop_core.specs.Lent.{addressed_by};
-ghost use Rattle.giop_core.specs.declared.refusal.WriteError.TheVariants as refusal;
+ghost use Rattle.giop_core.specs.declared.error.WriteError.TheVariants as refusal;
 ghost use Rattle.giop_run.specs.Answer.{reply_to, status_of};
 ghost use Rattle.giop_run.specs.Event.{Opened, Piece, Close, Lost, Event};
 ghost use Rattle.giop_run.specs.History.{is_open};

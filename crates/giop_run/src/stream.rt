@@ -75,7 +75,7 @@ fn summary_at(messages: usize, fault: StreamFault) -> Result<Summary, Stop>
 
 /// Prints the lines of a message.
 fn print_message<W: Write>(alloc: Global, message: Message, out: &mut W) -> Result<(), Stop>
-    ensures { OnOk result (Appends (W.contents out.old) (W.contents out.new) (message_lines message.entry.version message.entry.order (content_of message.entry.part))) }
+    ensures { OnOk result (Appends (W.contents out.old) (W.contents out.new) (message_lines message.entry.version message.entry.order (content_of message.entry.content))) }
 {
     let mut lines = String::new(alloc);
     put_message(alloc, message, &mut lines)?;

@@ -1,5 +1,5 @@
 use Rattle.std.proofs.Common.{◌≡◌, ◌++◌, string_bytes}
-use Rattle.giop_core.specs.Lent.{contexts_left}
+use Rattle.giop_core.specs.Items.{contexts_left}
 use Rattle.giop_run.specs.MessageLines as lines
 use Rattle.giop_run.proofs.messages.put_contexts.Given as goal
 
