@@ -7,7 +7,8 @@ use Rattle.giop_core.specs.declared.target_address.Target.TheVariants as target
 use Rattle.giop_core.specs.Content as content
 use Rattle.giop_core.specs.Content.{addressed, all_tagged, items_of}
 use Rattle.giop_core.specs.Items.{contexts_left, tagged_value}
-use Rattle.giop_core.specs.Lent.{addressed_by, contexts_value, target_value}
+use Rattle.giop_core.specs.Lent.{addressed_by}
+use Rattle.giop_core.specs.Private.{contexts_value, target_value}
 
 pub all_again : (xs : List (ℕ × List ℕ)) → all_tagged (values (map tagged_value xs)) ≡ xs
 all_again [] = refl

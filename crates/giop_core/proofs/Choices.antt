@@ -10,7 +10,7 @@ use Rattle.cdr_core.specs.Parts.{short, short_value}
 use Rattle.cdr_core.specs.Reading.{chosen_at, value_at}
 use Rattle.cdr_core.specs.Value.{Value}
 use Rattle.giop_core.specs.declared.error.MessageFault.TheVariants.{BadAddressing, Cdr}
-use Rattle.giop_core.specs.Lent.{alternative}
+use Rattle.giop_core.specs.Written.{alternative}
 use Rattle.giop_core.specs.Messages.{field_at}
 use Rattle.giop_core.specs.Rows.{choice}
 

@@ -12,7 +12,7 @@ use Rattle.cdr_core.specs.Value as value
 use Rattle.cdr_core.specs.Value.{Values, values}
 use Rattle.ior_core.specs.Grammar.{tagged}
 use Rattle.giop_core.specs.Items.{item_at, items_in, tagged_value}
-use Rattle.giop_core.specs.Lent.{lent_value}
+use Rattle.giop_core.specs.Private.{lent_value}
 use Rattle.giop_core.proofs.Passing.{items_next, items_none, items_stop}
 
 -- lent items as octets

@@ -1,5 +1,5 @@
 pub mod Steps
-pub mod Behind
+pub mod After
 pub mod Choices
 pub mod Passing
 pub mod Again

@@ -11,10 +11,9 @@ use Rattle.cdr_core.specs.Value as value
 use Rattle.cdr_core.specs.Value.{Value, Values, count, values}
 use Rattle.cdr_core.specs.Writing.{number_octets, octets_of, octets_of_all, AreWritable, IsWritable}
 use Rattle.giop_core.specs.Items.{item_at, list_value, tagged_value}
-use Rattle.giop_core.specs.Lent.{lent_value}
 use Rattle.giop_core.specs.declared.error.WriteError.{WriteError}
 use Rattle.giop_core.specs.declared.error.WriteError.TheVariants.{TooLong, Memory}
-use Rattle.giop_core.specs.Long.{AreLong, IsLong, Checks}
+use Rattle.giop_core.specs.Private.{lent_value, AreLong, IsLong, Checks}
 
 pub octets_long : (all : List ℕ) → 2 ^ 32 ≤ length all → IsLong (value.octets all)
 octets_long all le order o = omega (arith, le, length-append (number_octets order 4 o (length all)) all)

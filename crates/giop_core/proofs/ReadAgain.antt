@@ -29,7 +29,7 @@ use Rattle.giop_core.specs.Content.{addressed, content, nth, wish_if, wish_of, A
 use Rattle.giop_core.specs.Ft.{ft_by, ft_in}
 use Rattle.giop_core.specs.Grammar.{IsMessage, SpellsFields}
 use Rattle.giop_core.specs.Items.{list_value, reference_as, tagged_value}
-use Rattle.giop_core.specs.Laws.{rest_behind, written_rest, HaveTags, IsReadAs, IsTarget, WrittenCancelIsRead, WrittenFtIsPresent, WrittenLocateReplyIsRead, WrittenLocateRequestIsRead, WrittenReplyIsRead, WrittenRequestIsRead}
+use Rattle.giop_core.specs.Laws.{rest_after, written_rest, HaveTags, IsReadAs, IsTarget, WrittenCancelIsRead, WrittenFtIsPresent, WrittenLocateReplyIsRead, WrittenLocateRequestIsRead, WrittenReplyIsRead, WrittenRequestIsRead}
 use Rattle.giop_core.specs.Messages.{is_unknown, rest_at}
 use Rattle.giop_core.specs.Rows.{contexts, ft_request, reserved, row, target}
 use Rattle.giop_core.specs.Written.{behind_gap, behind_header, body_octets, cancel_fields, flags_of, ft_octets, ft_value_of, is_expected, key_of, locate_reply_fields, locate_request_fields, locate_statuses, reply_fields, reply_statuses, request_fields, selected_as, target_of, zeros, CanAddress, CanAsk}
@@ -74,7 +74,7 @@ body_again V10 kind order body place = refl
 body_again V11 kind order body place = refl
 
 pub written_is_message : WrittenIsSpelled → (version : Version) (kind : MessageKind) (order : Order) (fields : List Value) (body : Values) → FitRow (row version kind) fields
-    → IsMessage version kind order (behind_header version kind order fields body) (content version kind fields (rest_behind version kind order fields body))
+    → IsMessage version kind order (behind_header version kind order fields body) (content version kind fields (rest_after version kind order fields body))
 unfolding behind_header
 written_is_message law version kind order fields body fit =
     let front = octets_of_all order (values fields) 12 in
@@ -294,9 +294,9 @@ fields_small version kind order fields body small =
 read_as : SpelledIsRead → WrittenIsSpelled → (version : Version) (kind : MessageKind) (order : Order) (fields : List Value) (body : Values) (m : Rest → Content)
     → ((rest : Rest) → content version kind fields rest ≡ m rest) → (length (octets_of_all order (values fields) 12) < 2 ^ 32 → FitRow (row version kind) fields) → IsReadAs version kind order fields body m
 read_as read spelled version kind order fields body m says fit small =
-    message_only read version kind order (behind_header version kind order fields body) (content version kind fields (rest_behind version kind order fields body))
+    message_only read version kind order (behind_header version kind order fields body) (content version kind fields (rest_after version kind order fields body))
     (written_is_message spelled version kind order fields body (fit (fields_small version kind order fields body small)))
-    ∙ ap (λ (x : Content). Ok x) (says (rest_behind version kind order fields body))
+    ∙ ap (λ (x : Content). Ok x) (says (rest_after version kind order fields body))
 
 module _ (read : SpelledIsRead) (spelled : WrittenIsSpelled) where
   pub request_read : WrittenRequestIsRead

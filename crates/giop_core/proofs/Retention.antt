@@ -9,8 +9,8 @@ use Rattle.cdr_core.specs.Value as value
 use Rattle.cdr_core.specs.Value.{Value, Values, values}
 use Rattle.giop_core.specs.declared.error.WriteError.{WriteError}
 use Rattle.giop_core.specs.declared.error.WriteError.TheVariants.{TooLong, Memory}
-use Rattle.giop_core.specs.Long.{Checks}
-use Rattle.giop_core.specs.Written.{ft_octets, AddsOctets}
+use Rattle.giop_core.specs.Written.{ft_octets}
+use Rattle.giop_core.specs.Private.{Checks, AddsOctets}
 use Rattle.giop_core.proofs.Longs.{first_long}
 
 module _ (order : Order) (client : List ℕ) (id : ℤ) (expiration : ℕ) (old : List ℕ) where

@@ -20,8 +20,8 @@ use Rattle.giop_core.specs.declared.request.ReplyWish.{ReplyWish}
 use Rattle.giop_core.specs.Content.{nth, Addressed}
 use Rattle.giop_core.specs.Headers.{header_octets}
 use Rattle.giop_core.specs.Items.{list_value}
-use Rattle.giop_core.specs.Long.{AreLong, IsLong, Checks}
-use Rattle.giop_core.specs.Written.{aligned_octets, behind_gap, behind_header, body_octets, cancel_fields, header_for, locate_request_fields, message_octets, reply_fields, request_fields, target_in, with_body, Adds}
+use Rattle.giop_core.specs.Written.{aligned_octets, behind_gap, behind_header, body_octets, cancel_fields, header_for, locate_request_fields, message_octets, reply_fields, request_fields, target_in, with_body}
+use Rattle.giop_core.specs.Private.{AreLong, IsLong, Checks, Adds}
 use Rattle.giop_core.proofs.Longs.{first_long, four, rest_long}
 
 -- a gap that belongs to octets

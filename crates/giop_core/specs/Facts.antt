@@ -1,4 +1,5 @@
--- That a value may be written is a fact: a type with at most one value.
+-- That a value may be written is a fact: a type with at most one value. Nobody has to read this proof; it stands here since
+-- a field of `IorView` cites it.
 use Rattle.std.proofs.Common.{ℕ, List, [], ◌∷◌}
 use Rattle.std.proofs.Props.{props}
 use mathlib.Core.HLevel.{×_prop}

@@ -15,6 +15,7 @@ pub data Ft : Type 0 where
   bad : Ft
   present : List ℕ → ℤ → ℕ → Ft
 
+-- the fields of the context, where they read
 abbrev pub ft_by : Result Value Fault → Ft
 ft_by (Err f) = bad
 ft_by (Ok v) = present (content_octets (member 0 (parts v))) (integer (member 1 (parts v))) (natural (member 2 (parts v)))
@@ -24,14 +25,16 @@ abbrev pub first_of : ℕ → List (ℕ × List ℕ) → Option (List ℕ)
 first_of id [] = None
 first_of id (x ∷ xs) = if x.0 == id then Some x.1 else first_of id xs
 
+-- octets of the context, if there is one
 abbrev pub ft_of : Option (List ℕ) → Ft
 ft_of None = absent
 ft_of (Some octets) = ft_by (encapsulated (value_at ft_request) octets)
 
--- FT 23.2.7: the context of id 13, FT_REQUEST, the first of them
+-- FT 23.2.7: the context of id 13, FT_REQUEST; of several the first counts (own rule)
 unfoldable pub ft_in : List (ℕ × List ℕ) → Ft
 ft_in contexts = ft_of (first_of 13 contexts)
 
+-- what the code's type says
 abbrev pub ft_seen : FtField → Ft
 ft_seen field.Absent = absent
 ft_seen field.Bad = bad

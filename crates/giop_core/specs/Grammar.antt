@@ -10,7 +10,7 @@ use Rattle.giop_core.specs.Rows.{row}
 use Rattle.giop_core.specs.Content.{Content, content}
 use Rattle.giop_core.specs.Messages.{is_unknown, rest_at}
 
--- a value of the type; a union holds one of its members
+-- A value of the type. A union holds one of its members: a discriminator that is none of its labels is refused (own rule).
 abbrev pub SpellsField : Form → Order → Value → ℕ → List ℕ → Type 0
 SpellsField t order v o octets = Spells t order v o octets × (is_unknown v ≡ false)
 
@@ -20,7 +20,7 @@ SpellsFields [] order [] o octets = octets ≡ []
 SpellsFields (t ∷ ts) order (v ∷ vs) o octets = InTurn (SpellsField t order v) (SpellsFields ts order vs) o octets
 SpellsFields _ order _ o octets = ⊥
 
--- The octets behind a header are this message: a front spells the fields of its row at offset 12, and the message says
+-- The octets after a header are this message: a front spells the fields of its row at offset 12, and the message says
 -- what they say, with the rest.
 pub record IsMessage (version : Version) (kind : MessageKind) (order : Order) (octets : List ℕ) (m : Content) : Type 0 where
   pub front : List ℕ

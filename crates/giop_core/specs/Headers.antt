@@ -22,27 +22,27 @@ abbrev pub version_of : ℕ → ℕ → Option Version
 version_of major minor =
     if major == 1 then (if minor == 0 then Some V10 else (if minor == 1 then Some V11 else (if minor == 2 then Some V12 else None))) else None
 
--- bit 1 tells whether more fragments follow, from 1.1 on
+-- from 1.1 on bit 1 says that more fragments follow
 abbrev pub cut_flags_of : Version → ℕ → Option (Order × Bool)
 cut_flags_of V10 octet = None
 cut_flags_of _ octet = if octet == 2 then Some (Big, true) else (if octet == 3 then Some (Little, true) else None)
 
--- bit 0 tells the byte order, and the bits that tell nothing are 0
+-- bit 0 says the byte order, and reserved bits are 0
 abbrev pub flags_of : Version → ℕ → Option (Order × Bool)
 flags_of version octet = if octet == 0 then Some (Big, false) else (if octet == 1 then Some (Little, false) else cut_flags_of version octet)
 
--- the kind that a message type names
+-- GIOP 9.4.1: enum MsgType
 abbrev pub kind_of : ℕ → Option MessageKind
 kind_of octet =
     if octet == 0 then Some Request else (if octet == 1 then Some Reply else (if octet == 2 then Some CancelRequest else (if octet == 3 then Some LocateRequest else
     (if octet == 4 then Some LocateReply else (if octet == 5 then Some CloseConnection else (if octet == 6 then Some MessageError else (if octet == 7 then Some Fragment else None)))))))
 
--- which kinds a version has
+-- GIOP 9.4.1: which kinds of message a version has
 abbrev pub has_kind : Version → MessageKind → Bool
 has_kind V10 Fragment = false
 has_kind _ _ = true
 
--- which kinds a version lets be cut into fragments
+-- GIOP 9.4.9: which kinds of message a version lets be cut into fragments
 abbrev pub can_be_cut : Version → MessageKind → Bool
 can_be_cut V10 _ = false
 can_be_cut _ Request = true
@@ -52,6 +52,7 @@ can_be_cut V12 LocateRequest = true
 can_be_cut V12 LocateReply = true
 can_be_cut _ _ = false
 
+-- the header by its octets, with what those before said; or the first fault. The order of the tests is an own rule.
 abbrev pub of_kind : List ℕ → Version → Order × Bool → Option MessageKind → Result Header HeaderFault
 of_kind octets version flags None = Err BadType
 of_kind octets version flags (Some kind) =
@@ -72,17 +73,20 @@ header_of octets = if has_magic octets then of_version octets (version_of (slice
 
 -- the octets of a header
 
+-- the minor number of a version
 abbrev pub minor_of : Version → ℕ
 minor_of V10 = 0
 minor_of V11 = 1
 minor_of V12 = 2
 
+-- the flags
 abbrev pub flags_octet : Order → Bool → ℕ
 flags_octet Big false = 0
 flags_octet Little false = 1
 flags_octet Big true = 2
 flags_octet Little true = 3
 
+-- the message type
 abbrev pub kind_number : MessageKind → ℕ
 kind_number Request = 0
 kind_number Reply = 1
@@ -93,9 +97,10 @@ kind_number CloseConnection = 5
 kind_number MessageError = 6
 kind_number Fragment = 7
 
+-- the twelve octets of a header
 abbrev pub header_octets : Header → List ℕ
 header_octets h = 0x47 ∷ 0x49 ∷ 0x4f ∷ 0x50 ∷ 1 ∷ minor_of h.version ∷ flags_octet h.order h.more ∷ kind_number h.kind ∷ digits_of h.order 4 h.size
 
--- the headers that can be: the version has the kind, and lets it be cut where more fragments follow
+-- whether there can be such a header: the version has the kind, and lets it be cut where more fragments follow
 abbrev pub is_possible : Header → Bool
 is_possible h = has_kind h.version h.kind && (not h.more || can_be_cut h.version h.kind)

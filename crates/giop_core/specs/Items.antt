@@ -1,4 +1,4 @@
--- Items one after another in octets: service contexts, or profiles.
+-- Service contexts, or profiles, one after another in octets: each is an unsigned long and octets.
 use Rattle.std.specs.Prelude.{ℕ, zero, suc, List, [], ◌∷◌, map, Ok, Err}
 use Rattle.std.specs.Borrow.{Bor}
 use Rattle.cdr_core.specs.declared.order.Order.{Order}
@@ -30,9 +30,11 @@ contexts_left c = items_in c.cursor.order c.left c.cursor.place c.cursor.rest
 
 -- items as values
 
+-- one item
 abbrev pub tagged_value : ℕ × List ℕ → Value
 tagged_value x = value.structure (values (ulong_value x.0 ∷ value.octets x.1 ∷ []))
 
+-- a list of items
 abbrev pub list_value : List (ℕ × List ℕ) → Value
 list_value items = value.sequence (values (map tagged_value items))
 

@@ -29,7 +29,7 @@ MessagesAreSpelled = (version : Version) (kind : MessageKind) (order : Order) (o
 abbrev pub SpelledMessagesAreRead : Type 0
 SpelledMessagesAreRead = (version : Version) (kind : MessageKind) (order : Order) (octets : List ℕ) (m : Content) → IsMessage version kind order octets m → message_of version kind order octets ≡ Ok m
 
--- A header that can be is read again from its octets.
+-- A possible header is read again from its octets.
 abbrev pub HeadersAreReadAgain : Type 0
 HeadersAreReadAgain = (h : Header) → h.size < 2 ^ 32 → IsTrue (is_possible h) → header_of (header_octets h) ≡ Ok h
 
@@ -43,19 +43,20 @@ IsTarget (content.by_key key) = ⊤
 IsTarget (content.by_profile tag octets) = tag < 2 ^ 32
 IsTarget (content.by_reference index type_id profiles) = (index < 2 ^ 32) × IsClean type_id × HaveTags profiles
 
--- the body of a message that is written, behind fields that end at a place
+-- the body of a message that is written, after fields that end at a place
 abbrev pub written_rest : Version → MessageKind → Order → Values → ℕ → Rest
 written_rest V12 Request order body place = record { order = order; place = place + padding place 8; octets = octets_of_all order body (place + padding place 8) }
 written_rest V12 Reply order body place = record { order = order; place = place + padding place 8; octets = octets_of_all order body (place + padding place 8) }
 written_rest _ _ order body place = record { order = order; place = place; octets = octets_of_all order body place }
 
-abbrev pub rest_behind : Version → MessageKind → Order → List Value → Values → Rest
-rest_behind version kind order fields body = written_rest version kind order body (12 + length (octets_of_all order (values fields) 12))
+-- the same, after these fields
+abbrev pub rest_after : Version → MessageKind → Order → List Value → Values → Rest
+rest_after version kind order fields body = written_rest version kind order body (12 + length (octets_of_all order (values fields) 12))
 
--- Octets behind a header that are not too long for its size, and are read as that message.
+-- Octets after a header that are not too long for its message size are read as that message.
 abbrev pub IsReadAs : Version → MessageKind → Order → List Value → Values → (Rest → Content) → Type 0
 IsReadAs version kind order fields body m =
-    length (behind_header version kind order fields body) < 2 ^ 32 → message_of version kind order (behind_header version kind order fields body) ≡ Ok (m (rest_behind version kind order fields body))
+    length (behind_header version kind order fields body) < 2 ^ 32 → message_of version kind order (behind_header version kind order fields body) ≡ Ok (m (rest_after version kind order fields body))
 
 -- What is written is read as the same message.
 
@@ -79,7 +80,7 @@ abbrev pub WrittenLocateReplyIsRead : Type 0
 WrittenLocateReplyIsRead = (version : Version) (order : Order) (id status : ℕ) (body : Values) → id < 2 ^ 32 → status < locate_statuses version
     → IsReadAs version LocateReply order (locate_reply_fields id status) body (content.locate_reply id status)
 
--- A written FT_REQUEST is present with its three parts, wherever it is the first of its id.
+-- A written FT_REQUEST that is the first context is present with its three fields.
 abbrev pub WrittenFtIsPresent : Type 0
 WrittenFtIsPresent = (order : Order) (client_id : List ℕ) (retention_id : ℤ) (expiration : ℕ) (more : List (ℕ × List ℕ))
     → IsClean client_id → FitsSigned w32 retention_id → expiration < 2 ^ 64 → length (ft_octets order client_id retention_id expiration) < 2 ^ 32

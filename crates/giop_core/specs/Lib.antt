@@ -1,17 +1,23 @@
+-- What a caller of this crate believes, in the order in which it is best read. "GIOP" is clause 9.4 of CORBA 3.3 Part 2,
+-- "FT" is Fault Tolerant CORBA; "own rule" marks what this project decides where they are silent.
+-- Headers: the header. Rows: the fields of each message. Content: what they say. Messages: reading them from left to
+-- right, or the first fault. Grammar: the same as a relation, which octets are which message. Items, Keys, Ft, Bodies: the
+-- parts that are lent: service contexts and profiles, object keys, FT_REQUEST, the values of a body. Lent: what the code's
+-- types say. Written: how messages are written. Statuses, Texts: numbers and names. Laws: what holds of these definitions.
+-- Private is for private functions alone; Facts is a proof, which a field of `IorView` cites.
+pub mod Headers
 pub mod Rows
 pub mod Content
 pub mod Messages
-pub mod Items
-pub mod Lent
-pub mod Calls
-pub mod Ft
 pub mod Grammar
-pub mod Laws
+pub mod Items
 pub mod Keys
-pub mod Headers
-pub mod Written
-pub mod Long
-pub mod Facts
-pub mod Texts
-pub mod Statuses
+pub mod Ft
 pub mod Bodies
+pub mod Lent
+pub mod Written
+pub mod Statuses
+pub mod Texts
+pub mod Laws
+pub mod Private
+pub mod Facts

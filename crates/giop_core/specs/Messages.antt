@@ -20,7 +20,7 @@ abbrev pub ◌>>=◌ : {A B : Type 0} → Result A MessageFault → (A → Resul
 (Ok x) >>= f = f x
 (Err e) >>= f = Err e
 
--- what reading gives: a value, the place behind it and the octets that are left, or the first fault
+-- what reading gives: a value, the place after it and the octets that are left, or the first fault
 abbrev pub Found : Type 0 → Type 0
 Found A = Result (A × ℕ × List ℕ) MessageFault
 
@@ -29,14 +29,16 @@ abbrev pub is_unknown : Value → Bool
 is_unknown (value.union d value.no_values) = true
 is_unknown _ = false
 
--- the place is that of the discriminator, if there is one
+-- An unknown discriminator is a fault at its place, which is the place of the field (own rule).
 abbrev pub judged : ℕ → Read Value → Found Value
 judged place (Err f) = Err (Cdr f)
 judged place (Ok x) = if is_unknown x.0 then Err (BadAddressing place) else Ok x
 
+-- a field; a discriminator is a short, which stands at a place divisible by 2
 abbrev pub field_at : Form → Order → ℕ → List ℕ → Found Value
 field_at t order o octets = judged (o + padding o 2) (value_at t order o octets)
 
+-- fields one after the other
 abbrev pub fields_at : List Form → Order → ℕ → List ℕ → Found (List Value)
 fields_at [] order o octets = Ok ([], o, octets)
 fields_at (t ∷ ts) order o octets = do
@@ -44,7 +46,7 @@ fields_at (t ∷ ts) order o octets = do
   xs ← fields_at ts order x.1 x.2
   Ok (x.0 ∷ xs.0, xs.1, xs.2)
 
--- the rest as it is
+-- the octets after the fields as they are
 abbrev pub directly : Order → ℕ → List ℕ → Rest
 directly order place rest = record { order = order; place = place; octets = rest }
 
@@ -52,12 +54,14 @@ directly order place rest = record { order = order; place = place; octets = rest
 abbrev pub aligned : Order → ℕ → List ℕ → Rest
 aligned order place rest = record { order = order; place = place + padding place 8; octets = drop (padding place 8) rest }
 
+-- the octets after the fields, by version and kind
 abbrev pub rest_at : Version → MessageKind → Order → ℕ → List ℕ → Rest
 rest_at V12 Request order place rest = aligned order place rest
 rest_at V12 Reply order place rest = aligned order place rest
 rest_at _ _ order place rest = directly order place rest
 
--- the message of a kind in a version that the octets behind its header are, or the first fault
+-- What the octets after a header say in a version and kind, or the first fault. The body, or the octets after the fields
+-- of a message with no body, may be any (own rule for the latter).
 unfoldable pub message_of : Version → MessageKind → Order → List ℕ → Result Content MessageFault
 message_of version kind order octets = do
   x ← fields_at (row version kind) order 12 octets

@@ -1,4 +1,4 @@
--- The grammar of the messages: what stands behind each header, in order.
+-- The grammar of the messages: what stands after each header, in order.
 use Rattle.std.specs.Prelude.{pos, List, [], ◌∷◌}
 use Rattle.cdr_core.specs.Form as form
 use Rattle.cdr_core.specs.Form.{Form}
@@ -22,6 +22,7 @@ reserved = form.array 3 octet
 abbrev pub selected : Form
 selected = form.structure (forms (ulong ∷ reference ∷ []))
 
+-- a union over short with the labels 0, 1 and 2
 abbrev pub choice : Form → Form → Form → Form
 choice a b c = form.union short (form.labelled (pos 0) a (form.labelled (pos 1) b (form.labelled (pos 2) c form.otherwise_nothing)))
 
@@ -29,7 +30,7 @@ choice a b c = form.union short (form.labelled (pos 0) a (form.labelled (pos 1) 
 abbrev pub target : Form
 target = choice raw tagged selected
 
--- the types of what stands behind the header of a message (GIOP 9.4.2 to 9.4.9)
+-- GIOP 9.4.2 to 9.4.9: the types of the fields after the header of a message
 unfoldable pub row : Version → MessageKind → List Form
 row V10 Request = contexts ∷ ulong ∷ form.boolean ∷ raw ∷ text ∷ raw ∷ []
 row V11 Request = contexts ∷ ulong ∷ form.boolean ∷ reserved ∷ raw ∷ text ∷ raw ∷ []

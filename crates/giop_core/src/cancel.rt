@@ -2,8 +2,7 @@
 
 ghost use Rattle.std.specs.Prelude.{◌≡◌, ◌<◌, ◌+◌, ◌++◌, MatchResult};
 ghost use Rattle.giop_core.specs.declared.header.Version.TheVariants.{V10};
-ghost use Rattle.giop_core.specs.Calls.{Shows};
-ghost use Rattle.giop_core.specs.Lent.{cancel_of};
+ghost use Rattle.giop_core.specs.Lent.{cancel_of, Shows};
 ghost use Rattle.giop_core.specs.Messages.{message_of};
 ghost use Rattle.cdr_core.specs.Private.{Keeps};
 ghost use Rattle.cdr_core.specs.Writing.{Appends};
@@ -14,8 +13,7 @@ ghost use Rattle.giop_core.specs.Content as content;
 
 use crate::error::MessageFault;
 use crate::header::{Header, MessageKind, Version};
-use crate::message::BEHIND_HEADER;
-use crate::writing::HEADER;
+use crate::message::AFTER_HEADER;
 use cdr_core::{Cursor, Order, Writer};
 use std::alloc::AllocError;
 
@@ -26,17 +24,17 @@ pub struct CancelRequest {
     pub request_id: u32,
 }
 
-/// Every version has the same CancelRequest.
+/// Reads a CancelRequest, which every version has alike.
 #[tactic(auto, unfolding(crate::specs::Messages::message_of, crate::specs::Rows::row, crate::specs::Content::content))]
 pub(crate) fn read_cancel(order: Order, octets: &[u8]) -> Result<CancelRequest, MessageFault>
     ensures { Shows cancel_of result (message_of V10 kind.CancelRequest order octets.now) }
 {
-    let mut cursor = Cursor::new(octets, order, BEHIND_HEADER);
+    let mut cursor = Cursor::new(octets, order, AFTER_HEADER);
     let request_id = cursor.ulong()?;
     Ok(CancelRequest { request_id })
 }
 
-/// Appends a CancelRequest; where memory runs out, what there was still stands in front.
+/// Appends a CancelRequest. Where an allocation fails `out` may keep a part of it at its end.
 fn append_cancel(
     version: Version,
     order: Order,
@@ -54,13 +52,13 @@ fn append_cancel(
         kind: MessageKind::CancelRequest,
         size: 4,
     };
-    out.reserve(HEADER + 4)?;
+    out.reserve(Header::LEN + 4)?;
     out.extend_from_slice(&header.octets())?;
-    let writer = Writer::new(order, HEADER as u64, out);
+    let writer = Writer::new(order, Header::LEN as u64, out);
     writer.ulong(request_id, out)
 }
 
-/// Appends a CancelRequest (CORBA 3.3 Part 2, 9.4.4). Where memory runs out `out` is as it was.
+/// Appends a CancelRequest (CORBA 3.3 Part 2, 9.4.4). Where an allocation fails `out` is as it was.
 pub fn write_cancel(
     version: Version,
     order: Order,

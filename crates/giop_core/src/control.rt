@@ -11,7 +11,7 @@ use crate::header::{Header, MessageKind, Version};
 use cdr_core::Order;
 use std::alloc::AllocError;
 
-/// Appends the header of a message of 1.0 with nothing behind it, in big order.
+/// Appends a message of 1.0 that is its header alone, in big-endian order.
 fn put_bare(kind: MessageKind, out: &mut Vec<u8>) -> Result<(), AllocError>
     ensures { MatchResult result (λ _. out.new.items ≡ out.old.items ++ message_octets V10 kind Big []) (λ _. out.new.items ≡ out.old.items) }
 {
@@ -25,16 +25,16 @@ fn put_bare(kind: MessageKind, out: &mut Vec<u8>) -> Result<(), AllocError>
     out.extend_from_slice(&header.octets())
 }
 
-/// Appends CloseConnection (CORBA 3.3 Part 2, 9.4.7), as 1.0 has it. Where memory runs out `out` is as
-/// it was.
+/// Appends CloseConnection (CORBA 3.3 Part 2, 9.4.7), as 1.0 has it, in big-endian order. Where an
+/// allocation fails `out` is as it was.
 pub fn write_close(out: &mut Vec<u8>) -> Result<(), AllocError>
     ensures { MatchResult result (λ _. out.new.items ≡ out.old.items ++ message_octets V10 kind.CloseConnection Big []) (λ _. out.new.items ≡ out.old.items) }
 {
     put_bare(MessageKind::CloseConnection, out)
 }
 
-/// Appends MessageError (CORBA 3.3 Part 2, 9.4.8), as 1.0 has it. Where memory runs out `out` is as it
-/// was.
+/// Appends MessageError (CORBA 3.3 Part 2, 9.4.8), as 1.0 has it, in big-endian order. Where an
+/// allocation fails `out` is as it was.
 pub fn write_error(out: &mut Vec<u8>) -> Result<(), AllocError>
     ensures { MatchResult result (λ _. out.new.items ≡ out.old.items ++ message_octets V10 kind.MessageError Big []) (λ _. out.new.items ≡ out.old.items) }
 {

@@ -8,11 +8,11 @@ use cdr_core::Fault;
 use std::alloc::AllocError;
 use thiserror::Error;
 
-/// The first fault in the octets behind a header. Places count from the beginning of the message,
-/// whose header counts.
+/// The first fault in the octets after a header. Places count from the beginning of the message, its
+/// header included.
 #[derive(Clone, Copy, Debug, PartialEq, Eq, Error)]
 pub enum MessageFault {
-    /// A part of the message header doesn't read.
+    /// A field is no value of its type.
     #[error("{0}")]
     Cdr(Fault),
     /// The discriminator of a target, at this place, is neither 0, 1 nor 2.
@@ -20,7 +20,7 @@ pub enum MessageFault {
     BadAddressing(u64),
 }
 
-/// The fault of a part.
+/// The fault of a field.
 impl From<Fault> for MessageFault {
     ghost from_gives = { λ f e. e ≡ Cdr f };
 
@@ -32,15 +32,15 @@ impl From<Fault> for MessageFault {
 /// Why a message is not written. The output is as it was.
 #[derive(Clone, Copy, Debug, PartialEq, Eq, Error)]
 pub enum WriteError {
-    /// More octets would stand behind the header than a message size can tell, 4,294,967,295.
+    /// More octets would stand after the header than a message size can count, 4,294,967,295.
     #[error("too long")]
     TooLong,
-    /// Memory ran out.
+    /// An allocation failed.
     #[error("memory")]
     Memory,
 }
 
-/// Want of memory.
+/// An allocation failed.
 impl From<AllocError> for WriteError {
     ghost from_gives = { λ f e. e ≡ Memory };
 

@@ -1,15 +1,14 @@
 //! Fragment (CORBA 3.3 Part 2, 9.4.9).
 
 ghost use Rattle.giop_core.specs.declared.header.Version.TheVariants.{V10, V11, V12};
-ghost use Rattle.giop_core.specs.Calls.{Shows};
-ghost use Rattle.giop_core.specs.Lent.{fragment_of};
+ghost use Rattle.giop_core.specs.Lent.{fragment_of, Shows};
 ghost use Rattle.giop_core.specs.Messages.{message_of};
 ghost use Rattle.giop_core.specs.declared.header.MessageKind.TheVariants as kind;
 ghost use Rattle.giop_core.specs.Content as content;
 
 use crate::error::MessageFault;
 use crate::header::Version;
-use crate::message::BEHIND_HEADER;
+use crate::message::AFTER_HEADER;
 use cdr_core::{Cursor, Order};
 
 /// A Fragment (CORBA 3.3 Part 2, 9.4.9): more octets of a message that was cut.
@@ -21,6 +20,7 @@ pub struct Fragment<'m> {
     pub payload: &'m [u8],
 }
 
+/// Reads a Fragment.
 #[tactic(auto, unfolding(crate::specs::Messages::message_of, crate::specs::Rows::row, crate::specs::Content::content))]
 pub(crate) fn read_fragment(
     version: Version,
@@ -35,7 +35,7 @@ pub(crate) fn read_fragment(
             payload: octets,
         }),
         Version::V12 => {
-            let mut cursor = Cursor::new(octets, order, BEHIND_HEADER);
+            let mut cursor = Cursor::new(octets, order, AFTER_HEADER);
             let request_id = cursor.ulong()?;
             Ok(Fragment {
                 request_id: Some(request_id),

@@ -3,13 +3,13 @@
 ghost use Rattle.std.specs.Prelude.{◌≡◌, option_map, ◌<◌};
 ghost use Rattle.cdr_core.specs.Encapsulation.{encapsulated};
 ghost use Rattle.cdr_core.specs.Reading.{value_at};
-ghost use Rattle.giop_core.specs.Calls.{Reads, Shows};
 ghost use Rattle.giop_core.specs.Ft.{first_of, ft_by, ft_in, ft_seen};
 ghost use Rattle.giop_core.specs.Items.{contexts_left, items_in};
-ghost use Rattle.giop_core.specs.Lent.{ft_value};
 ghost use Rattle.giop_core.specs.Rows.{ft_request};
 ghost use Rattle.cdr_core.specs.Spelling.{IsClean};
-ghost use Rattle.giop_core.specs.Written.{ft_octets, AddsOctets, WroteOctets};
+ghost use Rattle.giop_core.specs.Written.{ft_octets, WroteOctets};
+ghost use Rattle.giop_core.specs.Lent.{Shows};
+ghost use Rattle.giop_core.specs.Private.{Reads, ft_value, AddsOctets};
 
 use crate::error::WriteError;
 use crate::service_context::Contexts;
@@ -20,15 +20,15 @@ use ior_core::read_tagged;
 /// The id of the service context FT_REQUEST (Fault Tolerant CORBA 23.2.7).
 pub const FT_REQUEST: u32 = 13;
 
-/// What a request's contexts say of its client.
+/// What the service contexts of a request say of its client.
 #[derive(Clone, Copy, Debug, Drop)]
 pub enum FtField<'m> {
     /// There is no FT_REQUEST context.
     Absent,
-    /// The first one doesn't read.
+    /// The first one is no valid FT_REQUEST.
     Bad,
-    /// The client and its number for the request name it over all its transmissions. The expiration
-    /// is a number of 100 ns since 15 October 1582.
+    /// The client id and the retention id name the request over all its transmissions. The
+    /// expiration counts 100 ns from 15 October 1582, 00:00 UTC.
     Present {
         client_id: &'m [u8],
         retention_id: i32,
@@ -36,7 +36,7 @@ pub enum FtField<'m> {
     },
 }
 
-/// What such a context holds.
+/// Reads the fields of an FT_REQUEST.
 #[tactic(auto, using(crate::proofs::Steps::ft_is))]
 fn read_fields<'m>(cursor: &mut Cursor<'m>) -> Result<(&'m [u8], i32, u64), Fault>
     ensures { Reads ft_value result ft_request cursor.old cursor.new }
@@ -47,7 +47,7 @@ fn read_fields<'m>(cursor: &mut Cursor<'m>) -> Result<(&'m [u8], i32, u64), Faul
     Ok((client_id, retention_id, expiration))
 }
 
-/// What the octets of such a context hold, which are an encapsulation.
+/// The fields in the octets of an FT_REQUEST, which are an encapsulation.
 #[tactic(auto, using(crate::proofs::Enclosed::order_fails, crate::proofs::Enclosed::value_fails, crate::proofs::Enclosed::value_is))]
 fn fields_in(octets: &[u8]) -> Result<(&[u8], i32, u64), Fault>
     ensures { Shows ft_value result (encapsulated (value_at ft_request) octets.now) }
@@ -56,7 +56,7 @@ fn fields_in(octets: &[u8]) -> Result<(&[u8], i32, u64), Fault>
     read_fields(&mut cursor)
 }
 
-/// The field that the octets of such a context are.
+/// What the octets of an FT_REQUEST say.
 fn field_in(octets: &[u8]) -> FtField<'_>
     ensures { ft_seen result ≡ ft_by (encapsulated (value_at ft_request) octets.now) }
 {
@@ -70,7 +70,7 @@ fn field_in(octets: &[u8]) -> FtField<'_>
     }
 }
 
-/// The octets of the first item of an id.
+/// The octets of the first context of an id.
 fn first_of<'m>(cursor: &mut Cursor<'m>, left: u32, id: u32) -> Option<&'m [u8]>
     ensures { option_map (λ x. x.now) result ≡ first_of id (items_in cursor.old.order left cursor.old.place cursor.old.rest) }
 {
@@ -85,8 +85,9 @@ fn first_of<'m>(cursor: &mut Cursor<'m>, left: u32, id: u32) -> Option<&'m [u8]>
     None
 }
 
-/// What the first FT_REQUEST context says: its fields, or that it doesn't read, or that there is
-/// none. Contexts of other ids, and further ones of that id, are passed over.
+/// What the first FT_REQUEST among service contexts says: its fields, or that it is not valid, or that
+/// there is none. Contexts of other ids are passed over, and further ones of that id (a rule of this
+/// project).
 #[tactic(auto, unfolding(crate::specs::Ft::ft_in))]
 pub fn ft_request<'m>(contexts: &Contexts<'m>) -> FtField<'m>
     ensures { ft_seen result ≡ ft_in (contexts_left contexts.now) }
@@ -98,7 +99,7 @@ pub fn ft_request<'m>(contexts: &Contexts<'m>) -> FtField<'m>
     }
 }
 
-/// Appends what such a context holds; where that fails, what there was still stands in front.
+/// Appends the octets of an FT_REQUEST. Where that fails `out` may keep a part of them at its end.
 fn put_ft(
     order: Order,
     client_id: &[u8],
@@ -123,8 +124,8 @@ fn put_ft(
 
 /// Appends the octets of an FT_REQUEST context (Fault Tolerant CORBA 23.2.7), an encapsulation.
 ///
-/// The client has no NUL. The expiration is a number of 100 ns since 15 October 1582. `TooLong` is told
-/// of more than 4,294,967,295 octets. On a refusal `out` is as it was.
+/// The client id has no NUL. The expiration counts 100 ns from 15 October 1582, 00:00 UTC. More than
+/// 4,294,967,295 octets are `TooLong`. On an error `out` is as it was.
 pub fn write_ft(
     order: Order,
     client_id: &[u8],

@@ -61,7 +61,7 @@ impl fmt::Display for MessageKind {
     }
 }
 
-/// What the twelve octets at the head of a message say.
+/// What the first twelve octets of a message say.
 #[derive(Clone, Copy, Debug, PartialEq, Eq)]
 pub struct Header {
     pub version: Version,
@@ -74,7 +74,7 @@ pub struct Header {
     pub size: u32,
 }
 
-/// Why twelve octets are not a header. Where several apply the first in this order is told.
+/// Why twelve octets are not a header. Where several apply, the first in this order is reported.
 #[derive(Clone, Copy, Debug, PartialEq, Eq, Error)]
 pub enum HeaderFault {
     /// The first four octets are not `GIOP`.
@@ -83,7 +83,8 @@ pub enum HeaderFault {
     /// The version is none of 1.0, 1.1 and 1.2.
     #[error("bad version")]
     BadVersion,
-    /// A bit of the flags that tells nothing is not 0: any but bit 0, and from 1.1 on bit 1.
+    /// A reserved bit of the flags is not 0. Bit 0 is the byte order, and from 1.1 on bit 1 says that
+    /// more fragments follow; all others are reserved.
     #[error("bad flags")]
     BadFlags,
     /// The version has no such message type.
@@ -94,7 +95,7 @@ pub enum HeaderFault {
     BadCut,
 }
 
-/// Tells whether octets begin with `GIOP`.
+/// Whether octets begin with `GIOP`.
 fn has_magic(octets: &[u8; 12]) -> bool
     ensures { result ≡ has_magic octets.now }
 {
@@ -124,7 +125,7 @@ fn minor_of(version: Version) -> u8
     }
 }
 
-/// The byte order that the flags tell, and whether more fragments follow.
+/// What the flags say: the byte order, and whether more fragments follow.
 fn flags_of(version: Version, octet: u8) -> Option<(Order, bool)>
     ensures { result ≡ flags_of version octet }
 {
@@ -137,7 +138,7 @@ fn flags_of(version: Version, octet: u8) -> Option<(Order, bool)>
     }
 }
 
-/// The flags that tell a byte order, and whether more fragments follow.
+/// The flags for a byte order, and for more fragments that follow or not.
 fn flags_octet(order: Order, more: bool) -> u8
     ensures { result ≡ flags_octet order more }
 {
@@ -182,14 +183,14 @@ fn kind_number(kind: MessageKind) -> u8
     }
 }
 
-/// Tells whether a version has a kind.
+/// Whether a version has a kind.
 fn has_kind(version: Version, kind: MessageKind) -> bool
     ensures { result ≡ has_kind version kind }
 {
     !matches!((version, kind), (Version::V10, MessageKind::Fragment))
 }
 
-/// Tells whether a version lets messages of a kind be cut into fragments.
+/// Whether a version lets messages of a kind be cut into fragments.
 fn can_be_cut(version: Version, kind: MessageKind) -> bool
     ensures { result ≡ can_be_cut version kind }
 {
@@ -206,7 +207,7 @@ impl Header {
     /// How many octets a header has.
     pub const LEN: usize = 12;
 
-    /// The header that these octets are, or the first fault in it.
+    /// Reads a header, or finds the first fault in it.
     pub fn read(octets: &[u8; 12]) -> Result<Header, HeaderFault>
         ensures { result ≡ header_of octets.now }
     {
@@ -231,15 +232,15 @@ impl Header {
         })
     }
 
-    /// Tells whether there can be such a header: the version has the kind, and lets it be cut where
-    /// more fragments follow.
+    /// Whether there can be such a header: the version has the kind, and lets it be cut where more
+    /// fragments follow.
     pub fn is_possible(&self) -> bool
         ensures { result ≡ is_possible self.now }
     {
         has_kind(self.version, self.kind) && (!self.more || can_be_cut(self.version, self.kind))
     }
 
-    /// The octets of the header.
+    /// The octets of the header, which can be one.
     #[tactic(auto, using(crate::proofs::HeaderLemmas::header_again))]
     pub fn write(&self) -> [u8; 12]
         requires { IsTrue (is_possible self.now) }

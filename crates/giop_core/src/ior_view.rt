@@ -9,7 +9,7 @@ use crate::service_context::Contexts;
 use cdr_core::Cursor;
 use ior_core::read_tagged;
 
-/// An object reference in a message.
+/// An object reference in a message (IOP::IOR), lent from its octets.
 #[derive(Debug, Drop)]
 pub struct IorView<'m> {
     pub(crate) type_id: &'m [u8],
@@ -33,7 +33,7 @@ impl<'m> IorView<'m> {
         self.profiles.left
     }
 
-    /// The profile of a number, from 0: its tag and its octets.
+    /// The profile of an index, counted from 0: its tag and its octets. None where there is no such one.
     pub fn profile(&self, index: u32) -> Option<(u32, &'m [u8])>
         ensures { option_map item_at result ≡ slice_get (contexts_left self.now.profiles) index }
     {
@@ -42,7 +42,7 @@ impl<'m> IorView<'m> {
     }
 }
 
-/// The item of a number, from 0.
+/// The item of an index, counted from 0.
 fn item<'m>(cursor: &mut Cursor<'m>, left: u32, index: u32) -> Option<(u32, &'m [u8])>
     ensures { option_map item_at result ≡ slice_get (items_in cursor.old.order left cursor.old.place cursor.old.rest) index }
 {

@@ -25,7 +25,7 @@ pub fn written_is_read()
     cdr_core::laws::written_is_spelled();
 }
 
-/// A written FT_REQUEST is present with its three parts, wherever it is the first context of its id.
+/// A written FT_REQUEST that is the first context is present with its three fields.
 pub fn written_ft_is_present()
     ensures { WrittenFtIsPresent }
 {
@@ -33,7 +33,7 @@ pub fn written_ft_is_present()
     cdr_core::laws::written_is_spelled();
 }
 
-/// A header that can be is read again from its octets.
+/// A possible header is read again from its octets.
 #[tactic(auto, using(crate::proofs::HeaderLemmas::header_again))]
 pub fn headers_are_read_again()
     ensures { HeadersAreReadAgain }

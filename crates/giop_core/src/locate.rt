@@ -2,13 +2,13 @@
 
 ghost use Rattle.std.specs.Prelude.{◌≡◌, ◌↔◌, Some, IsTrue, ◌≤◌, ◌<◌, [], length};
 ghost use Rattle.giop_core.specs.declared.header.Version.TheVariants.{V10, V11, V12};
-ghost use Rattle.giop_core.specs.Calls.{Shows};
-ghost use Rattle.giop_core.specs.Lent.{locate_request_of, locate_reply_of, addressed_by, rest_of};
+ghost use Rattle.giop_core.specs.Lent.{locate_request_of, locate_reply_of, addressed_by, rest_of, Shows};
 ghost use Rattle.giop_core.specs.Messages.{message_of};
 ghost use Rattle.cdr_core.specs.Writing.{Appends, AreWritable, IsWritable};
 ghost use Rattle.cdr_core.specs.Value.{no_values, values};
 ghost use Rattle.cdr_core.specs.View.{values_of};
-ghost use Rattle.giop_core.specs.Written.{behind_header, locate_reply_fields, locate_request_fields, locate_statuses, reply_fields, request_fields, target_in, Adds, CanAddress, PutsFields, Wrote};
+ghost use Rattle.giop_core.specs.Written.{behind_header, locate_reply_fields, locate_request_fields, locate_statuses, reply_fields, request_fields, target_in, CanAddress, Wrote};
+ghost use Rattle.giop_core.specs.Private.{Adds, PutsFields};
 ghost use Rattle.giop_core.specs.declared.header.MessageKind.TheVariants as kind;
 ghost use Rattle.giop_core.specs.Content as content;
 ghost use Rattle.giop_core.specs.Statuses.{locate_status_number, locate_status_of};
@@ -16,14 +16,15 @@ ghost use Rattle.giop_core.specs.Texts.{locate_status_text};
 
 use crate::error::{MessageFault, WriteError};
 use crate::header::{MessageKind, Version};
-use crate::message::{BEHIND_HEADER, Body, body_at};
+use crate::message::{AFTER_HEADER, Body, body_at};
 use crate::target_address::{Target, check_target, put_target_in, read_target};
 use crate::writing::{begin, finish};
 use cdr_core::{Cursor, Order, Val, Writer};
 use std::alloc::AllocError;
 use std::fmt;
 
-/// A LocateRequest (CORBA 3.3 Part 2, 9.4.5): where is the object?
+/// A LocateRequest (CORBA 3.3 Part 2, 9.4.5): it asks whether the server knows an object,
+/// and where the object is.
 #[derive(Debug, Drop)]
 pub struct LocateRequest<'m> {
     pub request_id: u32,
@@ -116,11 +117,12 @@ impl Version {
     }
 }
 
+/// Reads a LocateRequest of 1.0 or 1.1.
 #[tactic(auto, unfolding(crate::specs::Messages::message_of, crate::specs::Rows::row, crate::specs::Content::content))]
 fn read_locate_request_10(order: Order, octets: &[u8]) -> Result<LocateRequest<'_>, MessageFault>
     ensures { Shows locate_request_of result (message_of V10 kind.LocateRequest order octets.now) }
 {
-    let mut cursor = Cursor::new(octets, order, BEHIND_HEADER);
+    let mut cursor = Cursor::new(octets, order, AFTER_HEADER);
     let request_id = cursor.ulong()?;
     let key = cursor.octets()?;
     Ok(LocateRequest {
@@ -129,16 +131,18 @@ fn read_locate_request_10(order: Order, octets: &[u8]) -> Result<LocateRequest<'
     })
 }
 
+/// Reads a LocateRequest of 1.2.
 #[tactic(auto, unfolding(crate::specs::Messages::message_of, crate::specs::Rows::row, crate::specs::Content::content), using(crate::proofs::Again::addressed_again))]
 fn read_locate_request_12(order: Order, octets: &[u8]) -> Result<LocateRequest<'_>, MessageFault>
     ensures { Shows locate_request_of result (message_of V12 kind.LocateRequest order octets.now) }
 {
-    let mut cursor = Cursor::new(octets, order, BEHIND_HEADER);
+    let mut cursor = Cursor::new(octets, order, AFTER_HEADER);
     let request_id = cursor.ulong()?;
     let target = read_target(&mut cursor)?;
     Ok(LocateRequest { request_id, target })
 }
 
+/// Reads a LocateRequest.
 #[tactic(auto, using(crate::proofs::Shared::locate_11))]
 pub(crate) fn read_locate_request(
     version: Version,
@@ -171,7 +175,7 @@ fn put_locate_request(
     Ok(())
 }
 
-/// Appends a LocateRequest; where that fails, what there was still stands in front.
+/// Appends a LocateRequest. Where that fails `out` may keep a part of it at its end.
 fn append_locate_request(
     version: Version,
     order: Order,
@@ -199,7 +203,7 @@ fn append_locate_request(
 
 /// Appends a LocateRequest (CORBA 3.3 Part 2, 9.4.5).
 ///
-/// In 1.0 and 1.1 the target is an object key. On a refusal `out` is as it was.
+/// In 1.0 and 1.1 the target is an object key. On an error `out` is as it was.
 pub fn write_locate_request(
     version: Version,
     order: Order,
@@ -218,11 +222,12 @@ pub fn write_locate_request(
     result
 }
 
+/// Reads a LocateReply of 1.0 or 1.1.
 #[tactic(auto, unfolding(crate::specs::Messages::message_of, crate::specs::Rows::row, crate::specs::Content::content))]
 fn read_locate_reply_10(order: Order, octets: &[u8]) -> Result<LocateReply<'_>, MessageFault>
     ensures { Shows locate_reply_of result (message_of V10 kind.LocateReply order octets.now) }
 {
-    let mut cursor = Cursor::new(octets, order, BEHIND_HEADER);
+    let mut cursor = Cursor::new(octets, order, AFTER_HEADER);
     let request_id = cursor.ulong()?;
     let status = cursor.ordinal(3)?;
     Ok(LocateReply {
@@ -232,11 +237,12 @@ fn read_locate_reply_10(order: Order, octets: &[u8]) -> Result<LocateReply<'_>, 
     })
 }
 
+/// Reads a LocateReply of 1.2.
 #[tactic(auto, unfolding(crate::specs::Messages::message_of, crate::specs::Rows::row, crate::specs::Content::content))]
 fn read_locate_reply_12(order: Order, octets: &[u8]) -> Result<LocateReply<'_>, MessageFault>
     ensures { Shows locate_reply_of result (message_of V12 kind.LocateReply order octets.now) }
 {
-    let mut cursor = Cursor::new(octets, order, BEHIND_HEADER);
+    let mut cursor = Cursor::new(octets, order, AFTER_HEADER);
     let request_id = cursor.ulong()?;
     let status = cursor.ordinal(6)?;
     Ok(LocateReply {
@@ -246,6 +252,7 @@ fn read_locate_reply_12(order: Order, octets: &[u8]) -> Result<LocateReply<'_>, 
     })
 }
 
+/// Reads a LocateReply.
 #[tactic(auto, using(crate::proofs::Shared::locate_reply_11))]
 pub(crate) fn read_locate_reply(
     version: Version,
@@ -275,7 +282,7 @@ fn put_locate_reply(
     Ok(())
 }
 
-/// Appends a LocateReply; where that fails, what there was still stands in front.
+/// Appends a LocateReply. Where that fails `out` may keep a part of it at its end.
 fn append_locate_reply(
     version: Version,
     order: Order,
@@ -303,7 +310,7 @@ fn append_locate_reply(
 
 /// Appends a LocateReply (CORBA 3.3 Part 2, 9.4.6).
 ///
-/// The status is one that the version has. On a refusal `out` is as it was.
+/// The status is one that the version has. On an error `out` is as it was.
 pub fn write_locate_reply(
     version: Version,
     order: Order,

@@ -6,8 +6,7 @@ ghost use Rattle.cdr_core.specs.Spelling.{SpellsMembers};
 ghost use Rattle.cdr_core.specs.Value.{Values};
 ghost use Rattle.cdr_core.specs.View.{forms_of};
 ghost use Rattle.giop_core.specs.Bodies.{BodyAnswers, BodyReads};
-ghost use Rattle.giop_core.specs.Calls.{Shows};
-ghost use Rattle.giop_core.specs.Lent.{content_of, rest_of};
+ghost use Rattle.giop_core.specs.Lent.{content_of, rest_of, Shows};
 ghost use Rattle.giop_core.specs.Messages.{message_of};
 
 use crate::cancel::{CancelRequest, read_cancel};
@@ -20,10 +19,11 @@ use crate::request::{Request, read_request};
 use cdr_core::{CdrError, Cursor, Order, Ty, Val};
 use std::alloc::Global;
 
-/// The place of the first octet behind a header.
-pub(crate) const BEHIND_HEADER: u64 = 12;
+/// The place of the first octet after a header.
+pub(crate) const AFTER_HEADER: u64 = Header::LEN as u64;
 
-/// The octets of a body, their order, and the place in the message at which they stand.
+/// A body: its octets, their byte order, and the place of the first in the message, which counts from
+/// the header on and decides the alignment of each value.
 #[derive(Clone, Copy, Debug, Drop)]
 pub struct Body<'m> {
     pub order: Order,
@@ -48,7 +48,7 @@ impl<'m> Body<'m> {
     }
 }
 
-/// The rest, from where a cursor is.
+/// The body that begins where a cursor is.
 pub(crate) fn body_at<'m>(cursor: &Cursor<'m>, order: Order) -> Body<'m>
     ensures { rest_of result ≡ record { order = order; place = cursor.now.place; octets = cursor.now.rest } }
 {
@@ -74,7 +74,7 @@ pub enum Content<'m> {
     Fragment(Fragment<'m>),
 }
 
-/// A message, in the version and the order of its header.
+/// A message, with the version and the byte order of its header.
 #[derive(Debug, Drop)]
 pub struct Message<'m> {
     pub version: Version,
@@ -82,7 +82,7 @@ pub struct Message<'m> {
     pub content: Content<'m>,
 }
 
-/// The message of a kind, a version and an order that octets behind a header are.
+/// What the octets after a header of this kind, version and order say.
 #[tactic(auto, using(crate::proofs::Shared::cancel_any, crate::proofs::Shared::close_any, crate::proofs::Shared::error_any))]
 fn message_of_kind(
     kind: MessageKind,
@@ -114,10 +114,12 @@ fn message_of_kind(
     })
 }
 
-/// The message that the octets behind a header are, or the first fault in them.
+/// Reads the message that the octets after a header are, or finds the first fault in them. It takes no
+/// memory: the message is lent from the octets.
 ///
-/// The octets are those of the whole message: its header tells no more fragments, and as many octets
-/// as there are. Octets behind the fields of a message that has no body are ignored.
+/// The octets are those of a whole message: its header announces no more fragments, and its size is
+/// their number. Octets after the fields of a message that has no body are ignored (a rule of this
+/// project). Places in faults and bodies count from the beginning of the message, its header included.
 pub fn read_message<'m>(header: &Header, octets: &'m [u8]) -> Result<Message<'m>, MessageFault>
     ensures shows { Shows (λ m. content_of m.content) result (message_of header.now.version header.now.kind header.now.order octets.now) }
     ensures same { IfOk result (λ m. (m.version ≡ header.now.version) × (m.order ≡ header.now.order)) }

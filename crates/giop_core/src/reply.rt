@@ -2,21 +2,21 @@
 
 ghost use Rattle.std.specs.Prelude.{◌↔◌, Some, IsTrue, ◌≡◌, IfOk, ◌≤◌, ◌<◌, length, map};
 ghost use Rattle.giop_core.specs.declared.header.Version.TheVariants.{V10, V11, V12};
-ghost use Rattle.giop_core.specs.Calls.{Shows};
-ghost use Rattle.giop_core.specs.Lent.{content_of};
+ghost use Rattle.giop_core.specs.Lent.{content_of, Shows};
 ghost use Rattle.giop_core.specs.Messages.{message_of};
 ghost use Rattle.cdr_core.specs.Writing.{Appends, AreWritable};
 ghost use Rattle.cdr_core.specs.Value.{values};
 ghost use Rattle.cdr_core.specs.View.{values_of};
 ghost use Rattle.giop_core.specs.Items.{item_at};
-ghost use Rattle.giop_core.specs.Written.{behind_header, reply_fields, reply_statuses, Adds, PutsFields, Wrote};
+ghost use Rattle.giop_core.specs.Written.{behind_header, reply_fields, reply_statuses, Wrote};
+ghost use Rattle.giop_core.specs.Private.{Adds, PutsFields};
 ghost use Rattle.giop_core.specs.declared.header.MessageKind.TheVariants as kind;
 ghost use Rattle.giop_core.specs.Statuses.{reply_status_number, reply_status_of};
 ghost use Rattle.giop_core.specs.Texts.{reply_status_text};
 
 use crate::error::{MessageFault, WriteError};
 use crate::header::{MessageKind, Version};
-use crate::message::{BEHIND_HEADER, Body, Content, Message, body_at};
+use crate::message::{AFTER_HEADER, Body, Content, Message, body_at};
 use crate::service_context::{Contexts, check_contexts, put_contexts, read_contexts};
 use crate::writing::{begin, finish};
 use cdr_core::{Cursor, Order, Val, Writer};
@@ -110,12 +110,13 @@ impl Version {
     }
 }
 
+/// Reads a Reply of 1.0 or 1.1.
 #[tactic(auto, unfolding(crate::specs::Messages::message_of, crate::specs::Rows::row, crate::specs::Content::content), using(crate::proofs::Again::addressed_again, crate::proofs::Again::items_again))]
 fn read_reply_10(version: Version, order: Order, octets: &[u8]) -> Result<Message<'_>, MessageFault>
     ensures shows { Shows (λ m. content_of m.content) result (message_of V10 kind.Reply order octets.now) }
     ensures same { IfOk result (λ m. (m.version ≡ version) × (m.order ≡ order)) }
 {
-    let mut cursor = Cursor::new(octets, order, BEHIND_HEADER);
+    let mut cursor = Cursor::new(octets, order, AFTER_HEADER);
     let contexts = read_contexts(&mut cursor)?;
     let request_id = cursor.ulong()?;
     let status = cursor.ordinal(4)?;
@@ -131,15 +132,16 @@ fn read_reply_10(version: Version, order: Order, octets: &[u8]) -> Result<Messag
     })
 }
 
+/// Reads a Reply of 1.2.
 #[tactic(auto, unfolding(crate::specs::Messages::message_of, crate::specs::Rows::row, crate::specs::Content::content), using(crate::proofs::Again::addressed_again, crate::proofs::Again::items_again))]
 fn read_reply_12(order: Order, octets: &[u8]) -> Result<Message<'_>, MessageFault>
     ensures shows { Shows (λ m. content_of m.content) result (message_of V12 kind.Reply order octets.now) }
     ensures same { IfOk result (λ m. (m.version ≡ V12) × (m.order ≡ order)) }
 {
-    let mut cursor = Cursor::new(octets, order, BEHIND_HEADER);
-    let request_id = cursor.ulong()?; // first in a Reply of 1.2
+    let mut cursor = Cursor::new(octets, order, AFTER_HEADER);
+    let request_id = cursor.ulong()?;
     let status = cursor.ordinal(6)?;
-    let contexts = read_contexts(&mut cursor)?; // last in a Reply of 1.2
+    let contexts = read_contexts(&mut cursor)?;
     cursor.align(8);
     Ok(Message {
         version: Version::V12,
@@ -153,6 +155,7 @@ fn read_reply_12(order: Order, octets: &[u8]) -> Result<Message<'_>, MessageFaul
     })
 }
 
+/// Reads a Reply.
 #[tactic(auto, using(crate::proofs::Shared::reply_11))]
 pub(crate) fn read_reply(
     version: Version,
@@ -223,7 +226,7 @@ fn put_reply(
     }
 }
 
-/// Appends a Reply; where that fails, what there was still stands in front.
+/// Appends a Reply. Where that fails `out` may keep a part of it at its end.
 fn append_reply(
     version: Version,
     order: Order,
@@ -253,7 +256,7 @@ fn append_reply(
 
 /// Appends a Reply (CORBA 3.3 Part 2, 9.4.3).
 ///
-/// The status is one that the version has. On a refusal `out` is as it was.
+/// The status is one that the version has. On an error `out` is as it was.
 pub fn write_reply(
     version: Version,
     order: Order,

@@ -2,9 +2,8 @@
 
 ghost use Rattle.std.specs.Prelude.{◌↔◌, Some, IsTrue, ◌≡◌, IfOk, ◌<◌, length, ◌≤◌, [], map, MatchResult};
 ghost use Rattle.giop_core.specs.declared.header.Version.TheVariants.{V10, V11, V12};
-ghost use Rattle.giop_core.specs.Calls.{Shows, Reads};
 ghost use Rattle.giop_core.specs.Content.{wish_by, wish_if};
-ghost use Rattle.giop_core.specs.Lent.{addressed_by, content_of, three_value};
+ghost use Rattle.giop_core.specs.Lent.{addressed_by, content_of, Shows};
 ghost use Rattle.giop_core.specs.Messages.{message_of};
 ghost use Rattle.cdr_core.specs.Private.{Keeps};
 ghost use Rattle.giop_core.specs.Rows.{contexts, reserved, target};
@@ -13,14 +12,15 @@ ghost use Rattle.cdr_core.specs.Spelling.{IsClean};
 ghost use Rattle.cdr_core.specs.Value.{values};
 ghost use Rattle.cdr_core.specs.View.{values_of};
 ghost use Rattle.giop_core.specs.Items.{item_at};
-ghost use Rattle.giop_core.specs.Written.{behind_header, flags_of, is_expected, request_fields, Adds, CanAddress, CanAsk, PutsFields, Wrote, zeros};
+ghost use Rattle.giop_core.specs.Written.{behind_header, flags_of, is_expected, request_fields, CanAddress, CanAsk, Wrote, zeros};
+ghost use Rattle.giop_core.specs.Private.{fields_in, Reads, three_value, Adds, PutsFields};
 ghost use Rattle.giop_core.specs.declared.header.MessageKind.TheVariants as kind;
 ghost use Rattle.cdr_core.specs.Value as value;
 ghost use Rattle.giop_core.specs.Texts.{wish_text};
 
 use crate::error::{MessageFault, WriteError};
 use crate::header::{MessageKind, Version};
-use crate::message::{BEHIND_HEADER, Body, Content, Message, body_at};
+use crate::message::{AFTER_HEADER, Body, Content, Message, body_at};
 use crate::service_context::{Contexts, check_contexts, put_contexts, read_contexts};
 use crate::target_address::{Target, check_target, put_key, put_target, read_target};
 use crate::writing::{begin, check_text, finish};
@@ -76,7 +76,7 @@ impl Version {
     }
 }
 
-/// The wish that response_flags express.
+/// The wish in response_flags, whose two low bits alone count.
 fn wish_by(flags: u8) -> ReplyWish
     ensures { result ≡ wish_by flags }
 {
@@ -89,7 +89,7 @@ fn wish_by(flags: u8) -> ReplyWish
     ReplyWish::Full
 }
 
-/// The wish for a response that is expected or not.
+/// The wish in response_expected.
 fn wish_if(expected: bool) -> ReplyWish
     ensures { result ≡ wish_if expected }
 {
@@ -100,7 +100,7 @@ fn wish_if(expected: bool) -> ReplyWish
     }
 }
 
-/// Three octets that mean nothing.
+/// Reads three reserved octets, which may be any.
 #[tactic(auto, using(crate::proofs::Steps::three_reads, crate::proofs::Steps::three_stop_1, crate::proofs::Steps::three_stop_2, crate::proofs::Steps::three_stop_3))]
 fn read_reserved(cursor: &mut Cursor) -> Result<(u8, u8, u8), Fault>
     ensures { Reads three_value result reserved cursor.old cursor.new }
@@ -111,14 +111,14 @@ fn read_reserved(cursor: &mut Cursor) -> Result<(u8, u8, u8), Fault>
     Ok((a, b, c))
 }
 
-/// A Request of 1.0. Each reader of a Request or a Reply makes the whole message in its place, since to
-/// move one costs as much as to read it.
+/// Reads a Request of 1.0. Each reader of a Request or a Reply makes the whole message in its place,
+/// since to move one costs as much as to read it.
 #[tactic(auto, unfolding(crate::specs::Messages::message_of, crate::specs::Rows::row, crate::specs::Content::content), using(crate::proofs::Again::addressed_again, crate::proofs::Again::items_again))]
 fn read_request_10(order: Order, octets: &[u8]) -> Result<Message<'_>, MessageFault>
     ensures shows { Shows (λ m. content_of m.content) result (message_of V10 kind.Request order octets.now) }
     ensures same { IfOk result (λ m. (m.version ≡ V10) × (m.order ≡ order)) }
 {
-    let mut cursor = Cursor::new(octets, order, BEHIND_HEADER);
+    let mut cursor = Cursor::new(octets, order, AFTER_HEADER);
     let contexts = read_contexts(&mut cursor)?;
     let request_id = cursor.ulong()?;
     let expected = cursor.boolean()?;
@@ -139,12 +139,13 @@ fn read_request_10(order: Order, octets: &[u8]) -> Result<Message<'_>, MessageFa
     })
 }
 
+/// Reads a Request of 1.1.
 #[tactic(auto, unfolding(crate::specs::Messages::message_of, crate::specs::Rows::row, crate::specs::Content::content), using(crate::proofs::Again::addressed_again, crate::proofs::Again::items_again))]
 fn read_request_11(order: Order, octets: &[u8]) -> Result<Message<'_>, MessageFault>
     ensures shows { Shows (λ m. content_of m.content) result (message_of V11 kind.Request order octets.now) }
     ensures same { IfOk result (λ m. (m.version ≡ V11) × (m.order ≡ order)) }
 {
-    let mut cursor = Cursor::new(octets, order, BEHIND_HEADER);
+    let mut cursor = Cursor::new(octets, order, AFTER_HEADER);
     let contexts = read_contexts(&mut cursor)?;
     let request_id = cursor.ulong()?;
     let expected = cursor.boolean()?;
@@ -166,19 +167,20 @@ fn read_request_11(order: Order, octets: &[u8]) -> Result<Message<'_>, MessageFa
     })
 }
 
+/// Reads a Request of 1.2.
 #[tactic(auto, unfolding(crate::specs::Messages::message_of, crate::specs::Rows::row, crate::specs::Content::content), using(crate::proofs::Again::addressed_again, crate::proofs::Again::items_again))]
 fn read_request_12(order: Order, octets: &[u8]) -> Result<Message<'_>, MessageFault>
     ensures shows { Shows (λ m. content_of m.content) result (message_of V12 kind.Request order octets.now) }
     ensures same { IfOk result (λ m. (m.version ≡ V12) × (m.order ≡ order)) }
 {
-    let mut cursor = Cursor::new(octets, order, BEHIND_HEADER);
+    let mut cursor = Cursor::new(octets, order, AFTER_HEADER);
     let request_id = cursor.ulong()?;
     let flags = cursor.octet()?;
-    let _reserved = read_reserved(&mut cursor)?; // behind the flags of 1.2
+    let _reserved = read_reserved(&mut cursor)?;
     let target = read_target(&mut cursor)?;
     let operation = cursor.string()?;
     let contexts = read_contexts(&mut cursor)?;
-    cursor.align(8); // to the body of a Request
+    cursor.align(8);
     Ok(Message {
         version: Version::V12,
         order,
@@ -193,6 +195,7 @@ fn read_request_12(order: Order, octets: &[u8]) -> Result<Message<'_>, MessageFa
     })
 }
 
+/// Reads a Request.
 pub(crate) fn read_request(
     version: Version,
     order: Order,
@@ -208,7 +211,7 @@ pub(crate) fn read_request(
     }
 }
 
-/// Whether a response is expected, as 1.0 and 1.1 tell it.
+/// The response_expected for a wish, in 1.0 and 1.1.
 fn is_expected(wish: ReplyWish) -> bool
     ensures { result ≡ is_expected wish }
 {
@@ -218,7 +221,7 @@ fn is_expected(wish: ReplyWish) -> bool
     }
 }
 
-/// The response_flags that express a wish.
+/// The response_flags for a wish, in 1.2.
 fn flags_of(wish: ReplyWish) -> u8
     ensures { result ≡ flags_of wish }
 {
@@ -229,10 +232,10 @@ fn flags_of(wish: ReplyWish) -> u8
     }
 }
 
-/// What is written for an octet that means nothing.
+/// A reserved octet.
 const RESERVED: u8 = 0;
 
-/// Appends three octets that mean nothing.
+/// Appends three reserved octets.
 fn put_reserved(writer: &Writer, out: &mut Vec<u8>) -> Result<(), AllocError>
     requires { writer.now.start ≤ length out.old.items }
     ensures { MatchResult result (λ _. Appends writer.now zeros out.old.items out.new.items) (λ _. Keeps out.old.items out.new.items) }
@@ -250,26 +253,32 @@ fn put_principal(writer: &Writer, out: &mut Vec<u8>) -> Result<(), AllocError>
     writer.octets(&[], out)
 }
 
+/// What a Request says before its body, as its writers hand it on.
+#[derive(Clone, Copy)]
+struct RequestFields<'a> {
+    request_id: u32,
+    wish: ReplyWish,
+    target: &'a Target<'a>,
+    operation: &'a [u8],
+    contexts: &'a [(u32, &'a [u8])],
+}
+
 /// Appends the fields of a Request of 1.0.
 fn put_request_10(
     writer: &Writer,
-    request_id: u32,
-    wish: ReplyWish,
-    target: &Target,
-    operation: &[u8],
-    contexts: &[(u32, &[u8])],
+    fields: &RequestFields,
     out: &mut Vec<u8>,
 ) -> Result<(), AllocError>
     requires start { writer.now.start ≤ length out.old.items }
-    requires can { CanAddress V10 (addressed_by target.now) }
-    requires writable { AreWritable (values (request_fields V10 request_id wish (addressed_by target.now) operation.now (map item_at contexts.now))) }
-    ensures { PutsFields writer.now (request_fields V10 request_id wish (addressed_by target.now) operation.now (map item_at contexts.now)) result out.old.items out.new.items }
+    requires can { CanAddress V10 (addressed_by fields.now.target.now) }
+    requires writable { AreWritable (values (fields_in V10 fields.now)) }
+    ensures { PutsFields writer.now (fields_in V10 fields.now) result out.old.items out.new.items }
 {
-    put_contexts(writer, contexts, out)?;
-    writer.ulong(request_id, out)?;
-    writer.boolean(is_expected(wish), out)?;
-    put_key(writer, target, out)?;
-    writer.string(operation, out)?;
+    put_contexts(writer, fields.contexts, out)?;
+    writer.ulong(fields.request_id, out)?;
+    writer.boolean(is_expected(fields.wish), out)?;
+    put_key(writer, fields.target, out)?;
+    writer.string(fields.operation, out)?;
     put_principal(writer, out)?;
     Ok(())
 }
@@ -277,24 +286,20 @@ fn put_request_10(
 /// Appends the fields of a Request of 1.1.
 fn put_request_11(
     writer: &Writer,
-    request_id: u32,
-    wish: ReplyWish,
-    target: &Target,
-    operation: &[u8],
-    contexts: &[(u32, &[u8])],
+    fields: &RequestFields,
     out: &mut Vec<u8>,
 ) -> Result<(), AllocError>
     requires start { writer.now.start ≤ length out.old.items }
-    requires can { CanAddress V11 (addressed_by target.now) }
-    requires writable { AreWritable (values (request_fields V11 request_id wish (addressed_by target.now) operation.now (map item_at contexts.now))) }
-    ensures { PutsFields writer.now (request_fields V11 request_id wish (addressed_by target.now) operation.now (map item_at contexts.now)) result out.old.items out.new.items }
+    requires can { CanAddress V11 (addressed_by fields.now.target.now) }
+    requires writable { AreWritable (values (fields_in V11 fields.now)) }
+    ensures { PutsFields writer.now (fields_in V11 fields.now) result out.old.items out.new.items }
 {
-    put_contexts(writer, contexts, out)?;
-    writer.ulong(request_id, out)?;
-    writer.boolean(is_expected(wish), out)?;
+    put_contexts(writer, fields.contexts, out)?;
+    writer.ulong(fields.request_id, out)?;
+    writer.boolean(is_expected(fields.wish), out)?;
     put_reserved(writer, out)?;
-    put_key(writer, target, out)?;
-    writer.string(operation, out)?;
+    put_key(writer, fields.target, out)?;
+    writer.string(fields.operation, out)?;
     put_principal(writer, out)?;
     Ok(())
 }
@@ -302,23 +307,19 @@ fn put_request_11(
 /// Appends the fields of a Request of 1.2.
 fn put_request_12(
     writer: &Writer,
-    request_id: u32,
-    wish: ReplyWish,
-    target: &Target,
-    operation: &[u8],
-    contexts: &[(u32, &[u8])],
+    fields: &RequestFields,
     out: &mut Vec<u8>,
 ) -> Result<(), AllocError>
     requires start { writer.now.start ≤ length out.old.items }
-    requires writable { AreWritable (values (request_fields V12 request_id wish (addressed_by target.now) operation.now (map item_at contexts.now))) }
-    ensures { PutsFields writer.now (request_fields V12 request_id wish (addressed_by target.now) operation.now (map item_at contexts.now)) result out.old.items out.new.items }
+    requires writable { AreWritable (values (fields_in V12 fields.now)) }
+    ensures { PutsFields writer.now (fields_in V12 fields.now) result out.old.items out.new.items }
 {
-    writer.ulong(request_id, out)?;
-    writer.octet(flags_of(wish), out)?;
+    writer.ulong(fields.request_id, out)?;
+    writer.octet(flags_of(fields.wish), out)?;
     put_reserved(writer, out)?;
-    put_target(writer, target, out)?;
-    writer.string(operation, out)?;
-    put_contexts(writer, contexts, out)?;
+    put_target(writer, fields.target, out)?;
+    writer.string(fields.operation, out)?;
+    put_contexts(writer, fields.contexts, out)?;
     Ok(())
 }
 
@@ -326,50 +327,40 @@ fn put_request_12(
 fn put_request(
     version: Version,
     writer: &Writer,
-    request_id: u32,
-    wish: ReplyWish,
-    target: &Target,
-    operation: &[u8],
-    contexts: &[(u32, &[u8])],
+    fields: &RequestFields,
     out: &mut Vec<u8>,
 ) -> Result<(), AllocError>
     requires start { writer.now.start ≤ length out.old.items }
-    requires can { CanAddress version (addressed_by target.now) }
-    requires writable { AreWritable (values (request_fields version request_id wish (addressed_by target.now) operation.now (map item_at contexts.now))) }
-    ensures { PutsFields writer.now (request_fields version request_id wish (addressed_by target.now) operation.now (map item_at contexts.now)) result out.old.items out.new.items }
+    requires can { CanAddress version (addressed_by fields.now.target.now) }
+    requires writable { AreWritable (values (fields_in version fields.now)) }
+    ensures { PutsFields writer.now (fields_in version fields.now) result out.old.items out.new.items }
 {
     match version {
-        Version::V10 => put_request_10(writer, request_id, wish, target, operation, contexts, out),
-        Version::V11 => put_request_11(writer, request_id, wish, target, operation, contexts, out),
-        Version::V12 => put_request_12(writer, request_id, wish, target, operation, contexts, out),
+        Version::V10 => put_request_10(writer, fields, out),
+        Version::V11 => put_request_11(writer, fields, out),
+        Version::V12 => put_request_12(writer, fields, out),
     }
 }
 
-/// Appends a Request; where that fails, what there was still stands in front.
+/// Appends a Request. Where that fails `out` may keep a part of it at its end.
 fn append_request(
     version: Version,
     order: Order,
-    request_id: u32,
-    wish: ReplyWish,
-    target: &Target,
-    operation: &[u8],
-    contexts: &[(u32, &[u8])],
+    fields: &RequestFields,
     body: &[Val],
     out: &mut Vec<u8>,
 ) -> Result<(), WriteError>
-    requires can { CanAddress version (addressed_by target.now) }
-    requires clean { IsClean operation.now }
+    requires can { CanAddress version (addressed_by fields.now.target.now) }
+    requires clean { IsClean fields.now.operation.now }
     requires writable { AreWritable (values_of body.now) }
-    ensures { Adds version kind.Request order (behind_header version kind.Request order (request_fields version request_id wish (addressed_by target.now) operation.now (map item_at contexts.now)) (values_of body.now)) result out.old.items out.new.items }
+    ensures { Adds version kind.Request order (behind_header version kind.Request order (fields_in version fields.now) (values_of body.now)) result out.old.items out.new.items }
 {
-    check_target(version, target)?;
-    check_text(operation)?;
-    check_contexts(contexts)?;
+    check_target(version, fields.target)?;
+    check_text(fields.operation)?;
+    check_contexts(fields.contexts)?;
     let start = out.len();
     let writer = begin(order, out)?;
-    put_request(
-        version, &writer, request_id, wish, target, operation, contexts, out,
-    )?;
+    put_request(version, &writer, fields, out)?;
     finish(
         version,
         MessageKind::Request,
@@ -384,7 +375,7 @@ fn append_request(
 /// Appends a Request (CORBA 3.3 Part 2, 9.4.2), whose principal is empty.
 ///
 /// The operation has no NUL. In 1.0 and 1.1 the target is an object key, and no empty reply can be
-/// asked for. On a refusal `out` is as it was.
+/// asked for. On an error `out` is as it was.
 pub fn write_request(
     version: Version,
     order: Order,
@@ -403,9 +394,14 @@ pub fn write_request(
     ensures { Wrote version kind.Request order (behind_header version kind.Request order (request_fields version request_id wish (addressed_by target.now) operation.now (map item_at contexts.now)) (values_of body.now)) result out.old.items out.new.items }
 {
     let start = out.len();
-    let result = append_request(
-        version, order, request_id, wish, target, operation, contexts, body, out,
-    );
+    let fields = RequestFields {
+        request_id,
+        wish,
+        target,
+        operation,
+        contexts,
+    };
+    let result = append_request(version, order, &fields, body, out);
     if result.is_err() {
         out.truncate(start);
     }

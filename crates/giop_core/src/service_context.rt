@@ -6,11 +6,9 @@ ghost use Rattle.giop_core.specs.Items.{contexts_left, item_at, list_value, tagg
 ghost use Rattle.cdr_core.specs.Reading.{each_at, value_at};
 ghost use Rattle.cdr_core.specs.Private.{passing, Keeps};
 ghost use Rattle.ior_core.specs.Grammar.{tagged};
-ghost use Rattle.giop_core.specs.Calls.{Reads, Tells};
-ghost use Rattle.giop_core.specs.Lent.{contexts_value, lent_value};
 ghost use Rattle.giop_core.specs.Rows.{contexts};
 ghost use Rattle.std.specs.Iterator.{YieldsFirstBy, item_count};
-ghost use Rattle.giop_core.specs.Long.{Checks};
+ghost use Rattle.giop_core.specs.Private.{Reads, Tells, contexts_value, lent_value, Checks};
 ghost use Rattle.cdr_core.specs.Value.{values};
 
 use crate::error::WriteError;
@@ -19,14 +17,15 @@ use cdr_core::{Cursor, Fault, Writer};
 use ior_core::read_tagged;
 use std::alloc::AllocError;
 
-/// The service contexts of a message, one after another: the id of each and its octets.
+/// The service contexts of a message (CORBA 3.3 Part 2, 9.7.1), an iterator of the id of each and its
+/// octets. They are lent from the message and take no memory.
 #[derive(Debug, Drop)]
 pub struct Contexts<'m> {
     pub(crate) cursor: Cursor<'m>,
     pub(crate) left: u32,
 }
 
-/// Passes over so many of them.
+/// Passes over so many contexts.
 fn pass(cursor: &mut Cursor, count: u32) -> Result<(), Fault>
     ensures { Tells (λ u. u) result (passing (each_at (value_at tagged cursor.old.order) count cursor.old.place cursor.old.rest)) cursor.old cursor.new }
 {
@@ -36,7 +35,7 @@ fn pass(cursor: &mut Cursor, count: u32) -> Result<(), Fault>
     Ok(())
 }
 
-/// Items behind their count.
+/// Reads a count and that many contexts, or profiles, which lie one after another in the octets.
 pub(crate) fn read_contexts<'m>(cursor: &mut Cursor<'m>) -> Result<Contexts<'m>, Fault>
     ensures reads { Reads contexts_value result contexts cursor.old cursor.new }
     ensures all { IfOk result (λ c. length (contexts_left c) ≡ c.left) }
@@ -76,7 +75,7 @@ impl<'m> Iterator for Contexts<'m> {
     }
 }
 
-/// Service contexts.
+/// That each context is short enough to be written.
 pub(crate) fn check_contexts(all: &[(u32, &[u8])]) -> Result<(), WriteError>
     ensures { Checks (list_value (map item_at all.now)) result }
 {
@@ -125,7 +124,7 @@ fn put_each(writer: &Writer, all: &[(u32, &[u8])], out: &mut Vec<u8>) -> Result<
     Ok(())
 }
 
-/// Appends service contexts behind their count.
+/// Appends the number of service contexts and the contexts.
 pub(crate) fn put_contexts(
     writer: &Writer,
     all: &[(u32, &[u8])],

@@ -3,15 +3,13 @@
 ghost use Rattle.std.specs.Prelude.{◌↔◌, IsTrue, ◌≡◌, length, ◌<◌, option_map, slice_get, ◌≤◌, map, MatchResult};
 ghost use Rattle.cdr_core.specs.Writing.{IsWritable, Appends, PutsAll, AreWritable};
 ghost use Rattle.giop_core.specs.Items.{contexts_left, items_in, reference_as, item_at, list_value, tagged_value};
-ghost use Rattle.giop_core.specs.Facts.{writable_prop};
 ghost use Rattle.cdr_core.specs.Private.{Keeps};
 ghost use Rattle.ior_core.specs.Grammar.{reference, tagged};
-ghost use Rattle.giop_core.specs.Calls.{Reads, Tells};
-ghost use Rattle.giop_core.specs.Lent.{reference_value, selected_value, target_value, addressed_by};
+ghost use Rattle.giop_core.specs.Lent.{addressed_by};
 ghost use Rattle.giop_core.specs.Messages.{field_at};
 ghost use Rattle.giop_core.specs.Rows.{contexts, selected, target};
 ghost use Rattle.giop_core.specs.Keys.{key_of_addressed};
-ghost use Rattle.giop_core.specs.Long.{Checks};
+ghost use Rattle.giop_core.specs.Private.{Reads, Tells, reference_value, selected_value, target_value, Checks};
 ghost use Rattle.giop_core.specs.Written.{target_in, CanAddress, target_of, key_of};
 ghost use Rattle.cdr_core.specs.Value.{values};
 ghost use Rattle.giop_core.specs.declared.header.Version.TheVariants.{V10, V11, V12};
@@ -25,18 +23,18 @@ use cdr_core::{Cursor, Fault, Writer};
 use ior_core::{profile_key, read_tagged};
 use std::alloc::AllocError;
 
-/// What a request is for (GIOP::TargetAddress).
+/// What a Request or LocateRequest is for (GIOP::TargetAddress). 1.0 and 1.1 have object keys alone.
 #[derive(Debug, Drop)]
 pub enum Target<'m> {
     /// An object key.
     Key(&'m [u8]),
     /// A profile: its tag and its octets.
     Profile(u32, &'m [u8]),
-    /// A reference, and the number of the chosen one of its profiles, from 0.
+    /// The index of the chosen profile, counted from 0, and the reference that has it.
     Reference(u32, IorView<'m>),
 }
 
-/// A reference.
+/// Reads a reference.
 #[tactic(auto, using(crate::proofs::Steps::pair_reads, crate::proofs::Steps::pair_stops, crate::proofs::Steps::pair_short))]
 fn read_reference<'m>(cursor: &mut Cursor<'m>) -> Result<IorView<'m>, Fault>
     ensures { Reads reference_value result reference cursor.old cursor.new }
@@ -48,7 +46,7 @@ fn read_reference<'m>(cursor: &mut Cursor<'m>) -> Result<IorView<'m>, Fault>
     Ok(IorView { type_id, profiles })
 }
 
-/// The number of a profile, and the reference that has it.
+/// Reads the index of a profile, and the reference that has it.
 #[tactic(auto, using(crate::proofs::Steps::pair_reads, crate::proofs::Steps::pair_stops, crate::proofs::Steps::pair_short))]
 fn read_selected<'m>(cursor: &mut Cursor<'m>) -> Result<(u32, IorView<'m>), Fault>
     ensures { Reads selected_value result selected cursor.old cursor.new }
@@ -58,7 +56,7 @@ fn read_selected<'m>(cursor: &mut Cursor<'m>) -> Result<(u32, IorView<'m>), Faul
     Ok((index, reference))
 }
 
-/// What a message is for.
+/// Reads the target of a message of 1.2.
 #[tactic(auto, using(crate::proofs::Choices::choice_short, crate::proofs::Choices::choice_0, crate::proofs::Choices::choice_1, crate::proofs::Choices::choice_2, crate::proofs::Choices::choice_0_stops, crate::proofs::Choices::choice_1_stops, crate::proofs::Choices::choice_2_stops, crate::proofs::Choices::choice_unknown))]
 pub(crate) fn read_target<'m>(cursor: &mut Cursor<'m>) -> Result<Target<'m>, MessageFault>
     ensures { Tells target_value result (field_at target cursor.old.order cursor.old.place cursor.old.rest) cursor.old cursor.new }
@@ -95,7 +93,7 @@ impl Version {
 
 impl<'m> Target<'m> {
     /// The object key: the key itself, that of an IIOP profile, or that of the chosen profile of a
-    /// reference. None where there is no such profile, or where it isn't one of IIOP that reads.
+    /// reference. None where there is no such profile, or where it isn't a valid one of IIOP.
     pub fn object_key(&self) -> Option<&'m [u8]>
         ensures { option_map (λ key. key.now) result ≡ key_of_addressed (addressed_by self.now) }
     {
@@ -110,7 +108,7 @@ impl<'m> Target<'m> {
     }
 }
 
-/// A target. Whatever was read is short enough.
+/// That a target is short enough to be written. A reference that was read always is.
 #[tactic(auto, using(crate::proofs::Longs::member_long))]
 pub(crate) fn check_target(version: Version, target: &Target) -> Result<(), WriteError>
     requires { CanAddress version (addressed_by target.now) }
@@ -123,7 +121,7 @@ pub(crate) fn check_target(version: Version, target: &Target) -> Result<(), Writ
     }
 }
 
-/// Appends so many of the items that a cursor reads.
+/// Appends so many of the profiles that a cursor reads.
 fn put_items(
     writer: &Writer,
     cursor: &mut Cursor,
@@ -143,7 +141,7 @@ fn put_items(
     Ok(())
 }
 
-/// Appends profiles behind their count.
+/// Appends the number of profiles and the profiles.
 fn put_profiles(writer: &Writer, all: &Contexts, out: &mut Vec<u8>) -> Result<(), AllocError>
     requires start { writer.now.start ≤ length out.old.items }
     requires all { length (contexts_left all.now) ≡ all.now.left }

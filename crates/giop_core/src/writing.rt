@@ -7,8 +7,8 @@ ghost use Rattle.cdr_core.specs.Spelling.{IsClean};
 ghost use Rattle.cdr_core.specs.Value.{values};
 ghost use Rattle.cdr_core.specs.View.{values_of};
 ghost use Rattle.giop_core.specs.declared.header.Version.TheVariants.{V12};
-ghost use Rattle.giop_core.specs.Written.{aligned_octets, body_octets, with_body, Adds};
-ghost use Rattle.giop_core.specs.Long.{Checks};
+ghost use Rattle.giop_core.specs.Written.{aligned_octets, body_octets, with_body};
+ghost use Rattle.giop_core.specs.Private.{Adds, Checks};
 ghost use Rattle.cdr_core.specs.Value as value;
 
 use crate::error::WriteError;
@@ -16,16 +16,13 @@ use crate::header::{Header, MessageKind, Version};
 use cdr_core::{Order, Val, Writer};
 use std::alloc::AllocError;
 
-/// How many octets a header has.
-pub(crate) const HEADER: usize = 12;
-
-/// Room for a short message, so that it grows the output once.
+/// Octets reserved for a message, so that a short one grows the output once.
 const SHORT: usize = 64;
 
-/// The greatest length that an unsigned long tells.
+/// The greatest length that an unsigned long can count.
 pub(crate) const LONGEST: usize = 0xffff_ffff;
 
-/// Octets in a sequence.
+/// That octets are short enough for a sequence.
 #[tactic(auto, using(crate::proofs::Longs::octets_long))]
 pub(crate) fn check_octets(octets: &[u8]) -> Result<(), WriteError>
     ensures { Checks (value.octets octets.now) result }
@@ -36,7 +33,7 @@ pub(crate) fn check_octets(octets: &[u8]) -> Result<(), WriteError>
     Ok(())
 }
 
-/// A string, which has a NUL behind its octets.
+/// That a text is short enough for a string, whose length counts the NUL after it.
 #[tactic(auto, using(crate::proofs::Longs::text_long))]
 pub(crate) fn check_text(text: &[u8]) -> Result<(), WriteError>
     requires { IsClean text.now }
@@ -48,15 +45,15 @@ pub(crate) fn check_text(text: &[u8]) -> Result<(), WriteError>
     Ok(())
 }
 
-/// Begins a message: room for its header, and a writer of what stands behind that.
+/// Begins a message: appends zeros in place of its header, and makes a writer of what follows.
 pub(crate) fn begin(order: Order, out: &mut Vec<u8>) -> Result<Writer, AllocError>
     ensures { MatchResult result
         (λ w. (out.new.items ≡ out.old.items ++ replicate 12 0) × (w ≡ record { order = order; at = 12; start = length out.new.items }))
         (λ _. out.new.items ≡ out.old.items) }
 {
     out.reserve(SHORT)?;
-    out.extend_from_slice(&[0; HEADER])?;
-    Ok(Writer::new(order, HEADER as u64, out))
+    out.extend_from_slice(&[0; Header::LEN])?;
+    Ok(Writer::new(order, Header::LEN as u64, out))
 }
 
 /// Appends a body of a Request or Reply of 1.2. Padding stands before its octets alone.
@@ -97,7 +94,7 @@ fn put_body(
     }
 }
 
-/// Writes the header over the room for it, which begins at `start`.
+/// Writes the header over the zeros in its place, which begin at `start`.
 fn put_header(
     version: Version,
     kind: MessageKind,
@@ -108,7 +105,7 @@ fn put_header(
     requires { start + 12 ≤ length out.old.items }
     ensures { Adds version kind order (drop (start + 12) out.old.items) result (take start out.old.items) out.new.items }
 {
-    let Ok(size) = u32::try_from(out.len() - start - HEADER) else {
+    let Ok(size) = u32::try_from(out.len() - start - Header::LEN) else {
         return Err(WriteError::TooLong);
     };
     let header = Header {
@@ -118,11 +115,11 @@ fn put_header(
         kind,
         size,
     };
-    out[start..start + HEADER].copy_from_slice(&header.octets());
+    out[start..start + Header::LEN].copy_from_slice(&header.octets());
     Ok(())
 }
 
-/// Appends the body behind the fields of a message that begins at `start`, and writes its header.
+/// Appends the body after the fields of a message that begins at `start`, and writes its header.
 pub(crate) fn finish(
     version: Version,
     kind: MessageKind,

@@ -6,7 +6,7 @@ use Rattle.cdr_core.specs.Value as value
 use Rattle.cdr_core.specs.Value.{values}
 use Rattle.cdr_core.specs.Writing.{AreWritable}
 use Rattle.giop_core.specs.Items.{item_at, list_value}
-use Rattle.giop_core.specs.Lent.{lent_value}
+use Rattle.giop_core.specs.Private.{lent_value}
 use Rattle.giop_core.proofs.Longs.{all_long, all_writable, context_long, contexts_long, long_on}
 use Rattle.giop_core.proofs.service_context.check_contexts.Goals as goal
 

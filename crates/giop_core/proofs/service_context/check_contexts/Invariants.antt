@@ -1,8 +1,7 @@
 use Rattle.std.proofs.Common.{drop, map}
 use Rattle.cdr_core.specs.Value.{values}
 use Rattle.cdr_core.specs.Writing.{AreWritable}
-use Rattle.giop_core.specs.Lent.{lent_value}
-use Rattle.giop_core.specs.Long.{AreLong}
+use Rattle.giop_core.specs.Private.{lent_value, AreLong}
 use Rattle.giop_core.proofs.service_context.check_contexts.Given as goal
 
 -- what is judged of the contexts that are left is judged of all

@@ -2,7 +2,7 @@ use Rattle.std.proofs.lemmas.Result.{err_from_is_err_and}
 use Rattle.cdr_core.specs.Reading.{value_at}
 use Rattle.cdr_core.proofs.Turns.{pass_done, pass_more, pass_stops}
 use Rattle.ior_core.specs.Grammar.{tagged}
-use Rattle.giop_core.specs.Lent.{lent_value}
+use Rattle.giop_core.specs.Private.{lent_value}
 use Rattle.giop_core.proofs.service_context.pass.Goals as goal
 
 pub returns-in_err-read_tagged : goal.returns-in_err-read_tagged

@@ -2,7 +2,7 @@ use Rattle.std.proofs.Common.{◌≡◌, ◌++◌, drop, map}
 use Rattle.cdr_core.specs.Private.{Keeps}
 use Rattle.cdr_core.specs.Value.{values}
 use Rattle.cdr_core.specs.Writing.{octets_of_all, place_in, AreWritable}
-use Rattle.giop_core.specs.Lent.{lent_value}
+use Rattle.giop_core.specs.Private.{lent_value}
 use Rattle.giop_core.proofs.service_context.put_each.Given as goal
 
 -- what was appended so far, and what is left, give the whole

@@ -1,19 +1,19 @@
 use Rattle.std.proofs.Common.{pos}
 use Rattle.std.proofs.lemmas.Result.{err_from_is_err_and}
-use Rattle.cdr_core.proofs.Appending.{keeps_all, keeps_both}
+use Rattle.cdr_core.proofs.Appending.{keeps_all, keeps_as, stands, then_stands}
 use Rattle.cdr_core.specs.Parts.{short_value, ulong_value}
 use Rattle.cdr_core.specs.Value as value
 use Rattle.giop_core.specs.Items.{contexts_left, tagged_value}
-use Rattle.giop_core.specs.Lent.{reference_value}
+use Rattle.giop_core.specs.Private.{reference_value}
 use Rattle.giop_core.specs.Written.{selected_as}
-use Rattle.giop_core.proofs.Behind.{keeps_first, puts_or_keeps, puts_second, start_behind}
+use Rattle.giop_core.proofs.After.{puts_or_keeps, puts_second}
 use Rattle.giop_core.proofs.target_address.put_target.Goals as goal
 
 pub octets-requires-clause-long : goal.octets-requires-clause-long
 octets-requires-clause-long c = (rw c.in-Key.is at c.requires.writable).1.0
 
 pub octets-requires-clause-start : goal.octets-requires-clause-start
-octets-requires-clause-start c = start_behind c.args.writer.now (short_value (pos 0)) c.args.out.now.items c.short.new.out.items c.in_ok-short-in-Key.ensures c.requires.start
+octets-requires-clause-start c = (then_stands _ (stands c.requires.start) c.in_ok-short-in-Key.ensures).0
 
 pub returns-in_err-short-in-Key : goal.returns-in_err-short-in-Key
 returns-in_err-short-in-Key c =
@@ -30,7 +30,7 @@ returns-in_ok-short-in-Key c =
     rw c.in-Key.is (puts_second w (short_value (pos 0)) a.out.now.items mid c.in_ok-short-in-Key.ensures c.requires.start key new c.octets.result (puts_or_keeps w key c.octets.result mid new c.octets.ensures))
 
 pub put_tagged-requires-clause-start : goal.put_tagged-requires-clause-start
-put_tagged-requires-clause-start c = start_behind c.args.writer.now (short_value (pos 1)) c.args.out.now.items c.short-in-Profile.new.out.items c.in_ok-short-in-Profile.ensures c.requires.start
+put_tagged-requires-clause-start c = (then_stands _ (stands c.requires.start) c.in_ok-short-in-Profile.ensures).0
 
 pub put_tagged-requires-clause-long : goal.put_tagged-requires-clause-long
 put_tagged-requires-clause-long c = (rw c.in-Profile.is at c.requires.writable).1.0.1.0
@@ -47,14 +47,10 @@ returns-in_ok-short-in-Profile c =
     rw c.in-Profile.is (puts_second a.writer.now (short_value (pos 1)) a.out.now.items c.short-in-Profile.new.out.items c.in_ok-short-in-Profile.ensures c.requires.start profile c.put_tagged.new.out.items c.put_tagged.result c.put_tagged.ensures)
 
 pub ulong-requires : goal.ulong-requires
-ulong-requires c = start_behind c.args.writer.now (short_value (pos 2)) c.args.out.now.items c.short-in-Reference.new.out.items c.in_ok-short-in-Reference.ensures c.requires.start
+ulong-requires c = (then_stands _ (stands c.requires.start) c.in_ok-short-in-Reference.ensures).0
 
 pub put_reference-requires-clause-start : goal.put_reference-requires-clause-start
-put_reference-requires-clause-start c =
-    let w = c.args.writer.now in
-    let mid = c.short-in-Reference.new.out.items in
-    let le = start_behind w (short_value (pos 2)) c.args.out.now.items mid c.in_ok-short-in-Reference.ensures c.requires.start in
-    start_behind w (ulong_value c.in-Reference.index) mid c.ulong.new.out.items c.in_ok-ulong-in-Reference.ensures le
+put_reference-requires-clause-start c = (then_stands _ (then_stands _ (stands c.requires.start) c.in_ok-short-in-Reference.ensures) c.in_ok-ulong-in-Reference.ensures).0
 
 pub put_reference-requires-clause-writable : goal.put_reference-requires-clause-writable
 put_reference-requires-clause-writable c = (rw c.in-Reference.is at c.requires.writable).1.0.1.0
@@ -67,10 +63,7 @@ returns-in_err-short-in-Reference c =
 pub returns-in_err-ulong-in-Reference : goal.returns-in_err-ulong-in-Reference
 returns-in_err-ulong-in-Reference c =
     let p = err_from_is_err_and c.from_residual-in_err-ulong-in-Reference.result c.from_residual-in_err-ulong-in-Reference.ensures.1 in
-    let old = c.args.out.now.items in
-    let mid = c.short-in-Reference.new.out.items in
-    let new = c.ulong.new.out.items in
-    rw (p.1) (keeps_both old mid new (keeps_first c.args.writer.now (short_value (pos 2)) old mid c.in_ok-short-in-Reference.ensures) (keeps_all mid new c.in_err-ulong-in-Reference.ensures))
+    rw (p.1) (keeps_as (then_stands _ (stands c.requires.start) c.in_ok-short-in-Reference.ensures) c.in_err-ulong-in-Reference.ensures)
 
 pub returns-in_ok-ulong-in-Reference : goal.returns-in_ok-ulong-in-Reference
 returns-in_ok-ulong-in-Reference c =
@@ -80,6 +73,6 @@ returns-in_ok-ulong-in-Reference c =
     let index = c.in-Reference.index in
     let mid = c.short-in-Reference.new.out.items in
     let new = c.put_reference.new.out.items in
-    let le = start_behind w (short_value (pos 2)) a.out.now.items mid c.in_ok-short-in-Reference.ensures c.requires.start in
+    let le = (then_stands _ (stands c.requires.start) c.in_ok-short-in-Reference.ensures).0 in
     let both = puts_second w (ulong_value index) mid c.ulong.new.out.items c.in_ok-ulong-in-Reference.ensures le (reference_value one) new c.put_reference.result c.put_reference.ensures in
     rw c.in-Reference.is (puts_second w (short_value (pos 2)) a.out.now.items mid c.in_ok-short-in-Reference.ensures c.requires.start (selected_as index one.type_id.now (contexts_left one.profiles)) new c.put_reference.result both)
