@@ -1,6 +1,6 @@
 -- What is judged fine is within the limits, and what is done reads.
 use Rattle.std.proofs.Common.{◌≡◌, ℕ, ◌+◌, ◌<◌, ◌≤◌, ◌&&◌, nat_lt, nat_le, not, Bool, true, false, cond, List, [], ◌∷◌, ◌++◌, length, take, Option, Some, None, is_some, Result, Ok, Err, IsOk, refl, sym, ap, subst, ◌∙◌, inl, inr, arith, length-append}
-use Rattle.giop_core.specs.declared.fault.MessageFault.{MessageFault}
+use Rattle.giop_core.specs.declared.error.MessageFault.{MessageFault}
 use Rattle.giop_core.specs.declared.header.Header.{Header}
 use Rattle.giop_core.specs.declared.header.HeaderFault.{HeaderFault}
 use Rattle.giop_core.specs.Content.{Content}

@@ -9,8 +9,8 @@ use Rattle.cdr_core.specs.declared.order.Order.TheVariants.{Big, Little}
 use Rattle.cdr_core.specs.Numbers.{digits_of, number_of}
 use Rattle.cdr_core.specs.Reading.{number_at, part_at, value_at, whole_at}
 use Rattle.cdr_core.specs.declared.fault.Kind.TheVariants.{Short}
-use Rattle.giop_core.specs.declared.fault.MessageFault.{MessageFault}
-use Rattle.giop_core.specs.declared.fault.MessageFault.TheVariants.{Cdr}
+use Rattle.giop_core.specs.declared.error.MessageFault.{MessageFault}
+use Rattle.giop_core.specs.declared.error.MessageFault.TheVariants.{Cdr}
 use Rattle.giop_core.specs.declared.header.Header.{Header}
 use Rattle.giop_core.specs.declared.header.MessageKind.{MessageKind}
 use Rattle.giop_core.specs.declared.header.MessageKind.TheVariants.{Request, Reply, CancelRequest, LocateRequest, LocateReply, CloseConnection, MessageError, Fragment}

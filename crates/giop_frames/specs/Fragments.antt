@@ -6,8 +6,8 @@ use Rattle.cdr_core.specs.declared.fault.Kind.TheVariants.{Short}
 use Rattle.cdr_core.specs.declared.order.Order.{Order}
 use Rattle.cdr_core.specs.declared.order.Order.TheVariants.{Big, Little}
 use Rattle.cdr_core.specs.Numbers.{number_of}
-use Rattle.giop_core.specs.declared.fault.MessageFault.{MessageFault}
-use Rattle.giop_core.specs.declared.fault.MessageFault.TheVariants.{Cdr}
+use Rattle.giop_core.specs.declared.error.MessageFault.{MessageFault}
+use Rattle.giop_core.specs.declared.error.MessageFault.TheVariants.{Cdr}
 use Rattle.giop_core.specs.declared.header.Header.{Header}
 use Rattle.giop_core.specs.declared.header.MessageKind.{MessageKind}
 use Rattle.giop_core.specs.declared.header.MessageKind.TheVariants.{CancelRequest, CloseConnection, MessageError, Fragment}

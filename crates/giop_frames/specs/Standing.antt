@@ -66,7 +66,7 @@ IsFault limits s c e = OnFault e (Faults limits s c e)
 pub record IsLent (m : Message) (f : Frame) : Type 0 where
   pub version : m.version ≡ f.header.version
   pub order : m.order ≡ f.header.order
-  pub content : content_of f.header f.octets ≡ Ok (lent.content_of m.part)
+  pub content : content_of f.header f.octets ≡ Ok (lent.content_of m.content)
 
 -- no partial message is longer than the limit
 abbrev pub AreShort : Limits → List Entry → Type 0

@@ -16,9 +16,6 @@ use std::alloc::Global;
 use std::fmt;
 use std::marker::Model;
 
-/// How many octets a header has.
-const HEADER: usize = 12;
-
 /// How many octets were taken, and the header of the message that they complete, if they do.
 #[derive(Drop)]
 struct Step {
@@ -56,7 +53,7 @@ fn advance_once(
         }
         Seen::Refused(fault) => Err(fault),
         Seen::Whole(header) => {
-            *needed = HEADER;
+            *needed = Header::LEN;
             match settle(limits, alloc, &header, frame, parts)? {
                 Settled::Quiet => Ok(Step {
                     taken,
@@ -174,7 +171,7 @@ impl Assembler {
             limits,
             alloc,
             frame: Vec::new(alloc),
-            needed: HEADER,
+            needed: Header::LEN,
             parts: Vec::new(alloc),
             complete: None,
             failed: false,
@@ -222,7 +219,7 @@ impl Assembler {
                 self.complete = None;
                 self.frame.clear();
                 self.parts.clear();
-                self.needed = HEADER;
+                self.needed = Header::LEN;
                 Err(fault)
             }
         }
@@ -233,7 +230,7 @@ impl Assembler {
         ensures { MatchOption result (self.now.message ≡ None) (λ m. IsSomeAnd self.now.message (λ f. IsLent m f)) }
     {
         let header = self.complete?;
-        let (_, octets) = self.frame.as_slice().split_at(HEADER);
+        let (_, octets) = self.frame.as_slice().split_at(Header::LEN);
         read_message(&header, octets).ok()
     }
 

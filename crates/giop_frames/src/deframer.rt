@@ -26,12 +26,19 @@ pub struct Gathered {
     pub seen: Seen,
 }
 
+/// How many octets the frame under a header has, those of the header among them.
+pub(crate) fn frame_size(header: &Header) -> usize
+    ensures { result ≡ frame_size header.now }
+{
+    Header::LEN + header.size as usize
+}
+
 /// Whether more fragments follow a frame of 1.2 whose length is not divisible by 8 (9.4.9).
 fn is_unaligned(header: &Header) -> bool
     ensures { result ≡ is_unaligned header.now.version header.now }
 {
     match header.version {
-        Version::V12 => header.more && !(12 + u64::from(header.size)).is_multiple_of(8),
+        Version::V12 => header.more && !frame_size(header).is_multiple_of(8),
         Version::V10 | Version::V11 => false,
     }
 }
@@ -51,7 +58,7 @@ fn is_old_fragment(header: &Header) -> bool
 fn admit(limits: &Limits, header: Header) -> Result<Header, StreamFault>
     ensures { result ≡ admitted limits.now header }
 {
-    if u64::from(limits.message) < 12 + u64::from(header.size) {
+    if (limits.message as usize) < frame_size(&header) {
         return Err(StreamFault::TooLarge);
     }
     if is_unaligned(&header) {
@@ -76,13 +83,13 @@ fn look(limits: &Limits, octets: &[u8]) -> Seen
     ensures seen { sight_at result octets.now ≡ sight limits.now octets.now }
     ensures needed { NeedsAsSeen result limits.now octets.now }
 {
-    let Some(head) = octets.first_chunk::<12>() else {
-        return Seen::Waiting(12 - octets.len());
+    let Some(head) = octets.first_chunk::<{ Header::LEN }>() else {
+        return Seen::Waiting(Header::LEN - octets.len());
     };
     match judge(limits, head) {
         Err(fault) => Seen::Refused(fault),
         Ok(header) => {
-            let size = 12 + header.size as usize;
+            let size = frame_size(&header);
             if octets.len() < size {
                 Seen::Waiting(size - octets.len())
             } else {

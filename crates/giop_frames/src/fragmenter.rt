@@ -8,6 +8,7 @@ ghost use Rattle.giop_core.specs.Headers.{can_be_cut, header_of};
 ghost use Rattle.giop_frames.specs.Cutting.{cut_octets, fragment_of, fragments_of, frame_octets, is_cut_kind, is_cuttable, chunks_from};
 ghost use Rattle.giop_frames.specs.Private.{IsAppended};
 
+use crate::deframer::frame_size;
 use giop_core::{Header, MessageKind, Version};
 use std::alloc::AllocError;
 
@@ -31,9 +32,9 @@ fn is_cut_kind(version: Version, kind: MessageKind) -> bool
 fn cuttable(octets: &[u8]) -> Option<Header>
     ensures { MatchOption result (is_cuttable octets.now ≡ false) (λ h. (header_of (take 12 octets.now) ≡ Ok h) × (is_cuttable octets.now ≡ true) × (12 + h.size ≡ length octets.now) × (h.version ≡ V12) × IsTrue (can_be_cut V12 h.kind)) }
 {
-    let head = octets.first_chunk::<12>()?;
+    let head = octets.first_chunk::<{ Header::LEN }>()?;
     let header = Header::read(head).ok()?;
-    let whole = 12 + header.size as usize == octets.len();
+    let whole = frame_size(&header) == octets.len();
     if is_cut_kind(header.version, header.kind) && !header.more && whole {
         Some(header)
     } else {
@@ -117,7 +118,7 @@ fn put_cut(
         return Ok(());
     }
     let (front, others) = message.split_at(size);
-    let (_, octets) = front.split_at(12);
+    let (_, octets) = front.split_at(Header::LEN);
     let first = Header {
         more: true,
         size: octets.len() as u32,

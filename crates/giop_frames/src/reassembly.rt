@@ -3,16 +3,15 @@
 
 ghost use Rattle.std.specs.Prelude.{◌≡◌, ◌<◌, ◌≤◌, length, IfOk};
 ghost use Rattle.std.specs.Vec.{vec_len};
-ghost use Rattle.cdr_core.specs.Numbers.{number_of};
 ghost use Rattle.giop_frames.specs.declared.reassembly.Role.TheVariants as role;
 ghost use Rattle.giop_frames.specs.Private.{IsSettled, IsSettledAs, IsTakenUp, judged_uncut, verdict_at, without};
 ghost use Rattle.giop_frames.specs.Standing.{framed, entries};
-ghost use Rattle.giop_frames.specs.Fragments.{id_of, is_same_order, judged_whole, role_in_12, role_of};
+ghost use Rattle.giop_frames.specs.Fragments.{id_of, judged_whole, role_in_12, role_of};
 
 use crate::fault::StreamFault;
 use crate::limits::Limits;
 use crate::partial::Part;
-use cdr_core::{Fault, Kind, Order};
+use cdr_core::{Fault, Kind};
 use giop_core::{Header, MessageFault, MessageKind, Version, read_message};
 use std::alloc::{AllocError, Global};
 use std::mem;
@@ -79,34 +78,12 @@ pub enum TakenUp {
     Refused(StreamFault),
 }
 
-/// The number in the first four octets.
-fn number(order: Order, octets: &[u8]) -> u32
-    requires { 4 ≤ length octets.now }
-    ensures { result ≡ number_of order 4 octets.now }
-{
-    let octets = [octets[0], octets[1], octets[2], octets[3]];
-    match order {
-        Order::Big => u32::from_be_bytes(octets),
-        Order::Little => u32::from_le_bytes(octets),
-    }
-}
-
-/// Whether two byte orders are one.
-fn is_same_order(a: Order, b: Order) -> bool
-    ensures { result ≡ is_same_order a b }
-{
-    matches!(
-        (a, b),
-        (Order::Big, Order::Big) | (Order::Little, Order::Little)
-    )
-}
-
 /// Judges a whole message by its content.
 fn whole(header: &Header, frame: &[u8]) -> Settled
     requires { 12 ≤ length frame.now }
     ensures { verdict_at result frame.now ≡ judged_whole (framed header.now frame.now) }
 {
-    let (_, octets) = frame.split_at(12);
+    let (_, octets) = frame.split_at(Header::LEN);
     match read_message(header, octets) {
         Ok(_) => Settled::Done(*header),
         Err(fault) => Settled::Bad(StreamFault::Body(fault)),
@@ -156,7 +133,7 @@ fn take_up(
     let Some(part) = Part::take_from(parts, id) else {
         return Ok(TakenUp::Refused(StreamFault::StrayFragment));
     };
-    if !is_same_order(part.header.order, header.order) {
+    if part.header.order != header.order {
         return Ok(TakenUp::Refused(StreamFault::MixedOrder));
     }
     let Part {
@@ -219,7 +196,7 @@ fn end(
                 octets,
             } = part;
             *frame = octets;
-            let size = (frame.len() - 12) as u32;
+            let size = (frame.len() - Header::LEN) as u32;
             let header = Header {
                 more: false,
                 size,
@@ -265,8 +242,8 @@ fn settle_by_id(
     requires long { 16 ≤ vec_len frame.old }
     ensures { IfOk result (λ v. IsSettledAs role v limits.now header.now frame.old.items frame.new.items (entries parts.old.items) (entries parts.new.items)) }
 {
-    let (_, octets) = frame.as_slice().split_at(12);
-    let id = number(header.order, octets);
+    let (_, octets) = frame.as_slice().split_at(Header::LEN);
+    let id = header.order.ulong_of(octets);
     match role {
         Role::Opens => open(limits, alloc, header, id, frame, parts),
         Role::Carries => carry(limits, header, id, frame, parts),

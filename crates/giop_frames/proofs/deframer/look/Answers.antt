@@ -1,4 +1,4 @@
-use Rattle.std.proofs.Common.{◌≡◌, ℕ, List, take, Result, Ok, Err, sym, ap, ◌∙◌}
+use Rattle.std.proofs.Common.{◌≡◌, ℕ, List, take, Result, Ok, Err, sym, ap, ◌∙◌, arith}
 use Rattle.giop_core.specs.declared.header.Header.{Header}
 use Rattle.giop_core.specs.Headers.{header_of}
 use Rattle.giop_frames.specs.declared.fault.StreamFault.{StreamFault}
@@ -26,14 +26,14 @@ returns-in-Err-clause-seen c =
 pub returns-then-octets-size-clause-seen : goal.returns-then-octets-size-clause-seen
 returns-then-octets-size-clause-seen c =
     sym (sight-early c.args.limits.now c.args.octets.now c.in-Ok.header c.in-Some.ensures.cases.enough
-    (judgement c.args.limits.now c.args.octets.now c.in-Some.head.now (Ok c.in-Ok.header) c.in-Some.ensures.cases.same c.in-Ok.ensures) c.if-octets-size.true)
+    (judgement c.args.limits.now c.args.octets.now c.in-Some.head.now (Ok c.in-Ok.header) c.in-Some.ensures.cases.same c.in-Ok.ensures) (omega (arith, c.if-octets-size.true, c.frame_size-size.ensures)))
 
 pub returns-then-octets-size-clause-needed : goal.returns-then-octets-size-clause-needed
 returns-then-octets-size-clause-needed c =
-    needs-frame c.args.limits.now c.args.octets.now c.in-Ok.header c.in-Some.ensures.cases.enough
-    (judgement c.args.limits.now c.args.octets.now c.in-Some.head.now (Ok c.in-Ok.header) c.in-Some.ensures.cases.same c.in-Ok.ensures) c.if-octets-size.true
+    rw c.frame_size-size.ensures (needs-frame c.args.limits.now c.args.octets.now c.in-Ok.header c.in-Some.ensures.cases.enough
+    (judgement c.args.limits.now c.args.octets.now c.in-Some.head.now (Ok c.in-Ok.header) c.in-Some.ensures.cases.same c.in-Ok.ensures) (omega (arith, c.if-octets-size.true, c.frame_size-size.ensures)))
 
 pub returns-else-octets-size-clause-seen : goal.returns-else-octets-size-clause-seen
 returns-else-octets-size-clause-seen c =
     sym (sight-all c.args.limits.now c.args.octets.now c.in-Ok.header c.in-Some.ensures.cases.enough
-    (judgement c.args.limits.now c.args.octets.now c.in-Some.head.now (Ok c.in-Ok.header) c.in-Some.ensures.cases.same c.in-Ok.ensures) c.if-octets-size.false)
+    (judgement c.args.limits.now c.args.octets.now c.in-Some.head.now (Ok c.in-Ok.header) c.in-Some.ensures.cases.same c.in-Ok.ensures) (omega (arith, c.if-octets-size.false, c.frame_size-size.ensures)))

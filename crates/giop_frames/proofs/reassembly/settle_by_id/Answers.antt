@@ -5,7 +5,7 @@ use Rattle.giop_frames.proofs.reassembly.settle_by_id.Goals as goal
 
 pub returns-in-Drops : goal.returns-in-Drops
 returns-in-Drops c =
-    rw c.in-Drops.is (by-cancel c.args.limits.now c.args.header.now c.args.frame.now.items c.as_slice-in-Drops.result.now (entries c.args.parts.now.items) (entries c.cancel.new.parts.items) c.cancel.result c.number-id.result
+    rw c.in-Drops.is (by-cancel c.args.limits.now c.args.header.now c.args.frame.now.items c.as_slice-in-Drops.result.now (entries c.args.parts.now.items) (entries c.cancel.new.parts.items) c.cancel.result c.ulong_of-id.result
     c.as_slice-in-Drops.ensures.value (omega (arith, c.requires.long)) c.cancel.ensures.verdict (search rules) c.cancel.ensures.parts)
 
 pub returns-in-Uncut : goal.returns-in-Uncut
