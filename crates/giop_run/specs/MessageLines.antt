@@ -15,7 +15,7 @@ use Rattle.giop_run.specs.Text.{digits_of, text_of}
 -- the text of what a number stands for, or a question mark
 abbrev pub text_by : {A : Type 0} → (A → List ℕ) → Option A → List ℕ
 text_by text (Some x) = text x
-text_by text None = codes "?"
+text_by text None = 0x3f ∷ []
 
 abbrev pub reply_status : ℕ → List ℕ
 reply_status n = text_by reply_status_text (reply_status_of n)
@@ -57,10 +57,10 @@ abbrev pub locate_request_line : ℕ → Addressed → List ℕ
 locate_request_line id target = concat (codes "LocateRequest id " ∷ decimal id ∷ codes " " ∷ target_text target ∷ codes "\n" ∷ [])
 
 abbrev pub reply_line : ℕ → ℕ → List ℕ → List ℕ
-reply_line id status body = concat (codes "Reply id " ∷ decimal id ∷ codes " status " ∷ reply_status status ∷ body_text body ∷ [])
+reply_line id status body = concat (codes "Reply id " ∷ decimal id ∷ codes " status " ∷ reply_status status ∷ codes " body " ∷ digits_of body ∷ codes "\n" ∷ [])
 
 abbrev pub locate_reply_line : ℕ → ℕ → List ℕ → List ℕ
-locate_reply_line id status body = concat (codes "LocateReply id " ∷ decimal id ∷ codes " status " ∷ locate_status status ∷ body_text body ∷ [])
+locate_reply_line id status body = concat (codes "LocateReply id " ∷ decimal id ∷ codes " status " ∷ locate_status status ∷ codes " body " ∷ digits_of body ∷ codes "\n" ∷ [])
 
 -- a message's kind and what it says, with a line for each of its contexts
 abbrev pub content_lines : Content → List ℕ

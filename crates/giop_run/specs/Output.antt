@@ -36,7 +36,7 @@ Writes past e octets Done = (octets ≡ output past e) × (is_refused past e ≡
 Writes past e octets Refused = (octets ≡ []) × (is_refused past e ≡ true)
 Writes past e octets (Memory handled answered) = (octets ≡ []) × (handled ≡ 0) × (answered ≡ 0) × (needs_memory past e ≡ true)
 
--- Want of memory ends the connection before the event had an effect; an opening that met it never was.
+-- A failed allocation ends the connection before the event had an effect; an opening that met one never was.
 abbrev pub cut_short : List Event → Event → List Event
 cut_short past (Opened c) = past
 cut_short past (Piece c moment octets) = Lost c ∷ Piece c moment [] ∷ past
@@ -66,7 +66,7 @@ is_memory Done = false
 is_memory Refused = false
 is_memory (Memory handled answered) = true
 
--- no entry is noted as want of memory
+-- no entry notes a failed allocation
 abbrev pub IsWithoutMemory : List Written → Type 0
 IsWithoutMemory [] = ⊤
 IsWithoutMemory (w ∷ ws) = (is_memory w.note ≡ false) × IsWithoutMemory ws
@@ -76,7 +76,7 @@ abbrev pub outputs : List Event → List Event → List (List ℕ)
 outputs past [] = []
 outputs past (e ∷ es) = output past e ∷ outputs (e ∷ past) es
 
--- the past behind some events
+-- the past after some events
 abbrev pub past_after : List Event → List Event → List Event
 past_after past [] = past
 past_after past (e ∷ es) = past_after (e ∷ past) es

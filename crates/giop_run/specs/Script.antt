@@ -1,4 +1,4 @@
--- What is told of a script that is refused.
+-- What is reported of a script that is refused.
 use Rattle.std.specs.Prelude.{◌≤◌, ⊤}
 use Rattle.giop_run.specs.declared.script.ScriptError.{ScriptError}
 use Rattle.giop_run.specs.declared.script.ScriptError.TheVariants as script

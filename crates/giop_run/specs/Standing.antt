@@ -29,7 +29,7 @@ Connects past e (Ok x) new = (is_refused past e ≡ false) × Stands new (e ∷ 
 Connects past e (Err connecting.NotNew) new = (is_refused past e ≡ true) × Stands new (e ∷ past)
 Connects past e (Err connecting.Memory) new = (needs_memory past e ≡ true) × Stands new (cut_short past e)
 
--- how a call for a piece or a close ended, and what it wrote behind what was written before
+-- how a call for a piece or a close ended, and what it wrote after what was written before
 abbrev pub Serves : {A : Type 0} → List Event → Event → Result A ServeError → List ℕ → List ℕ → Server → Type 0
 Serves past e (Ok x) before now new = (now ≡ before ++ output past e) × (is_refused past e ≡ false) × Stands new (e ∷ past)
 Serves past e (Err serving.NoConnection) before now new = (now ≡ before) × (is_refused past e ≡ true) × Stands new (e ∷ past)

@@ -40,7 +40,7 @@ impl Counter {
         self.total
     }
 
-    /// Tells whether an object key is the counter's.
+    /// Whether an object key is the counter's.
     pub fn has_object(&self, object_key: &[u8]) -> bool
         ensures { result ≡ is_counter object_key.now }
     {

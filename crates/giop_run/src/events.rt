@@ -23,7 +23,7 @@ pub enum Note {
     /// The number of an opened connection isn't greater than each one before, or the connection of a
     /// piece or a close isn't live.
     Refused,
-    /// Memory ran out. Of the requests that a piece completed, the first `handled` stand, and the
+    /// An allocation failed. Of the requests that a piece completed, the first `handled` stand, and the
     /// first `answered` have their answers written; both are 0 for an opening and a close.
     Memory { handled: u64, answered: u64 },
 }
@@ -39,6 +39,6 @@ pub struct Written {
 /// Why events were not all played.
 #[derive(Clone, Copy, Debug, PartialEq, Eq)]
 pub enum PlayError {
-    /// Memory ran out for an entry of what is written: the first `events` events were played.
+    /// The allocation for an entry of what is written failed: the first `events` events were played.
     Memory { events: u64 },
 }

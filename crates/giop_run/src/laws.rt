@@ -19,7 +19,7 @@ pub fn questions_are_locate_requests()
     messages_are_spelled();
 }
 
-/// Where nothing was noted as want of memory, what was written at each place is the output of the
+/// Where no entry notes a failed allocation, what was written at each place is the output of the
 /// event there, over the past before it.
 pub fn plays_write_their_outputs()
     ensures { (old : List Event) (es : List Event) (ws : List Written) (new : List Event) → Plays old es ws new → IsWithoutMemory ws

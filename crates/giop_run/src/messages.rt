@@ -160,11 +160,7 @@ fn put_locate_status(status: u32, text: &mut String) -> Result<(), AllocError>
 }
 
 /// Appends the line of a LocateReply.
-fn put_locate_reply(
-    alloc: Global,
-    reply: &LocateReply,
-    text: &mut String,
-) -> Result<(), AllocError>
+fn put_locate_reply(alloc: Global, reply: &LocateReply, text: &mut String) -> Result<(), AllocError>
     ensures { OnOk result (string_bytes text.new ≡ string_bytes text.old ++ lines.locate_reply_line reply.now.request_id reply.now.status reply.now.body.octets.now) }
 {
     let id = reply.request_id;

@@ -36,7 +36,7 @@ fn served(outcome: Result<(), ServeError>) -> Note
     }
 }
 
-/// Plays one event, and tells what was written for it.
+/// Plays one event, and returns what was written for it.
 fn step(alloc: Global, server: &mut Server, event: &Event) -> Written
     ensures connection { result.connection ≡ connection_of (event_of event.now) }
     ensures writes { (past : List history.Event) → Stands server.old past → Writes past (event_of event.now) result.octets.items result.note }
@@ -65,8 +65,8 @@ fn step(alloc: Global, server: &mut Server, event: &Event) -> Written
 
 /// Plays events in order on a server, and appends what was written for each.
 ///
-/// Where memory runs out for an entry of `out`, the events before it were played and have their
-/// entries, and it and those behind it were not.
+/// Where the allocation for an entry of `out` fails, the events before it were played and have their
+/// entries, and it and those after it were not.
 pub fn play(
     alloc: Global,
     server: &mut Server,

@@ -12,11 +12,11 @@ use std::alloc::{AllocError, Global};
 pub enum ScriptError {
     /// The line with that number, counted from 1, is no event.
     BadLine(u64),
-    /// Memory ran out.
+    /// An allocation failed.
     Memory,
 }
 
-/// A line that is no event, or want of memory.
+/// Why a line gave no event: it is none, or an allocation failed.
 #[derive(Clone, Copy, Debug, PartialEq, Eq)]
 enum LineError {
     Bad,
@@ -24,7 +24,7 @@ enum LineError {
 }
 
 /// A number in decimal digits alone.
-fn number(word: &str) -> Result<u64, LineError> {
+fn decimal(word: &str) -> Result<u64, LineError> {
     if !word.bytes().all(|b| b.is_ascii_digit()) {
         return Err(LineError::Bad);
     }
@@ -32,7 +32,7 @@ fn number(word: &str) -> Result<u64, LineError> {
 }
 
 /// Octets in hexadecimal digits of either case, at least one octet.
-fn octets(alloc: Global, word: &str) -> Result<Vec<u8>, LineError> {
+fn octets_in(alloc: Global, word: &str) -> Result<Vec<u8>, LineError> {
     if word.is_empty() {
         return Err(LineError::Bad);
     }
@@ -44,22 +44,22 @@ fn octets(alloc: Global, word: &str) -> Result<Vec<u8>, LineError> {
 }
 
 /// The piece in the words `C M HEX`.
-fn piece(alloc: Global, words: &str) -> Result<Event, LineError> {
+fn piece_in(alloc: Global, words: &str) -> Result<Event, LineError> {
     let (connection, words) = words.split_once(' ').ok_or(LineError::Bad)?;
     let (moment, digits) = words.split_once(' ').ok_or(LineError::Bad)?;
-    let connection = number(connection)?;
-    let moment = number(moment)?;
-    Ok(Event::Piece(connection, moment, octets(alloc, digits)?))
+    let connection = decimal(connection)?;
+    let moment = decimal(moment)?;
+    Ok(Event::Piece(connection, moment, octets_in(alloc, digits)?))
 }
 
 /// The event in a line.
-fn event(alloc: Global, line: &str) -> Result<Event, LineError> {
+fn event_in(alloc: Global, line: &str) -> Result<Event, LineError> {
     let (word, words) = line.split_once(' ').ok_or(LineError::Bad)?;
     match word {
-        "open" => Ok(Event::Opened(number(words)?)),
-        "bytes" => piece(alloc, words),
-        "close" => Ok(Event::Close(number(words)?)),
-        "lost" => Ok(Event::Lost(number(words)?)),
+        "open" => Ok(Event::Opened(decimal(words)?)),
+        "bytes" => piece_in(alloc, words),
+        "close" => Ok(Event::Close(decimal(words)?)),
+        "lost" => Ok(Event::Lost(decimal(words)?)),
         _ => Err(LineError::Bad),
     }
 }
@@ -69,7 +69,7 @@ fn put_event(alloc: Global, line: &str, events: &mut Vec<Event>) -> Result<(), L
     if line.is_empty() || line.starts_with('#') {
         return Ok(());
     }
-    let event = event(alloc, line)?;
+    let event = event_in(alloc, line)?;
     events.push(event).map_err(|_| LineError::Memory)
 }
 

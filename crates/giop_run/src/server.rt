@@ -38,7 +38,7 @@ pub enum Link {
 pub enum ConnectError {
     /// The number isn't greater than each one that was connected before.
     NotNew,
-    /// Memory ran out. The number stays unused.
+    /// An allocation failed. The number stays unused.
     Memory,
 }
 
@@ -47,7 +47,7 @@ pub enum ConnectError {
 pub enum ServeError {
     /// The connection was never opened, or is lost.
     NoConnection,
-    /// Memory ran out, and the connection is lost. The first `handled` requests of the piece stand,
+    /// An allocation failed, and the connection is lost. The first `handled` requests of the piece stand,
     /// and the first `answered` have their answers written.
     Memory { handled: u64, answered: u64 },
 }
@@ -106,7 +106,7 @@ impl Server {
         self.links.remove(&connection);
     }
 
-    /// Tells whether the connection's octets have no meaning: false exactly where it is connected
+    /// Whether the connection's octets have no meaning: false exactly where it is connected
     /// and nothing has ended it.
     pub fn is_closed(&self, connection: u64) -> bool
         ensures { (past : List Event) → Stands self.now past → result ≡ not (is_open past connection) }
@@ -164,7 +164,7 @@ impl Server {
 
     /// The status of the reply to a question for a target: whether it names the counter.
     fn status_of(&self, target: &Target<'_>) -> u32
-        ensures told { result ≡ status_of (key_of_addressed (addressed_by target.now)) }
+        ensures status { result ≡ status_of (key_of_addressed (addressed_by target.now)) }
         ensures known { result < 2 }
     {
         match target.object_key() {
@@ -173,8 +173,8 @@ impl Server {
         }
     }
 
-    /// Appends the answer to a piece that isn't empty, and tells whether the connection goes on.
-    /// Want of memory alone refuses it: a reply without a body is short.
+    /// Appends the answer to a piece that isn't empty, and returns whether the connection goes on.
+    /// Only a failed allocation refuses it: a reply without a body is short.
     #[tactic(auto, using(crate::proofs::Replies::reply_is_short))]
     fn reply(&self, piece: &[u8], out: &mut Vec<u8>) -> Result<Link, WriteError>
         ensures ok { IfOk result (λ link. (out.new.items ≡ out.old.items ++ reply_to (question_of piece.now)) × (link ≡ link_after (question_of piece.now))) }
@@ -208,7 +208,7 @@ impl Server {
         }
     }
 
-    /// Forgets a connection for want of memory.
+    /// Forgets a connection because an allocation failed.
     fn lose(&mut self, connection: u64) -> ServeError
         ensures links { Changes self.old.links self.new.links connection None }
         ensures greatest { self.new.greatest ≡ self.old.greatest }
