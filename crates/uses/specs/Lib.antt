@@ -1,0 +1,4 @@
+-- What the contracts of the examples cite. Each file goes with the file of the same subject in src/.
+pub mod Arguments
+pub mod Endpoint
+pub mod Invocation

@@ -1,0 +1,177 @@
+#!/usr/bin/env python3
+"""Checks that the documents say what the repository has.
+
+- docs/PROMISES.md names each must-fail edit of each crate, and no other: in the last column of the tables
+  under the crate's heading.
+- Each name in the other columns of these tables stands in a source or a definition of some crate.
+- Each block of Rust that README.md and docs/GUIDE.md show stands in a file of crates/uses/src.
+- docs/ARCHITECTURE.md names each crate, with the libraries that it stands on, and each room of the crates
+  whose rooms it lists.
+- Each relative link of a document, and each path such as `crates/NAME/..` that it gives between backquotes,
+  leads to something that is there.
+
+The last line is 'N passed, M failed'; the status is 0 only where all passed.
+"""
+import os
+import re
+import sys
+
+ROOT = os.path.dirname(os.path.dirname(os.path.abspath(__file__)))
+PROMISES = "docs/PROMISES.md"
+QUOTING = ["README.md", "docs/GUIDE.md"]
+USES = "crates/uses/src"
+ARCHITECTURE = "docs/ARCHITECTURE.md"
+FOUR = "`cdr_core`, `ior_core`, `giop_core`, `giop_frames`"
+LAST_COLUMN = "Edits that the prover refuses"
+
+
+def text_of(name):
+    with open(os.path.join(ROOT, name), encoding="utf-8") as file:
+        return file.read()
+
+
+def rows():
+    """The rows of the tables of calls: the crate that the heading names, and the cells."""
+    crate, is_table = None, False
+    for line in text_of(PROMISES).split("\n"):
+        heading = re.match(r"#+ .*`(\w+)`", line)
+        if heading:
+            crate = heading.group(1)
+        cells = [cell.strip() for cell in line.strip().strip("|").split("|")]
+        if not line.startswith("|"):
+            is_table = False
+        elif cells[-1] == LAST_COLUMN:
+            is_table = True
+        elif is_table:
+            yield crate, cells
+
+
+def edits_named():
+    """The pairs of a crate and an edit that the tables name."""
+    return {(crate, edit) for crate, cells in rows() for edit in re.findall(r"`(\w+)`", cells[-1])}
+
+
+def edits_there():
+    """The pairs of a crate and an edit that has a file."""
+    there = set()
+    for crate in os.listdir(os.path.join(ROOT, "crates")):
+        folder = os.path.join(ROOT, "crates", crate, "must-fail")
+        if os.path.isdir(folder):
+            there |= {(crate, name[:-5]) for name in os.listdir(folder) if name.endswith(".edit")}
+    return there
+
+
+def edits():
+    """A result for each edit: what is wrong with it, or None."""
+    named, there = edits_named(), edits_there()
+    for crate, edit in sorted(named | there, key=str):
+        if (crate, edit) not in there:
+            yield f"{PROMISES}: there is no crates/{crate}/must-fail/{edit}.edit"
+        elif (crate, edit) not in named:
+            yield f"{PROMISES}: crates/{crate}/must-fail/{edit}.edit is not named under `{crate}`"
+        else:
+            yield None
+    for edit in re.findall(r"the edit `(\w+)`", text_of(PROMISES)):
+        is_there = edit in {name for _, name in there}
+        yield None if is_there else f"{PROMISES}: there is no edit {edit}"
+
+
+def words():
+    """The words of the sources and the definitions of each crate."""
+    found = set()
+    for folder, folders, names in os.walk(os.path.join(ROOT, "crates")):
+        folders[:] = [f for f in folders if f not in ("out", "proofs", "must-fail")]
+        for name in names:
+            if name.endswith((".rt", ".antt")):
+                found.update(re.findall(r"\w+", text_of(os.path.join(folder, name))))
+    return found
+
+
+def calls():
+    """A result for each name in the other columns of the tables of calls."""
+    known = words()
+    for crate, cells in rows():
+        for name in re.findall(r"`(\w+(?:::\w+)*)`", " ".join(cells[:-1])):
+            missing = [word for word in name.split("::") if word not in known]
+            yield f"{PROMISES}: under `{crate}`: there is no {name}" if missing else None
+
+
+def quotes():
+    """A result for each block of Rust that is quoted."""
+    folder = os.path.join(ROOT, USES)
+    sources = [text_of(os.path.join(USES, name)) for name in sorted(os.listdir(folder)) if name.endswith(".rt")]
+    for name in QUOTING:
+        blocks = re.findall(r"^```rust\n(.*?)^```$", text_of(name), re.M | re.S)
+        if not blocks:
+            yield f"{name}: it quotes nothing of {USES}"
+        for block in blocks:
+            is_there = any("\n" + block in "\n" + source for source in sources)
+            yield None if is_there else f"{name}: not in {USES}: {block.split(chr(10))[0]}"
+
+
+def crates():
+    """A result for each crate of crates.txt: whether its row names it, and each library or 'the four libraries'."""
+    rows = re.findall(r"^\| `(\w+)` \|.*\| (.*?) \|$", text_of(ARCHITECTURE), re.M)
+    for line in text_of("crates.txt").split("\n"):
+        crate, _, libraries = line.split("#")[0].partition(":")
+        if not crate.strip():
+            continue
+        cells = [cell.replace("the four libraries", FOUR) for name, cell in rows if name == crate.split()[0]]
+        wanted = set(libraries.split())
+        is_named = bool(cells) and set(re.findall(r"`(\w+)`", cells[0])) == wanted
+        yield None if is_named else f"{ARCHITECTURE}: no row of {crate} with {' '.join(sorted(wanted))}"
+
+
+def rooms():
+    """A result for each crate of the table of rooms: whether it names the files of src, and no others."""
+    table = text_of(ARCHITECTURE).split("## The rooms")[1].split("\n## ")[0]
+    named, crate = {}, None
+    for name, cell in re.findall(r"^\| (?:`(\w+)`)? ?\| ([\w, ]+?) \|.*\|$", table, re.M):
+        crate = name or crate
+        if crate:
+            named.setdefault(crate, set()).update(re.findall(r"\w+", cell))
+    for crate, words in named.items():
+        files = {file[:-3] for file in os.listdir(os.path.join(ROOT, "crates", crate, "src")) if file.endswith(".rt")}
+        wrong = words ^ (files - {"lib", "main", "laws"})
+        yield f"{ARCHITECTURE}: the rooms of {crate}: {' '.join(sorted(wrong))}" if wrong else None
+
+
+def documents():
+    for folder, folders, names in os.walk(ROOT):
+        folders[:] = [f for f in folders if f not in ("out", ".git")]
+        for name in sorted(names):
+            if name.endswith(".md"):
+                yield os.path.relpath(os.path.join(folder, name), ROOT)
+
+
+def links():
+    """A result for each relative link, and for each path between backquotes."""
+    for name in documents():
+        text = text_of(name)
+        for target in re.findall(r"\]\(([^)\s]+)\)", text):
+            if not re.match(r"[a-z]+:|#", target):
+                path = os.path.join(ROOT, os.path.dirname(name), target.split("#")[0])
+                yield None if os.path.exists(path) else f"{name}: the link to {target} leads nowhere"
+        for path in re.findall(r"`((?:crates|tests|docs|examples|bench)/[\w./]+)`", text):
+            # (a word in capitals stands for any)
+            is_there = re.search(r"/[A-Z]+\b(?!\.)", path) or os.path.exists(os.path.join(ROOT, path))
+            yield None if is_there else f"{name}: there is no {path}"
+
+
+def main():
+    passed = failed = 0
+    for part in (edits, calls, quotes, crates, rooms, links):
+        results = list(part())
+        if not results:
+            results = [f"nothing was checked of {part.__name__}"]
+        for wrong in results:
+            if wrong is None:
+                passed += 1
+            else:
+                failed += 1
+                print(wrong)
+    print(f"{passed} passed, {failed} failed")
+    return 1 if failed else 0
+
+
+sys.exit(main())
