@@ -6,7 +6,7 @@ use Rattle.cdr_core.specs.Value as value
 use Rattle.cdr_core.specs.Value.{Value, Values}
 use Rattle.ior_core.specs.declared.reference.Ior.{Ior}
 use Rattle.ior_core.specs.declared.tagged.Tagged.{Tagged}
-use Rattle.ior_core.specs.Profiles.{body_of, has_major_1, member, Body}
+use Rattle.ior_core.specs.Profiles.{body_of, has_major_1, member}
 use Rattle.giop_run.specs.Text.{digits_of, text_of}
 
 -- the octets of a string or of a sequence of octets
@@ -28,8 +28,8 @@ abbrev pub component_lines : Values → List ℕ
 component_lines value.no_values = []
 component_lines (value.value v vs) = component_line v ++ component_lines vs
 
-abbrev pub components_in : Option Value → Values
-components_in (Some (value.sequence vs)) = vs
+abbrev pub components_in : Value → Values
+components_in (value.sequence vs) = vs
 components_in _ = value.no_values
 
 -- a profile's head is a structure of a major and a minor version, a host, a port and a key
@@ -42,8 +42,8 @@ abbrev pub bad_line : ℕ → List ℕ
 bad_line place = concat (codes "profile " ∷ decimal place ∷ codes " iiop bad\n" ∷ [])
 
 -- the lines of an IIOP profile: of major version 1, with its components, or bad
-abbrev pub iiop_lines : ℕ → Result Body Fault → List ℕ
-iiop_lines place (Ok p) = if has_major_1 p.0 then iiop_line place p.0 ++ component_lines (components_in p.1) else bad_line place
+abbrev pub iiop_lines : ℕ → Result Value Fault → List ℕ
+iiop_lines place (Ok p) = if has_major_1 p then iiop_line place p ++ component_lines (components_in (member 5 p)) else bad_line place
 iiop_lines place (Err f) = bad_line place
 
 abbrev pub tag_line : ℕ → ℕ → List ℕ → List ℕ

@@ -35,7 +35,7 @@ fn put_iiop(
     profile: &IiopProfile,
     text: &mut String,
 ) -> Result<(), AllocError>
-    ensures { OnOk result (string_bytes text.new ≡ string_bytes text.old ++ lines.iiop_line place (iiop_body profile.now).0) }
+    ensures { OnOk result (string_bytes text.new ≡ string_bytes text.old ++ lines.iiop_line place (iiop_body profile.now)) }
 {
     let minor = profile.minor;
     let host = text_of(alloc, &profile.host)?;
