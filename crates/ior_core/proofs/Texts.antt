@@ -1,6 +1,7 @@
 -- A text, step by step.
-use Rattle.std.proofs.Common.{◌≡◌, ℕ, List, Option, Some, None, Result, Ok, Err, ◌⊎◌, inl, inr, refl, subst}
+use Rattle.std.proofs.Common.{◌≡◌, ℕ, List, Option, Some, None, Result, Ok, Err, ◌⊎◌, inl, inr, refl, subst, rules}
 use Rattle.std.specs.Bool.{⊤}
+use Rattle.std.specs.Prelude.{IsSome}
 use Rattle.hex.specs.Hex.{decode_of}
 use Rattle.hex.specs.declared.error.FromHexError.{FromHexError}
 use Rattle.hex.specs.declared.error.FromHexError.TheVariants as digits
@@ -18,6 +19,14 @@ use Rattle.ior_core.specs.Calls.{ior_error}
 use Rattle.ior_core.specs.Grammar.{reference}
 use Rattle.ior_core.specs.Text.{after_prefix, decoded, digits_in, hex_error, reference_in, text_octets, ReadsText}
 
+is_some_of : (digits : List ℕ) → IsSome (Some digits)
+is_some_of digits = search rules
+
+-- what is read of a text follows its prefix
+has_prefix : (found : Option (List ℕ)) (octets : List ℕ) → digits_in found ≡ Ok octets → IsSome found
+has_prefix (Some digits) octets h = is_some_of digits
+has_prefix None octets h = absurd cc
+
 module _ (octets : List ℕ) where
   pub order_fails : (f : Fault) → order_at octets ≡ Err f → reference_in octets ≡ Err f
   unfolding encapsulated
@@ -34,7 +43,7 @@ module _ (octets : List ℕ) where
 
     pub reference_ends : (text : List ℕ) → text_octets text ≡ Ok octets → (e : CdrError) → Fails e (value_at reference order p rest) → ReadsText text (Err (ior_error e))
     reference_ends text t (errors.Bad f) h = (octets, t, reference_fails f h)
-    reference_ends text t errors.Memory h = tt
+    reference_ends text t errors.Memory h = has_prefix (after_prefix text) octets t
 
 -- what a text's digits may be refused for
 abbrev IsOfDigits : IorError → Type 0
@@ -60,11 +69,15 @@ digits_of_digits None e h =
     let is : NoPrefix ≡ e = cc in
     subst IsOfDigits is tt
 
-pub digits_end : (text : List ℕ) (e : IorError) → (e ≡ Memory) ⊎ (text_octets text ≡ Err e) → ReadsText text (Err e)
-digits_end text e (inl memory) = rw memory tt
+pub digits_end : (text : List ℕ) (e : IorError) → ((e ≡ Memory) × IsSome (after_prefix text)) ⊎ (text_octets text ≡ Err e) → ReadsText text (Err e)
+digits_end text e (inl memory) = rw memory.0 memory.1
 digits_end text (Cdr f) (inr h) = absurd (digits_of_digits (after_prefix text) (Cdr f) h)
 digits_end text BadMajor (inr h) = absurd (digits_of_digits (after_prefix text) BadMajor h)
-digits_end text Memory (inr h) = tt
+digits_end text Memory (inr h) = prefix_of (after_prefix text) h
+  where
+    prefix_of : (found : Option (List ℕ)) → digits_in found ≡ Err Memory → IsSome found
+    prefix_of (Some digits) h = is_some_of digits
+    prefix_of None h = absurd cc
 digits_end text NoPrefix (inr h) = h
 digits_end text OddDigits (inr h) = h
 digits_end text (BadDigit i) (inr h) = h

@@ -1,10 +1,11 @@
 -- IIOP profiles: which octets are one, and how they are read.
-use Rattle.std.specs.Prelude.{◌≡◌, ℕ, zero, suc, pos, Bool, false, List, [], ◌∷◌, Option, Some, None, Result, Ok, Err, ⊤, if◌then◌else◌}
+use Rattle.std.specs.Prelude.{◌≡◌, ℕ, zero, suc, pos, Bool, true, false, List, [], ◌∷◌, Option, Some, None, Result, Ok, Err, IsOk, ⊤, ◌⊎◌, if◌then◌else◌}
 use Rattle.std.specs.Ordering.{int_eq}
 use Rattle.cdr_core.specs.declared.fault.Fault.{Fault}
 use Rattle.cdr_core.specs.declared.order.Order.{Order}
-use Rattle.cdr_core.specs.Encapsulation.{encapsulated}
+use Rattle.cdr_core.specs.Encapsulation.{encapsulated, order_at}
 use Rattle.cdr_core.specs.Form.{Form}
+use Rattle.cdr_core.specs.Memory.{AfterRead, Stores}
 use Rattle.cdr_core.specs.Parts.{octet_value, ushort_value}
 use Rattle.cdr_core.specs.Reading.{◌>>=◌, Read, value_at}
 use Rattle.cdr_core.specs.Spelling.{Spells}
@@ -15,7 +16,7 @@ use Rattle.ior_core.specs.declared.error.IorError.{IorError}
 use Rattle.ior_core.specs.declared.error.IorError.TheVariants.{BadMajor, Cdr, Memory}
 use Rattle.ior_core.specs.declared.profile.IiopProfile.{IiopProfile}
 use Rattle.ior_core.specs.declared.tagged.Tagged.{Tagged}
-use Rattle.ior_core.specs.Grammar.{profile_1_0, profile_1_1}
+use Rattle.ior_core.specs.Grammar.{profile_1_0, profile_1_1, tagged_list}
 use Rattle.ior_core.specs.View.{list_value}
 
 -- the member of a struct at a place, counted from 0
@@ -88,6 +89,15 @@ ReadsProfile body (Err (Cdr f)) = body ≡ Err f
 ReadsProfile body (Err BadMajor) = (v : Value) × (body ≡ Ok v) × (has_major_1 v ≡ false)
 ReadsProfile body (Err Memory) = ⊤
 ReadsProfile body (Err _) = ⊥
+
+-- a part of the components that is stored was read, and ends at the place p; in 1.0 there are none
+abbrev pub StoresComponents : Bool → Order → ℕ → List ℕ → ℕ → Type 0
+StoresComponents true order o octets p = ⊥
+StoresComponents false order o octets p = Stores tagged_list order o octets p
+
+-- Reading a profile may run out of memory: the whole profile was read, or the members of 1.0 and a part of the components.
+abbrev pub ProfileMayRunOut : List ℕ → Type 0
+ProfileMayRunOut octets = IsOk (body_of octets) ⊎ AfterRead (order_at octets) (λ order o rest. AfterRead (value_at profile_1_0 order o rest) (λ v q more. (p : ℕ) × StoresComponents (has_minor_0 v) order q more p))
 
 -- what can be written: lengths fit an unsigned long, no NUL stands in the host, and 1.0 has no components
 abbrev pub IsWritableProfile : IiopProfile → Type 0

@@ -1,5 +1,5 @@
 -- The text of a reference.
-use Rattle.std.specs.Prelude.{◌≡◌, ℕ, ◌+◌, ◌==◌, ◌||◌, ◌&&◌, Bool, List, ◌∷◌, ◌++◌, codes, Option, Some, None, Result, Ok, Err, ⊤, if◌then◌else◌}
+use Rattle.std.specs.Prelude.{◌≡◌, ℕ, ◌+◌, ◌==◌, ◌||◌, ◌&&◌, Bool, List, ◌∷◌, ◌++◌, codes, Option, Some, None, IsSome, Result, Ok, Err, if◌then◌else◌}
 use Rattle.hex.specs.Hex.{decode_of, encode_lower}
 use Rattle.hex.specs.declared.error.FromHexError.{FromHexError}
 use Rattle.hex.specs.declared.error.FromHexError.TheVariants as digits
@@ -55,10 +55,10 @@ abbrev pub reference_text : Value → List ℕ
 reference_text v = codes "IOR:" ++ encode_lower (encapsulation_of v)
 
 -- What parsing a text gives. That a wrong prefix comes first, then an odd number of digits, then a bad digit, and then
--- a fault of the octets is this project's own order.
+-- a fault of the octets is this project's own order. Memory is taken only after the prefix.
 abbrev pub ReadsText : List ℕ → Result Ior IorError → Type 0
 ReadsText text (Ok ior) = (octets : List ℕ) × (text_octets text ≡ Ok octets) × (reference_in octets ≡ Ok (ior_value ior))
 ReadsText text (Err (Cdr f)) = (octets : List ℕ) × (text_octets text ≡ Ok octets) × (reference_in octets ≡ Err f)
-ReadsText text (Err Memory) = ⊤
+ReadsText text (Err Memory) = IsSome (after_prefix text)
 ReadsText text (Err BadMajor) = ⊥
 ReadsText text (Err e) = text_octets text ≡ Err e

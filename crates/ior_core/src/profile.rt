@@ -1,16 +1,15 @@
 //! IIOP profiles (CORBA 3.3 Part 2, 9.7.2).
 
-ghost use Rattle.std.specs.Prelude.{◌≡◌, ◌↔◌, ◌++◌, ◌<◌, ◌≤◌, ◌^◌, length, option_map, pos, Err, IfOk, IsTrue, MatchResult, OnErr, OnOk, ⊤};
-ghost use Rattle.cdr_core.specs.Private.{Keeps, passing};
+ghost use Rattle.std.specs.Prelude.{◌≡◌, ◌↔◌, ◌++◌, ◌<◌, ◌≤◌, ◌^◌, length, option_map, pos, Err, IfOk, IsTrue, MatchResult, OnErr, OnOk};
+ghost use Rattle.cdr_core.specs.Private.{GivesUnlessMemory, Keeps, passing};
 ghost use Rattle.cdr_core.specs.Writing.{Appends, AreWritable, PutsAll};
-ghost use Rattle.cdr_core.specs.Private.{GivesUnlessMemory};
 ghost use Rattle.cdr_core.specs.Reading.{value_at};
 ghost use Rattle.cdr_core.specs.Value.{values};
 ghost use Rattle.ior_core.specs.Calls.{GivesOnce};
 ghost use Rattle.ior_core.specs.Grammar.{profile_1_0};
 ghost use Rattle.ior_core.specs.Keys.{profile_key};
 ghost use Rattle.ior_core.specs.Private.{components_at, head_value, head_values, is_0};
-ghost use Rattle.ior_core.specs.Profiles.{body_of, components_of, iiop_body, key_of, HasNone, IsWritableProfile, ReadsProfile};
+ghost use Rattle.ior_core.specs.Profiles.{body_of, components_of, iiop_body, key_of, HasNone, IsWritableProfile, ProfileMayRunOut, ReadsProfile, StoresComponents};
 ghost use Rattle.ior_core.specs.Writing.{encapsulation_of};
 
 use crate::error::IorError;
@@ -100,7 +99,7 @@ fn read_components(
     minor: u8,
     cursor: &mut Cursor,
 ) -> Result<Vec<Component>, CdrError>
-    ensures gives { GivesUnlessMemory (λ v. values (components_of minor v.items)) result (components_at (is_0 minor) cursor.old.order) (λ o octets p. ⊤) cursor.old cursor.new }
+    ensures gives { GivesUnlessMemory (λ v. values (components_of minor v.items)) result (components_at (is_0 minor) cursor.old.order) (StoresComponents (is_0 minor) cursor.old.order) cursor.old cursor.new }
     ensures none { IfOk result (λ v. HasNone minor v.items) }
 {
     if minor == 0 {
@@ -146,12 +145,13 @@ pub fn profile_key(tag: u32, octets: &[u8]) -> Option<&[u8]>
 /// and from 1.1 on components.
 ///
 /// Errors are `Cdr`, the first fault, with its place counted from the encapsulation's first octet;
-/// `BadMajor`; and `Memory`. These rules are this project's own: octets after the last member are
+/// `BadMajor`; and `Memory`, only where a component or the whole profile was read. These rules are this project's own: octets after the last member are
 /// ignored, and `BadMajor` is reported only where the whole profile is valid apart from its major
 /// version.
 #[tactic(auto, using(crate::proofs::Bodies::order_fails, crate::proofs::Bodies::head_fails, crate::proofs::Bodies::components_fail, crate::proofs::Bodies::body_is))]
 pub fn read_iiop(alloc: Global, octets: &[u8]) -> Result<IiopProfile, IorError>
-    ensures { ReadsProfile (body_of octets.now) result }
+    ensures reads { ReadsProfile (body_of octets.now) result }
+    ensures memory { result ≡ Err IorError.Memory → ProfileMayRunOut octets.now }
 {
     let mut cursor = Cursor::encapsulated(octets)?;
     let head = read_head(&mut cursor)?;

@@ -1,6 +1,6 @@
 //! References as text (CORBA 3.3 Part 2, 7.6.9).
 
-ghost use Rattle.std.specs.Prelude.{◌≡◌, option_map, IfOk, MatchResult, ◌⊎◌, length};
+ghost use Rattle.std.specs.Prelude.{◌≡◌, option_map, IfOk, IsSome, MatchResult, ◌⊎◌, length};
 ghost use Rattle.std.specs.String.{string_bytes};
 ghost use Rattle.cdr_core.specs.Writing.{IsWritable};
 ghost use Rattle.ior_core.specs.Text.{after_prefix, reference_text, text_octets, ReadsText};
@@ -25,7 +25,7 @@ fn after_prefix(text: &[u8]) -> Option<&[u8]>
 
 /// The octets whose digits follow the prefix of a text.
 fn octets_in(alloc: Global, text: &str) -> Result<Vec<u8>, IorError>
-    ensures { MatchResult result (λ v. text_octets text.now ≡ Ok v.items) (λ e. (e ≡ Memory) ⊎ (text_octets text.now ≡ Err e)) }
+    ensures { MatchResult result (λ v. text_octets text.now ≡ Ok v.items) (λ e. ((e ≡ Memory) × IsSome (after_prefix text.now)) ⊎ (text_octets text.now ≡ Err e)) }
 {
     let digits = after_prefix(text.as_bytes()).ok_or(IorError::NoPrefix)?;
     Ok(hex::decode(alloc, digits)?)
@@ -37,7 +37,7 @@ fn octets_in(alloc: Global, text: &str) -> Result<Vec<u8>, IorError>
 ///
 /// Errors, in the order in which they are looked for: `NoPrefix`; `OddDigits`; `BadDigit`, the first;
 /// `Cdr`, the first fault, with its place counted from the encapsulation's first octet. `Memory`
-/// comes as soon as an allocation fails.
+/// comes as soon as an allocation fails, and only after the prefix.
 #[tactic(auto, using(crate::proofs::Texts::order_fails, crate::proofs::Texts::reference_is))]
 pub fn parse_text(alloc: Global, text: &str) -> Result<Ior, IorError>
     ensures { ReadsText text.now result }
