@@ -55,7 +55,7 @@ pub members_store : (types : List Ty) (i : ℕ) (t : Ty) (order : Order) (o : �
     → value_at (form_of t) order o octets ≡ Ok (v, q, rest) → (p ≡ q) ⊎ StoresMembers (forms_of (drop (i + 1) types)) order q rest p → StoresMembers (forms_of (drop i types)) order o octets p
 members_store types i t order o octets v q rest p lt is e h =
     subst (λ ts. StoresMembers ts order o octets p) (sym (forms_next types i t lt is))
-        (inr (after_read (value_at (form_of t) order o octets) v q rest (λ v q rest. (p ≡ q) ⊎ StoresMembers (forms_of (drop (i + 1) types)) order q rest p) e h))
+    (inr (after_read (value_at (form_of t) order o octets) v q rest (λ v q rest. (p ≡ q) ⊎ StoresMembers (forms_of (drop (i + 1) types)) order q rest p) e h))
 
 -- the member of a union
 
@@ -63,19 +63,19 @@ pub case_stores : (cases : List Case) (default : Option (Box Ty Global)) (i : �
     → int_eq c.label l ≡ true → Stores (form_of c.member) order o octets p → StoresChosen (cases_of (drop i cases) default) order l o octets p
 case_stores cases default i c order l o octets p lt is labelled h =
     subst (λ cs. StoresChosen cs order l o octets p) (sym (cases_next cases default i c lt is))
-        (subst (λ b. Chosen b (Stores (form_of c.member) order o octets p) (StoresChosen (cases_of (drop (i + 1) cases) default) order l o octets p)) (sym labelled) h)
+    (subst (λ b. Chosen b (Stores (form_of c.member) order o octets p) (StoresChosen (cases_of (drop (i + 1) cases) default) order l o octets p)) (sym labelled) h)
 
 pub cases_store : (cases : List Case) (default : Option (Box Ty Global)) (i : ℕ) (c : Case) (order : Order) (l : ℤ) (o : ℕ) (octets : List ℕ) (p : ℕ) → i < length cases → c ≡ get_or cases i c
     → int_eq c.label l ≡ false → StoresChosen (cases_of (drop (i + 1) cases) default) order l o octets p → StoresChosen (cases_of (drop i cases) default) order l o octets p
 cases_store cases default i c order l o octets p lt is other h =
     subst (λ cs. StoresChosen cs order l o octets p) (sym (cases_next cases default i c lt is))
-        (subst (λ b. Chosen b (Stores (form_of c.member) order o octets p) (StoresChosen (cases_of (drop (i + 1) cases) default) order l o octets p)) (sym other) h)
+    (subst (λ b. Chosen b (Stores (form_of c.member) order o octets p) (StoresChosen (cases_of (drop (i + 1) cases) default) order l o octets p)) (sym other) h)
 
 pub default_stores : (cases : List Case) (default : Option (Box Ty Global)) (i : ℕ) (t : Box Ty Global) (order : Order) (l : ℤ) (o : ℕ) (octets : List ℕ) (p : ℕ) → length cases ≤ i → default ≡ Some t
     → Stores (form_of t.value) order o octets p → StoresChosen (cases_of (drop i cases) default) order l o octets p
 default_stores cases default i t order l o octets p le is h =
     subst (λ cs. StoresChosen (cases_of cs default) order l o octets p) (sym (drop_all i cases le))
-        (subst (λ d. StoresChosen (cases_of [] d) order l o octets p) (sym is) h)
+    (subst (λ d. StoresChosen (cases_of [] d) order l o octets p) (sym is) h)
 
 -- the member that a union has at a label was read
 pub union_ends : (t : Form) (order : Order) (l : ℤ) (o : ℕ) (octets : List ℕ) (vs : Values) (q : ℕ) (rest : List ℕ) → union_at t order l o octets ≡ Ok (vs, q, rest) → StoresUnion t order l o octets q

@@ -170,8 +170,11 @@ chosen-returns-in_err-new t c =
     let read = rw i.same at c.in_ok-member.ensures in
     let old = c.args.cursor.now in
     let cursor = c.value.new.cursor in
-    rw (p.1, p.2) (tt, union_ends (form_of c.args.union.now) old.order l old.place old.rest (value.value v value.no_values) cursor.place cursor.rest
-        (case_chosen c.deref-case-items.result.now c.in-Union.default c.loop-case.case-index c.case-item.result old.order l old.place old.rest v cursor.place cursor.rest _ c.loop-case-test.true c.case-item.is (sym c.is_labelled.ensures ∙ c.if-is_labelled.true) read.0 i.whole))
+    rw (p.1, p.2) (
+      tt,
+      union_ends (form_of c.args.union.now) old.order l old.place old.rest (value.value v value.no_values) cursor.place cursor.rest
+          (case_chosen c.deref-case-items.result.now c.in-Union.default c.loop-case.case-index c.case-item.result old.order l old.place old.rest v cursor.place cursor.rest _ c.loop-case-test.true c.case-item.is (sym c.is_labelled.ensures ∙ c.if-is_labelled.true) read.0 i.whole),
+    )
 
 pub chosen-returns-in_err-new-in-Some : goal.chosen-returns-in_err-new-in-Some
 chosen-returns-in_err-new-in-Some t c =
@@ -182,5 +185,8 @@ chosen-returns-in_err-new-in-Some t c =
     let read = rw (i.same, c.deref.ensures) at c.in_ok-member-in-Some.ensures in
     let old = c.args.cursor.now in
     let cursor = c.value-in-Some.new.cursor in
-    rw (p.1, p.2) (tt, union_ends (form_of c.args.union.now) old.order l old.place old.rest (value.value v value.no_values) cursor.place cursor.rest
-        (default_chosen c.deref-case-items.result.now c.in-Union.default c.loop-case.case-index c.in-Some.ty old.order l old.place old.rest v cursor.place cursor.rest _ c.loop-case-test.false c.in-Some.is read.0 i.whole))
+    rw (p.1, p.2) (
+      tt,
+      union_ends (form_of c.args.union.now) old.order l old.place old.rest (value.value v value.no_values) cursor.place cursor.rest
+          (default_chosen c.deref-case-items.result.now c.in-Union.default c.loop-case.case-index c.in-Some.ty old.order l old.place old.rest v cursor.place cursor.rest _ c.loop-case-test.false c.in-Some.is read.0 i.whole),
+    )
