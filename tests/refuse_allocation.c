@@ -1,6 +1,8 @@
 /* Loaded before the C library: refuses one allocation, and counts all that were asked for. An allocation
    is a call of malloc or realloc. REFUSE_ALLOCATION is the number of the one that is refused, from 1
-   (0: none). REFUSE_COUNT names a file of 8 octets that holds the count, however the program ends. */
+   (0: none). REFUSE_ABOVE, where it is set, is the most octets that one allocation may ask for: each
+   larger one is refused. REFUSE_COUNT names a file of 8 octets that holds the count, however the program
+   ends. */
 #define _GNU_SOURCE
 #include <dlfcn.h>
 #include <errno.h>
@@ -11,6 +13,7 @@
 #include <unistd.h>
 
 static uint64_t refused;
+static uint64_t most = UINT64_MAX;
 static uint64_t *count;
 static void *(*next_malloc)(size_t);
 static void *(*next_realloc)(void *, size_t);
@@ -18,6 +21,9 @@ static void *(*next_realloc)(void *, size_t);
 __attribute__((constructor)) static void begin(void) {
     const char *number = getenv("REFUSE_ALLOCATION");
     const char *path = getenv("REFUSE_COUNT");
+    const char *above = getenv("REFUSE_ABOVE");
+    if (above != NULL)
+        most = strtoull(above, NULL, 10);
     next_malloc = dlsym(RTLD_NEXT, "malloc");
     next_realloc = dlsym(RTLD_NEXT, "realloc");
     if (number == NULL || path == NULL)
@@ -33,8 +39,10 @@ __attribute__((constructor)) static void begin(void) {
     count = place;
 }
 
-/* Whether this allocation is the one that is refused. */
-static int is_refused(void) {
+/* Whether this allocation, of so many octets, is one that is refused. */
+static int is_refused(size_t size) {
+    if (size > most)
+        return 1;
     if (count == NULL)
         return 0;
     *count += 1;
@@ -42,7 +50,7 @@ static int is_refused(void) {
 }
 
 void *malloc(size_t size) {
-    if (is_refused()) {
+    if (is_refused(size)) {
         errno = ENOMEM;
         return NULL;
     }
@@ -52,7 +60,7 @@ void *malloc(size_t size) {
 }
 
 void *realloc(void *place, size_t size) {
-    if (is_refused()) {
+    if (is_refused(size)) {
         errno = ENOMEM;
         return NULL;
     }

@@ -58,7 +58,7 @@ fn ended<T: Trial + Drop>(alloc: Global, inputs: Result<T, Miss>) -> Result<Endi
 impl Call {
     /// Makes the call on a sample, and once more where an allocation of it was refused. At `Memory`
     /// the call was not made, since an allocation for its inputs was refused.
-    pub fn run(self, alloc: Global, sample: &'static Sample) -> Result<Ending, Miss> {
+    pub(crate) fn run(self, alloc: Global, sample: &'static Sample) -> Result<Ending, Miss> {
         match self {
             Call::Read => ended(alloc, Reading::new(alloc, sample)),
             Call::ReadList => ended(alloc, ListReading::new(alloc, sample)),

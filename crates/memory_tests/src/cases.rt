@@ -20,7 +20,7 @@ fn print_suite<W: Write>(suite: &Suite, out: &mut W) -> io::Result<()> {
 }
 
 /// Prints the names of all cases, one a line.
-pub fn print_names<W: Write>(out: &mut W) -> io::Result<()> {
+pub(crate) fn print_names<W: Write>(out: &mut W) -> io::Result<()> {
     for suite in &SUITES {
         print_suite(suite, out)?;
     }
@@ -50,7 +50,7 @@ pub struct Case {
 
 impl Case {
     /// The case of that name.
-    pub fn named(name: &str) -> Option<Case>
+    pub(crate) fn named(name: &str) -> Option<Case>
         ensures { IfSome result (λ c. name.now ≡ c.suite.now.0.now ++ codes "/" ++ c.sample.now.name.now) }
     {
         let (first, second) = name.split_once('/')?;
@@ -60,7 +60,7 @@ impl Case {
     }
 
     /// Makes the call, as `Call::run` does.
-    pub fn run(self, alloc: Global) -> Result<Ending, Miss> {
+    pub(crate) fn run(self, alloc: Global) -> Result<Ending, Miss> {
         self.suite.1.run(alloc, self.sample)
     }
 }

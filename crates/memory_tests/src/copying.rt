@@ -17,7 +17,7 @@ pub struct Copying {
 
 impl Copying {
     /// The value of a sample.
-    pub fn new(alloc: Global, sample: &Sample) -> Result<Copying, Miss> {
+    pub(crate) fn new(alloc: Global, sample: &Sample) -> Result<Copying, Miss> {
         let Gives::Value(text) = sample.gives else {
             return Err(Wrong::Inputs.into());
         };

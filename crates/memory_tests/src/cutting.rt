@@ -22,7 +22,7 @@ pub struct Cutting {
 
 impl Cutting {
     /// The inputs.
-    pub fn new(alloc: Global, sample: &'static Sample, room: Room) -> Result<Cutting, Miss> {
+    pub(crate) fn new(alloc: Global, sample: &'static Sample, room: Room) -> Result<Cutting, Miss> {
         let Gives::Frames(frames) = sample.gives else {
             return Err(Wrong::Inputs.into());
         };

@@ -139,7 +139,7 @@ pub struct Feeding {
 
 impl Feeding {
     /// The inputs.
-    pub fn new(alloc: Global, sample: &'static Sample, times: u32, size: usize) -> Feeding {
+    pub(crate) fn new(alloc: Global, sample: &'static Sample, times: u32, size: usize) -> Feeding {
         Feeding {
             sample,
             times,

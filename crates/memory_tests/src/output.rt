@@ -32,7 +32,7 @@ pub struct Output {
 
 impl Output {
     /// A vector before a call.
-    pub fn new(alloc: Global, room: Room) -> Result<Output, AllocError>
+    pub(crate) fn new(alloc: Global, room: Room) -> Result<Output, AllocError>
         ensures { IfOk result (λ o. o.out.items ≡ o.before.now) }
     {
         let (before, capacity): (&'static [u8], usize) = match room {
@@ -46,7 +46,7 @@ impl Output {
     }
 
     /// Whether these octets, and no others, stand in the vector after those from before.
-    pub fn has_gained(&self, octets: &[u8]) -> bool
+    pub(crate) fn has_gained(&self, octets: &[u8]) -> bool
         ensures { IsTrue result ↔ (self.now.out.items ≡ self.now.before.now ++ octets.now) }
     {
         match self.out.strip_prefix(self.before) {

@@ -10,13 +10,13 @@ use std::alloc::Global;
 use std::fmt::Debug;
 
 /// The type of a sample.
-pub fn ty(alloc: Global, sample: &Sample) -> Result<Ty, Miss> {
+pub(crate) fn ty(alloc: Global, sample: &Sample) -> Result<Ty, Miss> {
     let shape = sample.shape.ok_or(Wrong::Inputs)?;
     Ok(shape.ty(alloc)?)
 }
 
 /// Compares a value with that of a sample.
-pub fn check_printed<T: Debug>(sample: &Sample, value: &T) -> Result<(), Wrong> {
+pub(crate) fn check_printed<T: Debug>(sample: &Sample, value: &T) -> Result<(), Wrong> {
     let Gives::Value(text) = sample.gives else {
         return Err(Wrong::Fault);
     };
@@ -27,7 +27,7 @@ pub fn check_printed<T: Debug>(sample: &Sample, value: &T) -> Result<(), Wrong> 
 }
 
 /// Compares a value with that of a sample, and how many octets were used with how many it has.
-pub fn check_value<T: Debug>(sample: &Sample, value: &T, used: usize) -> Result<(), Wrong>
+pub(crate) fn check_value<T: Debug>(sample: &Sample, value: &T, used: usize) -> Result<(), Wrong>
     ensures { OnOk result (used ≡ length sample.now.octets.now) }
 {
     check_printed(sample, value)?;
@@ -54,7 +54,7 @@ pub struct Reading {
 
 impl Reading {
     /// The inputs.
-    pub fn new(alloc: Global, sample: &'static Sample) -> Result<Reading, Miss> {
+    pub(crate) fn new(alloc: Global, sample: &'static Sample) -> Result<Reading, Miss> {
         Ok(Reading {
             sample,
             ty: ty(alloc, sample)?,
@@ -90,7 +90,7 @@ pub struct ListReading {
 
 impl ListReading {
     /// The inputs.
-    pub fn new(alloc: Global, sample: &'static Sample) -> Result<ListReading, Miss> {
+    pub(crate) fn new(alloc: Global, sample: &'static Sample) -> Result<ListReading, Miss> {
         Ok(ListReading {
             sample,
             ty: ty(alloc, sample)?,
@@ -132,7 +132,7 @@ fn value_of(alloc: Global, sample: &Sample, ty: &Ty) -> Result<Val, Miss> {
 }
 
 /// The value of a sample.
-pub fn value(alloc: Global, sample: &Sample) -> Result<Val, Miss> {
+pub(crate) fn value(alloc: Global, sample: &Sample) -> Result<Val, Miss> {
     let ty = ty(alloc, sample)?;
     value_of(alloc, sample, &ty)
 }

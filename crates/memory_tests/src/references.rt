@@ -12,7 +12,7 @@ use std::alloc::Global;
 use std::fmt::Debug;
 
 /// Compares why nothing was read with the fault of a sample.
-pub fn check_error(sample: &Sample, error: IorError) -> Result<(), Miss> {
+pub(crate) fn check_error(sample: &Sample, error: IorError) -> Result<(), Miss> {
     match (error, sample.gives) {
         (IorError::Cdr(fault), Gives::Fault(wanted)) if fault == wanted => Ok(()),
         (error, _) => Err(error.into()),
@@ -25,7 +25,7 @@ fn text_of(sample: &Sample) -> Result<&'static str, Wrong> {
 }
 
 /// Whether a value is that of a sample.
-pub fn is_that_of<T: Debug>(value: &T, sample: &Sample) -> bool {
+pub(crate) fn is_that_of<T: Debug>(value: &T, sample: &Sample) -> bool {
     match sample.gives {
         Gives::Value(text) => is_printed_as(value, text),
         Gives::Fault(_) | Gives::Frames(_) => false,
@@ -63,7 +63,7 @@ pub struct ReferenceWriting {
 
 impl ReferenceWriting {
     /// The inputs.
-    pub fn new(
+    pub(crate) fn new(
         alloc: Global,
         sample: &'static Sample,
         room: Room,
@@ -129,7 +129,7 @@ pub struct Printing {
 
 impl Printing {
     /// The inputs.
-    pub fn new(alloc: Global, sample: &'static Sample) -> Result<Printing, Miss> {
+    pub(crate) fn new(alloc: Global, sample: &'static Sample) -> Result<Printing, Miss> {
         let ior = parse_text(alloc, text_of(sample)?)?;
         Ok(Printing { sample, ior })
     }

@@ -68,7 +68,7 @@ fn report<E: Write>(stop: Stop, err: &mut E) -> io::Result<()> {
 
 /// Answers a word, and returns the exit status: 0; or 1 where the call is wrong, memory ran out before
 /// it, or the output can't be written; or 2 where no case has that name. The reason goes to `err`.
-pub fn run<W: Write, E: Write>(alloc: Global, word: &str, out: &mut W, err: &mut E) -> u8
+pub(crate) fn run<W: Write, E: Write>(alloc: Global, word: &str, out: &mut W, err: &mut E) -> u8
     ensures { result ≤ 2 }
 {
     match answer(alloc, word, out) {

@@ -95,7 +95,7 @@ fn nested(alloc: Global) -> Result<Ty, AllocError> {
 
 impl Shape {
     /// The type of this shape.
-    pub fn ty(self, alloc: Global) -> Result<Ty, AllocError> {
+    pub(crate) fn ty(self, alloc: Global) -> Result<Ty, AllocError> {
         match self {
             Shape::Str => Ok(Ty::Str(8)),
             Shape::Octets => Ok(Ty::Octets(8)),

@@ -60,7 +60,7 @@ pub enum Set {
 
 impl Set {
     /// The samples of this set.
-    pub fn samples(self) -> &'static [Sample] {
+    pub(crate) fn samples(self) -> &'static [Sample] {
         match self {
             Set::Values => &VALUES,
             Set::Lists => &LISTS,

@@ -19,7 +19,7 @@ impl fmt::Write for Left<'_> {
 }
 
 /// Whether `{:?}` prints a value as the text. It takes no memory.
-pub fn is_printed_as<T: Debug>(value: &T, text: &str) -> bool {
+pub(crate) fn is_printed_as<T: Debug>(value: &T, text: &str) -> bool {
     let mut left = Left(text);
     write!(left, "{value:?}").is_ok() && left.0.is_empty()
 }

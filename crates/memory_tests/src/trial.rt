@@ -113,7 +113,7 @@ pub trait Trial {
 }
 
 /// Makes a call, and makes it again where an allocation of it was refused and nothing changed.
-pub fn tried<T: Trial>(alloc: Global, trial: &mut T) -> Result<Ending, Wrong>
+pub(crate) fn tried<T: Trial>(alloc: Global, trial: &mut T) -> Result<Ending, Wrong>
     ensures { OnOk result (T.is_right trial.new) }
 {
     match trial.call(alloc) {

@@ -19,7 +19,7 @@ pub struct Writing {
 
 impl Writing {
     /// The inputs.
-    pub fn new(alloc: Global, sample: &'static Sample, room: Room) -> Result<Writing, Miss> {
+    pub(crate) fn new(alloc: Global, sample: &'static Sample, room: Room) -> Result<Writing, Miss> {
         Ok(Writing {
             sample,
             value: value(alloc, sample)?,
@@ -60,7 +60,7 @@ pub struct ListWriting {
 
 impl ListWriting {
     /// The inputs.
-    pub fn new(alloc: Global, sample: &'static Sample, room: Room) -> Result<ListWriting, Miss> {
+    pub(crate) fn new(alloc: Global, sample: &'static Sample, room: Room) -> Result<ListWriting, Miss> {
         Ok(ListWriting {
             sample,
             value: value(alloc, sample)?,

@@ -5,17 +5,17 @@ use std::fmt::Display;
 use std::process::Abort;
 
 /// Asserts what holds of the row of that name.
-pub fn assert_named(rt: &impl Abort, holds: bool, name: &str) {
+pub(crate) fn assert_named(rt: &impl Abort, holds: bool, name: &str) {
     assert!(rt; holds, "{name}");
 }
 
 /// Asserts what holds at a place, or of a row counted from 0, under that name.
-pub fn assert_at(rt: &impl Abort, holds: bool, name: &str, at: u64) {
+pub(crate) fn assert_at(rt: &impl Abort, holds: bool, name: &str, at: u64) {
     assert!(rt; holds, "{name} at {at}");
 }
 
 /// Asserts what holds of the octets at a place.
-pub fn assert_octets(rt: &impl Abort, holds: bool, octets: &[u8], at: u32) {
+pub(crate) fn assert_octets(rt: &impl Abort, holds: bool, octets: &[u8], at: u32) {
     assert!(rt; holds, "{octets:?} at {at}");
 }
 
@@ -28,7 +28,7 @@ fn is_printed<T: Display + Drop>(alloc: Global, found: T, wanted: &str) -> bool 
 }
 
 /// Asserts that each of these is printed so.
-pub fn assert_printed<T: Display + Copy + Drop>(
+pub(crate) fn assert_printed<T: Display + Copy + Drop>(
     rt: &(impl Abort + AllocGlobal),
     rows: &[(T, &str)],
 ) {

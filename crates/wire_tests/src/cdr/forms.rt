@@ -50,7 +50,7 @@ pub enum Sample {
 
 /// The type.
 #[cycle(typed)]
-pub fn type_of(alloc: Global, form: &Form) -> Result<Ty, AllocError> {
+pub(crate) fn type_of(alloc: Global, form: &Form) -> Result<Ty, AllocError> {
     match form {
         Form::Boolean => Ok(Ty::Boolean),
         Form::Char => Ok(Ty::Char),
@@ -108,7 +108,7 @@ fn cases_of(alloc: Global, labels: &[Label]) -> Result<Vec<Case>, AllocError> {
 
 /// The value.
 #[cycle(valued)]
-pub fn value_of(alloc: Global, sample: &Sample) -> Result<Val, AllocError> {
+pub(crate) fn value_of(alloc: Global, sample: &Sample) -> Result<Val, AllocError> {
     match sample {
         Sample::Boolean(b) => Ok(Val::Boolean(*b)),
         Sample::Char(c) => Ok(Val::Char(*c)),
@@ -166,7 +166,7 @@ fn is_plain(found: &Val, wanted: &Sample) -> bool {
 
 /// Whether the value is the one of the constant.
 #[cycle(same)]
-pub fn is_value(found: &Val, wanted: &Sample) -> bool {
+pub(crate) fn is_value(found: &Val, wanted: &Sample) -> bool {
     match (found, wanted) {
         (Val::Seq(a), Sample::Seq(b))
         | (Val::Array(a), Sample::Array(b))
@@ -179,7 +179,7 @@ pub fn is_value(found: &Val, wanted: &Sample) -> bool {
 
 /// Whether the values are those of the constants.
 #[cycle(same)]
-pub fn are_values(found: &[Val], wanted: &[Sample]) -> bool {
+pub(crate) fn are_values(found: &[Val], wanted: &[Sample]) -> bool {
     if found.len() != wanted.len() {
         return false;
     }

@@ -27,7 +27,7 @@ fn is_read(
 }
 
 /// Asserts that the first `used` of the octets are read as the value.
-pub fn assert_reads(
+pub(crate) fn assert_reads(
     rt: &(impl Abort + AllocGlobal),
     ty: &Ty,
     wanted: &Sample,
@@ -39,7 +39,7 @@ pub fn assert_reads(
 }
 
 /// Whether the octets stand in the output after another, and end at that place.
-pub fn is_after(out: &[u8], (_, at, octets): Octets, end: Option<u64>) -> bool {
+pub(crate) fn is_after(out: &[u8], (_, at, octets): Octets, end: Option<u64>) -> bool {
     let wanted = u64::from(at) + octets.len() as u64;
     out.first() == Some(&7) && out.get(1..) == Some(octets) && end == Some(wanted)
 }
@@ -56,7 +56,7 @@ fn is_written(alloc: Global, value: &Val, to: Octets) -> Result<bool, AllocError
 }
 
 /// Asserts that the octets are written for the value, after another.
-pub fn assert_writes(rt: &(impl Abort + AllocGlobal), value: &Val, to: Octets) {
+pub(crate) fn assert_writes(rt: &(impl Abort + AllocGlobal), value: &Val, to: Octets) {
     let holds = is_written(rt.alloc(), value, to).unwrap_or(false);
     assert_octets(rt, holds, to.2, to.1);
 }

@@ -37,7 +37,7 @@ pub const WITH_COMPONENTS: &str = "01010200 0a000000 3132372e302e302e3100 f90a 0
 pub const WITHOUT_COMPONENTS: &str = "01010000 0a000000 3132372e302e302e3100 1352 01000000 63";
 
 /// A text, and one after it from which the spaces are taken.
-pub fn text(alloc: Global, front: &str, text: &str) -> Result<String, AllocError> {
+pub(crate) fn text(alloc: Global, front: &str, text: &str) -> Result<String, AllocError> {
     let mut all = String::from_str(alloc, front)?;
     for part in text.split(' ') {
         all.push_str(part)?;
@@ -46,7 +46,7 @@ pub fn text(alloc: Global, front: &str, text: &str) -> Result<String, AllocError
 }
 
 /// The octets that digits give, and digits after them, between which spaces may stand.
-pub fn octets(alloc: Global, front: &str, after: &str) -> Result<Vec<u8>, FromHexError> {
+pub(crate) fn octets(alloc: Global, front: &str, after: &str) -> Result<Vec<u8>, FromHexError> {
     let front = text(alloc, "", front)?;
     let digits = text(alloc, front.as_str(), after)?;
     hex::decode(alloc, digits.as_bytes())
@@ -65,14 +65,14 @@ fn list(alloc: Global, rows: &[Row]) -> Result<Vec<Tagged>, FromHexError> {
 }
 
 /// The reference.
-pub fn reference(alloc: Global, (type_id, profiles): &Reference) -> Result<Ior, FromHexError> {
+pub(crate) fn reference(alloc: Global, (type_id, profiles): &Reference) -> Result<Ior, FromHexError> {
     let type_id = Vec::from_slice(alloc, type_id.as_bytes())?;
     let profiles = list(alloc, profiles)?;
     Ok(Ior { type_id, profiles })
 }
 
 /// The profile.
-pub fn profile(alloc: Global, iiop: &Iiop) -> Result<IiopProfile, FromHexError> {
+pub(crate) fn profile(alloc: Global, iiop: &Iiop) -> Result<IiopProfile, FromHexError> {
     Ok(IiopProfile {
         minor: iiop.minor,
         host: Vec::from_slice(alloc, iiop.host.as_bytes())?,
@@ -96,13 +96,13 @@ fn are_alike(found: &[Tagged], wanted: &[Tagged]) -> bool {
 }
 
 /// Whether two references are equal.
-pub fn is_same(found: &Ior, wanted: &Ior) -> bool {
+pub(crate) fn is_same(found: &Ior, wanted: &Ior) -> bool {
     found.type_id.as_slice() == wanted.type_id.as_slice()
         && are_alike(&found.profiles, &wanted.profiles)
 }
 
 /// Whether two profiles are equal.
-pub fn is_same_profile(found: &IiopProfile, wanted: &IiopProfile) -> bool {
+pub(crate) fn is_same_profile(found: &IiopProfile, wanted: &IiopProfile) -> bool {
     found.minor == wanted.minor
         && found.host.as_slice() == wanted.host.as_slice()
         && found.port == wanted.port
@@ -111,7 +111,7 @@ pub fn is_same_profile(found: &IiopProfile, wanted: &IiopProfile) -> bool {
 }
 
 /// Whether two reasons are the same.
-pub fn is_reason(found: &IorError, wanted: &IorError) -> bool {
+pub(crate) fn is_reason(found: &IorError, wanted: &IorError) -> bool {
     match (found, wanted) {
         (IorError::BadDigit(a), IorError::BadDigit(b)) => a == b,
         (IorError::Cdr(a), IorError::Cdr(b)) => a == b,
@@ -124,7 +124,7 @@ pub fn is_reason(found: &IorError, wanted: &IorError) -> bool {
 }
 
 /// Whether the octets are in the output after three others.
-pub fn is_after(out: &[u8], octets: &[u8]) -> bool {
+pub(crate) fn is_after(out: &[u8], octets: &[u8]) -> bool {
     match out {
         [7, 8, 9, written @ ..] => written == octets,
         _ => false,
