@@ -32,7 +32,11 @@ pub struct ClientWriting {
 
 impl ClientWriting {
     /// The inputs.
-    pub(crate) fn new(alloc: Global, sample: &'static Sample, room: Room) -> Result<ClientWriting, Miss> {
+    pub(crate) fn new(
+        alloc: Global,
+        sample: &'static Sample,
+        room: Room,
+    ) -> Result<ClientWriting, Miss> {
         let client = client_in(sample.octets).map_err(|_| Wrong::Inputs)?;
         check_printed(sample, &client)?;
         Ok(ClientWriting {

@@ -181,7 +181,11 @@ pub struct MessageWriting {
 
 impl MessageWriting {
     /// The inputs.
-    pub(crate) fn new(alloc: Global, sample: &'static Sample, room: Room) -> Result<MessageWriting, Miss> {
+    pub(crate) fn new(
+        alloc: Global,
+        sample: &'static Sample,
+        room: Room,
+    ) -> Result<MessageWriting, Miss> {
         let message = message_of(sample)?;
         let body = checked_body(alloc, sample, &message.content)?;
         Ok(MessageWriting {

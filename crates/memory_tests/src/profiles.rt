@@ -41,7 +41,11 @@ pub struct ProfileWriting {
 
 impl ProfileWriting {
     /// The inputs.
-    pub(crate) fn new(alloc: Global, sample: &'static Sample, room: Room) -> Result<ProfileWriting, Miss> {
+    pub(crate) fn new(
+        alloc: Global,
+        sample: &'static Sample,
+        room: Room,
+    ) -> Result<ProfileWriting, Miss> {
         Ok(ProfileWriting {
             sample,
             profile: read_iiop(alloc, sample.octets)?,

@@ -60,7 +60,11 @@ pub struct ListWriting {
 
 impl ListWriting {
     /// The inputs.
-    pub(crate) fn new(alloc: Global, sample: &'static Sample, room: Room) -> Result<ListWriting, Miss> {
+    pub(crate) fn new(
+        alloc: Global,
+        sample: &'static Sample,
+        room: Room,
+    ) -> Result<ListWriting, Miss> {
         Ok(ListWriting {
             sample,
             value: value(alloc, sample)?,

@@ -65,7 +65,10 @@ fn list(alloc: Global, rows: &[Row]) -> Result<Vec<Tagged>, FromHexError> {
 }
 
 /// The reference.
-pub(crate) fn reference(alloc: Global, (type_id, profiles): &Reference) -> Result<Ior, FromHexError> {
+pub(crate) fn reference(
+    alloc: Global,
+    (type_id, profiles): &Reference,
+) -> Result<Ior, FromHexError> {
     let type_id = Vec::from_slice(alloc, type_id.as_bytes())?;
     let profiles = list(alloc, profiles)?;
     Ok(Ior { type_id, profiles })
