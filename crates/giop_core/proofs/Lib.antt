@@ -13,3 +13,4 @@ pub mod Longs
 pub mod Whole
 pub mod Retention
 pub mod ReadAgain
+pub mod Near

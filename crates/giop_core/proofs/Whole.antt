@@ -1,11 +1,12 @@
 -- A message put together: its fields, its body, and the header over the zeros in its place.
 use Rattle.std.proofs.Common.{◌≡◌, ◌≢◌, ℕ, zero, suc, ◌+◌, ◌-◌, ◌≤◌, ◌^◌, List, [], ◌∷◌, ◌++◌, length, take, drop, replicate, Result, Ok, Err, MatchResult, refl, sym, ap, subst, ◌∙◌, arith, append_assoc, length-append}
 use Rattle.std.proofs.lemmas.List.{append-nil, drop-append-le, drop_at, length-drop, length-replicate, take-append-drop, take-append-le, take_at}
+use Rattle.std.specs.Prelude.{OnErr, OnOk}
 use Rattle.std.specs.declared.alloc.AllocError.{AllocError}
 use Rattle.cdr_core.specs.declared.order.Order.{Order}
-use Rattle.cdr_core.proofs.Appending.{keeps_all, place_behind}
+use Rattle.cdr_core.proofs.Appending.{keeps_all, keeps_behind, place_behind, puts_next}
 use Rattle.cdr_core.specs.Private.{Keeps}
-use Rattle.cdr_core.specs.Writing.{PutsAll, number_octets, octets_of, octets_of_all, place_in, AreWritable, IsWritable, Puts, Writing}
+use Rattle.cdr_core.specs.Writing.{Appends, PutsAll, number_octets, octets_of, octets_of_all, place_in, AreWritable, IsWritable, Puts, Writing}
 use Rattle.cdr_core.specs.Numbers.{digits_of, padding}
 use Rattle.cdr_core.specs.Parts.{ulong_value}
 use Rattle.cdr_core.specs.Value as value
@@ -20,8 +21,8 @@ use Rattle.giop_core.specs.declared.request.ReplyWish.{ReplyWish}
 use Rattle.giop_core.specs.Content.{nth, Addressed}
 use Rattle.giop_core.specs.Headers.{header_octets}
 use Rattle.giop_core.specs.Items.{list_value}
-use Rattle.giop_core.specs.Written.{aligned_octets, behind_gap, behind_header, body_octets, cancel_fields, header_for, locate_request_fields, message_octets, reply_fields, request_fields, target_in, with_body}
-use Rattle.giop_core.specs.Private.{AreLong, IsLong, Checks, Adds}
+use Rattle.giop_core.specs.Written.{aligned_octets, behind_gap, behind_header, body_octets, cancel_fields, exception_body, header_for, locate_request_fields, message_octets, reply_fields, request_fields, target_in, with_body}
+use Rattle.giop_core.specs.Private.{AreLong, IsLong, Adds, Begins, Checks}
 use Rattle.giop_core.proofs.Longs.{first_long, four, rest_long}
 
 -- a gap that belongs to octets
@@ -58,6 +59,37 @@ module _ (w : Writing) (body : Values) (old aligned new : List ℕ) (le : w.star
   aligned_none h =
       let none = gap_none gap octets (omega (arith, longer, h)) in
       ap (take (length old)) (behind ∙ append_assoc old (replicate gap 0) octets) ∙ take_at old (replicate gap 0 ++ octets) (length old) refl ∙ sym (ap (λ xs. old ++ xs) none ∙ append-nil old)
+
+-- the body of an exception has octets
+exception_some : (order : Order) (id : List ℕ) (members : Values) (o : ℕ) → 1 ≤ length (octets_of_all order (exception_body id members) o)
+exception_some order id members o =
+    let text = octets_of order (value.string id) o in
+    let counted = number_octets order 4 o (length id + 1) in
+    omega (arith, length-append text (octets_of_all order members (o + length text)), length-append (counted ++ id) (0 ∷ []))
+
+-- it is its id, and then its members
+pub exception_put : (w : Writing) (id : List ℕ) (members : Values) (old mid new : List ℕ) → w.start ≤ length old → Appends w (value.string id) old mid
+    → (r : Result (Unit {0}) AllocError) → OnOk r (PutsAll w members mid new) → OnErr r (new ≡ mid) → MatchResult r (λ _. PutsAll w (exception_body id members) old new) (λ _. Keeps old new)
+exception_put w id members old mid new le first (Ok x) ok err = puts_next w (value.string id) members old mid new le first ok
+exception_put w id members old mid new le first (Err x) ok err = keeps_behind (octets_of w.order (value.string id) (place_in w old)) first (keeps_all mid new err)
+
+-- it is aligned with its octets behind the gap
+exception_aligned : (w : Writing) (id : List ℕ) (members : Values) (old aligned new : List ℕ) → w.start ≤ length old
+    → aligned ≡ old ++ replicate (padding (place_in w old) 8) 0 → PutsAll w (exception_body id members) aligned new
+    → new ≡ old ++ aligned_octets w.order (exception_body id members) (place_in w old)
+exception_aligned w id members old aligned new le a p =
+    aligned_some w (exception_body id members) old aligned new le a p
+    (λ same. absurd (omega (arith, same, ap length p, length-append aligned (octets_of_all w.order (exception_body id members) (place_in w aligned)), exception_some w.order id members (place_in w aligned))))
+
+pub room_kept : {start : ℕ} (old new more : List ℕ) → new ≡ old ++ more → start ≤ length old → start ≤ length new
+room_kept {start} old new more e le = omega (arith, le, ap length e, length-append old more)
+
+pub aligned_put : (w : Writing) (id : List ℕ) (members : Values) (old aligned new : List ℕ) → w.start ≤ length old
+    → aligned ≡ old ++ replicate (padding (place_in w old) 8) 0 → (r : Result (Unit {0}) AllocError)
+    → MatchResult r (λ _. PutsAll w (exception_body id members) aligned new) (λ _. Keeps aligned new)
+    → MatchResult r (λ _. new ≡ old ++ aligned_octets w.order (exception_body id members) (place_in w old)) (λ _. Keeps old new)
+aligned_put w id members old aligned new le a (Ok x) p = exception_aligned w id members old aligned new le a p
+aligned_put w id members old aligned new le a (Err x) k = keeps_behind (replicate (padding (place_in w old) 8) 0) a k
 
 -- what stands before a place stands in front
 pub front_kept : (n : ℕ) (xs : List ℕ) → Keeps (take n xs) xs
@@ -100,15 +132,8 @@ module _ (w : Writing) (order : Order) (old begun : List ℕ) (begins : begun �
 
 -- the fields after the place of the header
 
-module _ (version : Version) (kind : MessageKind) (order : Order) (fields : List Value) (body : Values) (w : Writing) (old begun fielded : List ℕ)
-    (begins : begun ≡ old ++ replicate 12 0) (is : w ≡ record { order = order; at = 12; start = length begun })
-    (puts : PutsAll w (values fields) begun fielded) where
-  whole : fielded ≡ old ++ (replicate 12 0 ++ octets_of_all order (values fields) 12)
-  whole =
-      let here : 12 + (length begun - length begun) ≡ 12 = omega arith in
-      let told : fielded ≡ begun ++ octets_of_all order (values fields) (12 + (length begun - length begun)) = rw is at puts in
-      told ∙ ap (λ o. begun ++ octets_of_all order (values fields) o) here ∙ ap (λ xs. xs ++ octets_of_all order (values fields) 12) begins ∙ append_assoc old (replicate 12 0) (octets_of_all order (values fields) 12)
-
+module _ (version : Version) (kind : MessageKind) (order : Order) (fields : List Value) (body : Values) (old fielded : List ℕ)
+    (whole : fielded ≡ old ++ (replicate 12 0 ++ octets_of_all order (values fields) 12)) where
   front : take (length old) fielded ≡ old
   front = ap (take (length old)) whole ∙ take_at old (replicate 12 0 ++ octets_of_all order (values fields) 12) (length old) refl
 
@@ -117,14 +142,48 @@ module _ (version : Version) (kind : MessageKind) (order : Order) (fields : List
       ap (drop (length old + 12)) (whole ∙ sym (append_assoc old (replicate 12 0) (octets_of_all order (values fields) 12)))
       ∙ drop_at (old ++ replicate 12 0) (octets_of_all order (values fields) 12) (length old + 12) (omega (arith, length-append old (replicate {A = ℕ} 12 0)))
 
-  pub finished : (start : ℕ) → start ≡ length old → (r : Result (Unit {0}) WriteError) (new : List ℕ)
+  pub finished_whole : (start : ℕ) → start ≡ length old → (r : Result (Unit {0}) WriteError) (new : List ℕ)
       → Adds version kind order (with_body version kind order body (drop (start + 12) fielded)) r (take start fielded) new
       → Adds version kind order (behind_header version kind order fields body) r old new
   unfolding behind_header
-  finished start same r new h =
+  finished_whole start same r new h =
       let told = subst (λ n. Adds version kind order (with_body version kind order body (drop (n + 12) fielded)) r (take n fielded) new) same h in
       subst (λ xs. Adds version kind order (with_body version kind order body xs) r old new) fields_behind
       (subst (λ xs. Adds version kind order (with_body version kind order body (drop (length old + 12) fielded)) r xs new) front told)
+
+module _ (order : Order) (fields : List Value) (w : Writing) (old begun fielded : List ℕ)
+    (begins : begun ≡ old ++ replicate 12 0) (is : w ≡ record { order = order; at = 12; start = length begun })
+    (puts : PutsAll w (values fields) begun fielded) where
+  pub whole_begun : fielded ≡ old ++ (replicate 12 0 ++ octets_of_all order (values fields) 12)
+  whole_begun =
+      let here : 12 + (length begun - length begun) ≡ 12 = omega arith in
+      let told : fielded ≡ begun ++ octets_of_all order (values fields) (12 + (length begun - length begun)) = rw is at puts in
+      told ∙ ap (λ o. begun ++ octets_of_all order (values fields) o) here ∙ ap (λ xs. xs ++ octets_of_all order (values fields) 12) begins ∙ append_assoc old (replicate 12 0) (octets_of_all order (values fields) 12)
+
+module _ (version : Version) (kind : MessageKind) (order : Order) (fields : List Value) (body : Values) (w : Writing) (old begun fielded : List ℕ)
+    (begins : begun ≡ old ++ replicate 12 0) (is : w ≡ record { order = order; at = 12; start = length begun })
+    (puts : PutsAll w (values fields) begun fielded) where
+  pub finished : (start : ℕ) → start ≡ length old → (r : Result (Unit {0}) WriteError) (new : List ℕ)
+      → Adds version kind order (with_body version kind order body (drop (start + 12) fielded)) r (take start fielded) new
+      → Adds version kind order (behind_header version kind order fields body) r old new
+  finished = finished_whole version kind order fields body old fielded (whole_begun order fields w old begun fielded begins is puts)
+
+-- a message that was begun
+
+module _ (order : Order) (fields : List Value) (w : Writing) (old fielded : List ℕ) (b : Begins order fields (Ok w) old fielded) (start : ℕ) (same : start ≡ length old) where
+  pub room_after : start + 12 ≤ length fielded
+  room_after =
+      let all = octets_of_all order (values fields) 12 in
+      omega (arith, same, ap length b.0, length-append old (replicate {A = ℕ} 12 0 ++ all), length-append (replicate {A = ℕ} 12 0) all, length-replicate {A = ℕ} 12 0)
+
+  pub writes_after : w ≡ record { order = order; at = 12; start = start + 12 }
+  writes_after = b.1 ∙ ap (λ n. record { order = order; at = 12; start = n + 12 }) (sym same)
+
+  pub starts_after : w.start ≤ length fielded
+  starts_after = omega (arith, room_after, ap (λ (x : Writing). x.start) writes_after)
+
+  pub keeps_after : {new : List ℕ} → Keeps fielded new → Keeps old new
+  keeps_after {new} k = keeps_behind (replicate 12 0 ++ octets_of_all order (values fields) 12) b.0 k
 
 -- a field that is too long
 
@@ -143,6 +202,17 @@ pub judged_adds : (version : Version) (kind : MessageKind) (order : Order) (fiel
     → Checks {A = Unit {0}} v (Err e) → Adds {A = Unit {0}} version kind order (behind_header version kind order fields body) (Err e) old old
 judged_adds version kind order fields body old v TooLong long h = (fields_long version kind order fields body (long h), keeps_all old old refl)
 judged_adds version kind order fields body old v Memory long h = absurd h
+
+pub judged_begins : (order : Order) (fields : List Value) (old : List ℕ) (v : Value) (e : WriteError) → (IsLong v → AreLong (values fields))
+    → Checks {A = Unit {0}} v (Err e) → Begins order fields (Err e) old old
+judged_begins order fields old v TooLong long h = (long h, keeps_all old old refl)
+judged_begins order fields old v Memory long h = absurd h
+
+-- a message that was not begun is not appended
+pub unbegun : (version : Version) (kind : MessageKind) (order : Order) (fields : List Value) (body : Values) (old new : List ℕ) (e : WriteError)
+    → Begins order fields (Err e) old new → Adds {A = Unit {0}} version kind order (behind_header version kind order fields body) (Err e) old new
+unbegun version kind order fields body old new TooLong h = (fields_long version kind order fields body h.0, h.1)
+unbegun version kind order fields body old new Memory h = h
 
 -- the fields of a request
 

@@ -1,5 +1,5 @@
 -- Messages by the table of their rows, read from left to right.
-use Rattle.std.specs.Prelude.{ℕ, ◌+◌, Bool, true, false, List, [], ◌∷◌, drop, Result, Ok, Err, if◌then◌else◌}
+use Rattle.std.specs.Prelude.{ℕ, ◌+◌, ◌≤◌, Bool, true, false, List, [], ◌∷◌, drop, length, Result, Ok, Err, ⊤, if◌then◌else◌}
 use Rattle.cdr_core.specs.declared.order.Order.{Order}
 use Rattle.cdr_core.specs.Form.{Form}
 use Rattle.cdr_core.specs.Value as value
@@ -13,7 +13,7 @@ use Rattle.giop_core.specs.declared.header.MessageKind.TheVariants.{Request, Rep
 use Rattle.giop_core.specs.declared.error.MessageFault.{MessageFault}
 use Rattle.giop_core.specs.declared.error.MessageFault.TheVariants.{Cdr, BadAddressing}
 use Rattle.giop_core.specs.Rows.{row}
-use Rattle.giop_core.specs.Content.{Content, Rest, content}
+use Rattle.giop_core.specs.Content.{Content, Rest, content, locate_reply, reply, request}
 
 infixl 10 ◌>>=◌
 abbrev pub ◌>>=◌ : {A B : Type 0} → Result A MessageFault → (A → Result B MessageFault) → Result B MessageFault
@@ -67,3 +67,14 @@ unfoldable pub message_of : Version → MessageKind → Order → List ℕ → R
 message_of version kind order octets = do
   x ← fields_at (row version kind) order 12 octets
   Ok (content version kind x.0 (rest_at version kind order x.1 x.2))
+
+-- A body stands at most 7 octets of padding past the end of the octets after the header, and has no more octets than they.
+abbrev pub StandsNear : List ℕ → Rest → Type 0
+StandsNear octets r = (r.place ≤ 12 + length octets + 7) × (length r.octets ≤ length octets)
+
+-- the same of the body of a message, where it has one
+abbrev pub HasBodyNear : List ℕ → Content → Type 0
+HasBodyNear octets (request id wish to operation contexts r) = StandsNear octets r
+HasBodyNear octets (reply id status contexts r) = StandsNear octets r
+HasBodyNear octets (locate_reply id status r) = StandsNear octets r
+HasBodyNear octets _ = ⊤

@@ -1,6 +1,6 @@
 -- The words of private functions: what their contracts say on the way to those of the public ones. Nobody who takes the
 -- public contracts has to read this file.
-use Rattle.std.specs.Prelude.{◌≡◌, ℕ, ◌<◌, ◌≤◌, ◌^◌, ℤ, List, [], ◌∷◌, ◌++◌, length, map, Result, Ok, Err}
+use Rattle.std.specs.Prelude.{◌≡◌, ℕ, ◌+◌, ◌<◌, ◌≤◌, ◌^◌, ℤ, List, [], ◌∷◌, ◌++◌, length, map, replicate, Result, Ok, Err}
 use Rattle.std.specs.Borrow.{Bor}
 use Rattle.cdr_core.specs.declared.fault.Fault.{Fault}
 use Rattle.cdr_core.specs.declared.order.Order.{Order}
@@ -85,6 +85,12 @@ abbrev pub Adds : {A : Type 0} → Version → MessageKind → Order → List �
 Adds version kind order after (Ok x) old new = (length after < 2 ^ 32) × (new ≡ old ++ message_octets version kind order after)
 Adds version kind order after (Err TooLong) old new = (2 ^ 32 ≤ length after) × Keeps old new
 Adds version kind order after (Err Memory) old new = Keeps old new
+
+-- a message is begun, as far as its fields: zeros stand in place of its header, and a writer goes on after them
+abbrev pub Begins : Order → List Value → Result Writing WriteError → List ℕ → List ℕ → Type 0
+Begins order fields (Ok w) old new = (new ≡ old ++ (replicate 12 0 ++ octets_of_all order (values fields) 12)) × (w ≡ record { order = order; at = 12; start = length old + 12 })
+Begins order fields (Err TooLong) old new = AreLong (values fields) × Keeps old new
+Begins order fields (Err Memory) old new = Keeps old new
 
 -- octets by themselves are appended
 abbrev pub AddsOctets : {A : Type 0} → List ℕ → Result A WriteError → List ℕ → List ℕ → Type 0

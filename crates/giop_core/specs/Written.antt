@@ -74,6 +74,10 @@ abbrev pub reply_fields : Version → ℕ → ℕ → List (ℕ × List ℕ) →
 reply_fields V12 id status contexts = ulong_value id ∷ value.enumeration status ∷ list_value contexts ∷ []
 reply_fields _ id status contexts = list_value contexts ∷ ulong_value id ∷ value.enumeration status ∷ []
 
+-- GIOP 9.4.3: the body of a Reply that carries an exception: its repository id, and then its members
+abbrev pub exception_body : List ℕ → Values → Values
+exception_body id members = value.value (value.string id) members
+
 -- GIOP 9.4.4: a CancelRequest
 abbrev pub cancel_fields : ℕ → List Value
 cancel_fields id = ulong_value id ∷ []

@@ -7,7 +7,7 @@ ghost use Rattle.cdr_core.specs.Value.{Values};
 ghost use Rattle.cdr_core.specs.View.{forms_of};
 ghost use Rattle.giop_core.specs.Bodies.{BodyAnswers, BodyReads};
 ghost use Rattle.giop_core.specs.Lent.{content_of, rest_of, Shows};
-ghost use Rattle.giop_core.specs.Messages.{message_of};
+ghost use Rattle.giop_core.specs.Messages.{message_of, HasBodyNear};
 
 use crate::cancel::{CancelRequest, read_cancel};
 use crate::error::MessageFault;
@@ -119,10 +119,12 @@ fn message_of_kind(
 ///
 /// The octets are those of a whole message: its header announces no more fragments, and its size is
 /// their number. Octets after the fields of a message that has no body are ignored (a rule of this
-/// project). Places in faults and bodies count from the beginning of the message, its header included.
+/// project). Places in faults and bodies count from the beginning of the message, its header included;
+/// a body's is at most 7 past the message's end.
 pub fn read_message<'m>(header: &Header, octets: &'m [u8]) -> Result<Message<'m>, MessageFault>
     ensures shows { Shows (λ m. content_of m.content) result (message_of header.now.version header.now.kind header.now.order octets.now) }
     ensures same { IfOk result (λ m. (m.version ≡ header.now.version) × (m.order ≡ header.now.order)) }
+    ensures near { IfOk result (λ m. HasBodyNear octets.now (content_of m.content)) }
 {
     message_of_kind(header.kind, header.version, header.order, octets)
 }

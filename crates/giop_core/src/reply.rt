@@ -1,16 +1,17 @@
 //! Reply (CORBA 3.3 Part 2, 9.4.3).
 
-ghost use Rattle.std.specs.Prelude.{◌↔◌, Some, IsTrue, ◌≡◌, IfOk, ◌≤◌, ◌<◌, length, map};
+ghost use Rattle.std.specs.Prelude.{◌↔◌, Some, IsTrue, ◌≡◌, IfOk, MatchResult, ◌≤◌, ◌<◌, ◌++◌, length, map};
+ghost use Rattle.cdr_core.specs.Private.{Keeps};
 ghost use Rattle.cdr_core.specs.Value.{values};
 ghost use Rattle.cdr_core.specs.View.{values_of};
-ghost use Rattle.cdr_core.specs.Writing.{AreWritable};
+ghost use Rattle.cdr_core.specs.Writing.{place_in, AreWritable, PutsAll};
 ghost use Rattle.giop_core.specs.Items.{item_at};
 ghost use Rattle.giop_core.specs.Lent.{content_of, Shows};
 ghost use Rattle.giop_core.specs.Messages.{message_of};
-ghost use Rattle.giop_core.specs.Private.{Adds, PutsFields};
+ghost use Rattle.giop_core.specs.Private.{Adds, Begins, PutsFields};
 ghost use Rattle.giop_core.specs.Statuses.{reply_status_number, reply_status_of};
 ghost use Rattle.giop_core.specs.Texts.{reply_status_text};
-ghost use Rattle.giop_core.specs.Written.{behind_header, reply_fields, reply_statuses, Wrote};
+ghost use Rattle.giop_core.specs.Written.{behind_header, body_octets, exception_body, reply_fields, reply_statuses, Wrote};
 ghost use Rattle.giop_core.specs.declared.header.MessageKind.TheVariants as kind;
 ghost use Rattle.giop_core.specs.declared.header.Version.TheVariants.{V10, V12};
 
@@ -18,7 +19,7 @@ use crate::error::{MessageFault, WriteError};
 use crate::header::{MessageKind, Version};
 use crate::message::{AFTER_HEADER, Body, Content, Message, body_at};
 use crate::service_context::{Contexts, check_contexts, put_contexts, read_contexts};
-use crate::writing::{begin, finish};
+use crate::writing::{begin, finish, put_header};
 use cdr_core::{Cursor, Order, Val, Writer};
 use std::alloc::AllocError;
 use std::fmt;
@@ -226,6 +227,24 @@ fn put_reply(
     }
 }
 
+/// Appends a Reply as far as its fields, with zeros in place of its header. Where that fails `out` may
+/// keep a part of it at its end.
+fn begin_reply(
+    version: Version,
+    order: Order,
+    request_id: u32,
+    status: u32,
+    contexts: &[(u32, &[u8])],
+    out: &mut Vec<u8>,
+) -> Result<Writer, WriteError>
+    ensures { Begins order (reply_fields version request_id status (map item_at contexts.now)) result out.old.items out.new.items }
+{
+    check_contexts(contexts)?;
+    let writer = begin(order, out)?;
+    put_reply(version, &writer, request_id, status, contexts, out)?;
+    Ok(writer)
+}
+
 /// Appends a Reply. Where that fails `out` may keep a part of it at its end.
 fn append_reply(
     version: Version,
@@ -239,10 +258,8 @@ fn append_reply(
     requires { AreWritable (values_of body.now) }
     ensures { Adds version kind.Reply order (behind_header version kind.Reply order (reply_fields version request_id status (map item_at contexts.now)) (values_of body.now)) result out.old.items out.new.items }
 {
-    check_contexts(contexts)?;
     let start = out.len();
-    let writer = begin(order, out)?;
-    put_reply(version, &writer, request_id, status, contexts, out)?;
+    let writer = begin_reply(version, order, request_id, status, contexts, out)?;
     finish(
         version,
         MessageKind::Reply,
@@ -272,6 +289,97 @@ pub fn write_reply(
 {
     let start = out.len();
     let result = append_reply(version, order, request_id, status, contexts, body, out);
+    if result.is_err() {
+        out.truncate(start);
+    }
+    result
+}
+
+/// Appends the id of an exception and its members.
+fn put_members(
+    writer: &Writer,
+    exception: &[u8],
+    members: &[Val],
+    out: &mut Vec<u8>,
+) -> Result<(), AllocError>
+    requires start { writer.now.start ≤ length out.old.items }
+    requires writable { AreWritable (exception_body exception.now (values_of members.now)) }
+    ensures { MatchResult result
+        (λ _. PutsAll writer.now (exception_body exception.now (values_of members.now)) out.old.items out.new.items)
+        (λ _. Keeps out.old.items out.new.items) }
+{
+    writer.string(exception, out)?;
+    writer.values(members, out)
+}
+
+/// Appends the body of a Reply that carries an exception. In 1.2 padding stands before it.
+fn put_exception(
+    version: Version,
+    writer: &Writer,
+    exception: &[u8],
+    members: &[Val],
+    out: &mut Vec<u8>,
+) -> Result<(), AllocError>
+    requires start { writer.now.start ≤ length out.old.items }
+    requires writable { AreWritable (exception_body exception.now (values_of members.now)) }
+    ensures { MatchResult result
+        (λ _. out.new.items ≡ out.old.items ++ body_octets version kind.Reply writer.now.order (exception_body exception.now (values_of members.now)) (place_in writer.now out.old.items))
+        (λ _. Keeps out.old.items out.new.items) }
+{
+    match version {
+        Version::V10 | Version::V11 => put_members(writer, exception, members, out),
+        Version::V12 => {
+            writer.align(8, out)?;
+            put_members(writer, exception, members, out)
+        }
+    }
+}
+
+/// Appends a Reply that carries an exception. Where that fails `out` may keep a part of it at its end.
+fn append_exception(
+    version: Version,
+    order: Order,
+    request_id: u32,
+    status: u32,
+    contexts: &[(u32, &[u8])],
+    exception: &[u8],
+    members: &[Val],
+    out: &mut Vec<u8>,
+) -> Result<(), WriteError>
+    requires { AreWritable (exception_body exception.now (values_of members.now)) }
+    ensures { Adds version kind.Reply order (behind_header version kind.Reply order (reply_fields version request_id status (map item_at contexts.now)) (exception_body exception.now (values_of members.now))) result out.old.items out.new.items }
+{
+    let start = out.len();
+    let writer = begin_reply(version, order, request_id, status, contexts, out)?;
+    put_exception(version, &writer, exception, members, out)?;
+    put_header(version, MessageKind::Reply, order, start, out)
+}
+
+/// Appends a Reply that carries an exception (CORBA 3.3 Part 2, 9.4.3), which nothing has to copy first.
+///
+/// Its body is the exception's repository id, as `IDL:omg.org/CORBA/MARSHAL:1.0`, and then its members:
+/// of a system exception its minor code and its completion status. `exception` is the id's octets,
+/// without a NUL. The status is one that the version has: that of an exception is 1 or 2, which is left
+/// to the caller. On an error `out` is as it was: the message is longer than 4,294,967,295 octets after
+/// its header, or an allocation failed.
+pub fn write_exception(
+    version: Version,
+    order: Order,
+    request_id: u32,
+    status: u32,
+    contexts: &[(u32, &[u8])],
+    exception: &[u8],
+    members: &[Val],
+    out: &mut Vec<u8>,
+) -> Result<(), WriteError>
+    requires status { status < reply_statuses version }
+    requires writable { AreWritable (exception_body exception.now (values_of members.now)) }
+    ensures { Wrote version kind.Reply order (behind_header version kind.Reply order (reply_fields version request_id status (map item_at contexts.now)) (exception_body exception.now (values_of members.now))) result out.old.items out.new.items }
+{
+    let start = out.len();
+    let result = append_exception(
+        version, order, request_id, status, contexts, exception, members, out,
+    );
     if result.is_err() {
         out.truncate(start);
     }

@@ -93,7 +93,7 @@ fn put_body(
 }
 
 /// Writes the header over the zeros in its place, which begin at `start`.
-fn put_header(
+pub(crate) fn put_header(
     version: Version,
     kind: MessageKind,
     order: Order,
