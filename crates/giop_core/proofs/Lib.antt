@@ -12,5 +12,8 @@ pub mod ItemsPut
 pub mod Longs
 pub mod Whole
 pub mod Retention
+pub mod FirstContext
 pub mod ReadAgain
 pub mod Near
+pub mod Refused
+pub mod ReadFits

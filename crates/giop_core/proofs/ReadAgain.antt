@@ -26,7 +26,7 @@ use Rattle.giop_core.specs.declared.request.ReplyWish.{ReplyWish}
 use Rattle.giop_core.specs.declared.request.ReplyWish.TheVariants as wish
 use Rattle.giop_core.specs.Content as content
 use Rattle.giop_core.specs.Content.{addressed, content, nth, wish_if, wish_of, Addressed, Content, Rest}
-use Rattle.giop_core.specs.Ft.{ft_by, ft_in}
+use Rattle.giop_core.specs.Ft.{ft_by, ft_in, ft_of}
 use Rattle.giop_core.specs.Grammar.{IsMessage, SpellsFields}
 use Rattle.giop_core.specs.Items.{list_value, reference_as, tagged_value}
 use Rattle.giop_core.specs.Laws.{rest_after, written_rest, HaveTags, IsReadAs, IsTarget, WrittenCancelIsRead, WrittenFtIsPresent, WrittenLocateReplyIsRead, WrittenLocateRequestIsRead, WrittenReplyIsRead, WrittenRequestIsRead}
@@ -34,6 +34,7 @@ use Rattle.giop_core.specs.Messages.{is_unknown, rest_at}
 use Rattle.giop_core.specs.Rows.{contexts, ft_request, reserved, row, target}
 use Rattle.giop_core.specs.Written.{behind_gap, behind_header, body_octets, cancel_fields, response_flags, ft_octets, ft_value_of, response_expected, key_value, locate_reply_fields, locate_request_fields, locate_statuses, reply_fields, reply_statuses, request_fields, selected_as, target_of, zeros, CanAddress, CanAsk}
 use Rattle.giop_core.proofs.Again.{all_again}
+use Rattle.giop_core.proofs.FirstContext.{first_behind}
 use Rattle.giop_core.proofs.Longs.{at_least}
 use Rattle.giop_core.proofs.Spelled.{message_only}
 
@@ -211,13 +212,13 @@ module _ (order : Order) where
         let c = nth_short 2 (reply_fields V12 id status contexts) 12 small in
         (id_fits, (((below, omega (arith, below)), refl), ((list_fits contexts c.0 tags c.1, refl), tt)))
 
-    cancel_fits : (version : Version) → FitRow (row version kind.CancelRequest) (cancel_fields id)
+    pub cancel_fits : (version : Version) → FitRow (row version kind.CancelRequest) (cancel_fields id)
     unfolding row
     cancel_fits V10 = (id_fits, tt)
     cancel_fits V11 = (id_fits, tt)
     cancel_fits V12 = (id_fits, tt)
 
-    locate_request_fits : (version : Version) (to : Addressed) → CanAddress version to → IsTarget to
+    pub locate_request_fits : (version : Version) (to : Addressed) → CanAddress version to → IsTarget to
         → length (octets_of_all order (values (locate_request_fields version id to)) 12) < 2 ^ 32 → FitRow (row version kind.LocateRequest) (locate_request_fields version id to)
     unfolding row
     locate_request_fits V10 to can is small = let k = nth_short 1 (locate_request_fields V10 id to) 12 small in (id_fits, (key_fits to k.0 can k.1, tt))
@@ -265,13 +266,13 @@ reply_says V10 id status contexts rest = rw (all_again contexts) refl
 reply_says V11 id status contexts rest = rw (all_again contexts) refl
 reply_says V12 id status contexts rest = rw (all_again contexts) refl
 
-cancel_says : (version : Version) (id : ℕ) (rest : Rest) → content version kind.CancelRequest (cancel_fields id) rest ≡ content.cancel id
+pub cancel_says : (version : Version) (id : ℕ) (rest : Rest) → content version kind.CancelRequest (cancel_fields id) rest ≡ content.cancel id
 unfolding content
 cancel_says V10 id rest = refl
 cancel_says V11 id rest = refl
 cancel_says V12 id rest = refl
 
-locate_request_says : (version : Version) (id : ℕ) (to : Addressed) (rest : Rest) → CanAddress version to → content version kind.LocateRequest (locate_request_fields version id to) rest ≡ content.locate_request id to
+pub locate_request_says : (version : Version) (id : ℕ) (to : Addressed) (rest : Rest) → CanAddress version to → content version kind.LocateRequest (locate_request_fields version id to) rest ≡ content.locate_request id to
 unfolding content
 locate_request_says V10 id to rest can = rw (key_again to can) refl
 locate_request_says V11 id to rest can = rw (key_again to can) refl
@@ -291,7 +292,7 @@ fields_small version kind order fields body small =
     let front = octets_of_all order (values fields) 12 in
     omega (arith, small, length-append front (body_octets version kind order body (12 + length front)))
 
-read_as : SpelledIsRead → WrittenIsSpelled → (version : Version) (kind : MessageKind) (order : Order) (fields : List Value) (body : Values) (m : Rest → Content)
+pub read_as : SpelledIsRead → WrittenIsSpelled → (version : Version) (kind : MessageKind) (order : Order) (fields : List Value) (body : Values) (m : Rest → Content)
     → ((rest : Rest) → content version kind fields rest ≡ m rest) → (length (octets_of_all order (values fields) 12) < 2 ^ 32 → FitRow (row version kind) fields) → IsReadAs version kind order fields body m
 read_as read spelled version kind order fields body m says fit small =
     message_only read version kind order (behind_header version kind order fields body) (content version kind fields (rest_after version kind order fields body))
@@ -332,9 +333,10 @@ ft_fits order client id expiration clean signed lt small =
 
 pub ft_read : SpelledIsRead → WrittenIsSpelled → WrittenFtIsPresent
 unfolding ft_in
-ft_read read spelled order client id expiration more clean signed lt small =
+ft_read read spelled order client id expiration before more clean signed lt small none =
     let v = ft_value_of client id expiration in
     let octets = octets_of order v 1 in
     let holds = spelled ft_request order v (ft_fits order client id expiration clean signed lt small) 1 in
-    ap ft_by (enclosed_only read (λ o w. Spells ft_request o w) (value_at ft_request) (λ o w p front rest s. read ft_request o w p front rest s) (ft_octets order client id expiration) v
+    ap ft_of (first_behind 13 (ft_octets order client id expiration) more before none)
+    ∙ ap ft_by (enclosed_only read (λ o w. Spells ft_request o w) (value_at ft_request) (λ o w p front rest s. read ft_request o w p front rest s) (ft_octets order client id expiration) v
     (record { order = order; front = octets; rest = []; parts = ap (λ xs. byte_order order ∷ xs) (sym (append-nil octets)); holds = holds }))

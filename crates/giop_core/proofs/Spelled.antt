@@ -29,7 +29,7 @@ known : (b : Bool) (place : ℕ) (x y : Value × ℕ × List ℕ) → cond b (Er
 known true place x y e = absurd cc
 known false place x y e = (refl, done_is x y e)
 
-known_well : (place : ℕ) (r : Read Value) (v : Value) (p : ℕ) (rest : List ℕ) → unless_unknown place r ≡ Ok (v, p, rest) → (r ≡ Ok (v, p, rest)) × (is_unknown v ≡ false)
+pub known_well : (place : ℕ) (r : Read Value) (v : Value) (p : ℕ) (rest : List ℕ) → unless_unknown place r ≡ Ok (v, p, rest) → (r ≡ Ok (v, p, rest)) × (is_unknown v ≡ false)
 known_well place (Err f) v p rest e = absurd cc
 known_well place (Ok x) v p rest e =
     let k = known (is_unknown x.0) place x (v, p, rest) e in

@@ -1,5 +1,6 @@
 -- The service context of a request that may be sent again (Fault Tolerant CORBA, 23.2.7).
-use Rattle.std.specs.Prelude.{ℕ, ℤ, ◌==◌, List, [], ◌∷◌, Option, Some, None, Result, Ok, Err, if◌then◌else◌}
+use Rattle.std.specs.Prelude.{◌≡◌, ◌≢◌, ℕ, ℤ, ◌==◌, List, [], ◌∷◌, ◌++◌, Option, Some, None, Result, Ok, Err, if◌then◌else◌}
+use Rattle.std.specs.List.{AllByRecursion}
 use Rattle.cdr_core.specs.declared.fault.Fault.{Fault}
 use Rattle.cdr_core.specs.Encapsulation.{encapsulated}
 use Rattle.cdr_core.specs.Reading.{value_at}
@@ -39,3 +40,14 @@ abbrev pub ft_seen : FtField → Ft
 ft_seen field.Absent = absent
 ft_seen field.Bad = bad
 ft_seen (field.Present c r e) = present c.now r e
+
+-- none of the items has the id
+abbrev pub HasNone : ℕ → List (ℕ × List ℕ) → Type 0
+HasNone id items = AllByRecursion (λ x. x.0 ≢ id) items
+
+-- the first item of the id holds these octets
+pub record IsFirst (id : ℕ) (octets : List ℕ) (items : List (ℕ × List ℕ)) : Type 0 where
+  pub before : List (ℕ × List ℕ)
+  pub after : List (ℕ × List ℕ)
+  pub parts : items ≡ before ++ (id, octets) ∷ after
+  pub none : HasNone id before

@@ -1,25 +1,28 @@
 -- The laws, each over the definitions alone.
-use Rattle.std.specs.Prelude.{◌≡◌, ℕ, ◌+◌, ◌<◌, ◌^◌, ℤ, FitsSigned, List, ◌∷◌, length, Ok, ⊤, IsTrue}
+use Rattle.std.specs.Prelude.{◌≡◌, ◌≢◌, ◌↔◌, ℕ, ◌+◌, ◌<◌, ◌^◌, ℤ, FitsSigned, List, [], ◌∷◌, ◌++◌, length, Ok, Err, ⊤, IsTrue, IfSome}
 use Rattle.std.specs.Int.{w32}
 use Rattle.std.specs.List.{AllByRecursion}
 use Rattle.cdr_core.specs.declared.order.Order.{Order}
-use Rattle.cdr_core.specs.Numbers.{padding}
-use Rattle.cdr_core.specs.Spelling.{IsClean}
+use Rattle.cdr_core.specs.Encapsulation.{IsEncapsulated}
+use Rattle.cdr_core.specs.Numbers.{padding, AreOctets}
+use Rattle.cdr_core.specs.Spelling.{IsClean, Spells}
 use Rattle.cdr_core.specs.Value.{Value, Values, no_values, values}
 use Rattle.cdr_core.specs.Writing.{octets_of_all}
+use Rattle.giop_core.specs.declared.error.MessageFault.{MessageFault}
 use Rattle.giop_core.specs.declared.header.Header.{Header}
 use Rattle.giop_core.specs.declared.header.MessageKind.{MessageKind}
-use Rattle.giop_core.specs.declared.header.MessageKind.TheVariants.{Request, Reply, CancelRequest, LocateRequest, LocateReply}
+use Rattle.giop_core.specs.declared.header.MessageKind.TheVariants.{Request, Reply, CancelRequest, LocateRequest, LocateReply, Fragment}
 use Rattle.giop_core.specs.declared.header.Version.{Version}
 use Rattle.giop_core.specs.declared.header.Version.TheVariants.{V12}
 use Rattle.giop_core.specs.declared.request.ReplyWish.{ReplyWish}
 use Rattle.giop_core.specs.Content as content
 use Rattle.giop_core.specs.Content.{Addressed, Content, Rest}
-use Rattle.giop_core.specs.Ft.{ft_in, present}
-use Rattle.giop_core.specs.Grammar.{IsMessage}
+use Rattle.giop_core.specs.Ft.{absent, ft_in, present, HasNone, IsFirst}
+use Rattle.giop_core.specs.Grammar.{IsMessage, StopsMessage}
 use Rattle.giop_core.specs.Headers.{header_octets, header_of, is_possible}
-use Rattle.giop_core.specs.Messages.{message_of}
-use Rattle.giop_core.specs.Written.{behind_header, cancel_fields, ft_octets, locate_reply_fields, locate_request_fields, locate_statuses, reply_fields, reply_statuses, request_fields, CanAddress, CanAsk}
+use Rattle.giop_core.specs.Messages.{message_of, IsBack, OnBody}
+use Rattle.giop_core.specs.Rows.{ft_request}
+use Rattle.giop_core.specs.Written.{behind_header, cancel_fields, ft_octets, ft_value_of, locate_reply_fields, locate_request_fields, locate_statuses, reply_fields, reply_statuses, request_fields, CanAddress, CanAsk}
 
 -- What is read is a message by the grammar ..
 abbrev pub MessagesAreSpelled : Type 0
@@ -28,6 +31,18 @@ MessagesAreSpelled = (version : Version) (kind : MessageKind) (order : Order) (o
 -- .. and what is a message by the grammar is read.
 abbrev pub SpelledMessagesAreRead : Type 0
 SpelledMessagesAreRead = (version : Version) (kind : MessageKind) (order : Order) (octets : List ℕ) (m : Content) → IsMessage version kind order octets m → message_of version kind order octets ≡ Ok m
+
+-- What is refused has that fault by the grammar ..
+abbrev pub RefusedMessagesStop : Type 0
+RefusedMessagesStop = (version : Version) (kind : MessageKind) (order : Order) (octets : List ℕ) (f : MessageFault) → message_of version kind order octets ≡ Err f → StopsMessage version kind order octets f
+
+-- .. and what has a fault by the grammar is refused with it.
+abbrev pub StoppingMessagesAreRefused : Type 0
+StoppingMessagesAreRefused = (version : Version) (kind : MessageKind) (order : Order) (octets : List ℕ) (f : MessageFault) → StopsMessage version kind order octets f → message_of version kind order octets ≡ Err f
+
+-- The body of a message that is read is a back part of its octets.
+abbrev pub BodiesAreBacks : Type 0
+BodiesAreBacks = (version : Version) (kind : MessageKind) (order : Order) (octets : List ℕ) (m : Content) → message_of version kind order octets ≡ Ok m → OnBody (IsBack version octets) m
 
 -- A possible header is read again from its octets.
 abbrev pub HeadersAreReadAgain : Type 0
@@ -80,8 +95,54 @@ abbrev pub WrittenLocateReplyIsRead : Type 0
 WrittenLocateReplyIsRead = (version : Version) (order : Order) (id status : ℕ) (body : Values) → id < 2 ^ 32 → status < locate_statuses version
     → IsReadAs version LocateReply order (locate_reply_fields id status) body (content.locate_reply id status)
 
--- A written FT_REQUEST that is the first context is present with its three fields.
+-- What the writer of its kind asks of a message. No writer of this crate has a Fragment; its id is an unsigned long.
+abbrev pub CanBeWritten : Version → Content → Type 0
+CanBeWritten version (content.request id wish to operation contexts body) = (id < 2 ^ 32) × CanAsk version wish × CanAddress version to × IsTarget to × IsClean operation × HaveTags contexts
+CanBeWritten version (content.reply id status contexts body) = (id < 2 ^ 32) × (status < reply_statuses version) × HaveTags contexts
+CanBeWritten version (content.cancel id) = id < 2 ^ 32
+CanBeWritten version (content.locate_request id to) = (id < 2 ^ 32) × CanAddress version to × IsTarget to
+CanBeWritten version (content.locate_reply id status body) = (id < 2 ^ 32) × (status < locate_statuses version)
+CanBeWritten version (content.fragment id octets) = IfSome id (λ n. n < 2 ^ 32)
+CanBeWritten version _ = ⊤
+
+-- What is read can be written again.
+abbrev pub ReadMessagesCanBeWritten : Type 0
+ReadMessagesCanBeWritten = (version : Version) (kind : MessageKind) (order : Order) (octets : List ℕ) (m : Content) → AreOctets octets → message_of version kind order octets ≡ Ok m → CanBeWritten version m
+
+-- the fields that are written for a message that a writer has
+abbrev pub written_fields : Version → Content → List Value
+written_fields version (content.request id wish to operation contexts body) = request_fields version id wish to operation contexts
+written_fields version (content.reply id status contexts body) = reply_fields version id status contexts
+written_fields version (content.cancel id) = cancel_fields id
+written_fields version (content.locate_request id to) = locate_request_fields version id to
+written_fields version (content.locate_reply id status body) = locate_reply_fields id status
+written_fields version _ = []
+
+-- the message with this body, if it has one
+abbrev pub with_rest : Content → Rest → Content
+with_rest (content.request id wish to operation contexts body) rest = content.request id wish to operation contexts rest
+with_rest (content.reply id status contexts body) rest = content.reply id status contexts rest
+with_rest (content.locate_reply id status body) rest = content.locate_reply id status rest
+with_rest m rest = m
+
+-- What was read, written again with a body of any values in either order, is read as the same message with that body. A
+-- Fragment has no writer here.
+abbrev pub ReadMessagesAreReadAgain : Type 0
+ReadMessagesAreReadAgain = (version : Version) (kind : MessageKind) (order : Order) (octets : List ℕ) (m : Content) → AreOctets octets → message_of version kind order octets ≡ Ok m → kind ≢ Fragment
+    → (again : Order) (body : Values) → IsReadAs version kind again (written_fields version m) body (with_rest m)
+
+-- A written FT_REQUEST that is the first context of its id is present with its three fields.
 abbrev pub WrittenFtIsPresent : Type 0
-WrittenFtIsPresent = (order : Order) (client_id : List ℕ) (retention_id : ℤ) (expiration : ℕ) (more : List (ℕ × List ℕ))
-    → IsClean client_id → FitsSigned w32 retention_id → expiration < 2 ^ 64 → length (ft_octets order client_id retention_id expiration) < 2 ^ 32
-    → ft_in ((13, ft_octets order client_id retention_id expiration) ∷ more) ≡ present client_id retention_id expiration
+WrittenFtIsPresent = (order : Order) (client_id : List ℕ) (retention_id : ℤ) (expiration : ℕ) (before more : List (ℕ × List ℕ))
+    → IsClean client_id → FitsSigned w32 retention_id → expiration < 2 ^ 64 → length (ft_octets order client_id retention_id expiration) < 2 ^ 32 → HasNone 13 before
+    → ft_in (before ++ (13, ft_octets order client_id retention_id expiration) ∷ more) ≡ present client_id retention_id expiration
+
+-- FT_REQUEST is present exactly where the first context of its id is an encapsulation of its fields ..
+abbrev pub PresentFtIsSpelled : Type 0
+PresentFtIsSpelled = (contexts : List (ℕ × List ℕ)) (client_id : List ℕ) (retention_id : ℤ) (expiration : ℕ)
+    → (ft_in contexts ≡ present client_id retention_id expiration)
+    ↔ ((octets : List ℕ) × IsFirst 13 octets contexts × IsEncapsulated (λ order. Spells ft_request order (ft_value_of client_id retention_id expiration)) octets)
+
+-- .. and absent exactly where no context has its id.
+abbrev pub AbsentFtIsNowhere : Type 0
+AbsentFtIsNowhere = (contexts : List (ℕ × List ℕ)) → (ft_in contexts ≡ absent) ↔ HasNone 13 contexts

@@ -1,5 +1,5 @@
 -- Messages by the table of their rows, read from left to right.
-use Rattle.std.specs.Prelude.{ℕ, ◌+◌, ◌≤◌, Bool, true, false, List, [], ◌∷◌, drop, length, Result, Ok, Err, ⊤, if◌then◌else◌}
+use Rattle.std.specs.Prelude.{◌≡◌, ℕ, ◌+◌, ◌<◌, ◌≤◌, Bool, true, false, List, [], ◌∷◌, ◌++◌, drop, length, ◌⊎◌, Result, Ok, Err, ⊤, if◌then◌else◌}
 use Rattle.cdr_core.specs.declared.order.Order.{Order}
 use Rattle.cdr_core.specs.Form.{Form}
 use Rattle.cdr_core.specs.Value as value
@@ -68,13 +68,20 @@ message_of version kind order octets = do
   x ← fields_at (row version kind) order 12 octets
   Ok (content version kind x.0 (rest_at version kind order x.1 x.2))
 
+-- P holds of the body of a message, if it has one
+abbrev pub OnBody : (Rest → Type 0) → Content → Type 0
+OnBody P (request id wish to operation contexts r) = P r
+OnBody P (reply id status contexts r) = P r
+OnBody P (locate_reply id status r) = P r
+OnBody P _ = ⊤
+
 -- A body stands at most 7 octets of padding past the end of the octets after the header, and has no more octets than they.
 abbrev pub StandsNear : List ℕ → Rest → Type 0
 StandsNear octets r = (r.place ≤ 12 + length octets + 7) × (length r.octets ≤ length octets)
 
--- the same of the body of a message, where it has one
-abbrev pub HasBodyNear : List ℕ → Content → Type 0
-HasBodyNear octets (request id wish to operation contexts r) = StandsNear octets r
-HasBodyNear octets (reply id status contexts r) = StandsNear octets r
-HasBodyNear octets (locate_reply id status r) = StandsNear octets r
-HasBodyNear octets _ = ⊤
+-- A body is a back part of the octets after the header, and stands there. Only in 1.2, where the octets end in the padding
+-- before it, it is empty and may stand past their end, by less than 8.
+pub record IsBack (version : Version) (octets : List ℕ) (r : Rest) : Type 0 where
+  pub front : List ℕ
+  pub parts : octets ≡ front ++ r.octets
+  pub place : (r.place ≡ 12 + length front) ⊎ ((version ≡ V12) × (r.octets ≡ []) × (12 + length front ≤ r.place) × (r.place < 12 + length front + 8))

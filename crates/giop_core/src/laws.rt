@@ -1,6 +1,6 @@
 //! Laws over the definitions: each is what a function with an empty body ensures.
 
-ghost use Rattle.giop_core.specs.Laws.{HeadersAreReadAgain, MessagesAreSpelled, SpelledMessagesAreRead, WrittenCancelIsRead, WrittenFtIsPresent, WrittenLocateReplyIsRead, WrittenLocateRequestIsRead, WrittenReplyIsRead, WrittenRequestIsRead};
+ghost use Rattle.giop_core.specs.Laws.{AbsentFtIsNowhere, BodiesAreBacks, HeadersAreReadAgain, MessagesAreSpelled, PresentFtIsSpelled, ReadMessagesAreReadAgain, ReadMessagesCanBeWritten, RefusedMessagesStop, SpelledMessagesAreRead, StoppingMessagesAreRefused, WrittenCancelIsRead, WrittenFtIsPresent, WrittenLocateReplyIsRead, WrittenLocateRequestIsRead, WrittenReplyIsRead, WrittenRequestIsRead};
 
 /// Reading gives the message that the grammar says the octets are, and gives it wherever there is
 /// one.
@@ -12,6 +12,22 @@ pub fn messages_are_spelled()
     cdr_core::laws::read_is_spelled();
     cdr_core::laws::spelled_is_read();
 }
+
+/// What is refused has that fault by the grammar, and what has a fault by the grammar is refused with
+/// it.
+pub fn refused_messages_stop()
+    ensures stop { RefusedMessagesStop }
+    ensures refused { StoppingMessagesAreRefused }
+{
+    cdr_core::laws::read_is_spelled();
+    cdr_core::laws::spelled_is_read();
+    cdr_core::laws::faults_stop();
+}
+
+/// The body of a message that is read is a back part of its octets.
+pub fn bodies_are_backs()
+    ensures { BodiesAreBacks }
+{}
 
 /// A message that is written is read as the same message.
 pub fn written_is_read()
@@ -25,7 +41,28 @@ pub fn written_is_read()
     cdr_core::laws::written_is_spelled();
 }
 
-/// A written FT_REQUEST that is the first context is present with its three fields.
+/// A message that was read meets what its writer asks, and written again it is read as the same message.
+pub fn read_messages_can_be_written()
+    ensures can { ReadMessagesCanBeWritten }
+    ensures again { ReadMessagesAreReadAgain }
+{
+    cdr_core::laws::read_is_spelled();
+    cdr_core::laws::spelled_fits();
+    cdr_core::laws::spelled_is_read();
+    cdr_core::laws::written_is_spelled();
+}
+
+/// FT_REQUEST is present exactly where the first context of its id is an encapsulation of its fields,
+/// and absent exactly where no context has its id.
+pub fn ft_is_spelled()
+    ensures present { PresentFtIsSpelled }
+    ensures absent { AbsentFtIsNowhere }
+{
+    cdr_core::laws::read_is_spelled();
+    cdr_core::laws::spelled_is_read();
+}
+
+/// A written FT_REQUEST that is the first context of its id is present with its three fields.
 pub fn written_ft_is_present()
     ensures { WrittenFtIsPresent }
 {

@@ -7,7 +7,7 @@ ghost use Rattle.cdr_core.specs.Value.{Values};
 ghost use Rattle.cdr_core.specs.View.{forms_of};
 ghost use Rattle.giop_core.specs.Bodies.{BodyAnswers, BodyReads};
 ghost use Rattle.giop_core.specs.Lent.{content_of, rest_of, Shows};
-ghost use Rattle.giop_core.specs.Messages.{message_of, HasBodyNear};
+ghost use Rattle.giop_core.specs.Messages.{message_of, OnBody, StandsNear};
 
 use crate::cancel::{CancelRequest, read_cancel};
 use crate::error::MessageFault;
@@ -124,7 +124,7 @@ fn message_of_kind(
 pub fn read_message<'m>(header: &Header, octets: &'m [u8]) -> Result<Message<'m>, MessageFault>
     ensures shows { Shows (λ m. content_of m.content) result (message_of header.now.version header.now.kind header.now.order octets.now) }
     ensures same { IfOk result (λ m. (m.version ≡ header.now.version) × (m.order ≡ header.now.order)) }
-    ensures near { IfOk result (λ m. HasBodyNear octets.now (content_of m.content)) }
+    ensures near { IfOk result (λ m. OnBody (StandsNear octets.now) (content_of m.content)) }
 {
     message_of_kind(header.kind, header.version, header.order, octets)
 }
