@@ -15,7 +15,7 @@ use Rattle.giop_core.specs.Messages.{field_at}
 use Rattle.giop_core.specs.Rows.{choice}
 
 -- one label isn't another
-unequal : (y z : ℤ) → z ≢ y → int_eq y z ≡ false
+pub unequal : (y z : ℤ) → z ≢ y → int_eq y z ≡ false
 unequal y z n = by (int_eq y z) (Decides-int_eq y z).0
   where
     by : (b : Bool) → (b ≡ true → y ≡ z) → b ≡ false

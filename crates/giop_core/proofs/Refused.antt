@@ -1,20 +1,25 @@
 -- What is refused stops by the grammar, and what stops is refused, from the same of each type.
-use Rattle.std.proofs.Common.{◌≡◌, ℕ, ◌+◌, Bool, true, false, cond, List, [], ◌∷◌, length, Result, Ok, Err, ◌⊎◌, inl, inr, refl, sym, ap, subst, ◌∙◌}
+use Rattle.std.proofs.Common.{◌≡◌, ◌≢◌, ℕ, ◌+◌, ℤ, pos, Bool, true, false, cond, List, [], ◌∷◌, ◌++◌, length, Result, Ok, Err, ◌⊎◌, inl, inr, refl, sym, ap, subst, ◌∙◌, append_assoc}
+use Rattle.std.proofs.lemmas.Bool.Decides.{Decides-int_eq}
+use Rattle.std.proofs.lemmas.List.{append-nil}
+use Rattle.std.specs.Ordering.{int_eq}
 use Rattle.cdr_core.specs.declared.order.Order.{Order}
 use Rattle.cdr_core.specs.Form.{Form}
 use Rattle.cdr_core.specs.Laws.{FaultsStop, ReadIsSpelled, SpelledIsRead, StopsAreFaults}
 use Rattle.cdr_core.specs.Numbers.{padding}
 use Rattle.cdr_core.specs.Reading.{Read, value_at}
-use Rattle.cdr_core.specs.Spelling.{InTurn, Spells, Takes}
+use Rattle.cdr_core.specs.Parts.{short, short_value}
+use Rattle.cdr_core.specs.Spelling.{Chosen, InTurn, Spells, Takes}
 use Rattle.cdr_core.specs.Value as value
 use Rattle.cdr_core.specs.Value.{Value}
 use Rattle.giop_core.specs.declared.error.MessageFault.{MessageFault}
 use Rattle.giop_core.specs.declared.error.MessageFault.TheVariants.{BadAddressing, Cdr}
 use Rattle.giop_core.specs.Content.{content}
 use Rattle.giop_core.specs.Grammar.{StopsField, StopsInFields}
-use Rattle.giop_core.specs.Laws.{RefusedMessagesStop, StoppingMessagesAreRefused}
+use Rattle.giop_core.specs.Laws.{RefusedMessagesStop, StoppingMessagesAreRefused, UnknownTargetsStop}
 use Rattle.giop_core.specs.Messages.{◌>>=◌, field_at, fields_at, is_unknown, message_of, rest_at, unless_unknown}
-use Rattle.giop_core.specs.Rows.{row}
+use Rattle.giop_core.specs.Rows.{row, target}
+use Rattle.giop_core.proofs.Choices.{unequal}
 use Rattle.giop_core.proofs.Spelled.{known_well}
 
 abbrev failed : {A : Type 0} → MessageFault → Result A MessageFault
@@ -105,3 +110,52 @@ message_stops law found version kind order octets f e =
 pub message_refused : StopsAreFaults → SpelledIsRead → StoppingMessagesAreRefused
 unfolding message_of
 message_refused law only version kind order octets f h = rw (fields_refused law only (row version kind) order 12 octets f h) refl
+
+-- a target whose discriminator is unknown
+
+not_chosen : (b : Bool) (A : Type 0) → Chosen b ⊥ A → (b ≡ false) × A
+not_chosen true A h = absurd h
+not_chosen false A h = (refl, h)
+
+differs : (k z : ℤ) → int_eq k z ≡ false → z ≢ k
+differs k z e is = clash e ((Decides-int_eq k z).1 (sym is))
+  where
+    clash : {b : Bool} → b ≡ false → b ≡ true → ⊥
+    clash e f = cc
+
+module _ (order : Order) (o : ℕ) (octets : List ℕ) where
+  unknown_short : (d : Value) → InTurn (Spells target order (value.union d value.no_values)) (λ _ _. Unit {0}) o octets
+      → (z : ℤ) × (z ≢ pos 0) × (z ≢ pos 1) × (z ≢ pos 2) × InTurn (Spells short order (short_value z)) (λ _ _. Unit {0}) o octets
+  unknown_short (value.number same z) h =
+      let a = not_chosen (int_eq (pos 0) z) _ h.first.second in
+      let b = not_chosen (int_eq (pos 1) z) _ a.1 in
+      let c = not_chosen (int_eq (pos 2) z) _ b.1 in (
+        z,
+        differs (pos 0) z a.0,
+        differs (pos 1) z b.0,
+        differs (pos 2) z c.0,
+        record {
+          front = h.first.front;
+          rest = h.first.rest ++ h.rest;
+          parts = h.parts ∙ ap (λ xs. xs ++ h.rest) h.first.parts ∙ append_assoc h.first.front h.first.rest h.rest;
+          first = (refl, h.first.first.1, h.first.first.2, h.first.first.3);
+          second = tt;
+        },
+      )
+  unknown_short _ h = absurd h.first.first
+
+  short_unknown : (z : ℤ) → z ≢ pos 0 → z ≢ pos 1 → z ≢ pos 2 → InTurn (Spells short order (short_value z)) (λ _ _. Unit {0}) o octets
+      → InTurn (Spells target order (value.union (short_value z) value.no_values)) (λ _ _. Unit {0}) o octets
+  short_unknown z n0 n1 n2 h = record {
+    front = h.front;
+    rest = h.rest;
+    parts = h.parts;
+    first = record { front = h.front; rest = []; parts = sym (append-nil h.front); first = h.first; second = rw (unequal (pos 0) z n0, unequal (pos 1) z n1, unequal (pos 2) z n2) refl };
+    second = tt;
+  }
+
+pub unknown_target : UnknownTargetsStop
+unknown_target order o octets place = (
+  (λ h. let u = unknown_short order o octets h.0 h.1 in (u.0, u.1, u.2, u.3, u.4, h.2)),
+  (λ h. (short_value h.0, short_unknown order o octets h.0 h.1 h.2 h.3 h.4, h.5)),
+)

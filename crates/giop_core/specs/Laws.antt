@@ -1,14 +1,16 @@
 -- The laws, each over the definitions alone.
-use Rattle.std.specs.Prelude.{◌≡◌, ◌≢◌, ◌↔◌, ℕ, ◌+◌, ◌<◌, ◌^◌, ℤ, FitsSigned, List, [], ◌∷◌, ◌++◌, length, Ok, Err, ⊤, IsTrue, IfSome}
+use Rattle.std.specs.Prelude.{◌≡◌, ◌≢◌, ◌↔◌, ℕ, ◌+◌, ◌<◌, ◌^◌, ℤ, pos, FitsSigned, List, [], ◌∷◌, ◌++◌, length, Ok, Err, ⊤, IsTrue, IfSome}
 use Rattle.std.specs.Int.{w32}
 use Rattle.std.specs.List.{AllByRecursion}
 use Rattle.cdr_core.specs.declared.order.Order.{Order}
 use Rattle.cdr_core.specs.Encapsulation.{IsEncapsulated}
 use Rattle.cdr_core.specs.Numbers.{padding, AreOctets}
-use Rattle.cdr_core.specs.Spelling.{IsClean, Spells}
+use Rattle.cdr_core.specs.Parts.{short, short_value}
+use Rattle.cdr_core.specs.Spelling.{InTurn, IsClean, Spells}
 use Rattle.cdr_core.specs.Value.{Value, Values, no_values, values}
 use Rattle.cdr_core.specs.Writing.{octets_of_all}
 use Rattle.giop_core.specs.declared.error.MessageFault.{MessageFault}
+use Rattle.giop_core.specs.declared.error.MessageFault.TheVariants.{BadAddressing}
 use Rattle.giop_core.specs.declared.header.Header.{Header}
 use Rattle.giop_core.specs.declared.header.MessageKind.{MessageKind}
 use Rattle.giop_core.specs.declared.header.MessageKind.TheVariants.{Request, Reply, CancelRequest, LocateRequest, LocateReply, Fragment}
@@ -18,10 +20,10 @@ use Rattle.giop_core.specs.declared.request.ReplyWish.{ReplyWish}
 use Rattle.giop_core.specs.Content as content
 use Rattle.giop_core.specs.Content.{Addressed, Content, Rest}
 use Rattle.giop_core.specs.Ft.{absent, ft_in, present, HasNone, IsFirst}
-use Rattle.giop_core.specs.Grammar.{IsMessage, StopsMessage}
+use Rattle.giop_core.specs.Grammar.{IsMessage, StopsField, StopsMessage}
 use Rattle.giop_core.specs.Headers.{header_octets, header_of, is_possible}
 use Rattle.giop_core.specs.Messages.{message_of, IsBack, OnBody}
-use Rattle.giop_core.specs.Rows.{ft_request}
+use Rattle.giop_core.specs.Rows.{ft_request, target}
 use Rattle.giop_core.specs.Written.{behind_header, cancel_fields, ft_octets, ft_value_of, locate_reply_fields, locate_request_fields, locate_statuses, reply_fields, reply_statuses, request_fields, CanAddress, CanAsk}
 
 -- What is read is a message by the grammar ..
@@ -39,6 +41,12 @@ RefusedMessagesStop = (version : Version) (kind : MessageKind) (order : Order) (
 -- .. and what has a fault by the grammar is refused with it.
 abbrev pub StoppingMessagesAreRefused : Type 0
 StoppingMessagesAreRefused = (version : Version) (kind : MessageKind) (order : Order) (octets : List ℕ) (f : MessageFault) → StopsMessage version kind order octets f → message_of version kind order octets ≡ Err f
+
+-- The discriminator of a target is none of its labels exactly where it is a short other than 0, 1 and 2.
+abbrev pub UnknownTargetsStop : Type 0
+UnknownTargetsStop = (order : Order) (o : ℕ) (octets : List ℕ) (place : ℕ)
+    → StopsField target order o octets (BadAddressing place)
+    ↔ ((z : ℤ) × (z ≢ pos 0) × (z ≢ pos 1) × (z ≢ pos 2) × InTurn (Spells short order (short_value z)) (λ _ _. ⊤) o octets × (place ≡ o + padding o 2))
 
 -- The body of a message that is read is a back part of its octets.
 abbrev pub BodiesAreBacks : Type 0

@@ -1,6 +1,6 @@
 //! Laws over the definitions: each is what a function with an empty body ensures.
 
-ghost use Rattle.giop_core.specs.Laws.{AbsentFtIsNowhere, BodiesAreBacks, HeadersAreReadAgain, MessagesAreSpelled, PresentFtIsSpelled, ReadMessagesAreReadAgain, ReadMessagesCanBeWritten, RefusedMessagesStop, SpelledMessagesAreRead, StoppingMessagesAreRefused, WrittenCancelIsRead, WrittenFtIsPresent, WrittenLocateReplyIsRead, WrittenLocateRequestIsRead, WrittenReplyIsRead, WrittenRequestIsRead};
+ghost use Rattle.giop_core.specs.Laws.{AbsentFtIsNowhere, BodiesAreBacks, HeadersAreReadAgain, MessagesAreSpelled, PresentFtIsSpelled, ReadMessagesAreReadAgain, ReadMessagesCanBeWritten, RefusedMessagesStop, SpelledMessagesAreRead, StoppingMessagesAreRefused, UnknownTargetsStop, WrittenCancelIsRead, WrittenFtIsPresent, WrittenLocateReplyIsRead, WrittenLocateRequestIsRead, WrittenReplyIsRead, WrittenRequestIsRead};
 
 /// Reading gives the message that the grammar says the octets are, and gives it wherever there is
 /// one.
@@ -14,10 +14,11 @@ pub fn messages_are_spelled()
 }
 
 /// What is refused has that fault by the grammar, and what has a fault by the grammar is refused with
-/// it.
+/// it. The discriminator of a target is unknown exactly where it is neither 0, 1 nor 2.
 pub fn refused_messages_stop()
     ensures stop { RefusedMessagesStop }
     ensures refused { StoppingMessagesAreRefused }
+    ensures unknown { UnknownTargetsStop }
 {
     cdr_core::laws::read_is_spelled();
     cdr_core::laws::spelled_is_read();
