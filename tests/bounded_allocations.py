@@ -1,30 +1,48 @@
 #!/usr/bin/env python3
-"""Runs `giop` on hostile input, and refuses each allocation that is large for that input.
+"""Runs a program on hostile input, and refuses each allocation that is large for that input.
 
-usage: bounded_allocations.py PROGRAM
+usage: bounded_allocations.py PROGRAM            the program `giop`
+       bounded_allocations.py --calls PROGRAM    the program `memory_tests`, by its word `lines`
 
-The inputs are the streams of the rows (rows/*.txt), for `giop show`, and the references of the cases
+The inputs of `giop` are the streams of the rows (rows/*.txt), for `giop show`, and the references of the cases
 (cases/ior), for `giop ior`: each as it is, and with ffffffff written over four octets, at each place
 that a number of four octets may have. So each count and each length is once the greatest there is, in
 either byte order. Under a bound of a few times the input's octets the program must print what it prints
 with ample memory: what it takes follows the octets that are there, and no count among them.
 
-The last line is 'N passed, M failed', where the variants of one input count as one.
+The inputs of `memory_tests` are the octets of spellings.py, which it reads by types, alone (`read`) and
+after other octets (`read_list`, `Body::read`), or as references (`read_ior`) and profiles (`read_iiop`):
+each as it is, which must give the value there; with each of three large numbers written over the four
+octets at each place that is a multiple of 4; and each front whose length is a multiple of 4. No line that
+it prints may say `memory`, and under the bound it must print the same lines.
+
+That the bound is in force is a case too: where each allocation is refused the program must end with
+`memory`. The last line is 'N passed, M failed', where the variants of one input count as one.
 """
+import itertools
 import os
 import subprocess
 import sys
 import tempfile
+from collections import namedtuple
 from concurrent.futures import ThreadPoolExecutor
 
 import run_rows
+import spellings
 
 HERE = os.path.dirname(os.path.abspath(__file__))
 HUGE = b"\xff\xff\xff\xff"
+# the numbers that are written over those of a spelling: the greatest that is unsigned, that is signed, and one
+# that memory may suffice for
+LARGE = (0xffffffff, 0x7fffffff, 0x00ffffff)
+ORDERS = ("big", "little")
 SECONDS = 60
 # the most octets of one allocation: as many as the program's own buffers have, or so many times the input
 LEAST = 1 << 16
 TIMES = 16
+# what is printed of a call that ran out of memory, and how a program ends that did
+MEMORY_LINE = "memory"
+MEMORY = (1, b"", b"memory\n")
 
 
 def streams():
@@ -57,6 +75,53 @@ def variants(octets, first):
             yield octets[:place] + HUGE + octets[place + 4:]
 
 
+# a call that `memory_tests` makes: the words before the digits, the order, the octets, and what it prints of them
+Call = namedtuple("Call", "words order octets printed")
+
+
+def octets_of(spelling, order):
+    """The octets of a spelling in an order."""
+    return bytes.fromhex(spelling.big if order == "big" else spelling.little)
+
+
+def calls_by_types(order):
+    """The calls that read by types, in an order: a value alone, and one after other octets."""
+    before = octets_of(spellings.BEFORE, order)
+    for spelling in spellings.VALUES:
+        name, value, alone = spelling.name, spelling.value, octets_of(spelling, order)
+        both, values = before + alone, f"[{spellings.BEFORE.value}, {value}]"
+        yield Call(f"read {name} {order} 0", order, alone, f"({value}, {len(alone)})")
+        yield Call(f"read_list {name} {order} 8", order, both, f"({values}, {len(both)})")
+        yield Call(f"body {name} {order} 24", order, both, values)
+
+
+def calls():
+    """All calls."""
+    for order in ORDERS:
+        yield from calls_by_types(order)
+        for spelling in spellings.REFERENCES:
+            octets = octets_of(spelling, order)
+            yield Call(f"read_ior {order} 0", order, octets, f"({spelling.value}, {len(octets)})")
+        for spelling in spellings.PROFILES:
+            yield Call("read_iiop", order, octets_of(spelling, order), spelling.value)
+
+
+def distorted(octets, order):
+    """The octets as they are; each front of them; and with each large number at each place. A multiple of 4
+    is where a front ends, and where a number stands."""
+    yield octets
+    for place in range(0, len(octets), 4):
+        yield octets[:place]
+    for place in range(0, len(octets) - 3, 4):
+        for number in LARGE:
+            yield octets[:place] + number.to_bytes(4, order) + octets[place + 4:]
+
+
+def bound_of(octets):
+    """The most octets that one allocation may ask for on such an input."""
+    return max(LEAST, TIMES * len(octets))
+
+
 class Program:
     """A program under the library that refuses large allocations."""
 
@@ -78,10 +143,16 @@ class Program:
         """Whether it prints the same of these octets where each large allocation is refused."""
         digits = octets.hex()
         words, given = (["show"], digits.encode()) if kind == "show" else (["ior", "IOR:" + digits], b"")
-        return self.run(words, given) == self.run(words, given, max(LEAST, TIMES * len(octets)))
+        return self.run(words, given) == self.run(words, given, bound_of(octets))
 
 
-def fault_of(program, kind, octets, first):
+def fault_of_bound(program, word):
+    """What is wrong with a run in which each allocation is refused, or None."""
+    end = program.run([word], b"", 0)
+    return None if end == MEMORY else f"it ended with {end!r}"
+
+
+def fault_of_input(program, kind, octets, first):
     """The first variant of an input of which something else is printed, or None."""
     for variant in variants(octets, first):
         if not program.is_bounded(kind, variant):
@@ -89,18 +160,51 @@ def fault_of(program, kind, octets, first):
     return None
 
 
+def fault_of_call(program, call):
+    """The first variant of a call's octets of which it prints what it may not, or None."""
+    inputs = list(distorted(call.octets, call.order))
+    given = "".join(f"{call.words} {octets.hex()}\n" for octets in inputs).encode()
+    ample = program.run(["lines"], given)
+    bounded = program.run(["lines"], given, bound_of(call.octets))
+    lines = ample[1].decode().splitlines()
+    if ample[0] != 0 or len(lines) != len(inputs):
+        return f"it ended with {ample!r}"
+    if lines[0] != call.printed:
+        return f"it printed {lines[0]}"
+    for octets, line, other in itertools.zip_longest(inputs, lines, bounded[1].decode().splitlines()):
+        if line == MEMORY_LINE:
+            return f"out of memory where nothing is refused: {octets.hex()}"
+        if line != other:
+            return f"not within the bound, it printed {other} in place of {line}: {octets.hex()}"
+    return None if bounded == ample else f"within the bound it ended with {bounded!r}"
+
+
+def cases_of(words):
+    """The cases that the words before the program ask for: a name, what judges it, and what that is given."""
+    if words == ["--calls"]:
+        yield "the bound", fault_of_bound, ("lines",)
+        for call in calls():
+            yield f"{call.words} {call.octets.hex()}", fault_of_call, (call,)
+        return
+    yield "the bound", fault_of_bound, ("show",)
+    for name, octets, first in streams():
+        yield f"show {name}", fault_of_input, ("show", octets, first)
+    for name, octets, first in references():
+        yield f"ior {name}", fault_of_input, ("ior", octets, first)
+
+
 def main():
     passed = failed = 0
-    inputs = [("show", *each) for each in streams()] + [("ior", *each) for each in references()]
+    cases = list(cases_of(sys.argv[1:-1]))
     with tempfile.TemporaryDirectory() as folder, ThreadPoolExecutor(os.cpu_count()) as workers:
-        program = Program(sys.argv[1], folder)
-        faults = workers.map(lambda each: fault_of(program, each[0], each[2], each[3]), inputs)
-        for (kind, name, _, _), fault in zip(inputs, faults):
+        program = Program(sys.argv[-1], folder)
+        faults = workers.map(lambda case: case[1](program, *case[2]), cases)
+        for (name, _, _), fault in zip(cases, faults):
             if fault is None:
                 passed += 1
             else:
                 failed += 1
-                print(f"FAILS {kind} {name}: {fault}")
+                print(f"FAILS {name}: {fault}")
     print(f"{passed} passed, {failed} failed")
     return 1 if failed or not passed else 0
 

@@ -1,6 +1,9 @@
 //! The program `memory_tests`: calls of `cdr_core`, `ior_core`, `giop_core` and `giop_frames` that take
 //! memory, each made by name.
 //!
+//! By the word `lines` the calls are those that the lines of standard input ask for, on octets that
+//! stand there; what each gives is printed. tests/bounded_allocations.py runs it so on hostile octets.
+//!
 //! A case is one call on fixed inputs. Where an allocation of it is refused, the program checks that
 //! nothing changed, and makes the same call again. What the calls give is compared with octets and
 //! texts written out in `samples`, `message_samples` and `stream_samples`. tests/refused_allocations.py
@@ -13,6 +16,7 @@ mod clients;
 mod copying;
 mod cutting;
 mod feeding;
+mod lines;
 mod message_samples;
 mod messages;
 mod output;
@@ -22,10 +26,12 @@ mod references;
 mod run;
 mod samples;
 mod shapes;
+mod stop;
 mod stream_samples;
 mod suites;
 mod text;
 mod trial;
+mod types;
 mod writing;
 
 use std::process::ExitCode;
@@ -36,7 +42,13 @@ fn status_of(rt: &HostRuntime) -> io::Result<u8> {
     let alloc = rt.alloc();
     let words: Vec<String> = env::args(rt)?.collect(alloc)?;
     let word = words.get(1).map_or("", |word| word.as_str());
-    Ok(run::run(alloc, word, &mut rt.stdout(), &mut rt.stderr()))
+    Ok(run::run(
+        alloc,
+        word,
+        &mut rt.stdin(),
+        &mut rt.stdout(),
+        &mut rt.stderr(),
+    ))
 }
 
 fn main(rt: HostRuntime) -> ExitCode {

@@ -1,42 +1,14 @@
-//! The program over two writers.
+//! The program over a reader and two writers.
 
 ghost use Rattle.std.specs.Prelude.{◌≤◌};
 
 use crate::cases::{Case, print_names};
-use crate::trial::{Ending, Miss, Wrong};
+use crate::lines::answer_lines;
+use crate::stop::Stop;
+use crate::trial::Ending;
 use std::alloc::Global;
 use std::io;
-use std::io::Write;
-
-/// Why the program does not end with status 0.
-#[derive(Clone, Copy, PartialEq, Eq)]
-enum Stop {
-    /// Memory ran out before the call.
-    Memory,
-    /// Something is wrong with the call.
-    Wrong(Wrong),
-    /// No case has that name.
-    Unknown,
-    /// The output can't be written.
-    Unwritable,
-}
-
-/// Why a case did not end well.
-impl From<Miss> for Stop {
-    fn from(miss: Miss) -> Stop {
-        match miss {
-            Miss::Memory => Stop::Memory,
-            Miss::Wrong(wrong) => Stop::Wrong(wrong),
-        }
-    }
-}
-
-/// An error of a writer.
-impl From<io::Error> for Stop {
-    fn from(_error: io::Error) -> Stop {
-        Stop::Unwritable
-    }
-}
+use std::io::{Read, Write};
 
 /// Prints how a case ended.
 fn print_ending<W: Write>(ending: Ending, out: &mut W) -> io::Result<()> {
@@ -46,10 +18,18 @@ fn print_ending<W: Write>(ending: Ending, out: &mut W) -> io::Result<()> {
     }
 }
 
-/// Prints the names of the cases, or runs the case of that name and prints how it ended.
-fn answer<W: Write>(alloc: Global, word: &str, out: &mut W) -> Result<(), Stop> {
-    if word == "list" {
-        return Ok(print_names(out)?);
+/// Prints the names of the cases, makes the calls that the lines of the input ask for, or runs the case
+/// of that name and prints how it ended.
+fn answer<R: Read, W: Write>(
+    alloc: Global,
+    word: &str,
+    input: &mut R,
+    out: &mut W,
+) -> Result<(), Stop> {
+    match word {
+        "list" => return Ok(print_names(out)?),
+        "lines" => return answer_lines(alloc, input, out),
+        _ => {}
     }
     let case = Case::named(word).ok_or(Stop::Unknown)?;
     let ending = case.run(alloc)?;
@@ -61,17 +41,28 @@ fn report<E: Write>(stop: Stop, err: &mut E) -> io::Result<()> {
     match stop {
         Stop::Memory => writeln!(err, "memory"),
         Stop::Wrong(wrong) => writeln!(err, "wrong: {wrong}"),
-        Stop::Unknown => writeln!(err, "usage: memory_tests list | memory_tests CASE"),
-        Stop::Unwritable => Ok(()),
+        Stop::Unknown => writeln!(
+            err,
+            "usage: memory_tests list | memory_tests lines | memory_tests CASE"
+        ),
+        Stop::BadLine => writeln!(err, "bad line"),
+        Stop::Unusable => Ok(()),
     }
 }
 
 /// Answers a word, and returns the exit status: 0; or 1 where the call is wrong, memory ran out before
-/// it, or the output can't be written; or 2 where no case has that name. The reason goes to `err`.
-pub(crate) fn run<W: Write, E: Write>(alloc: Global, word: &str, out: &mut W, err: &mut E) -> u8
+/// it, a line of the input asks for no call, the input can't be read or the output can't be written; or 2
+/// where no case has that name. The reason goes to `err`.
+pub(crate) fn run<R: Read, W: Write, E: Write>(
+    alloc: Global,
+    word: &str,
+    input: &mut R,
+    out: &mut W,
+    err: &mut E,
+) -> u8
     ensures { result ≤ 2 }
 {
-    match answer(alloc, word, out) {
+    match answer(alloc, word, input, out) {
         Ok(()) => 0,
         Err(stop) => {
             let _ = report(stop, err);
