@@ -1,13 +1,13 @@
 //! The program `memory_tests`: calls of `cdr_core`, `ior_core`, `giop_core` and `giop_frames` that take
 //! memory, each made by name.
 //!
-//! By the word `lines` the calls are those that the lines of standard input ask for, on octets that
-//! stand there; what each gives is printed. tests/bounded_allocations.py runs it so on hostile octets.
-//!
 //! A case is one call on fixed inputs. Where an allocation of it is refused, the program checks that
 //! nothing changed, and makes the same call again. What the calls give is compared with octets and
 //! texts written out in `samples`, `message_samples` and `stream_samples`. tests/refused_allocations.py
 //! runs it under a `malloc` that refuses one allocation.
+//!
+//! By the word `lines` the calls are those that the lines of standard input ask for, on octets that stand
+//! there, and what each gives is printed. tests/bounded_allocations.py runs it so on hostile octets.
 #![tactic(auto)]
 
 mod calls;
