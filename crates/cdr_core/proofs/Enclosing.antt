@@ -12,11 +12,11 @@ use Rattle.cdr_core.specs.Value as value
 use Rattle.cdr_core.specs.Value.{Value}
 
 -- what was read first, and the byte order that it names
-record Told (octets : List ℕ) (order : Order) (p : ℕ) (rest : List ℕ) : Type 0 where
-  parts : octets ≡ byte_order order ∷ rest
-  place : p ≡ 1
+pub record Told (octets : List ℕ) (order : Order) (p : ℕ) (rest : List ℕ) : Type 0 where
+  pub parts : octets ≡ byte_order order ∷ rest
+  pub place : p ≡ 1
 
-told : ReadIsSpelled → (octets : List ℕ) (order : Order) (p : ℕ) (rest : List ℕ) → order_at octets ≡ Ok (order, p, rest) → Told octets order p rest
+pub told : ReadIsSpelled → (octets : List ℕ) (order : Order) (p : ℕ) (rest : List ℕ) → order_at octets ≡ Ok (order, p, rest) → Told octets order p rest
 unfolding order_at
 told found octets order p rest h =
     let b = bind_ok (value_at form.boolean Big 0 octets) (λ (x : Value × ℕ × List ℕ). Ok (order_of x.0, x.1, x.2)) (order, p, rest) h in
@@ -48,7 +48,7 @@ enclosed_found {X} found Is read finds octets x h =
       holds = subst (λ p. Is o.0 y.0 p takes.front) t.place takes.holds;
     })
 
-order_read : SpelledIsRead → (order : Order) (rest : List ℕ) → order_at (byte_order order ∷ rest) ≡ Ok (order, 1, rest)
+pub order_read : SpelledIsRead → (order : Order) (rest : List ℕ) → order_at (byte_order order ∷ rest) ≡ Ok (order, 1, rest)
 unfolding order_at
 order_read only Big rest = rw (only form.boolean Big (value.boolean false) 0 (0 ∷ []) rest refl) refl
 order_read only Little rest = rw (only form.boolean Big (value.boolean true) 0 (1 ∷ []) rest refl) refl

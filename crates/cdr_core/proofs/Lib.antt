@@ -21,4 +21,9 @@ pub mod Written
 pub mod MayWrite
 pub mod SpelledFits
 pub mod Enclosed
+pub mod Padding
+pub mod Again
+pub mod Counts
+pub mod Refused
+pub mod WrittenOctets
 pub mod Tests

@@ -1,5 +1,5 @@
 -- Where reading values one after another may run out of memory.
-use Rattle.std.proofs.Common.{◌≡◌, ℕ, suc, ◌+◌, ◌-◌, ◌<◌, ◌≤◌, ℤ, true, false, List, [], length, drop, get_or, Option, Some, None, Box, Global, Ok, ◌⊎◌, inl, inr, refl, sym, ap, subst, ◌∙◌, arith}
+use Rattle.std.proofs.Common.{◌≡◌, ℕ, suc, ◌+◌, ◌-◌, ◌<◌, ◌≤◌, ℤ, true, false, List, [], length, drop, get_or, Option, Some, Box, Global, Ok, ◌⊎◌, inl, inr, refl, sym, ap, subst, arith}
 use Rattle.std.proofs.lemmas.List.{drop_all}
 use Rattle.std.specs.Ordering.{int_eq}
 use Rattle.cdr_core.specs.declared.fault.CdrError.{CdrError}

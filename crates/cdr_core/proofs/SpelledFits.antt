@@ -25,7 +25,7 @@ front_of : (front rest : List ℕ) → AreOctets (front ++ rest) → AreOctets f
 front_of [] rest a = (tt, a)
 front_of (x ∷ front) rest a = let more = front_of front rest a.1 in ((a.0, more.0), more.1)
 
-parts_of : (octets front rest : List ℕ) → octets ≡ front ++ rest → AreOctets octets → AreOctets front × AreOctets rest
+pub parts_of : (octets front rest : List ℕ) → octets ≡ front ++ rest → AreOctets octets → AreOctets front × AreOctets rest
 parts_of octets front rest e a = front_of front rest (subst AreOctets e a)
 
 one_of : (octets : List ℕ) → AreOctets octets → (k : ℕ) → get_or octets k 0 < 256
@@ -33,7 +33,7 @@ one_of [] a k = omega arith
 one_of (x ∷ octets) a zero = a.0
 one_of (x ∷ octets) a (suc k) = one_of octets a.1 k
 
-number_small : (order : Order) (n x o : ℕ) (octets : List ℕ) → AreOctets octets → IsNumber order n x o octets → x < 256 ^ n
+pub number_small : (order : Order) (n x o : ℕ) (octets : List ℕ) → AreOctets octets → IsNumber order n x o octets → x < 256 ^ n
 number_small order n x o octets a h =
     let digits = drop (padding o n) octets in
     let are : AreOctets digits = (parts_of octets (take (padding o n) octets) digits (sym (take-append-drop (padding o n) octets)) a).1 in

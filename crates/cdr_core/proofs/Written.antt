@@ -118,7 +118,7 @@ mutual
   }
   spelled _ order _ h o = absurd h
 
-  members_spelled : (ts : Forms) (order : Order) (vs : Values) → FitsMembers ts vs → (o : ℕ) → SpellsMembers ts order vs o (octets_of_all order vs o)
+  pub members_spelled : (ts : Forms) (order : Order) (vs : Values) → FitsMembers ts vs → (o : ℕ) → SpellsMembers ts order vs o (octets_of_all order vs o)
   members_spelled form.no_forms order value.no_values h o = refl
   members_spelled (form.form t ts) order (value.value v vs) h o = record {
     front = octets_of order v o;

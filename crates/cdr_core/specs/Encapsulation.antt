@@ -1,10 +1,12 @@
 -- CDR 9.3.3: encapsulations, octets that name their own byte order.
-use Rattle.std.specs.Prelude.{◌≡◌, ℕ, true, List, ◌∷◌, ◌++◌, Result, Ok}
+use Rattle.std.specs.Prelude.{◌≡◌, ℕ, true, List, [], ◌∷◌, ◌++◌, Result, Ok, ◌⊎◌}
 use Rattle.cdr_core.specs.declared.fault.Fault.{Fault}
+use Rattle.cdr_core.specs.declared.fault.Kind.TheVariants as kind
 use Rattle.cdr_core.specs.declared.order.Order.{Order}
 use Rattle.cdr_core.specs.declared.order.Order.TheVariants.{Big, Little}
 use Rattle.cdr_core.specs.Form as form
 use Rattle.cdr_core.specs.Reading.{◌>>=◌, Read, value_at}
+use Rattle.cdr_core.specs.Stopping.{fault_at, IsBadBoolean}
 use Rattle.cdr_core.specs.Value as value
 use Rattle.cdr_core.specs.Value.{Value}
 
@@ -39,3 +41,12 @@ encapsulated read octets = do
   o ← order_at octets
   x ← read o.0 o.1 o.2
   Ok x.0
+
+-- The octets have the fault f where they should name a byte order: there is no octet, or it is no boolean.
+abbrev pub StopsAtOrder : List ℕ → Fault → Type 0
+StopsAtOrder octets f = ((octets ≡ []) × (f ≡ fault_at kind.Short 0)) ⊎ IsBadBoolean 0 octets f
+
+-- The octets have the fault f as an encapsulation: their first octet has it, or what follows has it, as S says, at the
+-- place 1 in the byte order that is named.
+abbrev pub StopsEncapsulated : (Order → ℕ → List ℕ → Fault → Type 0) → List ℕ → Fault → Type 0
+StopsEncapsulated S octets f = StopsAtOrder octets f ⊎ ((order : Order) × (rest : List ℕ) × (octets ≡ byte_order order ∷ rest) × S order 1 rest f)

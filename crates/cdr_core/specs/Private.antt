@@ -9,7 +9,7 @@ use Rattle.cdr_core.specs.Fitting.{AreCases, FitsChosen}
 use Rattle.cdr_core.specs.Form as form
 use Rattle.cdr_core.specs.Form.{Form}
 use Rattle.cdr_core.specs.Memory.{EndsAtPlace, StoresChosen}
-use Rattle.cdr_core.specs.Reading.{◌>>=◌, Read, chosen_at, value_at}
+use Rattle.cdr_core.specs.Reading.{◌>>=◌, Read, chosen_at}
 use Rattle.cdr_core.specs.Value as value
 use Rattle.cdr_core.specs.Value.{Value, Values, label}
 

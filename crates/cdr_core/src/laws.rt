@@ -4,8 +4,15 @@
 //! They tie reading and writing (`specs/Reading.antt`, `Writing.antt`) to what octets mean
 //! (`specs/Spelling.antt`, `Stopping.antt`).
 
-ghost use Rattle.cdr_core.specs.Laws.{EitherWay, FaultsStop, FittingIsWritable, NotBoth, OneFault, OneFront, ReadFits, ReadIsSpelled, SpelledFits, SpelledIsRead, StopsAreFaults, WrittenIsSpelled};
+ghost use Rattle.cdr_core.specs.Laws.{ByteOrderIsRead, ByteOrderStops, EitherWay, EncapsulatedStops, FaultsStop, FittingIsWritable, LengthIsUnsignedLong, NotBoth, OneFault, OneFront, PaddingIsLeast, ReadFits, ReadIsSpelled, SpelledFits, SpelledIsRead, StopsAreFaults, WrittenIsRead, WrittenIsSpelled, WrittenValuesAreRead};
 ghost use Rattle.cdr_core.specs.Numbers.{AreOctets};
+
+/// Padding is the fewest octets that lead to a place divisible by the alignment (CORBA 3.3 Part 2,
+/// 9.3.1.1).
+#[tactic(auto, using(crate::proofs::Padding::least))]
+pub fn padding_is_least()
+    ensures { PaddingIsLeast }
+{}
 
 /// What is read is spelled.
 #[tactic(auto, using(crate::proofs::Found::found))]
@@ -55,6 +62,14 @@ pub fn written_is_spelled()
     ensures { WrittenIsSpelled }
 {}
 
+/// What is written for a value is read again by every type that the value fits, whatever follows; and
+/// so are values, one after another, by a list of types.
+#[tactic(auto, using(crate::proofs::Again::read_again, crate::proofs::Again::all_read_again))]
+pub fn written_is_read()
+    ensures value { WrittenIsRead }
+    ensures values { WrittenValuesAreRead }
+{}
+
 /// A value that fits a type can be written.
 #[tactic(auto, using(crate::proofs::MayWrite::may))]
 pub fn fitting_is_writable()
@@ -71,6 +86,25 @@ pub fn spelled_fits()
 #[tactic(auto, using(crate::proofs::SpelledFits::read_fits))]
 pub fn read_fits()
     ensures { ReadFits }
+{}
+
+/// A length without a bound, as `Cursor::count` reads it, is an unsigned long.
+#[tactic(auto, using(crate::proofs::Counts::count_is))]
+pub fn length_is_unsigned_long()
+    ensures { LengthIsUnsignedLong }
+{}
+
+/// The first octet of an encapsulation gives its byte order, and a fault exactly where there is none or
+/// it is no boolean (CORBA 3.3 Part 2, 9.3.3).
+#[tactic(auto, using(crate::proofs::Refused::byte_order_read))]
+pub fn byte_order_is_read()
+    ensures read { ByteOrderIsRead }
+    ensures stops { ByteOrderStops }
+{}
+
+/// Reading a value in an encapsulation returns the first fault of the octets there, and no other.
+pub fn encapsulated_stops()
+    ensures { EncapsulatedStops }
 {}
 
 /// A slice of `u8` holds octets, a premise of the laws of reading.

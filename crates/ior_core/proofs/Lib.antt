@@ -5,3 +5,5 @@ pub mod Memory
 pub mod Bodies
 pub mod Texts
 pub mod Enclosed
+pub mod Refused
+pub mod Fitting

@@ -1,11 +1,14 @@
 -- Words for the contracts of private functions. No public contract cites them.
-use Rattle.std.specs.Prelude.{ℕ, pos, Bool, true, false, List, [], ◌∷◌, Ok}
+use Rattle.std.specs.Prelude.{ℕ, ◌<◌, ◌^◌, pos, Bool, true, false, List, [], ◌∷◌, Ok}
+use Rattle.std.specs.List.{AllByRecursion}
 use Rattle.std.specs.Ordering.{int_eq}
 use Rattle.cdr_core.specs.declared.order.Order.{Order}
+use Rattle.cdr_core.specs.Numbers.{AreOctets}
 use Rattle.cdr_core.specs.Parts.{octet_value, ushort_value}
 use Rattle.cdr_core.specs.Reading.{◌>>=◌, Read, value_at}
 use Rattle.cdr_core.specs.Value as value
 use Rattle.cdr_core.specs.Value.{Value, Values, values}
+use Rattle.ior_core.specs.declared.tagged.Tagged.{Tagged}
 use Rattle.ior_core.specs.Grammar.{tagged_list}
 
 -- a minor version that has no components
@@ -23,3 +26,10 @@ head_value major minor host port key = value.structure (head_values major minor 
 abbrev pub components_at : Bool → Order → ℕ → List ℕ → Read Values
 components_at true order o octets = Ok (value.no_values, o, octets)
 components_at false order o octets = value_at tagged_list order o octets >>= λ x. Ok (value.value x.0 value.no_values, x.1, x.2)
+
+-- what the types of the code say of a tag and its octets
+abbrev pub IsOfCode : Tagged → Type 0
+IsOfCode one = (one.tag < 2 ^ 32) × AreOctets one.octets.items
+
+abbrev pub AreOfCode : List Tagged → Type 0
+AreOfCode all = AllByRecursion IsOfCode all

@@ -1,5 +1,5 @@
 -- IIOP profiles: which octets are one, and how they are read.
-use Rattle.std.specs.Prelude.{◌≡◌, ℕ, zero, suc, pos, Bool, true, false, List, [], ◌∷◌, Option, Some, None, Result, Ok, Err, IsOk, ⊤, ◌⊎◌, if◌then◌else◌}
+use Rattle.std.specs.Prelude.{◌≡◌, ℕ, zero, suc, pos, Bool, true, false, List, [], ◌∷◌, ◌++◌, Option, Some, None, Result, Ok, Err, IsOk, ⊤, ◌⊎◌, if◌then◌else◌}
 use Rattle.std.specs.Ordering.{int_eq}
 use Rattle.cdr_core.specs.declared.fault.Fault.{Fault}
 use Rattle.cdr_core.specs.declared.order.Order.{Order}
@@ -9,6 +9,7 @@ use Rattle.cdr_core.specs.Memory.{AfterRead, Stores}
 use Rattle.cdr_core.specs.Parts.{octet_value, ushort_value}
 use Rattle.cdr_core.specs.Reading.{◌>>=◌, Read, value_at}
 use Rattle.cdr_core.specs.Spelling.{Spells}
+use Rattle.cdr_core.specs.Stopping.{Stops}
 use Rattle.cdr_core.specs.Value as value
 use Rattle.cdr_core.specs.Value.{Value, Values, label, values}
 use Rattle.cdr_core.specs.Writing.{IsWritable}
@@ -51,6 +52,12 @@ type_of v = type_where (has_minor_0 v)
 -- the octets of a profile in an encapsulation: those of its value by the type of its own version
 abbrev pub IsBody : Order → Value → ℕ → List ℕ → Type 0
 IsBody order v o octets = Spells (type_of v) order v o octets
+
+-- The octets have the fault f as a profile: as the members of 1.0, which each profile has; or these are spelled, and the
+-- octets have it by the type of the version that they give.
+abbrev pub StopsBody : Order → ℕ → List ℕ → Fault → Type 0
+StopsBody order o octets f =
+    Stops profile_1_0 order o octets f ⊎ ((v : Value) × (front : List ℕ) × (rest : List ℕ) × (octets ≡ front ++ rest) × Spells profile_1_0 order v o front × Stops (type_of v) order o octets f)
 
 -- The members of 1.0, which each profile has, give the version, and with it the type.
 unfoldable pub body_at : Order → ℕ → List ℕ → Read Value
