@@ -16,7 +16,8 @@ use Rattle.giop_frames.specs.Streams.{Entry, part_in}
 use Rattle.giop_frames.specs.Private.{carried, parts_after, parts_as, without}
 use Rattle.giop_frames.specs.Standing.{AreShort, AreWithin, OnFault, framed}
 use Rattle.giop_frames.proofs.Sights.{sight-long, sight-short, until, until-waiting, until-whole}
-use Rattle.giop_frames.proofs.Tables.{IsFine, length-without, without-none, without-other, without-same}
+use Rattle.giop_frames.specs.Refusing.{IsFine}
+use Rattle.giop_frames.proofs.Tables.{length-without, without-none, without-other, without-same}
 use Rattle.giop_frames.proofs.Deciding.{test_eq, test_le, test_lt}
 
 -- a fault of a stream

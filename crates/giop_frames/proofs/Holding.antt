@@ -5,7 +5,7 @@ use Rattle.std.proofs.lemmas.List.{drop_more}
 use Rattle.giop_core.specs.declared.header.Header.{Header}
 use Rattle.giop_frames.specs.declared.limits.Limits.{Limits}
 use Rattle.giop_frames.specs.declared.partial.Part.{Part}
-use Rattle.giop_frames.specs.Standing.{AreShort, AreWithin, entries, frame_held, message_at, parts_held, pending_at}
+use Rattle.giop_frames.specs.Standing.{AreShort, AreWithin, IsBounded, entries, frame_held, message_at, parts_held, pending_at}
 use Rattle.giop_frames.specs.Streams.{Entry, Stands}
 use Rattle.giop_frames.specs.Private.{Needs, IsKept, IsSound}
 use Rattle.giop_frames.proofs.Bounds.{waiting-within}
@@ -42,9 +42,12 @@ pub frame-held : (limits : Limits) (complete : Option Header) (b : List ℕ) (ne
 frame-held limits None b needed needs kept = frame-within limits None b needed needs kept
 frame-held limits (Some h) b needed needs kept = omega (arith, length-drop 12 b, kept.headed, kept.within)
 
-pub held-all : (limits : Limits) (complete : Option Header) (b : List ℕ) (needed : ℕ) (ps : List Entry) (n m : ℕ) → n ≡ length b → m ≡ parts_held ps → Needs limits (pending_at complete b) needed → IsKept limits complete b → AreWithin limits ps
-    → n + m ≤ (limits.partials + 1) * limits.message
-held-all limits complete b needed ps n m is same needs kept w = omega (arith, is, same, frame-within limits complete b needed needs kept, held-within limits ps w)
+-- all that an assembler with these fields holds
+pub bounded : (limits : Limits) (failed : Bool) (complete : Option Header) (b : List ℕ) (needed : ℕ) (ps : List Entry) → Needs limits (pending_at complete b) needed → IsKept limits complete b → AreWithin limits ps
+    → IsBounded (record { limits = limits; failed = failed; pending = pending_at complete b; parts = ps; message = message_at complete b })
+bounded limits failed complete b needed ps needs kept within =
+    let frame = frame-held limits complete b needed needs kept in
+    record { frame = frame; parts = within; all = omega (arith, frame, held-within limits ps within) }
 
 pub held-fits : (limits : Limits) (complete : Option Header) (b : List ℕ) (needed : ℕ) (ps : List Entry) (n m : ℕ) → n ≡ length b → m ≡ parts_held ps → Needs limits (pending_at complete b) needed → IsKept limits complete b → AreWithin limits ps → n + m ≤ 536870912
 held-fits limits complete b needed ps n m is same needs kept w =

@@ -16,7 +16,9 @@ pub mod Splitting
 pub mod Cuts
 pub mod Positions
 pub mod Stays
-pub mod Feeds
+pub mod Completing
+pub mod Refusing
 pub mod CutFrames
 pub mod Rejoins
 pub mod Whole
+pub mod Lists

@@ -36,7 +36,7 @@ under-frame limits b (Ok h) f is exact w = by (admitted limits h) refl
           rest = ap (λ (g : Frame). g.octets) (sym u.1);
         }
 
-sight-frame : (limits : Limits) (b : List ℕ) (f : Frame) → sight limits b ≡ Whole f → length b ≡ frame_size f.header → IsFrame limits f b
+pub sight-frame : (limits : Limits) (b : List ℕ) (f : Frame) → sight limits b ≡ Whole f → length b ≡ frame_size f.header → IsFrame limits f b
 sight-frame limits b f w exact =
     elim (test_lt (length b) 12) [
       | inl t ↦ absurd (let k = sight-short limits b t.1 in cc)
@@ -67,7 +67,7 @@ head-under b (Ok h) f l w =
     let size : frame_size h ≡ frame_size f.header = ap (λ (g : Frame). frame_size g.header) u.1 in
     omega (arith, l, u.0, size)
 
-exact-next : (limits : Limits) (w : List ℕ) (x : ℕ) (f : Frame) → sight limits w ≡ Waiting → sight limits (w ++ x ∷ []) ≡ Whole f → length (w ++ x ∷ []) ≡ frame_size f.header
+pub exact-next : (limits : Limits) (w : List ℕ) (x : ℕ) (f : Frame) → sight limits w ≡ Waiting → sight limits (w ++ x ∷ []) ≡ Whole f → length (w ++ x ∷ []) ≡ frame_size f.header
 exact-next limits w x f a b =
     elim (test_lt (length (w ++ x ∷ [])) 12) [
       | inl t ↦ absurd (let k = sight-short limits (w ++ x ∷ []) t.1 in cc)

@@ -11,7 +11,8 @@ use Rattle.giop_frames.specs.Streams.{Faults, Follows, Reading, Stands, fault_of
 use Rattle.giop_frames.proofs.Places.{faultless-split, place-length, whole-length}
 use Rattle.giop_frames.proofs.Readings.{after_messages, reading-append, step-bad, step-done, step-quiet}
 use Rattle.giop_frames.proofs.Splits.{after_frames, split-append, split-refused, split-waiting, split-whole}
-use Rattle.giop_frames.proofs.Tables.{IsFine, follows-step, judged-follows}
+use Rattle.giop_frames.specs.Refusing.{IsFine}
+use Rattle.giop_frames.proofs.Tables.{follows-step, judged-follows}
 
 -- a stream without a fault, and what more octets make of its rest
 
@@ -20,7 +21,7 @@ unfolding rest_of split
 rest-more limits s c n = ap (λ (t : Split). t.rest) (split-append limits [] s c (faultless-split limits s n))
 
 module _ (limits : Limits) (s : List ℕ) (n : fault_of limits s ≡ None) where
-  reading_without : (c : List ℕ) (t : Split) → split_from limits (rest_of limits s) c ≡ t → reading_of limits (s ++ c) ≡ after_messages (messages_of limits s) (reading_from limits (frames_of limits s) t.fault t.frames)
+  pub reading_without : (c : List ℕ) (t : Split) → split_from limits (rest_of limits s) c ≡ t → reading_of limits (s ++ c) ≡ after_messages (messages_of limits s) (reading_from limits (frames_of limits s) t.fault t.frames)
   unfolding fault_of rest_of split messages_of frames_of
   reading_without c t e =
       let first = split limits s in

@@ -1,12 +1,15 @@
 -- A fault stays the fault, and the messages before it stay those, whatever follows.
 use Rattle.std.proofs.Common.{◌≡◌, ℕ, List, [], ◌∷◌, ◌++◌, Option, Some, None, refl, sym, ap, ◌∙◌}
+use Rattle.std.proofs.lemmas.List.{append-nil}
 use Rattle.giop_frames.specs.declared.fault.StreamFault.{StreamFault}
 use Rattle.giop_frames.specs.declared.limits.Limits.{Limits}
 use Rattle.giop_frames.specs.Frames.{Frame, Split, Waiting, Whole, Refused, after_frame, sight, split, split_from}
 use Rattle.giop_frames.specs.Fragments.{Bad, Quiet, Done, judged}
-use Rattle.giop_frames.specs.Streams.{Reading, after_message, fault_of, messages_of, place_after, reading_from, reading_of}
+use Rattle.giop_frames.specs.Laws.{FaultsEnd, FaultsStay, MessagesGrow}
+use Rattle.giop_frames.specs.Streams.{Completed, Reading, after_message, fault_of, frames_of, messages_of, place_after, reading_from, reading_of, rest_of}
 use Rattle.giop_frames.proofs.Readings.{step-bad, step-done, step-quiet}
 use Rattle.giop_frames.proofs.Splits.{split-append, step-refused, step-waiting, step-whole}
+use Rattle.giop_frames.proofs.Standing.{reading_without}
 
 -- after a header that is refused nothing is split
 split-stays : (limits : Limits) (w s c : List ℕ) (d : StreamFault) → (split_from limits w s).fault ≡ Some d → split_from limits w (s ++ c) ≡ split_from limits w s
@@ -53,10 +56,21 @@ stopped limits s c d n =
       | Some e ↦ λ k. ap (λ (u : Split). reading_from limits [] u.fault u.frames) (split-stays limits [] s c e k)
     ]) refl
 
-pub fault-stays : (limits : Limits) (s c : List ℕ) (d : StreamFault) → fault_of limits s ≡ Some d → fault_of limits (s ++ c) ≡ Some d
+pub fault-stays : FaultsStay
 unfolding fault_of
 fault-stays limits s c d n = ap (λ (r : Reading). r.fault) (stopped limits s c d n) ∙ n
 
-pub messages-stay : (limits : Limits) (s c : List ℕ) (d : StreamFault) → fault_of limits s ≡ Some d → messages_of limits (s ++ c) ≡ messages_of limits s
+pub messages-stay : FaultsEnd
 unfolding messages_of
 messages-stay limits s c d n = ap (λ (r : Reading). r.messages) (stopped limits s c d n)
+
+-- more octets bring more messages
+pub messages-grow : MessagesGrow
+unfolding messages_of
+messages-grow limits s c =
+    (elim (fault_of limits s) as (λ o. fault_of limits s ≡ o → (more : List Completed) × (messages_of limits (s ++ c) ≡ messages_of limits s ++ more)) [
+      | Some e ↦ λ n. ([], messages-stay limits s c e n ∙ sym (append-nil (messages_of limits s)))
+      | None ↦ λ n.
+          let t = split_from limits (rest_of limits s) c in
+          ((reading_from limits (frames_of limits s) t.fault t.frames).messages, ap (λ (r : Reading). r.messages) (reading_without limits s n c t refl))
+    ]) refl

@@ -17,7 +17,7 @@ use Rattle.giop_frames.specs.Private.{IsExact, IsSettled, IsStep, IsWhole, Needs
 use Rattle.giop_frames.proofs.Bounds.{IsError, bad-error, done-reads, refused-error, whole-within, within-step}
 use Rattle.giop_frames.proofs.Places.{whole-length}
 use Rattle.giop_frames.proofs.Standing.{faults-frame, faults-header, stands-done, stands-quiet, stands-waiting}
-use Rattle.giop_frames.proofs.Tables.{IsFine}
+use Rattle.giop_frames.specs.Refusing.{IsFine}
 
 -- what follows from a fact about a fault
 pub on-fault : (e : StreamFault) (P Q : Type 0) → (P → Q) → OnFault e P → OnFault e Q

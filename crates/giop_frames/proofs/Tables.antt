@@ -7,6 +7,7 @@ use Rattle.giop_frames.specs.declared.reassembly.Role.{Role}
 use Rattle.giop_frames.specs.declared.reassembly.Role.TheVariants.{Opens, Carries, Ends, Drops, Uncut, Apart}
 use Rattle.giop_frames.specs.Frames.{Frame}
 use Rattle.giop_frames.specs.Fragments.{Partial, Verdict, Bad, Quiet, Done, after_role, partial_of, opened_by, continued_by, id_of, judged, judged_as, judged_by, joinable, judged_carried, partials_after, partials_in, role_of, has_id}
+use Rattle.giop_frames.specs.Refusing.{IsFine}
 use Rattle.giop_frames.specs.Streams.{IsDistinct, Entry, part_in}
 use Rattle.giop_frames.specs.Private.{parts_after, parts_as, without}
 use Rattle.giop_frames.specs.Streams.{Follows}
@@ -109,11 +110,6 @@ pub partials-step : (f : Frame) (h : List Frame) (r : Role) → role_of f.header
 partials-step f h r is = rw is refl
 
 -- a judgement that is no fault
-
-abbrev pub IsFine : Verdict → Type 0
-IsFine (Bad e) = ⊥
-IsFine Quiet = Unit {0}
-IsFine (Done m) = Unit {0}
 
 fine-cond : (b : Bool) (e : StreamFault) (v : Verdict) → IsFine (cond b (Bad e) v) → (b ≡ false) × IsFine v
 fine-cond true e v fine = absurd fine

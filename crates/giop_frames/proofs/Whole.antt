@@ -1,9 +1,10 @@
 -- A message that is written whole is read again.
-use Rattle.std.proofs.Common.{◌≡◌, ℕ, ◌+◌, ◌<◌, ◌≤◌, ◌^◌, ◌&&◌, nat_lt, true, false, List, [], ◌∷◌, length, take, None, Ok, IsOk, refl, sym, ap, subst, ◌∙◌, inl, inr, arith, length-append, if◌then◌else◌}
+use Rattle.std.proofs.Common.{◌≡◌, ℕ, ◌+◌, ◌<◌, ◌≤◌, ◌^◌, ◌&&◌, nat_lt, true, false, List, [], ◌∷◌, length, take, None, Ok, Err, IsOk, refl, sym, ap, subst, ◌∙◌, inl, inr, arith, length-append, if◌then◌else◌}
 use Rattle.std.proofs.lemmas.Bool.{le-ltb, lt-ltb}
-use Rattle.std.proofs.lemmas.List.{append-nil, drop_at, take_at}
+use Rattle.std.proofs.lemmas.List.{append-nil, drop_at, take_all, take_at}
 use Rattle.cdr_core.specs.declared.order.Order.{Order}
 use Rattle.cdr_core.specs.Reading.{number_at, part_at, value_at, whole_at}
+use Rattle.giop_core.specs.declared.header.Header.{Header}
 use Rattle.giop_core.specs.declared.header.MessageKind.{MessageKind}
 use Rattle.giop_core.specs.declared.header.MessageKind.TheVariants.{Request, Reply, CancelRequest, LocateRequest, LocateReply, CloseConnection, MessageError, Fragment}
 use Rattle.giop_core.specs.declared.header.Version.{Version}
@@ -13,19 +14,23 @@ use Rattle.giop_core.specs.Laws.{HeadersAreReadAgain}
 use Rattle.giop_core.specs.Messages.{message_of}
 use Rattle.giop_core.specs.Rows.{row}
 use Rattle.giop_core.specs.Written.{header_for, message_octets}
+use Rattle.giop_frames.specs.declared.fault.StreamFault.TheVariants.{TooLarge}
 use Rattle.giop_frames.specs.declared.limits.Limits.{Limits}
 use Rattle.giop_frames.specs.declared.reassembly.Role.{Role}
 use Rattle.giop_frames.specs.declared.reassembly.Role.TheVariants.{Apart, Drops, Uncut}
-use Rattle.giop_frames.specs.ReadAgain.{WrittenIsReadAgain, written}
+use Rattle.giop_frames.specs.ReadAgain.{WrittenIsReadAgain, WrittenTooLarge, written}
 use Rattle.giop_frames.specs.Cutting.{is_cut_kind}
 use Rattle.giop_frames.specs.Fragments.{Done, Verdict, partial_of, has_id, id_of, judged, judged_as, judged_by, partials_in, role_before_12, role_in, role_of, too_short, content_of}
-use Rattle.giop_frames.specs.Frames.{Frame, admitted}
+use Rattle.giop_frames.specs.Frames.{Frame, Refused, admitted, frame_size, judged_header, sight, under_header}
 use Rattle.giop_frames.specs.Splitting.{IsFrame}
-use Rattle.giop_frames.specs.Streams.{frames_of}
+use Rattle.giop_frames.specs.Streams.{Stands, frames_of}
 use Rattle.giop_frames.proofs.CutFrames.{cut-has_id, judged-uncut, length-header, too_few, whole-done}
 use Rattle.giop_frames.proofs.Deciding.{test_lt}
 use Rattle.giop_frames.proofs.Readings.{step-done}
-use Rattle.giop_frames.proofs.Rejoins.{completes}
+use Rattle.giop_frames.proofs.Completing.{partials_counted}
+use Rattle.giop_frames.proofs.Rejoins.{Leaves, completes, leaves-role}
+use Rattle.giop_frames.proofs.Sights.{sight-long}
+use Rattle.giop_frames.proofs.Standing.{faults-header}
 
 -- the header of a whole message can be, and is admitted
 
@@ -125,10 +130,51 @@ module _ (limits : Limits) (earlier : List Frame) where
   is-judged V12 MessageError order body not new ok = judged-apart (written V12 MessageError order body) refl ok
   is-judged V12 Fragment order body not new ok = absurd (not refl)
 
+-- what it leaves of the partial messages
+
+leaves-early : (v : Version) → ((k : MessageKind) → role_in v k false ≡ role_before_12 k) → (k : MessageKind) (order : Order) (body : List ℕ) (earlier : List Frame) → (k ≡ Fragment → ⊥) → Leaves (written v k order body) earlier (written v k order body ∷ earlier)
+leaves-early v same Request order body earlier not = leaves-role (written v Request order body) earlier Apart false (same Request) refl tt
+leaves-early v same Reply order body earlier not = leaves-role (written v Reply order body) earlier Apart false (same Reply) refl tt
+leaves-early v same CancelRequest order body earlier not = leaves-role (written v CancelRequest order body) earlier Drops true (same CancelRequest) refl tt
+leaves-early v same LocateRequest order body earlier not = leaves-role (written v LocateRequest order body) earlier Apart false (same LocateRequest) refl tt
+leaves-early v same LocateReply order body earlier not = leaves-role (written v LocateReply order body) earlier Apart false (same LocateReply) refl tt
+leaves-early v same CloseConnection order body earlier not = leaves-role (written v CloseConnection order body) earlier Apart false (same CloseConnection) refl tt
+leaves-early v same MessageError order body earlier not = leaves-role (written v MessageError order body) earlier Apart false (same MessageError) refl tt
+leaves-early v same Fragment order body earlier not = absurd (not refl)
+
+leaves-written : (v : Version) (k : MessageKind) (order : Order) (body : List ℕ) (earlier : List Frame) → (k ≡ Fragment → ⊥) → Leaves (written v k order body) earlier (written v k order body ∷ earlier)
+leaves-written V12 Request order body earlier not = leaves-role (written V12 Request order body) earlier Uncut false refl refl tt
+leaves-written V12 Reply order body earlier not = leaves-role (written V12 Reply order body) earlier Uncut false refl refl tt
+leaves-written V12 LocateRequest order body earlier not = leaves-role (written V12 LocateRequest order body) earlier Uncut false refl refl tt
+leaves-written V12 LocateReply order body earlier not = leaves-role (written V12 LocateReply order body) earlier Uncut false refl refl tt
+leaves-written V12 CancelRequest order body earlier not = leaves-role (written V12 CancelRequest order body) earlier Drops true refl refl tt
+leaves-written V12 CloseConnection order body earlier not = leaves-role (written V12 CloseConnection order body) earlier Apart false refl refl tt
+leaves-written V12 MessageError order body earlier not = leaves-role (written V12 MessageError order body) earlier Apart false refl refl tt
+leaves-written V12 Fragment order body earlier not = absurd (not refl)
+leaves-written V10 k order body earlier not = leaves-early V10 (λ x. refl) k order body earlier not
+leaves-written V11 k order body earlier not = leaves-early V11 (λ x. refl) k order body earlier not
+
 pub written_again : HeadersAreReadAgain → WrittenIsReadAgain
 written_again again limits s body v k order faultless none new not fits ok =
     let f = written v k order body in
     let octets = message_octets v k order body in
     let earlier = frames_of limits s in
     let verdict : judged limits earlier f ≡ Done f = is-judged limits earlier v k order body not new ok in
-    completes limits s faultless none octets (f ∷ []) (f ∷ earlier) f (octets, [], sym (append-nil octets), is-frame again limits v k order body not fits, refl) (step-done limits earlier None f [] f verdict)
+    completes limits s faultless none octets (f ∷ []) (f ∷ earlier) f (octets, [], sym (append-nil octets), is-frame again limits v k order body not fits, refl) (step-done limits earlier None f [] f verdict) (leaves-written v k order body earlier not)
+
+-- over the limit it is refused at its header
+
+large-header : (limits : Limits) (h : Header) → limits.message < frame_size h → admitted limits h ≡ Err TooLarge
+large-header limits h large = rw (lt-ltb limits.message (frame_size h) large) refl
+
+pub large_refused : HeadersAreReadAgain → WrittenTooLarge
+large_refused again limits s body v k order faultless none not small large =
+    let h = header_for v k order (length body) in
+    let head = header_octets h in
+    let parts = partials_counted limits s faultless in
+    let stands : Stands limits [] parts.0 s = record { faultless = faultless; waiting = sym none; partial = parts.1 } in
+    let twelve : length head ≡ 12 = length-header h in
+    let judged : judged_header limits (header_of (take 12 head)) ≡ Err TooLarge =
+    ap (λ (x : List ℕ). judged_header limits (header_of x)) (take_all 12 head (omega (arith, twelve))) ∙ ap (judged_header limits) (again h small (possible v k order (length body) not)) ∙ large-header limits h large in
+    let seen : sight limits head ≡ Refused TooLarge = sight-long limits head (omega (arith, twelve)) ∙ ap (under_header head) judged in
+    faults-header limits [] parts.0 s head body TooLarge stands seen twelve (omega (arith, twelve))

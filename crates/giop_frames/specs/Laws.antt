@@ -1,10 +1,14 @@
 -- The laws, each over the definitions alone.
-use Rattle.std.specs.Prelude.{◌≡◌, ℕ, List, ◌++◌, Some, None}
+use Rattle.std.specs.Prelude.{◌≡◌, ℕ, List, ◌++◌, length, Some, None}
+use Rattle.giop_frames.specs.declared.fault.StreamFault.{StreamFault}
 use Rattle.giop_frames.specs.declared.limits.Limits.{Limits}
+use Rattle.giop_frames.specs.Completing.{AreMessages, AreRising}
 use Rattle.giop_frames.specs.Frames.{Frame, Waiting, sight, split}
 use Rattle.giop_frames.specs.Fragments.{Partial, partial_of}
 use Rattle.giop_frames.specs.Positions.{IsPartial}
+use Rattle.giop_frames.specs.Refusing.{Refuses}
 use Rattle.giop_frames.specs.Splitting.{IsFrame, Splits}
+use Rattle.giop_frames.specs.Streams.{Completed, Entry, Follows, fault_of, frames_of, messages_of}
 
 -- A stream in which no header is refused is its frames and its rest, no front of which is a frame ..
 abbrev pub StreamsSplit : Type 0
@@ -25,3 +29,36 @@ PartialByPosition = (frames : List Frame) (i : ℕ) (p : Partial) → partial_of
 -- .. and what is found by positions is partial.
 abbrev pub ByPositionIsPartial : Type 0
 ByPositionIsPartial = (frames : List Frame) (i : ℕ) (p : Partial) → IsPartial frames i p → partial_of frames i ≡ Some p
+
+-- More octets bring more messages after those of a stream ..
+abbrev pub MessagesGrow : Type 0
+MessagesGrow = (limits : Limits) (s c : List ℕ) → (more : List Completed) × (messages_of limits (s ++ c) ≡ messages_of limits s ++ more)
+
+-- .. a fault stays the fault ..
+abbrev pub FaultsStay : Type 0
+FaultsStay = (limits : Limits) (s c : List ℕ) (e : StreamFault) → fault_of limits s ≡ Some e → fault_of limits (s ++ c) ≡ Some e
+
+-- .. and after it no message completes.
+abbrev pub FaultsEnd : Type 0
+FaultsEnd = (limits : Limits) (s c : List ℕ) (e : StreamFault) → fault_of limits s ≡ Some e → messages_of limits (s ++ c) ≡ messages_of limits s
+
+-- What the messages of a stream are ..
+abbrev pub MessagesAreWhole : Type 0
+MessagesAreWhole = (limits : Limits) (s : List ℕ) → AreMessages limits (messages_of limits s)
+
+-- .. and where they complete.
+abbrev pub PlacesRise : Type 0
+PlacesRise = (limits : Limits) (s : List ℕ) → AreRising 0 (length s) (messages_of limits s)
+
+-- The partial messages of a stream without a fault are a list in which each request id stands once, and as many are
+-- counted as it has.
+abbrev pub PartialsAreCounted : Type 0
+PartialsAreCounted = (limits : Limits) (s : List ℕ) → fault_of limits s ≡ None → (parts : List Entry) × Follows parts (frames_of limits s)
+
+-- The fault of a stream is that of the first frame or header that is refused ..
+abbrev pub FaultsAreRefusals : Type 0
+FaultsAreRefusals = (limits : Limits) (s : List ℕ) (e : StreamFault) → fault_of limits s ≡ Some e → Refuses limits s e
+
+-- .. and the other way round.
+abbrev pub RefusalsAreFaults : Type 0
+RefusalsAreFaults = (limits : Limits) (s : List ℕ) (e : StreamFault) → Refuses limits s e → fault_of limits s ≡ Some e

@@ -4,10 +4,11 @@ pub mod Frames
 pub mod Fragments
 pub mod Streams
 pub mod Standing
-pub mod Feeding
 pub mod Cutting
 -- what the laws say
 pub mod Splitting
+pub mod Refusing
+pub mod Completing
 pub mod Positions
 pub mod ReadAgain
 pub mod Laws

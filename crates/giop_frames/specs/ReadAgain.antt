@@ -1,30 +1,43 @@
 -- What is written is read again, whole or cut.
-use Rattle.std.specs.Prelude.{◌≡◌, ℕ, ◌+◌, ◌%◌, ◌<◌, ◌≤◌, List, [], ◌∷◌, ◌++◌, length, take, drop, true, None, Ok, IsOk}
+use Rattle.std.specs.Prelude.{◌≡◌, ℕ, ◌+◌, ◌%◌, ◌^◌, ◌<◌, ◌≤◌, ◌==◌, ◌&&◌, List, [], ◌∷◌, ◌++◌, length, take, drop, Bool, true, false, Option, None, Ok, IsOk, if◌then◌else◌}
+use Rattle.std.specs.List.{AllByRecursion, flat_map}
 use Rattle.cdr_core.specs.declared.order.Order.{Order}
 use Rattle.giop_core.specs.declared.header.Header.{Header}
 use Rattle.giop_core.specs.declared.header.MessageKind.{MessageKind}
-use Rattle.giop_core.specs.declared.header.MessageKind.TheVariants.{Fragment}
+use Rattle.giop_core.specs.declared.header.MessageKind.TheVariants.{CancelRequest, Fragment}
 use Rattle.giop_core.specs.declared.header.Version.{Version}
 use Rattle.giop_core.specs.Headers.{header_of}
 use Rattle.giop_core.specs.Messages.{message_of}
 use Rattle.giop_core.specs.Written.{header_for, message_octets}
+use Rattle.giop_frames.specs.declared.fault.StreamFault.TheVariants.{TooLarge}
 use Rattle.giop_frames.specs.declared.limits.Limits.{Limits}
 use Rattle.giop_frames.specs.declared.reassembly.Role.TheVariants.{Uncut}
 use Rattle.giop_frames.specs.Cutting.{cut_octets, is_cuttable}
-use Rattle.giop_frames.specs.Fragments.{partial_of, content_of, id_of, partials_in, role_of}
+use Rattle.giop_frames.specs.Fragments.{Partial, partial_of, content_of, id_of, partials_in, role_of}
 use Rattle.giop_frames.specs.Frames.{Frame}
-use Rattle.giop_frames.specs.Streams.{fault_of, frames_of, messages_of, rest_of}
+use Rattle.giop_frames.specs.Streams.{Completed, Faults, fault_of, frames_of, messages_of, rest_of}
 
 -- a message under its header
 abbrev pub under : Header → List ℕ → Frame
 under h message = record { header = h; octets = drop 12 message }
 
--- with the octets c the stream s completes one message and no other, without a fault, and nothing is left
-abbrev pub Completes : Limits → List ℕ → List ℕ → Frame → Type 0
-Completes limits s c m =
-    (messages_of limits (s ++ c) ≡ messages_of limits s ++ record { place = length (s ++ c); message = m } ∷ [])
-    × (fault_of limits (s ++ c) ≡ None)
-    × (rest_of limits (s ++ c) ≡ [])
+-- whether messages of a kind cancel
+abbrev pub is_cancel : MessageKind → Bool
+is_cancel CancelRequest = true
+is_cancel _ = false
+
+-- the partial message of a request id that a message leaves of the one before: a CancelRequest drops its own
+abbrev pub left_by : Frame → ℕ → Option Partial → Option Partial
+left_by m i before = if is_cancel m.header.kind && (id_of m == i) then None else before
+
+-- with the octets c the stream s completes one message and no other, without a fault and without a rest, and the partial
+-- messages are those before but for one that is cancelled
+pub record Completes (limits : Limits) (s c : List ℕ) (m : Frame) : Type 0 where
+  pub messages : messages_of limits (s ++ c) ≡ messages_of limits s ++ record { place = length (s ++ c); message = m } ∷ []
+  pub faultless : fault_of limits (s ++ c) ≡ None
+  pub all : rest_of limits (s ++ c) ≡ []
+  pub partial : (i : ℕ) → partial_of (frames_of limits (s ++ c)) i ≡ left_by m i (partial_of (frames_of limits s) i)
+  pub few : partials_in (frames_of limits (s ++ c)) ≤ partials_in (frames_of limits s)
 
 -- a whole message, as it is written
 abbrev pub written : Version → MessageKind → Order → List ℕ → Frame
@@ -48,3 +61,47 @@ CutIsReadAgain = (limits : Limits) (s message : List ℕ) (n : ℕ) (h : Header)
     → is_cuttable message ≡ true → header_of (take 12 message) ≡ Ok h → 24 ≤ n → n % 8 ≡ 0
     → length message ≤ limits.message → IsOk (content_of h (drop 12 message))
     → Completes limits s (cut_octets n h message) (under h message)
+
+-- what is written for a message of any kind but a Fragment, where it is over the limit, is refused
+abbrev pub WrittenTooLarge : Type 0
+WrittenTooLarge = (limits : Limits) (s body : List ℕ) (version : Version) (kind : MessageKind) (order : Order)
+    → fault_of limits s ≡ None → rest_of limits s ≡ [] → (kind ≡ Fragment → ⊥) → length body < 2 ^ 32 → limits.message < 12 + length body
+    → Faults limits s (message_octets version kind order body) TooLarge
+
+-- a message to be written
+pub record Sent : Type 0 where
+  pub version : Version
+  pub kind : MessageKind
+  pub order : Order
+  pub body : List ℕ
+
+-- one that a reader with these limits takes: it is no Fragment, is within the limit, and reads
+pub record IsSendable (limits : Limits) (m : Sent) : Type 0 where
+  pub kind : m.kind ≡ Fragment → ⊥
+  pub within : 12 + length m.body ≤ limits.message
+  pub reads : IsOk (message_of m.version m.kind m.order m.body)
+
+-- messages as they are written, one after another
+abbrev pub sent_octets : List Sent → List ℕ
+sent_octets ms = flat_map (λ m. message_octets m.version m.kind m.order m.body) ms
+
+-- the same messages as they complete, after n octets
+abbrev pub sent_from : ℕ → List Sent → List Completed
+sent_from n [] = []
+sent_from n (m ∷ ms) = record { place = n + (12 + length m.body); message = written m.version m.kind m.order m.body } ∷ sent_from (n + (12 + length m.body)) ms
+
+-- a stream without a fault, without a rest, and without a partial message
+pub record IsClear (limits : Limits) (s : List ℕ) : Type 0 where
+  pub faultless : fault_of limits s ≡ None
+  pub all : rest_of limits s ≡ []
+  pub none : (i : ℕ) → partial_of (frames_of limits s) i ≡ None
+
+-- the empty stream is clear ..
+abbrev pub NothingIsClear : Type 0
+NothingIsClear = (limits : Limits) → IsClear limits []
+
+-- .. and any list of messages that are written completes these messages and no others after a clear stream, which it
+-- leaves clear
+abbrev pub SentAreReadAgain : Type 0
+SentAreReadAgain = (limits : Limits) (s : List ℕ) (ms : List Sent) → IsClear limits s → AllByRecursion (IsSendable limits) ms
+    → (messages_of limits (s ++ sent_octets ms) ≡ messages_of limits s ++ sent_from (length s) ms) × IsClear limits (s ++ sent_octets ms)

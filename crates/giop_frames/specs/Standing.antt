@@ -1,5 +1,5 @@
 -- What callers see of an assembler, and the stream that it stands for.
-use Rattle.std.specs.Prelude.{◌≡◌, ℕ, ◌+◌, ◌≤◌, Bool, false, List, [], ◌∷◌, length, drop, map, Option, Some, None, Ok}
+use Rattle.std.specs.Prelude.{◌≡◌, ℕ, ◌+◌, ◌*◌, ◌≤◌, Bool, false, List, [], ◌∷◌, length, drop, map, Option, Some, None, Ok}
 use Rattle.giop_core.specs.declared.header.Header.{Header}
 use Rattle.giop_core.specs.declared.message.Message.{Message}
 use Rattle.giop_core.specs.Lent as lent
@@ -91,3 +91,10 @@ frame_held (Some m) pending = 12 + length m.octets
 -- how many octets an assembler holds
 abbrev pub octets_held : Standing → ℕ
 octets_held a = frame_held a.message a.pending + parts_held a.parts
+
+-- what an assembler holds is bounded: the frame or the message that is lent is within the limit, the partial messages
+-- are, and with them all octets
+pub record IsBounded (a : Standing) : Type 0 where
+  pub frame : frame_held a.message a.pending ≤ a.limits.message
+  pub parts : AreWithin a.limits a.parts
+  pub all : octets_held a ≤ (a.limits.partials + 1) * a.limits.message

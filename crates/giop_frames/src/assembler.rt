@@ -1,9 +1,9 @@
 //! The assembler: octets as they come, and each message that completes.
 
-ghost use Rattle.std.specs.Prelude.{◌≡◌, ◌+◌, ◌*◌, ◌<◌, ◌≤◌, ◌++◌, List, [], ℕ, length, take, false, None, Err, IfOk, IfErr, IsSomeAnd, OnErr, OnOk, MatchResult, MatchOption, IsTrue};
+ghost use Rattle.std.specs.Prelude.{◌≡◌, ◌<◌, ◌≤◌, ◌++◌, List, [], ℕ, length, take, false, None, Ok, Err, IfOk, IfErr, IsOk, IsSomeAnd, OnErr, OnOk, MatchResult, MatchOption, IsTrue};
 ghost use Rattle.giop_frames.specs.Private.{Needs, IsKept, IsStep};
-ghost use Rattle.giop_frames.specs.Fragments.{partials_in};
-ghost use Rattle.giop_frames.specs.Standing.{AreWithin, IsFault, IsLent, StandsFor, completed_at, entries, frame_held, octets_held, parts_held, pending_at};
+ghost use Rattle.giop_frames.specs.Fragments.{content_of, partials_in};
+ghost use Rattle.giop_frames.specs.Standing.{AreWithin, IsBounded, IsFault, IsLent, StandsFor, completed_at, entries, frame_held, octets_held, parts_held, pending_at};
 ghost use Rattle.giop_frames.specs.Streams.{Stands, frames_of, messages_of, rest_of};
 
 use crate::deframer::{Gathered, Seen, gather};
@@ -85,6 +85,7 @@ fn advance(
     ensures taken { IfOk result (λ r. r.taken ≤ length piece.now) }
     ensures some { IfOk result (λ r. 0 < length piece.now → 0 < r.taken) }
     ensures all { IfOk result (λ r. r.complete ≡ None → r.taken ≡ length piece.now) }
+    ensures empty { piece.now ≡ [] → OnErr result ⊥ × IfOk result (λ r. (r.taken ≡ 0) × (r.complete ≡ None)) × (frame.new.items ≡ frame.old.items) × (parts.new.items ≡ parts.old.items) }
     ensures needed { IfOk result (λ r. Needs limits.now (pending_at r.complete frame.new.items) needed.new) }
     ensures kept { IfOk result (λ r. IsKept limits.now r.complete frame.new.items) }
     ensures within { AreWithin limits.now (entries parts.old.items) → IfOk result (λ r. AreWithin limits.now (entries parts.new.items)) }
@@ -166,6 +167,7 @@ impl Assembler {
         ensures stands { StandsFor result [] }
         ensures message { result.message ≡ None }
         ensures limits { result.limits ≡ limits }
+        ensures bounded { IsBounded result }
     {
         Assembler {
             limits,
@@ -182,7 +184,8 @@ impl Assembler {
     /// returns how many. The message that it lent before is dropped.
     ///
     /// An error is the first fault of the stream, or `Memory` where an allocation failed. From then on each
-    /// call returns `Failed`, and nothing is held or lent. An empty piece completes nothing.
+    /// call returns `Failed`, and nothing is held or lent. An empty piece completes nothing, and takes no
+    /// memory.
     pub fn feed(&mut self, piece: &[u8]) -> Result<usize, StreamFault>
         ensures stands { (s : List ℕ) → StandsFor self.old s → IfOk result (λ n. StandsFor self.new (s ++ take n piece.now)) }
         // the messages are those before, and then the one that is lent, if there is one, which ends where the octets taken end
@@ -197,6 +200,9 @@ impl Assembler {
         ensures err { OnErr result (IsTrue self.new.failed × (self.new.message ≡ None) × (self.new.pending ≡ []) × (self.new.parts ≡ [])) }
         ensures live { OnOk result (self.new.failed ≡ false) }
         ensures limits { self.new.limits ≡ self.old.limits }
+        // an empty piece needs no memory, and drops no more than the message that was lent
+        ensures empty { self.old.failed ≡ false → piece.now ≡ [] → (result ≡ Ok 0) × (self.new ≡ record self.old { message = None }) }
+        ensures bounded { IsBounded self.new }
     {
         drop_given(&mut self.frame, &self.complete);
         if self.failed {
@@ -225,9 +231,20 @@ impl Assembler {
         }
     }
 
+    /// The header of the message that the last call of `feed` completed, if it did: its version and kind,
+    /// before it is read.
+    pub fn header(&self) -> Option<Header>
+        // the message reads
+        ensures { MatchOption result (self.now.message ≡ None) (λ h. IsSomeAnd self.now.message (λ f. (f.header ≡ h) × IsOk (content_of f.header f.octets))) }
+    {
+        self.complete // set anew by each call of `feed`
+    }
+
     /// The message that the last call of `feed` completed, if it did.
     pub fn message(&self) -> Option<Message<'_>>
-        ensures { MatchOption result (self.now.message ≡ None) (λ m. IsSomeAnd self.now.message (λ f. IsLent m f)) }
+        ensures lent { MatchOption result (self.now.message ≡ None) (λ m. IsSomeAnd self.now.message (λ f. IsLent m f)) }
+        // it is within the limit, so that its places are small
+        ensures within { frame_held self.now.message self.now.pending ≤ self.now.limits.message }
     {
         let header = self.complete?;
         let (_, octets) = self.frame.as_slice().split_at(Header::LEN);
@@ -238,10 +255,7 @@ impl Assembler {
     /// those of the partial messages, the headers of their first frames among them.
     pub fn held(&self) -> usize
         ensures octets { result ≡ octets_held self.now }
-        ensures bound { result ≤ (self.now.limits.partials + 1) * self.now.limits.message }
-        // the frame or the message that is lent is within the limit, and so is each partial message
-        ensures frame { frame_held self.now.message self.now.pending ≤ self.now.limits.message }
-        ensures parts { AreWithin self.now.limits self.now.parts }
+        ensures bounded { IsBounded self.now }
     {
         self.frame.len() + parts_held(&self.limits, self.parts.as_slice())
     }

@@ -1,7 +1,7 @@
 //! Laws over the definitions: each is what a function with an empty body ensures.
 
-ghost use Rattle.giop_frames.specs.Laws.{PartialByPosition, ByPositionIsPartial, RestsHaveNoFrame, SplitsAreTheOnes, StreamsSplit};
-ghost use Rattle.giop_frames.specs.ReadAgain.{CutIsReadAgain, WrittenIsReadAgain};
+ghost use Rattle.giop_frames.specs.Laws.{ByPositionIsPartial, FaultsAreRefusals, FaultsEnd, FaultsStay, MessagesAreWhole, MessagesGrow, PartialByPosition, PartialsAreCounted, PlacesRise, RefusalsAreFaults, RestsHaveNoFrame, SplitsAreTheOnes, StreamsSplit};
+ghost use Rattle.giop_frames.specs.ReadAgain.{CutIsReadAgain, NothingIsClear, SentAreReadAgain, WrittenIsReadAgain, WrittenTooLarge};
 
 /// A stream in which no header is refused is its frames and a rest, and no others.
 pub fn streams_are_frames()
@@ -17,10 +17,45 @@ pub fn looking_back_is_by_positions()
     ensures only { ByPositionIsPartial }
 {}
 
+/// More octets add messages to a stream and take none away; a fault stays, and no message completes after it.
+pub fn streams_grow()
+    ensures messages { MessagesGrow }
+    ensures fault { FaultsStay }
+    ensures end { FaultsEnd }
+{}
+
+/// Each message of a stream reads, is whole and within the limit, and is no Fragment; the places where they
+/// complete rise and lie within the stream.
+pub fn messages_are_whole()
+    ensures messages { MessagesAreWhole }
+    ensures places { PlacesRise }
+{}
+
+/// The partial messages of a stream without a fault are as many as the request ids that are begun and not
+/// ended.
+pub fn partials_are_counted()
+    ensures { PartialsAreCounted }
+{}
+
+/// The fault of a stream is that of the first of its frames and headers that is refused.
+pub fn faults_are_refusals()
+    ensures refused { FaultsAreRefusals }
+    ensures fault { RefusalsAreFaults }
+{}
+
 /// A whole message that is written is read again from a stream, alone and whole, where it reads within the
-/// limit and no message of its request id is partial.
+/// limit and no message of its request id is partial; over the limit it is refused.
 pub fn written_messages_are_read_again()
-    ensures { WrittenIsReadAgain }
+    ensures again { WrittenIsReadAgain }
+    ensures large { WrittenTooLarge }
+{
+    giop_core::laws::headers_are_read_again();
+}
+
+/// Messages that are written one after another are read again, each whole and in its place.
+pub fn lists_of_messages_are_read_again()
+    ensures nothing { NothingIsClear }
+    ensures again { SentAreReadAgain }
 {
     giop_core::laws::headers_are_read_again();
 }

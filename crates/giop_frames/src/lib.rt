@@ -9,7 +9,6 @@
 mod assembler;
 mod deframer;
 mod fault;
-mod feeding;
 mod fragmenter;
 pub mod laws;
 mod limits;
@@ -18,6 +17,5 @@ mod reassembly;
 
 pub use assembler::Assembler;
 pub use fault::StreamFault;
-pub use feeding::{Fed, feed_all};
 pub use fragmenter::{fragments, is_cuttable};
 pub use limits::Limits;

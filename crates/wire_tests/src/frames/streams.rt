@@ -1,9 +1,9 @@
 //! Streams whole, in pieces of thirteen octets and in pieces of one, and what they give.
 
 use super::samples::{CANCEL, FIRST, LAST, LITTLE_FIRST, LITTLE_LAST, MIDDLE, WHOLE};
-use cdr_core::{Fault, Kind};
-use giop_core::{Content, Message, MessageFault};
-use giop_frames::{Assembler, Limits, StreamFault, feed_all};
+use cdr_core::{Fault, Kind, Order};
+use giop_core::{Content, Header, Message, MessageFault, MessageKind, Version};
+use giop_frames::{Assembler, Limits, StreamFault};
 use std::alloc::Global;
 use std::process::Abort;
 
@@ -180,23 +180,6 @@ fn streams_give_the_same_in_pieces_of_any_size(rt: HostRuntime) {
     }
 }
 
-/// Whether frames that are fed as a list of pieces give that.
-fn gives_at_once(alloc: Global, row: &Row) -> bool {
-    let mut assembler = Assembler::new(alloc, LIMITS);
-    let fed = feed_all(&mut assembler, row.frames);
-    fed.messages == row.messages as u128 && fed.fault == row.fault
-}
-
-#[test]
-fn lists_of_pieces_give_the_same(rt: HostRuntime) {
-    let mut number: usize = 0;
-    for row in &ROWS {
-        let is_given = gives_at_once(rt.alloc(), row);
-        expect_row(&rt, is_given, number);
-        number = number.saturating_add(1);
-    }
-}
-
 /// Feeds frames that come whole. Whether each is taken, and none completes a message but the last.
 fn are_taken(assembler: &mut Assembler, frames: &[&[u8]]) -> bool {
     for frame in frames {
@@ -241,6 +224,24 @@ fn joined_messages_are_lent(rt: HostRuntime) {
             b"\x07\x00\x00\x00"
         )
     );
+}
+
+/// The header of the Request of id 5 whose fragments are joined, which has 52 octets with it.
+const JOINED: Header = Header {
+    version: Version::V12,
+    order: Order::Big,
+    more: false,
+    kind: MessageKind::Request,
+    size: 40,
+};
+
+#[test]
+fn header_is_that_of_the_joined_message(rt: HostRuntime) {
+    let mut assembler = Assembler::new(rt.alloc(), LIMITS);
+    assert!(rt; are_taken(&mut assembler, &[FIRST, MIDDLE]));
+    assert!(rt; assembler.header().is_none());
+    assert!(rt; are_taken(&mut assembler, &[LAST]));
+    assert!(rt; assembler.header() == Some(JOINED));
 }
 
 // Frames of one message, and how many octets are held after each.

@@ -1,4 +1,4 @@
-use Rattle.std.proofs.Common.{◌≡◌, ℕ, ◌+◌, ◌++◌, List, take, drop, Option, None, sym, ap, subst, ◌∙◌, arith}
+use Rattle.std.proofs.Common.{◌≡◌, ℕ, ◌+◌, ◌++◌, List, length, take, drop, Option, None, refl, sym, ap, subst, ◌∙◌, arith}
 use Rattle.giop_core.specs.declared.header.Header.{Header}
 use Rattle.giop_frames.specs.Private.{Needs, IsStep}
 use Rattle.giop_frames.specs.Standing.{pending_at, entries}
@@ -35,5 +35,11 @@ loop-taken-preserved c =
           let whole = step-step limits s (take n c.args.piece.now) (take m left) (take (n + m) c.args.piece.now) c.in-Ok.step.complete c.loop-taken.frame.items after (entries c.loop-taken.parts.items) (entries c.advance_once.new.parts.items)
           (next n m c.args.piece.now left c.split_at.ensures.back) first (c.in-Ok.ensures.stands (s ++ take n c.args.piece.now) first.stands) in
           subst (λ (o : Option Header). IsStep limits s (take (n + m) c.args.piece.now) o after (entries c.advance_once.new.parts.items)) none whole;
+      empty = λ e. absurd (omega (arith, ap length e, c.loop-taken-test.true));
       within = λ w. c.in-Ok.ensures.within (c.loop-taken.invariant.within w);
     }
+
+pub returns-clause-empty : goal.returns-clause-empty
+returns-clause-empty c = λ e.
+    let same = c.loop-taken.invariant.empty e in
+    (tt, (omega (arith, ap length e, c.loop-taken.invariant.in_range), refl), same.0, same.1)

@@ -1,6 +1,6 @@
 use Rattle.std.proofs.Common.{◌≡◌, length, ap, ◌∙◌, arith}
 use Rattle.giop_frames.specs.Standing.{entries, parts_held}
-use Rattle.giop_frames.proofs.Holding.{frame-held, held-all, held-fits}
+use Rattle.giop_frames.proofs.Holding.{bounded, held-fits}
 use Rattle.giop_frames.proofs.assembler.Assembler.held.Goals as goal
 
 pub overflow_add-result : goal.overflow_add-result
@@ -10,17 +10,7 @@ overflow_add-result c =
     let parts : c.parts_held.result ≡ parts_held (entries a.parts.items) = c.parts_held.ensures ∙ ap (λ ps. parts_held (entries ps)) c.as_slice.ensures.value in
     omega (arith, held-fits a.limits a.complete a.frame.items a.needed (entries a.parts.items) c.len.result c.parts_held.result frame parts c.self.invariant.needs c.self.invariant.kept c.self.invariant.within)
 
-pub returns-clause-bound : goal.returns-clause-bound
-returns-clause-bound c =
+pub returns-clause-bounded : goal.returns-clause-bounded
+returns-clause-bounded c =
     let a = c.self.inside in
-    let frame : c.len.result ≡ length a.frame.items = omega (arith, c.len.ensures) in
-    let parts : c.parts_held.result ≡ parts_held (entries a.parts.items) = c.parts_held.ensures ∙ ap (λ ps. parts_held (entries ps)) c.as_slice.ensures.value in
-    rw (← c.self.view_is) (held-all a.limits a.complete a.frame.items a.needed (entries a.parts.items) c.len.result c.parts_held.result frame parts c.self.invariant.needs c.self.invariant.kept c.self.invariant.within)
-
-pub returns-clause-frame : goal.returns-clause-frame
-returns-clause-frame c =
-    let a = c.self.inside in
-    rw (← c.self.view_is) (frame-held a.limits a.complete a.frame.items a.needed c.self.invariant.needs c.self.invariant.kept)
-
-pub returns-clause-parts : goal.returns-clause-parts
-returns-clause-parts c = rw (← c.self.view_is) c.self.invariant.within
+    rw (← c.self.view_is) (bounded a.limits a.failed a.complete a.frame.items a.needed (entries a.parts.items) c.self.invariant.needs c.self.invariant.kept c.self.invariant.within)
