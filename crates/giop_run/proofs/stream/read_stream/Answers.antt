@@ -45,7 +45,7 @@ loop-taken-preserved-in-Continue-1 g c =
     let n = c.in-Ok.n in
     let e = rw c.split_at.ensures.back at c.in-Ok.ensures in
     let left = length-drop k a.octets.now in
-    let (f, is, lent) = one_lent _ c.feed.new.self.message c.in-Some.ensures in
+    let (f, is, lent) = one_lent _ c.feed.new.self.message c.in-Some.ensures.lent in
     let on = messages_on a.limits a.octets.now k n c.loop-taken.assembler c.feed.new.self i.limits (e.stands (take k a.octets.now)) (e.messages (take k a.octets.now)) i.stands in
     let more = lines_on a.limits (take k a.octets.now) (take (k + n) a.octets.now) c.feed.new.self.message (length (take (k + n) a.octets.now)) on c.in-Some.message f is lent in
     record {
@@ -65,7 +65,7 @@ loop-taken-preserved-in-EndAlone g c =
     let n = c.in-Ok.n in
     let e = rw c.split_at.ensures.back at c.in-Ok.ensures in
     let left = length-drop k a.octets.now in
-    let (f, is, lent) = one_lent _ c.feed.new.self.message c.in-Some.ensures in
+    let (f, is, lent) = one_lent _ c.feed.new.self.message c.in-Some.ensures.lent in
     let on = messages_on a.limits a.octets.now k n c.loop-taken.assembler c.feed.new.self i.limits (e.stands (take k a.octets.now)) (e.messages (take k a.octets.now)) i.stands in
     let more = lines_on a.limits (take k a.octets.now) (take (k + n) a.octets.now) c.feed.new.self.message (length (take (k + n) a.octets.now)) on c.in-Some.message f is lent in
     let none = appends_none (g.W.Write.contents c.loop-taken.out) in
@@ -87,7 +87,7 @@ loop-taken-preserved g c =
     let e = rw c.split_at.ensures.back at c.in-Ok.ensures in
     let left = length-drop k a.octets.now in
     let on = messages_on a.limits a.octets.now k n c.loop-taken.assembler c.feed.new.self i.limits (e.stands (take k a.octets.now)) (e.messages (take k a.octets.now)) i.stands in
-    let same = lines_same a.limits (take k a.octets.now) (take (k + n) a.octets.now) c.feed.new.self.message (length (take (k + n) a.octets.now)) on c.in_default.ensures in
+    let same = lines_same a.limits (take k a.octets.now) (take (k + n) a.octets.now) c.feed.new.self.message (length (take (k + n) a.octets.now)) on c.in_default.ensures.lent in
     record {
       within = omega (arith, i.within, e.within, left);
       few = omega (arith, i.few);
