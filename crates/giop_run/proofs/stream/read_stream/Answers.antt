@@ -93,7 +93,7 @@ loop-taken-preserved g c =
       few = omega (arith, i.few);
       limits = e.limits ∙ i.limits;
       stands = stands_on a.limits a.octets.now k n c.loop-taken.assembler c.feed.new.self i.limits (e.stands (take k a.octets.now)) (e.messages (take k a.octets.now)) i.stands;
-      count = i.count ∙ sym (no_more a.limits a.octets.now k n c.loop-taken.assembler c.feed.new.self i.limits (e.stands (take k a.octets.now)) (e.messages (take k a.octets.now)) i.stands c.in_default.ensures);
+      count = i.count ∙ sym (no_more a.limits a.octets.now k n c.loop-taken.assembler c.feed.new.self i.limits (e.stands (take k a.octets.now)) (e.messages (take k a.octets.now)) i.stands c.in_default.ensures.lent);
       lines = rw same i.lines;
     }
 
