@@ -13,7 +13,7 @@ pub(crate) fn gap(place: u64, size: u64) -> u64
     ensures is { result ≡ padding place size }
     ensures small { result < size }
 {
-    (size - place % size) % size
+    place.wrapping_neg() % size
 }
 
 /// The next place divisible by `size`, and the octets from there on.
