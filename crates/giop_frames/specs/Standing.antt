@@ -1,7 +1,8 @@
 -- What callers see of an assembler, and the stream that it stands for.
-use Rattle.std.specs.Prelude.{◌≡◌, ℕ, ◌+◌, ◌*◌, ◌≤◌, Bool, false, List, [], ◌∷◌, length, drop, map, Option, Some, None, Ok}
+use Rattle.std.specs.Prelude.{◌≡◌, ℕ, ◌+◌, ◌*◌, ◌^◌, ◌<◌, ◌≤◌, Bool, false, List, [], ◌∷◌, length, drop, map, Option, Some, None, Ok}
 use Rattle.giop_core.specs.declared.header.Header.{Header}
 use Rattle.giop_core.specs.declared.message.Message.{Message}
+use Rattle.giop_core.specs.Content.{Rest}
 use Rattle.giop_core.specs.Lent as lent
 use Rattle.giop_frames.specs.declared.fault.StreamFault.{StreamFault}
 use Rattle.giop_frames.specs.declared.fault.StreamFault.TheVariants.{Failed, Memory}
@@ -67,6 +68,10 @@ pub record IsLent (m : Message) (f : Frame) : Type 0 where
   pub version : m.version ≡ f.header.version
   pub order : m.order ≡ f.header.order
   pub content : content_of f.header f.octets ≡ Ok (lent.content_of m.content)
+
+-- the place of a body is one that the readers of values take
+abbrev pub HasPlace : Rest → Type 0
+HasPlace r = r.place < 2 ^ 32
 
 -- no partial message is longer than the limit
 abbrev pub AreShort : Limits → List Entry → Type 0

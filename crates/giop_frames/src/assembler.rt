@@ -1,9 +1,11 @@
 //! The assembler: octets as they come, and each message that completes.
 
-ghost use Rattle.std.specs.Prelude.{◌≡◌, ◌<◌, ◌≤◌, ◌++◌, List, [], ℕ, length, take, false, None, Ok, Err, IfOk, IfErr, IsOk, IsSomeAnd, OnErr, OnOk, MatchResult, MatchOption, IsTrue};
+ghost use Rattle.std.specs.Prelude.{◌≡◌, ◌<◌, ◌≤◌, ◌++◌, List, [], ℕ, length, take, false, None, Ok, Err, IfOk, IfErr, IfSome, IsOk, IsSomeAnd, OnErr, OnOk, MatchResult, MatchOption, IsTrue};
+ghost use Rattle.giop_core.specs.Lent.{content_of as content_said};
+ghost use Rattle.giop_core.specs.Messages.{OnBody};
 ghost use Rattle.giop_frames.specs.Private.{Needs, IsKept, IsStep};
 ghost use Rattle.giop_frames.specs.Fragments.{content_of, partials_in};
-ghost use Rattle.giop_frames.specs.Standing.{AreWithin, IsBounded, IsFault, IsLent, StandsFor, completed_at, entries, frame_held, octets_held, parts_held, pending_at};
+ghost use Rattle.giop_frames.specs.Standing.{AreWithin, HasPlace, IsBounded, IsFault, IsLent, StandsFor, completed_at, entries, frame_held, octets_held, parts_held, pending_at};
 ghost use Rattle.giop_frames.specs.Streams.{Stands, frames_of, messages_of, rest_of};
 
 use crate::deframer::{Gathered, Seen, gather};
@@ -243,8 +245,9 @@ impl Assembler {
     /// The message that the last call of `feed` completed, if it did.
     pub fn message(&self) -> Option<Message<'_>>
         ensures lent { MatchOption result (self.now.message ≡ None) (λ m. IsSomeAnd self.now.message (λ f. IsLent m f)) }
-        // it is within the limit, so that its places are small
         ensures within { frame_held self.now.message self.now.pending ≤ self.now.limits.message }
+        // its body begins where the readers of values take it
+        ensures place { IfSome result (λ m. OnBody HasPlace (content_said m.content)) }
     {
         let header = self.complete?;
         let (_, octets) = self.frame.as_slice().split_at(Header::LEN);

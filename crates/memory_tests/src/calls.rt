@@ -5,7 +5,7 @@ use crate::clients::ClientWriting;
 use crate::copying::Copying;
 use crate::cutting::Cutting;
 use crate::feeding::Feeding;
-use crate::messages::MessageWriting;
+use crate::messages::{By, MessageWriting};
 use crate::output::Room;
 use crate::profiles::{ProfileReading, ProfileWriting};
 use crate::reading::{ListReading, Reading};
@@ -42,6 +42,8 @@ pub enum Call {
     Print,
     /// The writer of a message into a vector with such room.
     WriteMessage(Room),
+    /// `write_exception` into a vector with such room.
+    WriteException(Room),
     /// `write_ft` into a vector with such room.
     WriteClient(Room),
     /// An assembler that is fed so many times, in pieces of as many octets.
@@ -71,7 +73,13 @@ impl Call {
             Call::WriteProfile(room) => ended(alloc, ProfileWriting::new(alloc, sample, room)),
             Call::Parse => ended(alloc, Ok(Parsing { sample })),
             Call::Print => ended(alloc, Printing::new(alloc, sample)),
-            Call::WriteMessage(room) => ended(alloc, MessageWriting::new(alloc, sample, room)),
+            Call::WriteMessage(room) => {
+                ended(alloc, MessageWriting::new(alloc, sample, By::Kind, room))
+            }
+            Call::WriteException(room) => ended(
+                alloc,
+                MessageWriting::new(alloc, sample, By::Exception, room),
+            ),
             Call::WriteClient(room) => ended(alloc, ClientWriting::new(alloc, sample, room)),
             Call::Feed(times, size) => ended(alloc, Ok(Feeding::new(alloc, sample, times, size))),
             Call::Cut(room) => ended(alloc, Cutting::new(alloc, sample, room)),

@@ -147,6 +147,9 @@ const REPLY_WITHOUT_BODY: Sample = Sample {
 /// Replies.
 pub static REPLIES: [Sample; 3] = [REPLY_1_0, REPLY_1_2, REPLY_WITHOUT_BODY];
 
+/// Replies that carry an exception, whose body begins with its id.
+pub static EXCEPTIONS: [Sample; 2] = [REPLY_1_0, REPLY_1_2];
+
 /// An id.
 const CANCEL: Sample = Sample {
     name: "one",

@@ -11,8 +11,8 @@ use crate::trial::{Miss, Trial, Wrong};
 use cdr_core::{Order, Ty, Val, has_no_nul, read, writable};
 use giop_core::{
     Body, Content, Header, LocateReply, LocateRequest, Message, Reply, Request, Version,
-    read_message, write_cancel, write_close, write_error, write_locate_reply, write_locate_request,
-    write_reply, write_request,
+    read_message, write_cancel, write_close, write_error, write_exception, write_locate_reply,
+    write_locate_request, write_reply, write_request,
 };
 use std::alloc::Global;
 
@@ -115,6 +115,32 @@ fn put_reply(
     Ok(())
 }
 
+/// Writes a Reply whose body is an exception: a string, and then members.
+fn put_exception(
+    message: &Message,
+    contexts: &[(u32, &[u8])],
+    body: &[Val],
+    out: &mut Vec<u8>,
+) -> Result<(), Miss>
+    requires { AreWritable (values_of body.now) }
+{
+    let (version, order) = (message.version, message.order);
+    let Content::Reply(reply) = &message.content else {
+        return Err(Wrong::Inputs.into());
+    };
+    let (id, status) = (reply.request_id, reply.status);
+    let Some((Val::Str(exception), members)) = body.split_first() else {
+        return Err(Wrong::Inputs.into());
+    };
+    if !version.has_reply_status(status) {
+        return Err(Wrong::Inputs.into());
+    }
+    write_exception(
+        version, order, id, status, contexts, exception, members, out,
+    )?;
+    Ok(())
+}
+
 /// Writes a LocateRequest.
 fn put_locate_request(
     version: Version,
@@ -169,9 +195,19 @@ fn put(
     }
 }
 
+/// Which writer writes a message.
+#[derive(Clone, Copy)]
+pub enum By {
+    /// The writer of its kind.
+    Kind,
+    /// `write_exception`.
+    Exception,
+}
+
 /// The writer of the message of a sample.
 #[derive(Drop)]
 pub struct MessageWriting {
+    by: By,
     sample: &'static Sample,
     message: Message<'static>,
     contexts: Contexts,
@@ -184,11 +220,13 @@ impl MessageWriting {
     pub(crate) fn new(
         alloc: Global,
         sample: &'static Sample,
+        by: By,
         room: Room,
     ) -> Result<MessageWriting, Miss> {
         let message = message_of(sample)?;
         let body = checked_body(alloc, sample, &message.content)?;
         Ok(MessageWriting {
+            by,
             sample,
             message,
             contexts: contexts_of(alloc, sample)?,
@@ -209,7 +247,11 @@ impl Trial for MessageWriting {
         let Val::Struct(body) = &self.body else {
             return Err(Wrong::Inputs.into());
         };
-        put(&self.message, &self.contexts, body, &mut self.output.out)?;
+        let out = &mut self.output.out;
+        match self.by {
+            By::Kind => put(&self.message, &self.contexts, body, out)?,
+            By::Exception => put_exception(&self.message, &self.contexts, body, out)?,
+        }
         if !self.output.has_gained(self.sample.octets) {
             return Err(Wrong::Octets.into());
         }

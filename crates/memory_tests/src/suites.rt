@@ -2,7 +2,8 @@
 
 use crate::calls::Call;
 use crate::message_samples::{
-    CANCELS, CLIENTS, CLOSINGS, ERRORS, LOCATE_REPLIES, LOCATE_REQUESTS, REPLIES, REQUESTS,
+    CANCELS, CLIENTS, CLOSINGS, ERRORS, EXCEPTIONS, LOCATE_REPLIES, LOCATE_REQUESTS, REPLIES,
+    REQUESTS,
 };
 use crate::output::Room;
 use crate::samples::{
@@ -36,6 +37,8 @@ pub enum Set {
     Requests,
     /// Replies.
     Replies,
+    /// Replies that carry an exception.
+    Exceptions,
     /// CancelRequests.
     Cancels,
     /// LocateRequests.
@@ -73,6 +76,7 @@ impl Set {
             Set::ProfileFaults => &PROFILE_FAULTS,
             Set::Requests => &REQUESTS,
             Set::Replies => &REPLIES,
+            Set::Exceptions => &EXCEPTIONS,
             Set::Cancels => &CANCELS,
             Set::LocateRequests => &LOCATE_REQUESTS,
             Set::LocateReplies => &LOCATE_REPLIES,
@@ -96,7 +100,7 @@ pub struct Suite(pub &'static str, pub Call, pub Set);
 const WHOLE: usize = 4096;
 
 /// The calls of `cdr_core` and `ior_core`, those of the writers of `giop_core`, and those of `giop_frames`.
-pub static SUITES: [Suite; 59] = [
+pub static SUITES: [Suite; 62] = [
     Suite("read", Call::Read, Set::Values),
     Suite("read_faulty", Call::Read, Set::Faults),
     Suite("read_list", Call::ReadList, Set::Lists),
@@ -181,6 +185,21 @@ pub static SUITES: [Suite; 59] = [
         "write_reply_without_allocation",
         Call::WriteMessage(Room::Ample),
         Set::Replies,
+    ),
+    Suite(
+        "write_exception_empty",
+        Call::WriteException(Room::Empty),
+        Set::Exceptions,
+    ),
+    Suite(
+        "write_exception_full",
+        Call::WriteException(Room::Full),
+        Set::Exceptions,
+    ),
+    Suite(
+        "write_exception_without_allocation",
+        Call::WriteException(Room::Ample),
+        Set::Exceptions,
     ),
     Suite(
         "write_cancel_empty",

@@ -20,9 +20,6 @@ pub enum DecodeError {
     Body(#[from] CdrError),
 }
 
-/// The places at which a body can be read are below this number.
-const PLACES: u64 = 1 << 32;
-
 /// The types of the arguments of
 ///
 /// ```idl
@@ -54,9 +51,7 @@ pub fn first_arguments(
         let Some(message) = assembler.message() else {
             break;
         };
-        if let Content::Request(request) = message.content
-            && request.body.at < PLACES
-        {
+        if let Content::Request(request) = message.content {
             return Ok(Some(request.body.read(alloc, types)?));
         }
     }

@@ -9,6 +9,7 @@ mod read;
 mod references;
 mod said;
 mod versions;
+mod written_exceptions;
 mod written_locates;
 mod written_others;
 mod written_replies;

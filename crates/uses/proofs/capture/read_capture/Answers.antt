@@ -20,7 +20,7 @@ loop-taken-preserved-in_ok-note c =
     let n = c.in_ok-taken.field-0 in
     let e = rw (take_rest a.octets.now k) at c.in_ok-taken.ensures in
     let left = length-drop k a.octets.now in
-    let (f, is, lent) = one_lent _ c.feed.new.self.message c.in-Some.ensures in
+    let (f, is, lent) = one_lent _ c.feed.new.self.message c.in-Some.ensures.lent in
     record {
       within = omega (arith, i.within, e.within, left);
       few = omega (arith, i.few, e.some (omega (arith, left, c.loop-taken-test.true)));
@@ -42,5 +42,5 @@ loop-taken-preserved c =
       few = omega (arith, i.few);
       limits = e.limits ∙ i.limits;
       stands = stands_on a.limits a.octets.now k n c.loop-taken.assembler c.feed.new.self i.limits (e.stands (take k a.octets.now)) (e.messages (take k a.octets.now)) i.stands;
-      count = i.count ∙ sym (no_more a.limits a.octets.now k n c.loop-taken.assembler c.feed.new.self i.limits (e.stands (take k a.octets.now)) (e.messages (take k a.octets.now)) i.stands c.in_default.ensures);
+      count = i.count ∙ sym (no_more a.limits a.octets.now k n c.loop-taken.assembler c.feed.new.self i.limits (e.stands (take k a.octets.now)) (e.messages (take k a.octets.now)) i.stands c.in_default.ensures.lent);
     }
