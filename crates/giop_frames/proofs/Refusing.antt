@@ -7,7 +7,7 @@ use Rattle.giop_frames.specs.declared.fault.StreamFault.{StreamFault}
 use Rattle.giop_frames.specs.declared.limits.Limits.{Limits}
 use Rattle.giop_frames.specs.Fragments.{Bad, Done, Quiet, judged}
 use Rattle.giop_frames.specs.Frames.{Frame, Refused, Split, Waiting, Whole, after_frame, frame_size, judged_header, sight, split, split_from, under_header}
-use Rattle.giop_frames.specs.Laws.{FaultsAreRefusals, RefusalsAreFaults}
+use Rattle.giop_frames.specs.Laws.{FaultsAreRefusals, RefusalsAreFaults, RefusedAreTheOnes, StreamsAreRefused}
 use Rattle.giop_frames.specs.Refusing.{AreFine, IsFine, Refuses, RefusesFrame, RefusesHeader, behind}
 use Rattle.giop_frames.specs.Splitting.{IsFrame, Splits}
 use Rattle.giop_frames.specs.Streams.{Reading, fault_of, reading_from}
@@ -71,6 +71,33 @@ comes-from limits w (x ∷ s) waits =
           subst (Comes limits (w ++ x ∷ s)) (sym (step-refused limits w x s d e)) all
     ]) refl
 
+pub streams_refused : StreamsAreRefused
+unfolding split
+streams_refused limits s e n = let c = comes-from limits [] s (nothing-waits limits) in (c.0, c.1, c.2, c.3, c.4 e n)
+
+refused-seen : (limits : Limits) (octets : List ℕ) (e : StreamFault) → (h : RefusesHeader limits octets e) → split_from limits [] octets ≡ record { frames = []; rest = h.head; fault = Some e }
+refused-seen limits octets e h =
+    let seen : sight limits h.head ≡ Refused e = sight-long limits h.head (omega (arith, h.twelve)) ∙ ap (under_header h.head) (ap (λ (y : List ℕ). judged_header limits (header_of y)) (take_all 12 h.head (omega (arith, h.twelve))) ∙ h.judged) in
+    ap (split_from limits []) h.parts ∙ split-refused limits [] h.head h.later e seen h.twelve (omega (arith, h.twelve))
+
+refused-only : (limits : Limits) (front later : List ℕ) (fs : List Frame) (e : StreamFault) → Splits limits front fs [] → RefusesHeader limits later e
+    → ((split_from limits [] (front ++ later)).frames ≡ fs) × ((split_from limits [] (front ++ later)).fault ≡ Some e)
+refused-only limits front later [] e is h =
+    let here : split_from limits [] (front ++ later) ≡ record { frames = []; rest = h.head; fault = Some e } = ap (λ (y : List ℕ). split_from limits [] (y ++ later)) is ∙ refused-seen limits later e h in
+    (ap (λ (t : Split). t.frames) here, ap (λ (t : Split). t.fault) here)
+refused-only limits front later (f ∷ fs) e is h =
+    let octets = is.0 in
+    let rest = is.1 in
+    let parts : front ++ later ≡ octets ++ (rest ++ later) = ap (λ (y : List ℕ). y ++ later) is.2 ∙ append_assoc octets rest later in
+    let whole : split_from limits [] (front ++ later) ≡ after_frame f (split_from limits [] (rest ++ later)) =
+    ap (split_from limits []) parts ∙ split-whole limits [] octets (rest ++ later) f (frame-sight limits octets f is.3) is.3.long (omega (arith, is.3.long)) in
+    let more = refused-only limits rest later fs e is.4 h in
+    (ap (λ (t : Split). t.frames) whole ∙ ap (λ (gs : List Frame). f ∷ gs) more.0, ap (λ (t : Split). t.fault) whole ∙ more.1)
+
+pub refused_only : RefusedAreTheOnes
+unfolding split
+refused_only limits front later fs e is h = refused-only limits front later fs e is h
+
 -- the fault of frames, after earlier ones
 
 abbrev Found : Limits → List Frame → List ℕ → StreamFault → Type 0
@@ -115,9 +142,7 @@ abbrev read_of : Limits → List Frame → Split → Reading
 read_of limits earlier t = reading_from limits earlier t.fault t.frames
 
 fault-next : (limits : Limits) (earlier : List Frame) (later : List ℕ) (e : StreamFault) → RefusesHeader limits later e ⊎ RefusesFrame limits earlier later e → (read_of limits earlier (split_from limits [] later)).fault ≡ Some e
-fault-next limits earlier later e (inl h) =
-    let seen : sight limits h.head ≡ Refused e = sight-long limits h.head (omega (arith, h.twelve)) ∙ ap (under_header h.head) (ap (λ (y : List ℕ). judged_header limits (header_of y)) (take_all 12 h.head (omega (arith, h.twelve))) ∙ h.judged) in
-    ap (λ (y : List ℕ). (read_of limits earlier (split_from limits [] y)).fault) h.parts ∙ ap (λ (t : Split). (read_of limits earlier t).fault) (split-refused limits [] h.head h.later e seen h.twelve (omega (arith, h.twelve)))
+fault-next limits earlier later e (inl h) = ap (λ (t : Split). (read_of limits earlier t).fault) (refused-seen limits later e h)
 fault-next limits earlier later e (inr r) =
     let t = split_from limits [] r.later in
     ap (λ (y : List ℕ). (read_of limits earlier (split_from limits [] y)).fault) r.parts

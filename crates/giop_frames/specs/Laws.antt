@@ -1,12 +1,12 @@
 -- The laws, each over the definitions alone.
-use Rattle.std.specs.Prelude.{◌≡◌, ℕ, List, ◌++◌, length, Some, None}
+use Rattle.std.specs.Prelude.{◌≡◌, ℕ, List, [], ◌++◌, length, Some, None}
 use Rattle.giop_frames.specs.declared.fault.StreamFault.{StreamFault}
 use Rattle.giop_frames.specs.declared.limits.Limits.{Limits}
 use Rattle.giop_frames.specs.Completing.{AreMessages, AreRising}
 use Rattle.giop_frames.specs.Frames.{Frame, Waiting, sight, split}
 use Rattle.giop_frames.specs.Fragments.{Partial, partial_of}
 use Rattle.giop_frames.specs.Positions.{IsPartial}
-use Rattle.giop_frames.specs.Refusing.{Refuses}
+use Rattle.giop_frames.specs.Refusing.{Refuses, RefusesHeader}
 use Rattle.giop_frames.specs.Splitting.{IsFrame, Splits}
 use Rattle.giop_frames.specs.Streams.{Completed, Entry, Follows, fault_of, frames_of, messages_of}
 
@@ -17,6 +17,16 @@ StreamsSplit = (limits : Limits) (s : List ℕ) → (split limits s).fault ≡ N
 -- .. and no others.
 abbrev pub SplitsAreTheOnes : Type 0
 SplitsAreTheOnes = (limits : Limits) (s : List ℕ) (frames : List Frame) (rest : List ℕ) → Splits limits s frames rest → sight limits rest ≡ Waiting → split limits s ≡ record { frames = frames; rest = rest; fault = None }
+
+-- A stream in which a header is refused is its frames, and then octets that begin with that header ..
+abbrev pub StreamsAreRefused : Type 0
+StreamsAreRefused = (limits : Limits) (s : List ℕ) (e : StreamFault) → (split limits s).fault ≡ Some e
+    → (front : List ℕ) × (later : List ℕ) × (s ≡ front ++ later) × Splits limits front (split limits s).frames [] × RefusesHeader limits later e
+
+-- .. and no others.
+abbrev pub RefusedAreTheOnes : Type 0
+RefusedAreTheOnes = (limits : Limits) (front later : List ℕ) (frames : List Frame) (e : StreamFault) → Splits limits front frames [] → RefusesHeader limits later e
+    → ((split limits (front ++ later)).frames ≡ frames) × ((split limits (front ++ later)).fault ≡ Some e)
 
 -- Octets that wait have no frame at their front.
 abbrev pub RestsHaveNoFrame : Type 0

@@ -1,13 +1,16 @@
 //! Laws over the definitions: each is what a function with an empty body ensures.
 
-ghost use Rattle.giop_frames.specs.Laws.{ByPositionIsPartial, FaultsAreRefusals, FaultsEnd, FaultsStay, MessagesAreWhole, MessagesGrow, PartialByPosition, PartialsAreCounted, PlacesRise, RefusalsAreFaults, RestsHaveNoFrame, SplitsAreTheOnes, StreamsSplit};
+ghost use Rattle.giop_frames.specs.Laws.{ByPositionIsPartial, FaultsAreRefusals, FaultsEnd, FaultsStay, MessagesAreWhole, MessagesGrow, PartialByPosition, PartialsAreCounted, PlacesRise, RefusalsAreFaults, RefusedAreTheOnes, RestsHaveNoFrame, SplitsAreTheOnes, StreamsAreRefused, StreamsSplit};
 ghost use Rattle.giop_frames.specs.ReadAgain.{CutIsReadAgain, NothingIsClear, SentAreReadAgain, WrittenIsReadAgain, WrittenTooLarge};
 
-/// A stream in which no header is refused is its frames and a rest, and no others.
+/// A stream is its frames and a rest, or, where a header is refused, its frames and octets that begin with
+/// that header, and no others.
 pub fn streams_are_frames()
     ensures split { StreamsSplit }
     ensures only { SplitsAreTheOnes }
     ensures rest { RestsHaveNoFrame }
+    ensures refused { StreamsAreRefused }
+    ensures only_refused { RefusedAreTheOnes }
 {}
 
 /// A Fragment belongs to the last first frame of its request id, where no end and no cancel stands between,
