@@ -21,7 +21,7 @@ use Rattle.giop_frames.specs.Cutting.{cut_octets, first_frame, fragment_of, frag
 use Rattle.giop_frames.specs.Fragments.{Done, Partial, Quiet, partial_of, content_of, continued_by, payload_of, id_of, is_same_order, judged, partials_after, partials_in, role_in, role_in_12, role_of}
 use Rattle.giop_frames.specs.Frames.{Frame, Split, frame_size, split, split_from}
 use Rattle.giop_frames.specs.Splitting.{IsFrame, Splits}
-use Rattle.giop_frames.specs.Streams.{Reading, Completed, fault_of, frames_of, messages_of, place_after, reading_from, reading_of, rest_of}
+use Rattle.giop_frames.specs.Streams.{Reading, fault_of, frames_of, messages_of, place_after, reading_from, reading_of, rest_of}
 use Rattle.giop_core.specs.Laws.{HeadersAreReadAgain}
 use Rattle.giop_frames.proofs.CutFrames.{AreFrames, admit-12, and-not, cut-can, cut-has_id, cut-opens, cut-uncut, frame-again, frames-split, judged-carrying, judged-ending, judged-opening, judged-uncut, number-front, number-take, same-order, version-12}
 use Rattle.giop_frames.proofs.Cuts.{fragments-more, chunks-last, chunks-more}

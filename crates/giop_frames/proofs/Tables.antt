@@ -6,7 +6,7 @@ use Rattle.giop_frames.specs.declared.limits.Limits.{Limits}
 use Rattle.giop_frames.specs.declared.reassembly.Role.{Role}
 use Rattle.giop_frames.specs.declared.reassembly.Role.TheVariants.{Opens, Carries, Ends, Drops, Uncut, Apart}
 use Rattle.giop_frames.specs.Frames.{Frame}
-use Rattle.giop_frames.specs.Fragments.{Partial, Verdict, Bad, Quiet, Done, after_role, partial_of, opened_by, continued_by, id_of, judged, judged_as, judged_by, joinable, judged_carried, partials_after, partials_in, role_of, has_id}
+use Rattle.giop_frames.specs.Fragments.{Partial, Verdict, Bad, after_role, partial_of, opened_by, continued_by, id_of, judged, judged_as, judged_by, joinable, judged_carried, partials_after, partials_in, role_of, has_id}
 use Rattle.giop_frames.specs.Refusing.{IsFine}
 use Rattle.giop_frames.specs.Streams.{IsDistinct, Entry, part_in}
 use Rattle.giop_frames.specs.Private.{parts_after, parts_as, without}
