@@ -5,11 +5,11 @@ use Rattle.cdr_core.specs.declared.fault.CdrError.TheVariants as errors
 use Rattle.cdr_core.specs.declared.fault.Fault.{Fault}
 use Rattle.cdr_core.specs.Cursor.{Position}
 use Rattle.cdr_core.specs.declared.order.Order.{Order}
-use Rattle.cdr_core.specs.Memory.{MayRunOut}
 use Rattle.cdr_core.specs.Reading.{Read, value_at}
 use Rattle.ior_core.specs.declared.error.IorError.{IorError}
 use Rattle.ior_core.specs.declared.reference.Ior.{Ior}
 use Rattle.ior_core.specs.Grammar.{reference}
+use Rattle.ior_core.specs.Memory.{StoresReference}
 use Rattle.ior_core.specs.View.{ior_value}
 use Rattle.ior_core.specs.declared.error.IorError.TheVariants.{Cdr, Memory}
 
@@ -27,5 +27,5 @@ GivesOnce view (Err f) read old new = read old.place old.rest ≡ Err f
 abbrev pub ReadsReference : Order → ℕ → List ℕ → Result (Ior × ℕ) IorError → Type 0
 ReadsReference order o octets (Ok x) = (x.1 ≤ length octets) × (value_at reference order o octets ≡ Ok (ior_value x.0, o + x.1, drop x.1 octets))
 ReadsReference order o octets (Err (Cdr f)) = value_at reference order o octets ≡ Err f
-ReadsReference order o octets (Err Memory) = MayRunOut reference order o octets
+ReadsReference order o octets (Err Memory) = (p : ℕ) × StoresReference order o octets p
 ReadsReference order o octets (Err _) = ⊥

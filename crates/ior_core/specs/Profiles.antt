@@ -5,7 +5,7 @@ use Rattle.cdr_core.specs.declared.fault.Fault.{Fault}
 use Rattle.cdr_core.specs.declared.order.Order.{Order}
 use Rattle.cdr_core.specs.Encapsulation.{encapsulated, order_at}
 use Rattle.cdr_core.specs.Form.{Form}
-use Rattle.cdr_core.specs.Memory.{AfterRead, Stores}
+use Rattle.cdr_core.specs.Memory.{AfterRead}
 use Rattle.cdr_core.specs.Parts.{octet_value, ushort_value}
 use Rattle.cdr_core.specs.Reading.{◌>>=◌, Read, value_at}
 use Rattle.cdr_core.specs.Spelling.{Spells}
@@ -17,7 +17,8 @@ use Rattle.ior_core.specs.declared.error.IorError.{IorError}
 use Rattle.ior_core.specs.declared.error.IorError.TheVariants.{BadMajor, Cdr, Memory}
 use Rattle.ior_core.specs.declared.profile.IiopProfile.{IiopProfile}
 use Rattle.ior_core.specs.declared.tagged.Tagged.{Tagged}
-use Rattle.ior_core.specs.Grammar.{profile_1_0, profile_1_1, tagged_list}
+use Rattle.ior_core.specs.Grammar.{profile_1_0, profile_1_1}
+use Rattle.ior_core.specs.Memory.{StoresTagged}
 use Rattle.ior_core.specs.View.{list_value}
 
 -- the member of a struct at a place, counted from 0
@@ -97,12 +98,12 @@ ReadsProfile body (Err BadMajor) = (v : Value) × (body ≡ Ok v) × (has_major_
 ReadsProfile body (Err Memory) = ⊤
 ReadsProfile body (Err _) = ⊥
 
--- a part of the components that is stored was read, and ends at the place p; in 1.0 there are none
+-- a component was read, whole, that ends at the place p; in 1.0 there are none
 abbrev pub StoresComponents : Bool → Order → ℕ → List ℕ → ℕ → Type 0
 StoresComponents true order o octets p = ⊥
-StoresComponents false order o octets p = Stores tagged_list order o octets p
+StoresComponents false order o octets p = StoresTagged order o octets p
 
--- Reading a profile may run out of memory: the whole profile was read, or the members of 1.0 and a part of the components.
+-- Reading a profile may run out of memory: the whole profile was read, or the members of 1.0 and a whole component.
 abbrev pub ProfileMayRunOut : List ℕ → Type 0
 ProfileMayRunOut octets = IsOk (body_of octets) ⊎ AfterRead (order_at octets) (λ order o rest. AfterRead (value_at profile_1_0 order o rest) (λ v q more. (p : ℕ) × StoresComponents (has_minor_0 v) order q more p))
 

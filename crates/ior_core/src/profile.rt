@@ -145,9 +145,9 @@ pub fn profile_key(tag: u32, octets: &[u8]) -> Option<&[u8]>
 /// and from 1.1 on components.
 ///
 /// Errors are `Cdr`, the first fault, with its place counted from the encapsulation's first octet;
-/// `BadMajor`; and `Memory`, only where a component or the whole profile was read. These rules are this project's own: octets after the last member are
-/// ignored, and `BadMajor` is reported only where the whole profile is valid apart from its major
-/// version.
+/// `BadMajor`; and `Memory`, only where a whole component or the whole profile was read. These rules
+/// are this project's own: octets after the last member are ignored, and `BadMajor` is reported only
+/// where the whole profile is valid apart from its major version.
 #[tactic(auto, using(crate::proofs::Bodies::order_fails, crate::proofs::Bodies::head_fails, crate::proofs::Bodies::components_fail, crate::proofs::Bodies::body_is))]
 pub fn read_iiop(alloc: Global, octets: &[u8]) -> Result<IiopProfile, IorError>
     ensures reads { ReadsProfile (body_of octets.now) result }

@@ -1,13 +1,13 @@
 //! Object references (CORBA 3.3 Part 2, 7.6.2).
 
 ghost use Rattle.std.specs.Prelude.{◌≡◌, ◌↔◌, ◌++◌, ◌<◌, ◌≤◌, ◌^◌, length, option_map, IsTrue, MatchResult, OnErr, OnOk};
-ghost use Rattle.cdr_core.specs.Memory.{Stores};
 ghost use Rattle.cdr_core.specs.Private.{GivesUnlessMemory, Keeps};
 ghost use Rattle.cdr_core.specs.Writing.{Appends, octets_of, IsWritable};
 ghost use Rattle.cdr_core.specs.Reading.{value_at};
 ghost use Rattle.ior_core.specs.Calls.{ReadsReference};
 ghost use Rattle.ior_core.specs.Grammar.{reference};
 ghost use Rattle.ior_core.specs.Keys.{key_at};
+ghost use Rattle.ior_core.specs.Memory.{StoresReference};
 ghost use Rattle.ior_core.specs.View.{ior_value};
 
 use crate::error::IorError;
@@ -39,7 +39,7 @@ impl Ior {
 /// Reads a reference where the cursor stands.
 #[tactic(auto, using(crate::proofs::Steps::reference_is))]
 pub(crate) fn read(alloc: Global, cursor: &mut Cursor) -> Result<Ior, CdrError>
-    ensures { GivesUnlessMemory ior_value result (value_at reference cursor.old.order) (Stores reference cursor.old.order) cursor.old cursor.new }
+    ensures { GivesUnlessMemory ior_value result (value_at reference cursor.old.order) (StoresReference cursor.old.order) cursor.old cursor.new }
 {
     let type_id = Vec::from_slice(alloc, cursor.string()?)?;
     let profiles = read_list(alloc, cursor)?;
@@ -62,7 +62,7 @@ pub(crate) fn put(writer: &Writer, ior: &Ior, out: &mut Vec<u8>) -> Result<(), A
 ///
 /// The number is how many octets were read, padding before the reference included; octets after it
 /// are not looked at. Errors are `Cdr`, the first fault, with its place on the same scale as `at`,
-/// and `Memory`, only where a part that is stored was read before.
+/// and `Memory`, only where the type id was read before.
 pub fn read_ior(
     alloc: Global,
     order: Order,

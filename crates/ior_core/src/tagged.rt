@@ -1,13 +1,13 @@
 //! Octets with a tag: tagged profiles and tagged components (CORBA 3.3 Part 2, 7.6.2).
 
 ghost use Rattle.std.specs.Prelude.{◌≡◌, ◌++◌, ◌<◌, ◌≤◌, ◌^◌, length, map, MatchResult};
-ghost use Rattle.cdr_core.specs.Memory.{Stores, StoresEach};
 ghost use Rattle.cdr_core.specs.Private.{GivesUnlessMemory, Keeps, passing};
 ghost use Rattle.cdr_core.specs.Writing.{Appends, PutsAll, AreWritable, IsWritable};
 ghost use Rattle.cdr_core.specs.Reading.{each_at, value_at};
 ghost use Rattle.cdr_core.specs.Value.{values};
 ghost use Rattle.ior_core.specs.Calls.{GivesOnce};
 ghost use Rattle.ior_core.specs.Grammar.{tagged, tagged_list};
+ghost use Rattle.ior_core.specs.Memory.{StoresItems, StoresTagged};
 ghost use Rattle.ior_core.specs.View.{lent_value, list_value, tagged_value, tagged_values};
 
 use cdr_core::{CdrError, Cursor, Fault, Writer};
@@ -43,7 +43,7 @@ pub fn read_tagged<'a>(cursor: &mut Cursor<'a>) -> Result<(u32, &'a [u8]), Fault
 
 /// Reads `count` items. The vector grows as they are read, since the count may be any number.
 fn read_each(alloc: Global, count: u32, cursor: &mut Cursor) -> Result<Vec<Tagged>, CdrError>
-    ensures { GivesUnlessMemory (λ v. tagged_values v.items) result (each_at (value_at tagged cursor.old.order) count) (StoresEach (value_at tagged cursor.old.order) (Stores tagged cursor.old.order) count) cursor.old cursor.new }
+    ensures { GivesUnlessMemory (λ v. tagged_values v.items) result (each_at (value_at tagged cursor.old.order) count) (StoresItems cursor.old.order count) cursor.old cursor.new }
 {
     let mut all = Vec::new(alloc);
     for _ in 0..count {
@@ -57,7 +57,7 @@ fn read_each(alloc: Global, count: u32, cursor: &mut Cursor) -> Result<Vec<Tagge
 /// Reads a sequence of items: their count, and then each.
 #[tactic(auto, using(crate::proofs::Steps::list_is))]
 pub(crate) fn read_list(alloc: Global, cursor: &mut Cursor) -> Result<Vec<Tagged>, CdrError>
-    ensures { GivesUnlessMemory (λ v. list_value v.items) result (value_at tagged_list cursor.old.order) (Stores tagged_list cursor.old.order) cursor.old cursor.new }
+    ensures { GivesUnlessMemory (λ v. list_value v.items) result (value_at tagged_list cursor.old.order) (StoresTagged cursor.old.order) cursor.old cursor.new }
 {
     let count = cursor.count()?;
     read_each(alloc, count, cursor)

@@ -1,11 +1,10 @@
-use Rattle.std.proofs.Common.{inl, ◌∙◌}
+use Rattle.std.proofs.Common.{inl, inr, refl, ◌∙◌}
 use Rattle.std.proofs.lemmas.Result.{err_from_is_err_and}
 use Rattle.cdr_core.specs.Form as form
 use Rattle.cdr_core.specs.Parts.{text}
-use Rattle.cdr_core.specs.Reading.{value_at}
-use Rattle.cdr_core.proofs.Memory.{ends_at, if_memory}
+use Rattle.cdr_core.proofs.Memory.{if_memory}
 use Rattle.ior_core.specs.Grammar.{tagged_list}
-use Rattle.ior_core.proofs.Memory.{second_stores}
+use Rattle.ior_core.proofs.Memory.{reference_stores}
 use Rattle.ior_core.proofs.Structures.{member_fails, no_member, second_fails, structure_fails, structure_read, then_members}
 use Rattle.ior_core.proofs.reference.read.Goals as goal
 
@@ -17,7 +16,7 @@ returns-in_err-string c =
 pub returns-in_err-type_id : goal.returns-in_err-type_id
 returns-in_err-type_id c =
     let p = err_from_is_err_and c.from_residual-in_err-type_id.result c.from_residual-in_err-type_id.ensures.1 in
-    rw (p.1, p.2) (tt, inl (ends_at (value_at text c.args.cursor.now.order c.args.cursor.now.place c.args.cursor.now.rest) _ c.string.new.self.place c.string.new.self.rest c.in_ok-string.ensures.0))
+    rw (p.1, p.2) (tt, reference_stores c.args.cursor.now.order c.args.cursor.now.place c.args.cursor.now.rest _ c.string.new.self.place c.string.new.self.rest c.string.new.self.place c.in_ok-string.ensures.0 (inl refl))
 
 pub returns-in_err-profiles : goal.returns-in_err-profiles
 returns-in_err-profiles c =
@@ -27,7 +26,7 @@ returns-in_err-profiles c =
     let may = rw (c.in_ok-string.ensures.1) at c.in_err-profiles.ensures.1 in
     rw (p.1, p.2) (
       second_fails text tagged_list form.no_forms old.place old.rest c.in_err-profiles.field-0.0 c.in_ok-string.ensures c.in_err-profiles.ensures.0,
-      if_memory c.in_err-profiles.field-0.0 (second_stores text tagged_list form.no_forms old.order old.place old.rest _ mid.place mid.rest c.read_list.new.cursor.place c.in_ok-string.ensures.0) may,
+      if_memory c.in_err-profiles.field-0.0 (λ h. reference_stores old.order old.place old.rest _ mid.place mid.rest c.read_list.new.cursor.place c.in_ok-string.ensures.0 (inr h)) may,
     )
 
 pub returns : goal.returns

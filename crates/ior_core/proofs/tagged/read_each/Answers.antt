@@ -1,6 +1,5 @@
 use Rattle.std.proofs.Common.{inl, inr, refl}
 use Rattle.std.proofs.lemmas.Result.{err_from_is_err_and}
-use Rattle.cdr_core.specs.Memory.{Stores}
 use Rattle.cdr_core.specs.Reading.{value_at}
 use Rattle.cdr_core.proofs.Memory.{stores_later}
 use Rattle.cdr_core.proofs.Turns.{each_done, each_more, each_stops, values_push}
@@ -23,7 +22,7 @@ loop-preserved c =
     let v = tag_and_octets c.in_ok-tag.tag c.in_ok-octets.octets.items in
     record {
       order = read.1;
-      stores = λ p h. i.stores p (stores_later (value_at tagged c.args.cursor.now.order) (Stores tagged c.args.cursor.now.order) c.args.count c.loop.counter c.loop.cursor.place c.loop.cursor.rest v cursor.place cursor.rest p c.loop-test.true (rw c.in_ok-octets.ensures.items read.0) (inr h));
+      stores = λ p h. i.stores p (stores_later (value_at tagged c.args.cursor.now.order) (λ _ _ _. ⊥) c.args.count c.loop.counter c.loop.cursor.place c.loop.cursor.rest v cursor.place cursor.rest p c.loop-test.true (rw c.in_ok-octets.ensures.items read.0) (inr h));
       whole = rw (c.in_ok-push.ensures.items, values_push tagged_value)
           (each_more (value_at tagged c.args.cursor.now.order) (tagged_values c.loop.all.items) c.args.count c.loop.counter c.loop.cursor.place c.loop.cursor.rest v cursor.place cursor.rest _ c.loop-test.true (rw c.in_ok-octets.ensures.items read.0) i.whole);
     }
@@ -39,7 +38,7 @@ returns-in_err-octets c =
     let i = c.loop.invariant in
     let read = rw i.order at c.in_ok-tag.ensures in
     let cursor = c.read_tagged.new.cursor in
-    rw (p.1, p.2) (tt, i.stores cursor.place (stores_later (value_at tagged c.args.cursor.now.order) (Stores tagged c.args.cursor.now.order) c.args.count c.loop.counter c.loop.cursor.place c.loop.cursor.rest (lent_value (c.in_ok-tag.tag, c.in_ok-tag.octets)) cursor.place cursor.rest cursor.place c.loop-test.true read.0 (inl refl)))
+    rw (p.1, p.2) (tt, i.stores cursor.place (stores_later (value_at tagged c.args.cursor.now.order) (λ _ _ _. ⊥) c.args.count c.loop.counter c.loop.cursor.place c.loop.cursor.rest (lent_value (c.in_ok-tag.tag, c.in_ok-tag.octets)) cursor.place cursor.rest cursor.place c.loop-test.true read.0 (inl refl)))
 
 pub returns-in_err-push : goal.returns-in_err-push
 returns-in_err-push c =
@@ -47,4 +46,4 @@ returns-in_err-push c =
     let i = c.loop.invariant in
     let read = rw i.order at c.in_ok-tag.ensures in
     let cursor = c.read_tagged.new.cursor in
-    rw (p.1, p.2) (tt, i.stores cursor.place (stores_later (value_at tagged c.args.cursor.now.order) (Stores tagged c.args.cursor.now.order) c.args.count c.loop.counter c.loop.cursor.place c.loop.cursor.rest (lent_value (c.in_ok-tag.tag, c.in_ok-tag.octets)) cursor.place cursor.rest cursor.place c.loop-test.true read.0 (inl refl)))
+    rw (p.1, p.2) (tt, i.stores cursor.place (stores_later (value_at tagged c.args.cursor.now.order) (λ _ _ _. ⊥) c.args.count c.loop.counter c.loop.cursor.place c.loop.cursor.rest (lent_value (c.in_ok-tag.tag, c.in_ok-tag.octets)) cursor.place cursor.rest cursor.place c.loop-test.true read.0 (inl refl)))

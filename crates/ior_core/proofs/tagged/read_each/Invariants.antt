@@ -1,8 +1,8 @@
 use Rattle.std.proofs.Common.{◌≡◌, ℕ, ◌-◌}
-use Rattle.cdr_core.specs.Memory.{Stores, StoresEach}
 use Rattle.cdr_core.specs.Reading.{each_at, value_at}
 use Rattle.cdr_core.proofs.Turns.{with_front}
 use Rattle.ior_core.specs.Grammar.{tagged}
+use Rattle.ior_core.specs.Memory.{StoresItems}
 use Rattle.ior_core.specs.View.{tagged_values}
 use Rattle.ior_core.proofs.tagged.read_each.Given as goal
 
@@ -10,8 +10,8 @@ use Rattle.ior_core.proofs.tagged.read_each.Given as goal
 abbrev pub invariant-loop : goal.invariant-loop
 invariant-loop l = record {
   order : l.cursor.order ≡ l.fn.cursor.order;
-  stores : (p : ℕ) → StoresEach (value_at tagged l.fn.cursor.order) (Stores tagged l.fn.cursor.order) (l.count - l.counter) l.cursor.place l.cursor.rest p
-      → StoresEach (value_at tagged l.fn.cursor.order) (Stores tagged l.fn.cursor.order) l.count l.fn.cursor.place l.fn.cursor.rest p;
+  stores : (p : ℕ) → StoresItems l.fn.cursor.order (l.count - l.counter) l.cursor.place l.cursor.rest p
+      → StoresItems l.fn.cursor.order l.count l.fn.cursor.place l.fn.cursor.rest p;
   whole : with_front (tagged_values l.all.items) (each_at (value_at tagged l.fn.cursor.order) (l.count - l.counter) l.cursor.place l.cursor.rest)
       ≡ each_at (value_at tagged l.fn.cursor.order) l.count l.fn.cursor.place l.fn.cursor.rest;
 }
