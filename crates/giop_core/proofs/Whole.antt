@@ -203,6 +203,31 @@ pub judged_adds : (version : Version) (kind : MessageKind) (order : Order) (fiel
 judged_adds version kind order fields body old v TooLong long h = (fields_long version kind order fields body (long h), keeps_all old old refl)
 judged_adds version kind order fields body old v Memory long h = absurd h
 
+-- a body of a Reply that is too long
+
+gap_long : (n : ℕ) (xs : List ℕ) → length xs ≤ length (behind_gap n xs)
+gap_long n [] = omega arith
+gap_long n (x ∷ xs) = omega (arith, length-append (replicate {A = ℕ} n 0) (x ∷ xs))
+
+reply_body_long : (version : Version) (order : Order) (body : Values) (place : ℕ) → AreLong body → 2 ^ 32 ≤ length (body_octets version kind.Reply order body place)
+reply_body_long V10 order body place long = long order place
+reply_body_long V11 order body place long = long order place
+reply_body_long V12 order body place long =
+    let gap = padding place 8 in
+    omega (arith, long order (place + gap), gap_long gap (octets_of_all order body (place + gap)))
+
+body_long : (version : Version) (order : Order) (fields : List Value) (body : Values) → AreLong body → 2 ^ 32 ≤ length (behind_header version kind.Reply order fields body)
+unfolding behind_header
+body_long version order fields body long =
+    let front = octets_of_all order (values fields) 12 in
+    omega (arith, reply_body_long version order body (12 + length front) long, length-append front (body_octets version kind.Reply order body (12 + length front)))
+
+-- the id of an exception is too long
+pub exception_judged : (version : Version) (order : Order) (fields : List Value) (id : List ℕ) (members : Values) (old : List ℕ) (e : WriteError)
+    → Checks {A = Unit {0}} (value.string id) (Err e) → Adds {A = Unit {0}} version kind.Reply order (behind_header version kind.Reply order fields (exception_body id members)) (Err e) old old
+exception_judged version order fields id members old TooLong h = (body_long version order fields (exception_body id members) (first_long (value.string id) members h), keeps_all old old refl)
+exception_judged version order fields id members old Memory h = absurd h
+
 pub judged_begins : (order : Order) (fields : List Value) (old : List ℕ) (v : Value) (e : WriteError) → (IsLong v → AreLong (values fields))
     → Checks {A = Unit {0}} v (Err e) → Begins order fields (Err e) old old
 judged_begins order fields old v TooLong long h = (long h, keeps_all old old refl)

@@ -2,6 +2,7 @@
 
 ghost use Rattle.std.specs.Prelude.{◌↔◌, Some, IsTrue, ◌≡◌, IfOk, MatchResult, ◌≤◌, ◌<◌, ◌++◌, length, map};
 ghost use Rattle.cdr_core.specs.Private.{Keeps};
+ghost use Rattle.cdr_core.specs.Spelling.{IsClean};
 ghost use Rattle.cdr_core.specs.Value.{values};
 ghost use Rattle.cdr_core.specs.View.{values_of};
 ghost use Rattle.cdr_core.specs.Writing.{place_in, AreWritable, PutsAll};
@@ -19,7 +20,7 @@ use crate::error::{MessageFault, WriteError};
 use crate::header::{MessageKind, Version};
 use crate::message::{AFTER_HEADER, Body, Content, Message, body_at};
 use crate::service_context::{Contexts, check_contexts, put_contexts, read_contexts};
-use crate::writing::{begin, finish, put_header};
+use crate::writing::{begin, check_text, finish, put_header};
 use cdr_core::{Cursor, Order, Val, Writer};
 use std::alloc::AllocError;
 use std::fmt;
@@ -346,9 +347,11 @@ fn append_exception(
     members: &[Val],
     out: &mut Vec<u8>,
 ) -> Result<(), WriteError>
-    requires { AreWritable (exception_body exception.now (values_of members.now)) }
+    requires clean { IsClean exception.now }
+    requires writable { AreWritable (values_of members.now) }
     ensures { Adds version kind.Reply order (behind_header version kind.Reply order (reply_fields version request_id status (map item_at contexts.now)) (exception_body exception.now (values_of members.now))) result out.old.items out.new.items }
 {
+    check_text(exception)?;
     let start = out.len();
     let writer = begin_reply(version, order, request_id, status, contexts, out)?;
     put_exception(version, &writer, exception, members, out)?;
@@ -373,7 +376,8 @@ pub fn write_exception(
     out: &mut Vec<u8>,
 ) -> Result<(), WriteError>
     requires status { status < reply_statuses version }
-    requires writable { AreWritable (exception_body exception.now (values_of members.now)) }
+    requires clean { IsClean exception.now }
+    requires writable { AreWritable (values_of members.now) }
     ensures { Wrote version kind.Reply order (behind_header version kind.Reply order (reply_fields version request_id status (map item_at contexts.now)) (exception_body exception.now (values_of members.now))) result out.old.items out.new.items }
 {
     let start = out.len();

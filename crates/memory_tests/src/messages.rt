@@ -132,7 +132,7 @@ fn put_exception(
     let Some((Val::Str(exception), members)) = body.split_first() else {
         return Err(Wrong::Inputs.into());
     };
-    if !version.has_reply_status(status) {
+    if !version.has_reply_status(status) || !has_no_nul(exception) {
         return Err(Wrong::Inputs.into());
     }
     write_exception(

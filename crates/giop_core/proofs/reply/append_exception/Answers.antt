@@ -4,13 +4,19 @@ use Rattle.cdr_core.specs.View.{values_of}
 use Rattle.giop_core.specs.declared.header.MessageKind.TheVariants as kind
 use Rattle.giop_core.specs.Items.{item_at}
 use Rattle.giop_core.specs.Written.{exception_body, reply_fields}
-use Rattle.giop_core.proofs.Whole.{body_behind, finished_whole, keeps_after, room_after, room_kept, starts_after, unbegun, writes_after}
+use Rattle.giop_core.proofs.Whole.{body_behind, exception_judged, finished_whole, keeps_after, room_after, room_kept, starts_after, unbegun, writes_after}
 use Rattle.giop_core.proofs.reply.append_exception.Goals as goal
+
+pub returns-in_err-check_text : goal.returns-in_err-check_text
+returns-in_err-check_text c =
+    let a = c.args in
+    let p = err_from_is_err_and c.from_residual.result c.from_residual.ensures.1 in
+    rw (p.1, p.2) (exception_judged a.version a.order (reply_fields a.version a.request_id a.status (map item_at a.contexts.now)) a.exception.now (values_of a.members.now) a.out.now.items c.in_err-check_text.field-0.0 c.in_err-check_text.ensures)
 
 pub returns-in_err-writer : goal.returns-in_err-writer
 returns-in_err-writer c =
     let a = c.args in
-    let p = err_from_is_err_and c.from_residual.result c.from_residual.ensures.1 in
+    let p = err_from_is_err_and c.from_residual-in_err-writer.result c.from_residual-in_err-writer.ensures.1 in
     rw (p.1, p.2) (unbegun a.version kind.Reply a.order (reply_fields a.version a.request_id a.status (map item_at a.contexts.now)) (exception_body a.exception.now (values_of a.members.now)) a.out.now.items c.begin_reply.new.out.items c.in_err-writer.field-0.0 c.in_err-writer.ensures)
 
 pub put_exception-requires-clause-start : goal.put_exception-requires-clause-start
