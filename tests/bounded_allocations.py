@@ -7,7 +7,8 @@ usage: bounded_allocations.py PROGRAM            the program `giop`
 The inputs of `giop` are the streams of the rows (rows/*.txt), for `giop show`, and the references of the cases
 (cases/ior), for `giop ior`: each as it is, and with ffffffff written over four octets, at each place
 that a number of four octets may have. So each count and each length is once the greatest there is, in
-either byte order. Under a bound of a few times the input's octets the program must print what it prints
+either byte order. In a stream the size of each frame is also once one that the limit on messages admits,
+so that the frame is waited for: its octets take room as they come. Under a bound of a few times the input's octets the program must print what it prints
 with ample memory: what it takes follows the octets that are there, and no count among them.
 
 The inputs of `memory_tests` are the octets of spellings.py, which it reads by types, alone (`read`) and
@@ -32,6 +33,10 @@ import spellings
 
 HERE = os.path.dirname(os.path.abspath(__file__))
 HUGE = b"\xff\xff\xff\xff"
+# how a header begins, how many octets it has, and a size that the program's limit on messages admits
+MAGIC = b"GIOP"
+HEADER = 12
+ADMITTED = 0x000ffff0
 # the numbers that are written over those of a spelling: the greatest that is unsigned, that is signed, and one
 # that memory may suffice for
 LARGE = (0xffffffff, 0x7fffffff, 0x00ffffff)
@@ -67,9 +72,20 @@ def references():
             continue
 
 
+def sized(octets):
+    """The octets with a great size in the header of one frame, each in turn. The limit on messages admits it."""
+    place = octets.find(MAGIC)
+    while 0 <= place <= len(octets) - HEADER:
+        order = "little" if octets[place + 6] & 1 else "big"
+        yield octets[:place + 8] + ADMITTED.to_bytes(4, order) + octets[place + HEADER:]
+        place = octets.find(MAGIC, place + 1)
+
+
 def variants(octets, first):
-    """The octets as they are, and with the greatest number at each place, from the first on."""
+    """The octets as they are, with a great size in each header, and with the greatest number at each place, from
+    the first on."""
     yield octets
+    yield from sized(octets)
     for place in range(first, len(octets) - 3):
         if octets[place:place + 4] != HUGE:
             yield octets[:place] + HUGE + octets[place + 4:]
