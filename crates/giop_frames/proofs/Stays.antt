@@ -1,5 +1,6 @@
 -- A fault stays the fault, and the messages before it stay those, whatever follows.
-use Rattle.std.proofs.Common.{◌≡◌, ℕ, List, [], ◌∷◌, ◌++◌, Option, Some, None, refl, sym, ap, ◌∙◌}
+use Rattle.std.proofs.Common.{◌≡◌, ℕ, ◌+◌, ◌<◌, ◌≤◌, List, [], ◌∷◌, ◌++◌, length, Option, Some, None, refl, sym, ap, subst, ◌∙◌, arith, length-append}
+use Rattle.std.specs.List.{AllByRecursion}
 use Rattle.std.proofs.lemmas.List.{append-nil}
 use Rattle.giop_frames.specs.declared.fault.StreamFault.{StreamFault}
 use Rattle.giop_frames.specs.declared.limits.Limits.{Limits}
@@ -7,6 +8,7 @@ use Rattle.giop_frames.specs.Frames.{Frame, Split, Waiting, Whole, Refused, afte
 use Rattle.giop_frames.specs.Fragments.{Bad, Quiet, Done, judged}
 use Rattle.giop_frames.specs.Laws.{FaultsEnd, FaultsStay, MessagesGrow}
 use Rattle.giop_frames.specs.Streams.{Completed, Reading, after_message, fault_of, frames_of, messages_of, place_after, reading_from, reading_of, rest_of}
+use Rattle.giop_frames.proofs.Places.{place-length, whole-length}
 use Rattle.giop_frames.proofs.Readings.{step-bad, step-done, step-quiet}
 use Rattle.giop_frames.proofs.Splits.{split-append, step-refused, step-waiting, step-whole}
 use Rattle.giop_frames.proofs.Standing.{reading_without}
@@ -64,13 +66,46 @@ pub messages-stay : FaultsEnd
 unfolding messages_of
 messages-stay limits s c d n = ap (λ (r : Reading). r.messages) (stopped limits s c d n)
 
--- more octets bring more messages
+-- more octets bring more messages, which complete later
+
+abbrev IsLate : ℕ → List Frame → List Frame → Type 0
+IsLate n earlier [] = Unit {0}
+IsLate n earlier (f ∷ fs) = n < place_after (f ∷ earlier)
+
+late-next : (n : ℕ) (earlier fs : List Frame) → n < place_after earlier → IsLate n earlier fs
+late-next n earlier [] h = tt
+late-next n earlier (f ∷ fs) h = omega (arith, h)
+
+late-frames : (limits : Limits) (n : ℕ) (earlier : List Frame) (w c : List ℕ) → n ≤ place_after earlier + length w → IsLate n earlier (split_from limits w c).frames
+late-frames limits n earlier w [] h = tt
+late-frames limits n earlier w (x ∷ c) h =
+    (elim (sight limits (w ++ x ∷ [])) as (λ v. sight limits (w ++ x ∷ []) ≡ v → IsLate n earlier (split_from limits w (x ∷ c)).frames) [
+      | Waiting ↦ λ e. subst (λ (t : Split). IsLate n earlier t.frames) (sym (step-waiting limits w x c e)) (late-frames limits n earlier (w ++ x ∷ []) c (omega (arith, h, length-append w (x ∷ []))))
+      | Whole f ↦ λ e. subst (λ (t : Split). IsLate n earlier t.frames) (sym (step-whole limits w x c f e)) (omega (arith, h, whole-length limits (w ++ x ∷ []) f e, length-append w (x ∷ [])))
+      | Refused d ↦ λ e. subst (λ (t : Split). IsLate n earlier t.frames) (sym (step-refused limits w x c d e)) tt
+    ]) refl
+
+abbrev AreLate : ℕ → List Completed → Type 0
+AreLate n ms = AllByRecursion (λ m. n < m.place) ms
+
+late-messages : (limits : Limits) (n : ℕ) (earlier : List Frame) (last : Option StreamFault) (fs : List Frame) → IsLate n earlier fs → AreLate n (reading_from limits earlier last fs).messages
+late-messages limits n earlier last [] late = tt
+late-messages limits n earlier last (f ∷ fs) late =
+    let next : IsLate n (f ∷ earlier) fs = late-next n (f ∷ earlier) fs late in
+    (elim (judged limits earlier f) as (λ v. judged limits earlier f ≡ v → AreLate n (reading_from limits earlier last (f ∷ fs)).messages) [
+      | Bad e ↦ λ j. subst (λ (r : Reading). AreLate n r.messages) (sym (step-bad limits earlier last f fs e j)) tt
+      | Quiet ↦ λ j. subst (λ (r : Reading). AreLate n r.messages) (sym (step-quiet limits earlier last f fs j)) (late-messages limits n (f ∷ earlier) last fs next)
+      | Done m ↦ λ j. subst (λ (r : Reading). AreLate n r.messages) (sym (step-done limits earlier last f fs m j)) (late, late-messages limits n (f ∷ earlier) last fs next)
+    ]) refl
+
 pub messages-grow : MessagesGrow
 unfolding messages_of
 messages-grow limits s c =
-    (elim (fault_of limits s) as (λ o. fault_of limits s ≡ o → (more : List Completed) × (messages_of limits (s ++ c) ≡ messages_of limits s ++ more)) [
-      | Some e ↦ λ n. ([], messages-stay limits s c e n ∙ sym (append-nil (messages_of limits s)))
+    (elim (fault_of limits s) as (λ o. fault_of limits s ≡ o → (more : List Completed) × (messages_of limits (s ++ c) ≡ messages_of limits s ++ more) × AreLate (length s) more) [
+      | Some e ↦ λ n. ([], messages-stay limits s c e n ∙ sym (append-nil (messages_of limits s)), tt)
       | None ↦ λ n.
           let t = split_from limits (rest_of limits s) c in
-          ((reading_from limits (frames_of limits s) t.fault t.frames).messages, ap (λ (r : Reading). r.messages) (reading_without limits s n c t refl))
+          let from : length s ≤ place_after (frames_of limits s) + length (rest_of limits s) = omega (arith, place-length limits s n) in
+          let late = late-messages limits (length s) (frames_of limits s) t.fault t.frames (late-frames limits (length s) (frames_of limits s) (rest_of limits s) c from) in
+          ((reading_from limits (frames_of limits s) t.fault t.frames).messages, ap (λ (r : Reading). r.messages) (reading_without limits s n c t refl), late)
     ]) refl

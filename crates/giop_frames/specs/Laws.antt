@@ -1,5 +1,6 @@
 -- The laws, each over the definitions alone.
-use Rattle.std.specs.Prelude.{◌≡◌, ℕ, List, [], ◌++◌, length, Some, None}
+use Rattle.std.specs.Prelude.{◌≡◌, ℕ, ◌<◌, List, [], ◌++◌, length, Some, None}
+use Rattle.std.specs.List.{AllByRecursion}
 use Rattle.giop_frames.specs.declared.fault.StreamFault.{StreamFault}
 use Rattle.giop_frames.specs.declared.limits.Limits.{Limits}
 use Rattle.giop_frames.specs.Completing.{AreMessages, AreRising}
@@ -40,9 +41,9 @@ PartialByPosition = (frames : List Frame) (i : ℕ) (p : Partial) → partial_of
 abbrev pub ByPositionIsPartial : Type 0
 ByPositionIsPartial = (frames : List Frame) (i : ℕ) (p : Partial) → IsPartial frames i p → partial_of frames i ≡ Some p
 
--- More octets bring more messages after those of a stream ..
+-- More octets bring more messages after those of a stream, which complete among these octets ..
 abbrev pub MessagesGrow : Type 0
-MessagesGrow = (limits : Limits) (s c : List ℕ) → (more : List Completed) × (messages_of limits (s ++ c) ≡ messages_of limits s ++ more)
+MessagesGrow = (limits : Limits) (s c : List ℕ) → (more : List Completed) × (messages_of limits (s ++ c) ≡ messages_of limits s ++ more) × AllByRecursion (λ m. length s < m.place) more
 
 -- .. a fault stays the fault ..
 abbrev pub FaultsStay : Type 0
