@@ -227,7 +227,7 @@ may_come _ v = false
 -- are partial
 unfoldable pub judged_by : Limits → Option Partial → Option Partial → ℕ → Frame → Verdict
 judged_by limits early before n f =
-    if is_some early && not (may_come (role_of f.header) f.header.version) then Bad TwiceStarted else
+    if not (may_come (role_of f.header) f.header.version) && is_some early then Bad TwiceStarted else
     (if has_id (role_of f.header) f.header.version && nat_lt (length f.octets) 4 then too_short else judged_as (role_of f.header) limits before n f)
 
 -- the judgement of a whole frame after these frames
