@@ -43,7 +43,7 @@ fn is_version(first: Version, second: Version) -> bool
 
 /// The header of octets that are one whole message of a version that can be cut.
 fn cuttable(version: Version, octets: &[u8]) -> Option<Header>
-    ensures { MatchOption result (is_cuttable_in version octets.now ≡ false) (λ h. (header_of (take 12 octets.now) ≡ Ok h) × (12 + h.size ≡ length octets.now) × (h.version ≡ version) × IsTrue (can_be_cut h.version h.kind)) }
+    ensures { MatchOption result (is_cuttable_in version octets.now ≡ false) (λ h. (header_of (take 12 octets.now) ≡ Ok h) × (is_cuttable_in version octets.now ≡ true) × (12 + h.size ≡ length octets.now) × (h.version ≡ version) × IsTrue (can_be_cut h.version h.kind)) }
 {
     let head = octets.first_chunk::<{ Header::LEN }>()?;
     let header = Header::read(head).ok()?;

@@ -6,12 +6,6 @@ use Rattle.std.specs.Int.{w32}
 use Rattle.giop_frames.proofs.Cuts.{appended-by, appended-more, appended-none, appended-three}
 use Rattle.giop_frames.proofs.fragmenter.put_fragment.Goals as goal
 
-pub overflow_cast-fragment : goal.overflow_cast-fragment
-overflow_cast-fragment c = Fits-of_lt {w = w32} (omega (arith, c.requires.small))
-
-pub overflow_add-fragment : goal.overflow_add-fragment
-overflow_add-fragment c = Fits-of_lt {w = w32} c.requires.small
-
 pub returns-in_err-extend_from_slice-clause-ok : goal.returns-in_err-extend_from_slice-clause-ok
 returns-in_err-extend_from_slice-clause-ok c =
     let p = err_from_is_err_and c.from_residual.result c.from_residual.ensures.1 in
