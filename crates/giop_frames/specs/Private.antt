@@ -49,10 +49,11 @@ abbrev pub without : Key → List Entry → List Entry
 without k [] = []
 without k (p ∷ ps) = if is_key p.key k then ps else p ∷ without k ps
 
--- .. and but for those that a CancelRequest of a request id is for
+-- .. but for that of 1.1, where a CancelRequest of a request id is for it
 abbrev pub without_early : ℕ → List Entry → List Entry
 without_early i ps = if is_cancelled i Of11 (part_in ps Of11) then without Of11 ps else ps
 
+-- .. and but for both that a CancelRequest of a request id is for
 abbrev pub uncancelled : ℕ → List Entry → List Entry
 uncancelled i ps = without_early i (without (Of12 i) ps)
 
