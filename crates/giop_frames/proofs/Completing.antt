@@ -1,5 +1,5 @@
 -- What the messages of a stream are, and where they complete.
-use Rattle.std.proofs.Common.{◌≡◌, ℕ, ◌+◌, ◌≤◌, ◌&&◌, ◌||◌, nat_lt, not, Bool, true, false, cond, List, [], ◌∷◌, ◌++◌, length, take, drop, slice_index, Option, Some, None, is_some, Result, Ok, Err, IsOk, refl, sym, ap, subst, ◌∙◌, inl, inr, arith, length-append}
+use Rattle.std.proofs.Common.{◌≡◌, ℕ, ◌+◌, ◌≤◌, ◌&&◌, ◌||◌, nat_lt, not, Bool, true, false, cond, List, [], ◌∷◌, ◌++◌, length, take, drop, slice_index, Option, Some, None, is_some, Result, Ok, Err, refl, sym, ap, subst, ◌∙◌, arith, length-append}
 use Rattle.cdr_core.specs.declared.order.Order.{Order}
 use Rattle.cdr_core.specs.Numbers.{number_of}
 use Rattle.giop_core.specs.declared.error.MessageFault.{MessageFault}
@@ -13,19 +13,19 @@ use Rattle.giop_core.specs.declared.header.Version.TheVariants.{V10, V11, V12}
 use Rattle.giop_core.specs.Content.{Content}
 use Rattle.giop_core.specs.Headers.{can_be_cut, flags_of, has_kind, has_magic, header_of, is_possible, kind_of, of_flags, of_kind, of_version, version_of}
 use Rattle.giop_frames.specs.declared.fault.StreamFault.{StreamFault}
-use Rattle.giop_frames.specs.declared.fault.StreamFault.TheVariants.{MixedOrder, TooLarge, TooManyPartial, TwiceStarted, StrayFragment}
+use Rattle.giop_frames.specs.declared.fault.StreamFault.TheVariants.{MixedOrder, TooLarge, TooManyPartial, TwiceStarted}
 use Rattle.giop_frames.specs.declared.limits.Limits.{Limits}
 use Rattle.giop_frames.specs.declared.partial.Key.{Key}
 use Rattle.giop_frames.specs.declared.partial.Key.TheVariants.{Of11}
 use Rattle.giop_frames.specs.declared.reassembly.Role.{Role}
 use Rattle.giop_frames.specs.declared.reassembly.Role.TheVariants.{Opens, Carries, Ends, Drops, Uncut, Apart}
 use Rattle.giop_frames.specs.Completing.{AreMessages, AreRising, IsMessage}
-use Rattle.giop_frames.specs.Fragments.{Bad, Done, Partial, Quiet, Verdict, content_of, has_id, key_of, may_come, is_same_order, joinable, joined, judged, judged_as, judged_by, judged_carried, judged_ended, judged_whole, on_content, partial_of, partials_in, payload_of, role_in, role_of, too_short}
-use Rattle.giop_frames.specs.Frames.{Frame, Refused, Split, Waiting, Whole, admitted, frame_size, sight, split, split_from}
+use Rattle.giop_frames.specs.Fragments.{Bad, Done, Partial, Quiet, Verdict, content_of, has_id, key_of, may_come, is_same_order, joinable, joined, judged, judged_as, judged_by, judged_carried, judged_ended, judged_whole, on_content, partial_of, partials_in, payload_of, role_in, role_of}
+use Rattle.giop_frames.specs.Frames.{Frame, Refused, Split, Waiting, Whole, sight, split, split_from}
 use Rattle.giop_frames.specs.Laws.{MessagesAreWhole, PartialsAreCounted, PlacesRise}
 use Rattle.giop_frames.specs.Refusing.{IsFine}
 use Rattle.giop_frames.specs.Splitting.{IsFrame}
-use Rattle.giop_frames.specs.Streams.{Completed, Entry, Follows, Reading, fault_of, frames_of, messages_of, part_in, place_after, reading_from}
+use Rattle.giop_frames.specs.Streams.{Entry, Follows, Reading, fault_of, frames_of, messages_of, part_in, place_after, reading_from}
 use Rattle.giop_frames.specs.Private.{parts_after}
 use Rattle.giop_frames.proofs.Bounds.{admitted-within, done-reads}
 use Rattle.giop_frames.proofs.Places.{faultless-split, frames_length, whole-length}

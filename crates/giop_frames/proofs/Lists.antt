@@ -1,5 +1,5 @@
 -- Messages that are written one after another are read again.
-use Rattle.std.proofs.Common.{◌≡◌, ℕ, ◌+◌, ◌&&◌, ◌==◌, Bool, true, false, cond, List, [], ◌∷◌, ◌++◌, length, Option, None, refl, sym, ap, subst, ◌∙◌, arith, append_assoc, length-append}
+use Rattle.std.proofs.Common.{◌≡◌, ℕ, ◌+◌, ◌&&◌, Bool, true, false, cond, List, [], ◌∷◌, ◌++◌, length, Option, None, refl, sym, ap, subst, ◌∙◌, arith, append_assoc, length-append}
 use Rattle.std.specs.List.{AllByRecursion}
 use Rattle.std.proofs.lemmas.List.{append-nil}
 use Rattle.giop_core.specs.Laws.{HeadersAreReadAgain}
@@ -7,10 +7,9 @@ use Rattle.giop_core.specs.Headers.{header_octets}
 use Rattle.giop_core.specs.Written.{header_for, message_octets}
 use Rattle.giop_frames.specs.declared.limits.Limits.{Limits}
 use Rattle.giop_frames.specs.declared.partial.Key.TheVariants.{Of11}
-use Rattle.giop_frames.specs.Fragments.{Partial, key_of, partial_of}
+use Rattle.giop_frames.specs.Fragments.{Partial, key_of}
 use Rattle.giop_frames.specs.Frames.{split}
 use Rattle.giop_frames.specs.ReadAgain.{IsClear, IsSendable, NothingIsClear, Sent, SentAreReadAgain, is_cancel, left_by, sent_from, sent_octets, written}
-use Rattle.giop_frames.specs.Frames.{Frame}
 use Rattle.giop_frames.specs.Streams.{Completed, fault_of, frames_of, messages_of, rest_of}
 use Rattle.giop_frames.proofs.CutFrames.{length-header}
 use Rattle.giop_frames.proofs.Whole.{written_again}

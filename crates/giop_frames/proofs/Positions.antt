@@ -1,12 +1,12 @@
 -- Looking back is by positions.
-use Rattle.std.proofs.Common.{◌≡◌, ℕ, ◌≢◌, Bool, true, false, cond, List, [], ◌∷◌, ◌++◌, Option, Some, None, refl, sym, ap, ◌∙◌, inl, inr, append_assoc}
+use Rattle.std.proofs.Common.{◌≡◌, ℕ, Bool, true, false, cond, List, [], ◌∷◌, ◌++◌, Option, Some, None, refl, sym, ap, ◌∙◌, inl, inr, append_assoc}
 use Rattle.std.specs.Option.{option_map}
 use Rattle.std.proofs.lemmas.List.{append-nil}
 use Rattle.giop_frames.specs.declared.partial.Key.{Key}
 use Rattle.giop_frames.specs.declared.reassembly.Role.{Role}
 use Rattle.giop_frames.specs.declared.reassembly.Role.TheVariants.{Opens, Carries, Ends, Drops, Uncut, Apart}
 use Rattle.giop_frames.specs.Frames.{Frame}
-use Rattle.giop_frames.specs.Fragments.{Partial, after_role, cancels, continued_by, id_of, is_cancelled, is_key, key_of, opened_by, partial_of, payload_of, role_of}
+use Rattle.giop_frames.specs.Fragments.{Partial, after_role, cancels, continued_by, id_of, key_of, opened_by, partial_of, payload_of, role_of}
 use Rattle.giop_frames.specs.Laws.{PartialByPosition, ByPositionIsPartial}
 use Rattle.giop_frames.specs.Positions.{IsPartial, IsUnbroken, breaks, payload_by, payloads_in, so_far}
 use Rattle.giop_frames.proofs.Tables.{carries-other, carries-same, ends-other, opens-other, opens-same, partial-role}
@@ -61,15 +61,15 @@ by-role : (f : Frame) (h : List Frame) (k : Key) (p : Partial) (r : Role) → ro
 by-role f h k p Opens is e before =
     elim (test_key (key_of f) k) [
       | inl t ↦ record {
-          later = [];
-          first = f;
-          before = h;
-          parts = refl;
-          key = t.1;
-          opens = is;
-          unbroken = tt;
-          says = sym (some-is (opened_by f) p (sym (opens-same f k (partial_of h k) t.1) ∙ e)) ∙ sym (more-none (opened_by f));
-        }
+        later = [];
+        first = f;
+        before = h;
+        parts = refl;
+        key = t.1;
+        opens = is;
+        unbroken = tt;
+        says = sym (some-is (opened_by f) p (sym (opens-same f k (partial_of h k) t.1) ∙ e)) ∙ sym (more-none (opened_by f));
+      }
       | inr t ↦ further f h k p p Opens [] is t.0 refl (kept p) (before p (sym (opens-other f k (partial_of h k) t.1) ∙ e))
     ]
 by-role f h k p Carries is e before =

@@ -1,5 +1,5 @@
 -- The first frame or header that is refused is the fault of a stream.
-use Rattle.std.proofs.Common.{◌≡◌, ℕ, ◌<◌, ◌≤◌, ◌⊎◌, List, [], ◌∷◌, ◌++◌, length, take, drop, Option, Some, None, Result, Ok, Err, refl, sym, ap, subst, ◌∙◌, inl, inr, arith, append_assoc, length-append}
+use Rattle.std.proofs.Common.{◌≡◌, ℕ, ◌⊎◌, List, [], ◌∷◌, ◌++◌, length, take, drop, Option, Some, Result, Ok, Err, refl, sym, ap, subst, ◌∙◌, inl, inr, arith, append_assoc, length-append}
 use Rattle.std.proofs.lemmas.List.{take-append-le, take_all}
 use Rattle.giop_core.specs.declared.header.Header.{Header}
 use Rattle.giop_core.specs.Headers.{header_of}
@@ -8,12 +8,12 @@ use Rattle.giop_frames.specs.declared.limits.Limits.{Limits}
 use Rattle.giop_frames.specs.Fragments.{Bad, Done, Quiet, judged}
 use Rattle.giop_frames.specs.Frames.{Frame, Refused, Split, Waiting, Whole, after_frame, frame_size, judged_header, sight, split, split_from, under_header}
 use Rattle.giop_frames.specs.Laws.{FaultsAreRefusals, RefusalsAreFaults}
-use Rattle.giop_frames.specs.Refusing.{AreFine, IsFine, Refuses, RefusesFrame, RefusesHeader, behind}
+use Rattle.giop_frames.specs.Refusing.{AreFine, IsFine, RefusesFrame, RefusesHeader, behind}
 use Rattle.giop_frames.specs.Splitting.{IsFrame, Splits}
 use Rattle.giop_frames.specs.Streams.{Reading, fault_of, reading_from}
 use Rattle.giop_frames.proofs.Deciding.{test_lt}
 use Rattle.giop_frames.proofs.Readings.{step-bad, step-done, step-quiet}
-use Rattle.giop_frames.proofs.Sights.{nothing-waits, sight-long, sight-short, until-whole}
+use Rattle.giop_frames.proofs.Sights.{nothing-waits, sight-long, sight-short}
 use Rattle.giop_frames.proofs.Splits.{split-refused, split-whole, step-refused, step-waiting, step-whole}
 use Rattle.giop_frames.proofs.Splitting.{exact-next, frame-sight, sight-frame}
 

@@ -1,5 +1,5 @@
 -- What is cut is read again.
-use Rattle.std.proofs.Common.{◌≡◌, ℕ, zero, suc, ◌+◌, ◌-◌, ◌<◌, ◌≤◌, ◌%◌, ◌==◌, ◌≢◌, ◌&&◌, nat_le, not, Bool, true, false, cond, is_some, List, [], ◌∷◌, ◌++◌, length, take, drop, Option, Some, None, Ok, IsOk, refl, sym, ap, subst, ◌∙◌, inl, inr, arith, append_assoc, length-append, length-drop}
+use Rattle.std.proofs.Common.{◌≡◌, ℕ, zero, suc, ◌+◌, ◌-◌, ◌<◌, ◌≤◌, ◌%◌, ◌==◌, ◌≢◌, ◌&&◌, nat_le, not, Bool, true, false, is_some, List, [], ◌∷◌, ◌++◌, length, take, drop, Option, Some, None, Ok, IsOk, refl, sym, ap, subst, ◌∙◌, inl, inr, arith, append_assoc, length-append, length-drop}
 use Rattle.std.specs.List.{flat_map}
 use Rattle.std.specs.Option.{option_map}
 use Rattle.std.proofs.lemmas.Bool.{eq-eqb}
@@ -22,7 +22,7 @@ use Rattle.giop_frames.specs.Cutting.{cut_octets, first_frame, fragment_of, frag
 use Rattle.giop_frames.specs.Fragments.{Done, Partial, Quiet, partial_of, content_of, continued_by, payload_of, id_length, id_of, is_cancelled, is_same_order, judged, key_in, key_of, less_if, may_come, partials_in, role_in, role_of}
 use Rattle.giop_frames.specs.Frames.{Frame, Split, cut_place, frame_size, is_unaligned, split, split_from}
 use Rattle.giop_frames.specs.Splitting.{IsFrame, Splits}
-use Rattle.giop_frames.specs.Streams.{Reading, Completed, fault_of, frames_of, messages_of, place_after, reading_from, reading_of, rest_of}
+use Rattle.giop_frames.specs.Streams.{Reading, fault_of, frames_of, messages_of, place_after, reading_from, reading_of, rest_of}
 use Rattle.giop_core.specs.Laws.{HeadersAreReadAgain}
 use Rattle.giop_frames.proofs.CutFrames.{AreFrames, admit-cut, and-not, cut-can, cut-has_id, cut-opens, cut-whole, fragment-roles, frame-again, frames-split, free-none, judged-alone, judged-carrying, judged-ending, judged-opening, key-front, key-take, same-order, whole_role}
 use Rattle.giop_frames.proofs.Cuts.{fragments-more, chunks-last, chunks-more}

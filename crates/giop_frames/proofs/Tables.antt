@@ -1,5 +1,5 @@
 -- A list of partial messages, as frames come.
-use Rattle.std.proofs.Common.{◌≡◌, ℕ, ◌+◌, ◌-◌, ◌≢◌, ◌&&◌, nat_lt, not, Bool, true, false, cond, List, [], ◌∷◌, ◌++◌, length, Option, Some, None, is_some, refl, sym, ap, ◌∙◌, inl, inr, arith, length-append}
+use Rattle.std.proofs.Common.{◌≡◌, ℕ, ◌+◌, ◌≢◌, ◌&&◌, nat_lt, not, Bool, true, false, cond, List, [], ◌∷◌, ◌++◌, length, Option, Some, None, is_some, refl, sym, ap, ◌∙◌, inl, inr, arith, length-append}
 use Rattle.std.specs.Option.{option_map}
 use Rattle.giop_frames.specs.declared.fault.StreamFault.{StreamFault}
 use Rattle.giop_frames.specs.declared.limits.Limits.{Limits}
@@ -8,10 +8,10 @@ use Rattle.giop_frames.specs.declared.partial.Key.TheVariants.{Of11, Of12}
 use Rattle.giop_frames.specs.declared.reassembly.Role.{Role}
 use Rattle.giop_frames.specs.declared.reassembly.Role.TheVariants.{Opens, Carries, Ends, Drops, Uncut, Apart}
 use Rattle.giop_frames.specs.Frames.{Frame}
-use Rattle.giop_frames.specs.Fragments.{Partial, Verdict, Bad, Quiet, Done, after_role, partial_of, opened_by, continued_by, id_of, is_cancelled, is_key, key_of, less_if, may_come, judged, judged_as, judged_by, joinable, judged_carried, partials_after, partials_in, role_of, has_id}
+use Rattle.giop_frames.specs.Fragments.{Partial, Verdict, Bad, after_role, partial_of, opened_by, continued_by, id_of, is_cancelled, key_of, less_if, may_come, judged, judged_as, judged_by, joinable, judged_carried, partials_after, partials_in, role_of, has_id}
 use Rattle.giop_frames.specs.Refusing.{IsFine}
 use Rattle.giop_frames.specs.Streams.{IsDistinct, Entry, part_in}
-use Rattle.giop_frames.specs.Private.{parts_after, parts_as, uncancelled, without, without_early}
+use Rattle.giop_frames.specs.Private.{parts_after, parts_as, uncancelled, without}
 use Rattle.giop_frames.specs.Streams.{Follows}
 use Rattle.giop_frames.proofs.Deciding.{test_eq, test_key}
 

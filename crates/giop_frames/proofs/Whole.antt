@@ -1,5 +1,5 @@
 -- A message that is written whole is read again.
-use Rattle.std.proofs.Common.{◌≡◌, ℕ, ◌+◌, ◌<◌, ◌≤◌, ◌^◌, ◌&&◌, nat_lt, true, false, List, [], ◌∷◌, length, take, None, Ok, Err, IsOk, refl, sym, ap, subst, ◌∙◌, inl, inr, arith, length-append, if◌then◌else◌}
+use Rattle.std.proofs.Common.{◌≡◌, ℕ, ◌+◌, ◌<◌, ◌≤◌, ◌^◌, true, false, List, [], ◌∷◌, length, take, None, Ok, Err, IsOk, refl, sym, ap, subst, ◌∙◌, inl, inr, arith, length-append}
 use Rattle.std.proofs.lemmas.Bool.{le-ltb, lt-ltb}
 use Rattle.std.proofs.lemmas.List.{append-nil, drop_at, take_all, take_at}
 use Rattle.cdr_core.specs.declared.order.Order.{Order}
@@ -17,7 +17,6 @@ use Rattle.giop_core.specs.Written.{header_for, message_octets}
 use Rattle.giop_frames.specs.declared.fault.StreamFault.TheVariants.{TooLarge}
 use Rattle.giop_frames.specs.declared.limits.Limits.{Limits}
 use Rattle.giop_frames.specs.declared.partial.Key.TheVariants.{Of11}
-use Rattle.giop_frames.specs.declared.reassembly.Role.{Role}
 use Rattle.giop_frames.specs.declared.reassembly.Role.TheVariants.{Apart, Drops, Uncut}
 use Rattle.giop_frames.specs.ReadAgain.{WrittenIsReadAgain, WrittenTooLarge, is_cancel, written}
 use Rattle.giop_frames.specs.Cutting.{is_cut_kind}

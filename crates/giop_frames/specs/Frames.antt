@@ -1,6 +1,6 @@
 -- Octets to frames (9.4.1): a frame is a header and the octets after it; where a frame ends, and where a header is
 -- refused.
-use Rattle.std.specs.Prelude.{ℕ, ◌+◌, ◌%◌, ◌==◌, ◌&&◌, nat_lt, not, Bool, true, false, List, [], ◌∷◌, ◌++◌, length, take, drop, Option, Some, None, Result, Ok, Err, if◌then◌else◌}
+use Rattle.std.specs.Prelude.{ℕ, ◌+◌, ◌%◌, ◌==◌, ◌&&◌, nat_lt, not, Bool, List, [], ◌∷◌, ◌++◌, length, take, drop, Option, Some, None, Result, Ok, Err, if◌then◌else◌}
 use Rattle.giop_core.specs.declared.header.Header.{Header}
 use Rattle.giop_core.specs.declared.header.HeaderFault.{HeaderFault}
 use Rattle.giop_core.specs.declared.header.Version.{Version}

@@ -1,6 +1,8 @@
 //! Messages that are cut.
 
-use super::samples::{FIRST, FIRST_11, LAST, LONG_MIDDLE_11, MIDDLE, SHORT_LAST_11, WHOLE, WHOLE_11};
+use super::samples::{
+    FIRST, FIRST_11, LAST, LONG_MIDDLE_11, MIDDLE, SHORT_LAST_11, WHOLE, WHOLE_11,
+};
 use giop_frames::{fragments, fragments_11, is_cuttable, is_cuttable_11};
 use std::process::Abort;
 

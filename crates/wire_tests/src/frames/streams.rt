@@ -1,8 +1,8 @@
 //! Streams whole, in pieces of thirteen octets and in pieces of one, and what they give.
 
 use super::samples::{
-    CANCEL, CANCEL_11, FIRST, FIRST_11, LAST, LAST_11, LITTLE_FIRST, LITTLE_LAST, MIDDLE, MIDDLE_11,
-    WHOLE, WHOLE_11,
+    CANCEL, CANCEL_11, FIRST, FIRST_11, LAST, LAST_11, LITTLE_FIRST, LITTLE_LAST, MIDDLE,
+    MIDDLE_11, WHOLE, WHOLE_11,
 };
 use cdr_core::{Fault, Kind, Order};
 use giop_core::{Content, Header, Message, MessageFault, MessageKind, Version};
@@ -186,13 +186,21 @@ static ROWS: [Row; 26] = [
         fault: Some(StreamFault::StrayFragment),
     },
     Row {
-        frames: &[FIRST_11, b"GIOP\x01\x01\x00\x02\x00\x00\x00\x04\x00\x00\x00\x06", MIDDLE_11, LAST_11],
+        frames: &[
+            FIRST_11,
+            b"GIOP\x01\x01\x00\x02\x00\x00\x00\x04\x00\x00\x00\x06",
+            MIDDLE_11,
+            LAST_11,
+        ],
         messages: 2,
         partial: 0,
         fault: None,
     },
     Row {
-        frames: &[b"GIOP\x01\x01\x02\x00\x00\x00\x00\x08\x00\x00\x00\x01\x00\x00\x00\x01", CANCEL_11],
+        frames: &[
+            b"GIOP\x01\x01\x02\x00\x00\x00\x00\x08\x00\x00\x00\x01\x00\x00\x00\x01",
+            CANCEL_11,
+        ],
         messages: 1,
         partial: 1,
         fault: None,
@@ -251,7 +259,10 @@ static ROWS: [Row; 26] = [
     },
     // The last Fragment has no octets.
     Row {
-        frames: &[b"GIOP\x01\x01\x02\x00\x00\x00\x00\x20\x00\x00\x00\x00\x00\x00\x00\x05\x01\x00\x00\x00\x00\x00\x00\x01c\x00\x00\x00\x00\x00\x00\x04get\x00\x00\x00\x00\x00", b"GIOP\x01\x01\x00\x07\x00\x00\x00\x00"],
+        frames: &[
+            b"GIOP\x01\x01\x02\x00\x00\x00\x00\x20\x00\x00\x00\x00\x00\x00\x00\x05\x01\x00\x00\x00\x00\x00\x00\x01c\x00\x00\x00\x00\x00\x00\x04get\x00\x00\x00\x00\x00",
+            b"GIOP\x01\x01\x00\x07\x00\x00\x00\x00",
+        ],
         messages: 1,
         partial: 0,
         fault: None,

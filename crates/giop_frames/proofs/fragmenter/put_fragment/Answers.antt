@@ -1,8 +1,6 @@
-use Rattle.std.proofs.Common.{[], sym, ◌∙◌, arith}
-use Rattle.std.proofs.Math.Facts.{Fits-of_lt}
+use Rattle.std.proofs.Common.{[], sym, ◌∙◌}
 use Rattle.std.proofs.lemmas.List.{append-nil}
 use Rattle.std.proofs.lemmas.Result.{err_from_is_err_and}
-use Rattle.std.specs.Int.{w32}
 use Rattle.giop_frames.proofs.Cuts.{appended-by, appended-more, appended-none, appended-three}
 use Rattle.giop_frames.proofs.fragmenter.put_fragment.Goals as goal
 

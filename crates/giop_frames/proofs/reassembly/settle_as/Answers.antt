@@ -1,4 +1,4 @@
-use Rattle.std.proofs.Common.{rules, ap, arith}
+use Rattle.std.proofs.Common.{ap, arith}
 use Rattle.giop_frames.specs.Standing.{entries}
 use Rattle.giop_frames.proofs.Judging.{by-apart, by-cancel, by-uncut}
 use Rattle.giop_frames.proofs.reassembly.settle_as.Goals as goal
