@@ -6,19 +6,21 @@ use Rattle.giop_core.specs.declared.header.HeaderFault.{HeaderFault}
 use Rattle.giop_core.specs.Content.{Content}
 use Rattle.giop_core.specs.Headers.{header_of}
 use Rattle.giop_frames.specs.declared.fault.StreamFault.{StreamFault}
-use Rattle.giop_frames.specs.declared.fault.StreamFault.TheVariants.{Header as BadHeader, TwiceStarted, TooManyPartial, TooLarge, MixedOrder, UnalignedFragment, StrayFragment}
+use Rattle.giop_frames.specs.declared.fault.StreamFault.TheVariants.{Header as BadHeader, TwiceStarted, TooManyPartial, TooLarge, MixedOrder, UnalignedFragment}
 use Rattle.giop_frames.specs.declared.limits.Limits.{Limits}
+use Rattle.giop_frames.specs.declared.partial.Key.{Key}
+use Rattle.giop_frames.specs.declared.partial.Key.TheVariants.{Of11, Of12}
 use Rattle.giop_frames.specs.declared.reassembly.Role.{Role}
 use Rattle.giop_frames.specs.declared.reassembly.Role.TheVariants.{Opens, Carries, Ends, Drops, Uncut, Apart}
-use Rattle.giop_frames.specs.Frames.{Frame, Waiting, Whole, Refused, admitted, frame_size, is_old_fragment, is_unaligned, judged_header, sight, under_header}
-use Rattle.giop_frames.specs.Fragments.{Partial, Verdict, Bad, Quiet, Done, opened_by, content_of, continued_by, payload_of, has_id, id_of, is_same_order, joined, judged_as, judged_by, joinable, judged_carried, judged_ended, judged_whole, on_content, role_of}
+use Rattle.giop_frames.specs.Frames.{Frame, Waiting, Whole, Refused, admitted, frame_size, is_unaligned, judged_header, sight, under_header}
+use Rattle.giop_frames.specs.Fragments.{Partial, Verdict, Bad, Quiet, Done, opened_by, content_of, continued_by, payload_of, has_id, id_of, is_cancelled, key_of, may_come, is_same_order, joined, judged_as, judged_by, joinable, judged_carried, judged_ended, judged_whole, on_content, role_of}
 use Rattle.giop_frames.specs.Streams.{Entry, part_in}
 use Rattle.giop_frames.specs.Private.{carried, parts_after, parts_as, without}
 use Rattle.giop_frames.specs.Standing.{AreShort, AreWithin, OnFault, framed}
 use Rattle.giop_frames.proofs.Sights.{sight-long, sight-short, until, until-waiting, until-whole}
 use Rattle.giop_frames.specs.Refusing.{IsFine}
-use Rattle.giop_frames.proofs.Tables.{length-without, without-none, without-other, without-same}
-use Rattle.giop_frames.proofs.Deciding.{test_eq, test_le, test_lt}
+use Rattle.giop_frames.proofs.Tables.{fine-as, length-without, without-none, without-other, without-same}
+use Rattle.giop_frames.proofs.Deciding.{test_key, test_le, test_lt}
 
 -- a fault of a stream
 abbrev pub IsError : StreamFault → Type 0
@@ -43,9 +45,8 @@ admit false e h r is = (refl, is)
 pub admitted-within : (limits : Limits) (h k : Header) → admitted limits h ≡ Ok k → (h ≡ k) × (frame_size k ≤ limits.message)
 admitted-within limits h k e =
     let a = admit (nat_lt limits.message (frame_size h)) TooLarge k _ e in
-    let b = admit (is_unaligned h.version h) UnalignedFragment k _ a.1 in
-    let c = admit (is_old_fragment h.version h.kind h.more) StrayFragment k (Ok h) b.1 in
-    let same : h ≡ k = ok-is h k c.1 in
+    let b = admit (is_unaligned h) UnalignedFragment k (Ok h) a.1 in
+    let same : h ≡ k = ok-is h k b.1 in
     elim (test_lt limits.message (frame_size h)) [
       | inl t ↦ absurd (let w = a.0 in cc)
       | inr t ↦ (same, subst (λ (x : Header). frame_size x ≤ limits.message) same t.1)
@@ -85,8 +86,7 @@ header-error : (limits : Limits) (r : Result Header HeaderFault) (d : StreamFaul
 header-error limits (Err e) d is = subst IsError (err-is (BadHeader e) d is) tt
 header-error limits (Ok h) d is =
     refuse (nat_lt limits.message (frame_size h)) TooLarge d _ tt
-    (refuse (is_unaligned h.version h) UnalignedFragment d _ tt
-    (refuse (is_old_fragment h.version h.kind h.more) StrayFragment d (Ok h) tt (λ k. absurd cc))) is
+    (refuse (is_unaligned h) UnalignedFragment d (Ok h) tt (λ k. absurd cc)) is
 
 under-error : (limits : Limits) (b : List ℕ) (j : Result Header StreamFault) (d : StreamFault) → ((e : StreamFault) → j ≡ Err e → IsError e) → under_header b j ≡ Refused d → IsError d
 under-error limits b (Err e) d err w = err d (let k : Refused e ≡ Refused d = w in cc)
@@ -153,25 +153,27 @@ says-as Drops limits before n f within = says-whole limits f within
 says-as Uncut limits before n f within = says-cond limits (is_some before) TwiceStarted _ tt (says-whole limits f within)
 says-as Apart limits before n f within = says-whole limits f within
 
-says-by : (limits : Limits) (before : Option Partial) (n : ℕ) (f : Frame) → 12 + length f.octets ≤ limits.message → Says limits (judged_by limits before n f)
+says-by : (limits : Limits) (early before : Option Partial) (n : ℕ) (f : Frame) → 12 + length f.octets ≤ limits.message → Says limits (judged_by limits early before n f)
 unfolding judged_by
-says-by limits before n f within = says-cond limits (has_id (role_of f.header) && nat_lt (length f.octets) 4) _ (judged_as (role_of f.header) limits before n f) tt (says-as (role_of f.header) limits before n f within)
+says-by limits early before n f within =
+    says-cond limits (not (may_come (role_of f.header) f.header.version) && is_some early) TwiceStarted _ tt
+    (says-cond limits (has_id (role_of f.header) f.header.version && nat_lt (length f.octets) 4) _ (judged_as (role_of f.header) limits before n f) tt (says-as (role_of f.header) limits before n f within))
 
-pub judged-says : (limits : Limits) (before : Option Partial) (n : ℕ) (f : Frame) (v : Verdict) → 12 + length f.octets ≤ limits.message → judged_by limits before n f ≡ v → Says limits v
-judged-says limits before n f v within e = subst (Says limits) e (says-by limits before n f within)
+pub judged-says : (limits : Limits) (early before : Option Partial) (n : ℕ) (f : Frame) (v : Verdict) → 12 + length f.octets ≤ limits.message → judged_by limits early before n f ≡ v → Says limits v
+judged-says limits early before n f v within e = subst (Says limits) e (says-by limits early before n f within)
 
-pub bad-error : (limits : Limits) (before : Option Partial) (n : ℕ) (f : Frame) (e : StreamFault) → 12 + length f.octets ≤ limits.message → judged_by limits before n f ≡ Bad e → IsError e
-bad-error limits before n f e within j = judged-says limits before n f (Bad e) within j
+pub bad-error : (limits : Limits) (early before : Option Partial) (n : ℕ) (f : Frame) (e : StreamFault) → 12 + length f.octets ≤ limits.message → judged_by limits early before n f ≡ Bad e → IsError e
+bad-error limits early before n f e within j = judged-says limits early before n f (Bad e) within j
 
-pub done-reads : (limits : Limits) (before : Option Partial) (n : ℕ) (f m : Frame) → 12 + length f.octets ≤ limits.message → judged_by limits before n f ≡ Done m → (12 + length m.octets ≤ limits.message) × IsOk (content_of m.header m.octets)
-done-reads limits before n f m within j = judged-says limits before n f (Done m) within j
+pub done-reads : (limits : Limits) (early before : Option Partial) (n : ℕ) (f m : Frame) → 12 + length f.octets ≤ limits.message → judged_by limits early before n f ≡ Done m → (12 + length m.octets ≤ limits.message) × IsOk (content_of m.header m.octets)
+done-reads limits early before n f m within j = judged-says limits early before n f (Done m) within j
 
 -- partial messages stay within the limits
 
-short-without : (limits : Limits) (i : ℕ) (ps : List Entry) → AreShort limits ps → AreShort limits (without i ps)
+short-without : (limits : Limits) (i : Key) (ps : List Entry) → AreShort limits ps → AreShort limits (without i ps)
 short-without limits i [] s = s
 short-without limits i (p ∷ ps) s =
-    elim (test_eq p.id i) [
+    elim (test_key p.key i) [
       | inl t ↦ rw (without-same i p ps t.1) s.1
       | inr t ↦ rw (without-other i p ps t.1) (s.0, short-without limits i ps s.1)
     ]
@@ -180,12 +182,16 @@ short-push : (limits : Limits) (ps : List Entry) (q : Entry) → AreShort limits
 short-push limits [] q s h = (h, tt)
 short-push limits (p ∷ ps) q s h = (s.0, short-push limits ps q s.1 h)
 
-count-without : (i : ℕ) (ps : List Entry) (o : Option Partial) → part_in ps i ≡ o → length (without i ps) ≤ length ps
+count-without : (i : Key) (ps : List Entry) (o : Option Partial) → part_in ps i ≡ o → length (without i ps) ≤ length ps
 count-without i ps None e = omega (arith, ap length (without-none i ps e))
 count-without i ps (Some p) e = omega (arith, length-without i ps p e)
 
-within-without : (limits : Limits) (i : ℕ) (ps : List Entry) → AreWithin limits ps → AreWithin limits (without i ps)
+within-without : (limits : Limits) (i : Key) (ps : List Entry) → AreWithin limits ps → AreWithin limits (without i ps)
 within-without limits i ps w = record { count = omega (arith, w.count, count-without i ps (part_in ps i) refl); each = short-without limits i ps w.each }
+
+within-early : (limits : Limits) (b : Bool) (ps : List Entry) → AreWithin limits ps → AreWithin limits (cond b (without Of11 ps) ps)
+within-early limits true ps w = within-without limits Of11 ps w
+within-early limits false ps w = w
 
 fine-cond : (b : Bool) (e : StreamFault) (v : Verdict) → IsFine (cond b (Bad e) v) → (b ≡ false) × IsFine v
 fine-cond true e v fine = absurd fine
@@ -196,32 +202,30 @@ fine-size true b p fine = absurd fine
 fine-size false true p fine = absurd fine
 fine-size false false p fine = refl
 
-within-carried : (limits : Limits) (ps : List Entry) (f : Frame) (before : Option Partial) → part_in ps (id_of f) ≡ before → AreWithin limits ps → IsFine (judged_carried (joinable limits f before)) → AreWithin limits (carried ps f before)
+within-carried : (limits : Limits) (ps : List Entry) (f : Frame) (before : Option Partial) → part_in ps (key_of f) ≡ before → AreWithin limits ps → IsFine (judged_carried (joinable limits f before)) → AreWithin limits (carried ps f before)
 within-carried limits ps f None e w fine = w
 within-carried limits ps f (Some p) e w fine =
     let size = fine-size (not (is_same_order p.header.order f.header.order)) (nat_lt limits.message (12 + length (p.octets ++ payload_of f))) p fine in
     let less : 12 + length (p.octets ++ payload_of f) ≤ limits.message = elim (test_lt limits.message (12 + length (p.octets ++ payload_of f))) [ inl t ↦ absurd (let k = size in cc) | inr t ↦ t.1 ] in
-    let q : Entry = record { id = id_of f; part = continued_by f p } in
+    let q : Entry = record { key = key_of f; part = continued_by f p } in
     record {
-      count = omega (arith, w.count, length-without (id_of f) ps p e, length-append (without (id_of f) ps) (q ∷ []));
-      each = short-push limits (without (id_of f) ps) q (short-without limits (id_of f) ps w.each) less;
+      count = omega (arith, w.count, length-without (key_of f) ps p e, length-append (without (key_of f) ps) (q ∷ []));
+      each = short-push limits (without (key_of f) ps) q (short-without limits (key_of f) ps w.each) less;
     }
 
-within-as : (r : Role) (limits : Limits) (ps : List Entry) (f : Frame) → 12 + length f.octets ≤ limits.message → AreWithin limits ps → IsFine (judged_as r limits (part_in ps (id_of f)) (length ps) f) → AreWithin limits (parts_as r ps f)
+within-as : (r : Role) (limits : Limits) (ps : List Entry) (f : Frame) → 12 + length f.octets ≤ limits.message → AreWithin limits ps → IsFine (judged_as r limits (part_in ps (key_of f)) (length ps) f) → AreWithin limits (parts_as r ps f)
 unfolding judged_as parts_as
 within-as Opens limits ps f size w fine =
-    let new = fine-cond (is_some (part_in ps (id_of f))) TwiceStarted _ fine in
+    let new = fine-cond (is_some (part_in ps (key_of f))) TwiceStarted _ fine in
     let few = fine-cond (nat_le limits.partials (length ps)) TooManyPartial Quiet new.1 in
     let less : length ps < limits.partials = elim (test_le limits.partials (length ps)) [ inl t ↦ absurd (let k = few.0 in cc) | inr t ↦ t.1 ] in
-    let q : Entry = record { id = id_of f; part = opened_by f } in
+    let q : Entry = record { key = key_of f; part = opened_by f } in
     record { count = omega (arith, less, length-append ps (q ∷ [])); each = short-push limits ps q w.each size }
-within-as Carries limits ps f size w fine = within-carried limits ps f (part_in ps (id_of f)) refl w fine
-within-as Ends limits ps f size w fine = within-without limits (id_of f) ps w
-within-as Drops limits ps f size w fine = within-without limits (id_of f) ps w
+within-as Carries limits ps f size w fine = within-carried limits ps f (part_in ps (key_of f)) refl w fine
+within-as Ends limits ps f size w fine = within-without limits (key_of f) ps w
+within-as Drops limits ps f size w fine = within-early limits (is_cancelled (id_of f) Of11 (part_in (without (Of12 (id_of f)) ps) Of11)) (without (Of12 (id_of f)) ps) (within-without limits (Of12 (id_of f)) ps w)
 within-as Uncut limits ps f size w fine = w
 within-as Apart limits ps f size w fine = w
 
-pub within-step : (limits : Limits) (ps : List Entry) (f : Frame) → 12 + length f.octets ≤ limits.message → AreWithin limits ps → IsFine (judged_by limits (part_in ps (id_of f)) (length ps) f) → AreWithin limits (parts_after ps f)
-unfolding judged_by
-within-step limits ps f size w fine =
-    within-as (role_of f.header) limits ps f size w (fine-cond (has_id (role_of f.header) && nat_lt (length f.octets) 4) _ (judged_as (role_of f.header) limits (part_in ps (id_of f)) (length ps) f) fine).1
+pub within-step : (limits : Limits) (ps : List Entry) (f : Frame) → 12 + length f.octets ≤ limits.message → AreWithin limits ps → IsFine (judged_by limits (part_in ps Of11) (part_in ps (key_of f)) (length ps) f) → AreWithin limits (parts_after ps f)
+within-step limits ps f size w fine = within-as (role_of f.header) limits ps f size w (fine-as limits (part_in ps Of11) (part_in ps (key_of f)) (length ps) f fine)

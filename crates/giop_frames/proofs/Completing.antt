@@ -13,13 +13,15 @@ use Rattle.giop_core.specs.declared.header.Version.TheVariants.{V10, V11, V12}
 use Rattle.giop_core.specs.Content.{Content}
 use Rattle.giop_core.specs.Headers.{can_be_cut, flags_of, has_kind, has_magic, header_of, is_possible, kind_of, of_flags, of_kind, of_version, version_of}
 use Rattle.giop_frames.specs.declared.fault.StreamFault.{StreamFault}
-use Rattle.giop_frames.specs.declared.fault.StreamFault.TheVariants.{MixedOrder, TooLarge, TooManyPartial, TwiceStarted, StrayFragment, UnalignedFragment}
+use Rattle.giop_frames.specs.declared.fault.StreamFault.TheVariants.{MixedOrder, TooLarge, TooManyPartial, TwiceStarted}
 use Rattle.giop_frames.specs.declared.limits.Limits.{Limits}
+use Rattle.giop_frames.specs.declared.partial.Key.{Key}
+use Rattle.giop_frames.specs.declared.partial.Key.TheVariants.{Of11}
 use Rattle.giop_frames.specs.declared.reassembly.Role.{Role}
 use Rattle.giop_frames.specs.declared.reassembly.Role.TheVariants.{Opens, Carries, Ends, Drops, Uncut, Apart}
 use Rattle.giop_frames.specs.Completing.{AreMessages, AreRising, IsMessage}
-use Rattle.giop_frames.specs.Fragments.{Bad, Done, Partial, Quiet, Verdict, content_of, has_id, id_of, is_same_order, joinable, joined, judged, judged_as, judged_by, judged_carried, judged_ended, judged_whole, on_content, partial_of, partials_in, payload_of, role_in, role_of}
-use Rattle.giop_frames.specs.Frames.{Frame, Refused, Split, Waiting, Whole, admitted, frame_size, is_old_fragment, is_unaligned, sight, split, split_from}
+use Rattle.giop_frames.specs.Fragments.{Bad, Done, Partial, Quiet, Verdict, content_of, has_id, key_of, may_come, is_same_order, joinable, joined, judged, judged_as, judged_by, judged_carried, judged_ended, judged_whole, on_content, partial_of, partials_in, payload_of, role_in, role_of}
+use Rattle.giop_frames.specs.Frames.{Frame, Refused, Split, Waiting, Whole, sight, split, split_from}
 use Rattle.giop_frames.specs.Laws.{MessagesAreWhole, PartialsAreCounted, PlacesRise}
 use Rattle.giop_frames.specs.Refusing.{IsFine}
 use Rattle.giop_frames.specs.Splitting.{IsFrame}
@@ -66,17 +68,6 @@ pub possible-read : (octets : List ℕ) (h : Header) → header_of octets ≡ Ok
 unfolding header_of
 possible-read octets h is = possible-magic octets (has_magic octets) _ h is
 
--- a header that is admitted is none of a cut message of 1.1
-
-new-if : (a b c : Bool) (e d f : StreamFault) (h k : Header) → ◌≡◌ {A = Result Header StreamFault} (cond a (Err e) (cond b (Err d) (cond c (Err f) (Ok h)))) (Ok k) → c ≡ false
-new-if true b c e d f h k is = absurd cc
-new-if false true c e d f h k is = absurd cc
-new-if false false true e d f h k is = absurd cc
-new-if false false false e d f h k is = refl
-
-new-admitted : (limits : Limits) (h k : Header) → admitted limits h ≡ Ok k → is_old_fragment h.version h.kind h.more ≡ false
-new-admitted limits h k is = new-if (nat_lt limits.message (frame_size h)) (is_unaligned h.version h) (is_old_fragment h.version h.kind h.more) TooLarge UnalignedFragment StrayFragment h k is
-
 -- a frame that is no part of a cut message announces no more, and is no Fragment
 
 abbrev IsPlain : Bool → MessageKind → Type 0
@@ -98,59 +89,68 @@ is_fragment _ = false
 no-fragment : (kind : MessageKind) → is_fragment kind ≡ false → kind ≡ Fragment → ⊥
 no-fragment kind e k = let t : is_fragment Fragment ≡ false = subst (λ (x : MessageKind). is_fragment x ≡ false) k e in absurd cc
 
-plain : (v : Version) (kind : MessageKind) (more : Bool) → (has_kind v kind && (not more || can_be_cut v kind)) ≡ true → is_old_fragment v kind more ≡ false → IsAlone (role_in v kind more) → (more ≡ false) × (is_fragment kind ≡ false)
-plain V10 Fragment more possible new alone = absurd cc
-plain V10 Request false possible new alone = (refl, refl)
-plain V10 Reply false possible new alone = (refl, refl)
-plain V10 CancelRequest false possible new alone = (refl, refl)
-plain V10 LocateRequest false possible new alone = (refl, refl)
-plain V10 LocateReply false possible new alone = (refl, refl)
-plain V10 CloseConnection false possible new alone = (refl, refl)
-plain V10 MessageError false possible new alone = (refl, refl)
-plain V10 Request true possible new alone = absurd cc
-plain V10 Reply true possible new alone = absurd cc
-plain V10 CancelRequest true possible new alone = absurd cc
-plain V10 LocateRequest true possible new alone = absurd cc
-plain V10 LocateReply true possible new alone = absurd cc
-plain V10 CloseConnection true possible new alone = absurd cc
-plain V10 MessageError true possible new alone = absurd cc
-plain V11 Fragment more possible new alone = absurd cc
-plain V11 Request more possible new alone = (new, refl)
-plain V11 Reply more possible new alone = (new, refl)
-plain V11 CancelRequest more possible new alone = (new, refl)
-plain V11 LocateRequest more possible new alone = (new, refl)
-plain V11 LocateReply more possible new alone = (new, refl)
-plain V11 CloseConnection more possible new alone = (new, refl)
-plain V11 MessageError more possible new alone = (new, refl)
-plain V12 Fragment true possible new alone = absurd alone
-plain V12 Fragment false possible new alone = absurd alone
-plain V12 Request true possible new alone = absurd alone
-plain V12 Reply true possible new alone = absurd alone
-plain V12 LocateRequest true possible new alone = absurd alone
-plain V12 LocateReply true possible new alone = absurd alone
-plain V12 CancelRequest true possible new alone = absurd cc
-plain V12 CloseConnection true possible new alone = absurd cc
-plain V12 MessageError true possible new alone = absurd cc
-plain V12 Request false possible new alone = (refl, refl)
-plain V12 Reply false possible new alone = (refl, refl)
-plain V12 CancelRequest false possible new alone = (refl, refl)
-plain V12 LocateRequest false possible new alone = (refl, refl)
-plain V12 LocateReply false possible new alone = (refl, refl)
-plain V12 CloseConnection false possible new alone = (refl, refl)
-plain V12 MessageError false possible new alone = (refl, refl)
+plain : (v : Version) (kind : MessageKind) (more : Bool) → (has_kind v kind && (not more || can_be_cut v kind)) ≡ true → IsAlone (role_in v kind more) → (more ≡ false) × (is_fragment kind ≡ false)
+plain V10 Fragment more possible alone = absurd cc
+plain V10 Request false possible alone = (refl, refl)
+plain V10 Reply false possible alone = (refl, refl)
+plain V10 CancelRequest false possible alone = (refl, refl)
+plain V10 LocateRequest false possible alone = (refl, refl)
+plain V10 LocateReply false possible alone = (refl, refl)
+plain V10 CloseConnection false possible alone = (refl, refl)
+plain V10 MessageError false possible alone = (refl, refl)
+plain V10 Request true possible alone = absurd cc
+plain V10 Reply true possible alone = absurd cc
+plain V10 CancelRequest true possible alone = absurd cc
+plain V10 LocateRequest true possible alone = absurd cc
+plain V10 LocateReply true possible alone = absurd cc
+plain V10 CloseConnection true possible alone = absurd cc
+plain V10 MessageError true possible alone = absurd cc
+plain V11 Fragment true possible alone = absurd alone
+plain V11 Fragment false possible alone = absurd alone
+plain V11 Request true possible alone = absurd alone
+plain V11 Reply true possible alone = absurd alone
+plain V11 LocateRequest true possible alone = absurd alone
+plain V11 LocateReply true possible alone = absurd alone
+plain V11 CancelRequest true possible alone = absurd cc
+plain V11 CloseConnection true possible alone = absurd cc
+plain V11 MessageError true possible alone = absurd cc
+plain V11 Request false possible alone = (refl, refl)
+plain V11 Reply false possible alone = (refl, refl)
+plain V11 CancelRequest false possible alone = (refl, refl)
+plain V11 LocateRequest false possible alone = (refl, refl)
+plain V11 LocateReply false possible alone = (refl, refl)
+plain V11 CloseConnection false possible alone = (refl, refl)
+plain V11 MessageError false possible alone = (refl, refl)
+plain V12 Fragment true possible alone = absurd alone
+plain V12 Fragment false possible alone = absurd alone
+plain V12 Request true possible alone = absurd alone
+plain V12 Reply true possible alone = absurd alone
+plain V12 LocateRequest true possible alone = absurd alone
+plain V12 LocateReply true possible alone = absurd alone
+plain V12 CancelRequest true possible alone = absurd cc
+plain V12 CloseConnection true possible alone = absurd cc
+plain V12 MessageError true possible alone = absurd cc
+plain V12 Request false possible alone = (refl, refl)
+plain V12 Reply false possible alone = (refl, refl)
+plain V12 CancelRequest false possible alone = (refl, refl)
+plain V12 LocateRequest false possible alone = (refl, refl)
+plain V12 LocateReply false possible alone = (refl, refl)
+plain V12 CloseConnection false possible alone = (refl, refl)
+plain V12 MessageError false possible alone = (refl, refl)
 
 -- a first frame is no Fragment
 
 fragment-role : (v : Version) (more : Bool) → role_in v Fragment more ≡ Opens → ⊥
 fragment-role V10 more e = absurd cc
-fragment-role V11 more e = absurd cc
+fragment-role V11 true e = absurd cc
+fragment-role V11 false e = absurd cc
 fragment-role V12 true e = absurd cc
 fragment-role V12 false e = absurd cc
 
 opens-kind : (h : Header) → role_of h ≡ Opens → h.kind ≡ Fragment → ⊥
 opens-kind h is k = fragment-role h.version h.more (ap (λ (x : MessageKind). role_in h.version x h.more) (sym k) ∙ is)
 
-partial-opens : (earlier : List Frame) (i : ℕ) (p : Partial) → partial_of earlier i ≡ Some p → role_of p.header ≡ Opens
+partial-opens : (earlier : List Frame) (i : Key) (p : Partial) → partial_of earlier i ≡ Some p → role_of p.header ≡ Opens
 partial-opens earlier i p e = let b = begun_found earlier i p e in ap (λ (q : Partial). role_of q.header) b.says ∙ b.opens
 
 -- what is done is whole
@@ -200,12 +200,14 @@ tells-as Apart limits before n f opens whole = tells-whole f (whole tt)
 
 whole-alone : (limits : Limits) (f : Frame) (octets : List ℕ) → IsFrame limits f octets → 12 + length f.octets ≡ length octets → IsAlone (role_of f.header) → IsWholeBy f
 whole-alone limits f octets i size alone =
-    let p = plain f.header.version f.header.kind f.header.more (possible-read (take 12 octets) f.header i.header) (new-admitted limits f.header f.header i.taken) alone in
+    let p = plain f.header.version f.header.kind f.header.more (possible-read (take 12 octets) f.header i.header) alone in
     record { alone = p.0; size = omega (arith, i.long, size); kind = no-fragment f.header.kind p.1 }
 
-tells-by : (limits : Limits) (before : Option Partial) (n : ℕ) (f : Frame) → ((p : Partial) → before ≡ Some p → role_of p.header ≡ Opens) → (IsAlone (role_of f.header) → IsWholeBy f) → Tells (judged_by limits before n f)
+tells-by : (limits : Limits) (early before : Option Partial) (n : ℕ) (f : Frame) → ((p : Partial) → before ≡ Some p → role_of p.header ≡ Opens) → (IsAlone (role_of f.header) → IsWholeBy f) → Tells (judged_by limits early before n f)
 unfolding judged_by
-tells-by limits before n f opens whole = tells-cond (has_id (role_of f.header) && nat_lt (length f.octets) 4) _ _ (tells-as (role_of f.header) limits before n f opens whole)
+tells-by limits early before n f opens whole =
+    tells-cond (not (may_come (role_of f.header) f.header.version) && is_some early) _ _
+    (tells-cond (has_id (role_of f.header) f.header.version && nat_lt (length f.octets) 4) _ _ (tells-as (role_of f.header) limits before n f opens whole))
 
 -- a frame of a stream
 
@@ -232,8 +234,8 @@ split-good limits w (x ∷ s) waits =
 done-message : (limits : Limits) (earlier : List Frame) (f m : Frame) → IsGood limits f → judged limits earlier f ≡ Done m → IsMessage limits m
 done-message limits earlier f m good e =
     let fits : 12 + length f.octets ≤ limits.message = omega (arith, good.size, good.is.long, (admitted-within limits f.header f.header good.is.taken).1) in
-    let reads = done-reads limits (partial_of earlier (id_of f)) (partials_in earlier) f m fits e in
-    let tells : Tells (Done m) = subst Tells e (tells-by limits (partial_of earlier (id_of f)) (partials_in earlier) f (partial-opens earlier (id_of f)) (whole-alone limits f good.octets good.is good.size)) in
+    let reads = done-reads limits (partial_of earlier Of11) (partial_of earlier (key_of f)) (partials_in earlier) f m fits e in
+    let tells : Tells (Done m) = subst Tells e (tells-by limits (partial_of earlier Of11) (partial_of earlier (key_of f)) (partials_in earlier) f (partial-opens earlier (key_of f)) (whole-alone limits f good.octets good.is good.size)) in
     record { reads = reads.1; alone = tells.alone; size = tells.size; within = reads.0; kind = tells.kind }
 
 messages-from : (limits : Limits) (earlier : List Frame) (last : Option StreamFault) (fs : List Frame) → AreGood limits fs → AreMessages limits (reading_from limits earlier last fs).messages
@@ -284,12 +286,12 @@ follows-from limits earlier ps (f ∷ fs) w n =
       | Bad e ↦ λ j. absurd (let k : Some e ≡ None = ap (λ (r : Reading). r.fault) (sym (step-bad limits earlier None f fs e j)) ∙ n in cc)
       | Quiet ↦ λ j.
           let here = step-quiet limits earlier None f fs j in
-          let fine : IsFine (judged_by limits (part_in ps (id_of f)) (length ps) f) = subst IsFine (sym (same ∙ j)) tt in
+          let fine : IsFine (judged_by limits (part_in ps Of11) (part_in ps (key_of f)) (length ps) f) = subst IsFine (sym (same ∙ j)) tt in
           let later = follows-from limits (f ∷ earlier) (parts_after ps f) fs (follows-step limits ps earlier f w fine) (ap (λ (r : Reading). r.fault) (sym here) ∙ n) in
           (later.0, subst (λ (r : Reading). Follows later.0 r.earlier) (sym here) later.1)
       | Done m ↦ λ j.
           let here = step-done limits earlier None f fs m j in
-          let fine : IsFine (judged_by limits (part_in ps (id_of f)) (length ps) f) = subst IsFine (sym (same ∙ j)) tt in
+          let fine : IsFine (judged_by limits (part_in ps Of11) (part_in ps (key_of f)) (length ps) f) = subst IsFine (sym (same ∙ j)) tt in
           let later = follows-from limits (f ∷ earlier) (parts_after ps f) fs (follows-step limits ps earlier f w fine) (ap (λ (r : Reading). r.fault) (sym here) ∙ n) in
           (later.0, subst (λ (r : Reading). Follows later.0 r.earlier) (sym here) later.1)
     ]) refl
@@ -300,5 +302,5 @@ partials_counted limits s n =
     let first = split_from limits [] s in
     let none : first.fault ≡ None = faultless-split limits s n in
     let ends : (reading_from limits [] None first.frames).fault ≡ None = ap (λ (last : Option StreamFault). (reading_from limits [] last first.frames).fault) (sym none) ∙ n in
-    let all = follows-from limits [] [] first.frames (record { each = λ i. refl; count = refl; distinct = tt }) ends in
+    let all = follows-from limits [] [] first.frames (record { each = λ k. refl; count = refl; distinct = tt }) ends in
     (all.0, subst (λ (last : Option StreamFault). Follows all.0 (reading_from limits [] last first.frames).earlier) (sym none) all.1)

@@ -1,9 +1,14 @@
 -- Octets in chunks, and Fragments of them.
-use Rattle.std.proofs.Common.{◌≡◌, ℕ, ◌+◌, ◌<◌, ◌≤◌, ◌==◌, true, false, List, [], ◌∷◌, ◌++◌, length, take, drop, refl, sym, ap, ◌∙◌, arith, append_assoc, length-append}
+use Rattle.std.proofs.Common.{◌≡◌, ℕ, ◌+◌, ◌<◌, ◌≤◌, ◌==◌, true, false, List, [], ◌∷◌, ◌++◌, length, take, drop, IsTrue, refl, sym, ap, ◌∙◌, arith, append_assoc, length-append}
 use Rattle.std.specs.List.{flat_map}
 use Rattle.std.proofs.lemmas.Bool.{eq-eqb, ne_eqb}
 use Rattle.std.proofs.lemmas.List.{append-nil, length-take-le, take-append-drop, length-drop}
 use Rattle.giop_core.specs.declared.header.Header.{Header}
+use Rattle.giop_core.specs.declared.header.MessageKind.{MessageKind}
+use Rattle.giop_core.specs.declared.header.MessageKind.TheVariants.{Fragment}
+use Rattle.giop_core.specs.declared.header.Version.{Version}
+use Rattle.giop_core.specs.declared.header.Version.TheVariants.{V10, V11, V12}
+use Rattle.giop_core.specs.Headers.{can_be_cut}
 use Rattle.giop_frames.specs.Cutting.{fragment_of, fragments_of, frame_octets, chunks_from}
 use Rattle.giop_frames.specs.Private.{IsAppended}
 
@@ -29,6 +34,12 @@ chunks-more n chunk (x ∷ a) b some e more =
     let less : length chunk ≡ n → ⊥ = λ k. omega (arith, e, k) in
     let fits : length (chunk ++ x ∷ []) + length a ≡ n = omega (arith, e, length-append chunk (x ∷ [])) in
     open_yet n chunk x (a ++ b) less ∙ chunks-more n (chunk ++ x ∷ []) a b some fits more ∙ ap (λ (p : List ℕ). p ∷ chunks_from n [] b) (append_assoc chunk (x ∷ []) a)
+
+-- a version of which a message can be cut has Fragments
+pub can-fragment : (v : Version) (k : MessageKind) → IsTrue (can_be_cut v k) → IsTrue (can_be_cut v Fragment)
+can-fragment V10 k t = absurd cc
+can-fragment V11 k t = refl
+can-fragment V12 k t = refl
 
 -- there is a chunk always
 pub fragments-more : (h : Header) (id p : List ℕ) (n : ℕ) (chunk xs : List ℕ) → fragments_of h id (p ∷ chunks_from n chunk xs) ≡ fragment_of h id true p ∷ fragments_of h id (chunks_from n chunk xs)

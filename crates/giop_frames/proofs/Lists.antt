@@ -1,12 +1,13 @@
 -- Messages that are written one after another are read again.
-use Rattle.std.proofs.Common.{◌≡◌, ℕ, ◌+◌, ◌&&◌, ◌==◌, Bool, true, false, cond, List, [], ◌∷◌, ◌++◌, length, Option, None, refl, sym, ap, subst, ◌∙◌, arith, append_assoc, length-append}
+use Rattle.std.proofs.Common.{◌≡◌, ℕ, ◌+◌, ◌&&◌, Bool, true, false, cond, List, [], ◌∷◌, ◌++◌, length, Option, None, refl, sym, ap, subst, ◌∙◌, arith, append_assoc, length-append}
 use Rattle.std.specs.List.{AllByRecursion}
 use Rattle.std.proofs.lemmas.List.{append-nil}
 use Rattle.giop_core.specs.Laws.{HeadersAreReadAgain}
 use Rattle.giop_core.specs.Headers.{header_octets}
 use Rattle.giop_core.specs.Written.{header_for, message_octets}
 use Rattle.giop_frames.specs.declared.limits.Limits.{Limits}
-use Rattle.giop_frames.specs.Fragments.{Partial, id_of}
+use Rattle.giop_frames.specs.declared.partial.Key.TheVariants.{Of11}
+use Rattle.giop_frames.specs.Fragments.{Partial, key_of}
 use Rattle.giop_frames.specs.Frames.{split}
 use Rattle.giop_frames.specs.ReadAgain.{IsClear, IsSendable, NothingIsClear, Sent, SentAreReadAgain, is_cancel, left_by, sent_from, sent_octets, written}
 use Rattle.giop_frames.specs.Streams.{Completed, fault_of, frames_of, messages_of, rest_of}
@@ -15,7 +16,7 @@ use Rattle.giop_frames.proofs.Whole.{written_again}
 
 pub nothing_clear : NothingIsClear
 unfolding fault_of rest_of frames_of split
-nothing_clear limits = record { faultless = refl; all = refl; none = λ i. refl }
+nothing_clear limits = record { faultless = refl; all = refl; none = λ k. refl }
 
 none-left : (b : Bool) → ◌≡◌ {A = Option Partial} (cond b None None) None
 none-left true = refl
@@ -30,13 +31,13 @@ module _ (again : HeadersAreReadAgain) (limits : Limits) where
       let c = message_octets m.version m.kind m.order m.body in
       let f = written m.version m.kind m.order m.body in
       let h = header_for m.version m.kind m.order (length m.body) in
-      let r = written_again again limits s m.body m.version m.kind m.order clear.faultless clear.all (λ _. clear.none (id_of f)) fine.kind fine.within fine.reads in
+      let r = written_again again limits s m.body m.version m.kind m.order clear.faultless clear.all (λ _. clear.none (key_of f)) (λ _. clear.none Of11) fine.kind fine.within fine.reads in
       let place : length (s ++ c) ≡ length s + (12 + length m.body) = omega (arith, length-append s c, length-append (header_octets h) m.body, length-header h) in (
         r.messages ∙ ap (λ (p : ℕ). messages_of limits s ++ record { place = p; message = f } ∷ []) place,
         record {
           faultless = r.faultless;
           all = r.all;
-          none = λ i. r.partial i ∙ ap (left_by f i) (clear.none i) ∙ none-left (is_cancel f.header.kind && (id_of f == i));
+          none = λ k. r.partial k ∙ ap (left_by f k) (clear.none k) ∙ none-left (is_cancel f.header.kind && false);
         },
       )
 

@@ -1,5 +1,5 @@
 -- What is cut is read again.
-use Rattle.std.proofs.Common.{◌≡◌, ℕ, zero, suc, ◌+◌, ◌-◌, ◌<◌, ◌≤◌, ◌%◌, ◌==◌, ◌≢◌, ◌&&◌, nat_le, not, Bool, true, false, cond, is_some, List, [], ◌∷◌, ◌++◌, length, take, drop, Option, Some, None, Ok, IsOk, refl, sym, ap, subst, ◌∙◌, inl, inr, arith, append_assoc, length-append, length-drop}
+use Rattle.std.proofs.Common.{◌≡◌, ℕ, zero, suc, ◌+◌, ◌-◌, ◌<◌, ◌≤◌, ◌%◌, ◌==◌, ◌≢◌, ◌&&◌, nat_le, not, Bool, true, false, is_some, List, [], ◌∷◌, ◌++◌, length, take, drop, Option, Some, None, Ok, IsOk, refl, sym, ap, subst, ◌∙◌, inl, inr, arith, append_assoc, length-append, length-drop}
 use Rattle.std.specs.List.{flat_map}
 use Rattle.std.specs.Option.{option_map}
 use Rattle.std.proofs.lemmas.Bool.{eq-eqb}
@@ -9,30 +9,31 @@ use Rattle.giop_core.specs.declared.header.Header.{Header}
 use Rattle.giop_core.specs.declared.header.MessageKind.{MessageKind}
 use Rattle.giop_core.specs.declared.header.MessageKind.TheVariants.{Request, Reply, CancelRequest, LocateRequest, LocateReply, CloseConnection, MessageError, Fragment}
 use Rattle.giop_core.specs.declared.header.Version.{Version}
-use Rattle.giop_core.specs.declared.header.Version.TheVariants.{V12}
-use Rattle.giop_core.specs.Headers.{header_of}
-use Rattle.giop_core.specs.Messages.{message_of}
+use Rattle.giop_core.specs.declared.header.Version.TheVariants.{V10, V11, V12}
+use Rattle.giop_core.specs.Headers.{can_be_cut, header_of}
 use Rattle.giop_frames.specs.declared.fault.StreamFault.{StreamFault}
 use Rattle.giop_frames.specs.declared.limits.Limits.{Limits}
+use Rattle.giop_frames.specs.declared.partial.Key.{Key}
+use Rattle.giop_frames.specs.declared.partial.Key.TheVariants.{Of11, Of12}
 use Rattle.giop_frames.specs.declared.reassembly.Role.{Role}
 use Rattle.giop_frames.specs.declared.reassembly.Role.TheVariants.{Opens, Carries, Ends, Drops, Uncut, Apart}
 use Rattle.giop_frames.specs.ReadAgain.{Completes, CutIsReadAgain, is_cancel, left_by, under}
-use Rattle.giop_frames.specs.Cutting.{cut_octets, first_frame, fragment_of, fragments_of, frame_octets, is_cut_kind, is_cuttable, is_cuttable_under, chunks_from}
-use Rattle.giop_frames.specs.Fragments.{Done, Partial, Quiet, partial_of, content_of, continued_by, payload_of, id_of, is_same_order, judged, partials_after, partials_in, role_in, role_in_12, role_of}
-use Rattle.giop_frames.specs.Frames.{Frame, Split, frame_size, split, split_from}
+use Rattle.giop_frames.specs.Cutting.{cut_octets, first_frame, fragment_of, fragments_of, frame_octets, is_cut_kind, is_cuttable_in, is_cuttable_under, is_version, chunks_from}
+use Rattle.giop_frames.specs.Fragments.{Done, Partial, Quiet, partial_of, content_of, continued_by, payload_of, id_length, id_of, is_cancelled, is_same_order, judged, key_in, key_of, less_if, may_come, partials_in, role_in, role_of}
+use Rattle.giop_frames.specs.Frames.{Frame, Split, cut_place, frame_size, is_unaligned, split, split_from}
 use Rattle.giop_frames.specs.Splitting.{IsFrame, Splits}
 use Rattle.giop_frames.specs.Streams.{Reading, fault_of, frames_of, messages_of, place_after, reading_from, reading_of, rest_of}
 use Rattle.giop_core.specs.Laws.{HeadersAreReadAgain}
-use Rattle.giop_frames.proofs.CutFrames.{AreFrames, admit-12, and-not, cut-can, cut-has_id, cut-opens, cut-uncut, frame-again, frames-split, judged-carrying, judged-ending, judged-opening, judged-uncut, number-front, number-take, same-order, version-12}
+use Rattle.giop_frames.proofs.CutFrames.{AreFrames, admit-cut, and-not, cut-can, cut-has_id, cut-opens, cut-whole, fragment-roles, frame-again, frames-split, free-none, judged-alone, judged-carrying, judged-ending, judged-opening, key-front, key-take, same-order, whole_role}
 use Rattle.giop_frames.proofs.Cuts.{fragments-more, chunks-last, chunks-more}
-use Rattle.giop_frames.proofs.Deciding.{test_eq, test_le, test_lt}
+use Rattle.giop_frames.proofs.Deciding.{test_eq, test_key, test_le, test_lt}
 use Rattle.giop_frames.proofs.Places.{faultless-split, place-length}
 use Rattle.giop_frames.proofs.Readings.{after_messages, reading-append, step-done, step-quiet}
 use Rattle.giop_frames.proofs.Sights.{nothing-waits}
 use Rattle.giop_frames.proofs.Splits.{after_frames, split-append}
 use Rattle.giop_frames.proofs.Splitting.{only_splits}
 use Rattle.giop_frames.proofs.Standing.{rest-more}
-use Rattle.giop_frames.proofs.Tables.{partial-other, partial-same, partials-step}
+use Rattle.giop_frames.proofs.Tables.{carries-other, carries-same, ends-other, ends-same, opens-other, opens-same, partial-role, partials-step}
 
 -- one message, which completes with these frames
 abbrev pub one_completed : List Frame → Frame → Reading
@@ -40,7 +41,7 @@ one_completed e m = record { messages = record { place = place_after e; message 
 
 -- what the frames of a message leave of the partial messages before them
 pub record Leaves (m : Frame) (before after : List Frame) : Type 0 where
-  pub partial : (i : ℕ) → partial_of after i ≡ left_by m i (partial_of before i)
+  pub partial : (k : Key) → partial_of after k ≡ left_by m k (partial_of before k)
   pub few : partials_in after ≤ partials_in before
 
 finished : (limits : Limits) (s c : List ℕ) (e : List Frame) (m : Frame) → reading_of limits (s ++ c) ≡ after_messages (messages_of limits s) (one_completed e m) → rest_of limits (s ++ c) ≡ [] → Leaves m (frames_of limits s) e → Completes limits s c m
@@ -56,7 +57,7 @@ finished limits s c e m all none left =
       messages = ap (λ (r : Reading). r.messages) all ∙ ap (λ (p : ℕ). messages_of limits s ++ record { place = p; message = m } ∷ []) place;
       faultless = ended;
       all = none;
-      partial = λ i. ap (λ (r : Reading). partial_of r.earlier i) all ∙ left.partial i;
+      partial = λ k. ap (λ (r : Reading). partial_of r.earlier k) all ∙ left.partial k;
       few = omega (arith, ap (λ (r : Reading). partials_in r.earlier) all, left.few);
     }
 
@@ -87,23 +88,26 @@ IsLeaving Uncut false = Unit {0}
 IsLeaving Apart false = Unit {0}
 IsLeaving r b = ⊥
 
-leaves-by : (f : Frame) (earlier : List Frame) (i : ℕ) (r : Role) (b : Bool) → role_of f.header ≡ r → is_cancel f.header.kind ≡ b → IsLeaving r b → partial_of (f ∷ earlier) i ≡ left_by f i (partial_of earlier i)
-leaves-by f earlier i Drops true role kind l = rw (role, kind) refl
-leaves-by f earlier i Uncut false role kind l = elim (test_eq (id_of f) i) [ inl t ↦ rw (t.0, role, kind) refl | inr t ↦ rw (kind, t.0) refl ]
-leaves-by f earlier i Apart false role kind l = elim (test_eq (id_of f) i) [ inl t ↦ rw (t.0, role, kind) refl | inr t ↦ rw (kind, t.0) refl ]
-leaves-by f earlier i Opens b role kind l = absurd l
-leaves-by f earlier i Carries b role kind l = absurd l
-leaves-by f earlier i Ends b role kind l = absurd l
-leaves-by f earlier i Drops false role kind l = absurd l
-leaves-by f earlier i Uncut true role kind l = absurd l
-leaves-by f earlier i Apart true role kind l = absurd l
+leaves-by : (f : Frame) (earlier : List Frame) (k : Key) (r : Role) (b : Bool) → role_of f.header ≡ r → is_cancel f.header.kind ≡ b → IsLeaving r b → partial_of (f ∷ earlier) k ≡ left_by f k (partial_of earlier k)
+leaves-by f earlier k Drops true role kind l = rw (role, kind) refl
+leaves-by f earlier k Uncut false role kind l = rw (role, kind) refl
+leaves-by f earlier k Apart false role kind l = rw (role, kind) refl
+leaves-by f earlier k Opens b role kind l = absurd l
+leaves-by f earlier k Carries b role kind l = absurd l
+leaves-by f earlier k Ends b role kind l = absurd l
+leaves-by f earlier k Drops false role kind l = absurd l
+leaves-by f earlier k Uncut true role kind l = absurd l
+leaves-by f earlier k Apart true role kind l = absurd l
 
-few-less : (b : Bool) (n : ℕ) → cond b (n - 1) n ≤ n
+few-less : (b : Bool) (n : ℕ) → less_if b n ≤ n
 few-less true n = omega arith
 few-less false n = omega arith
 
 few-by : (f : Frame) (earlier : List Frame) (r : Role) (b : Bool) → role_of f.header ≡ r → IsLeaving r b → partials_in (f ∷ earlier) ≤ partials_in earlier
-few-by f earlier Drops b role l = omega (arith, partials-step f earlier Drops role, few-less (is_some (partial_of earlier (id_of f))) (partials_in earlier))
+few-by f earlier Drops b role l =
+    let i = id_of f in
+    let n = less_if (is_some (partial_of earlier (Of12 i))) (partials_in earlier) in
+    omega (arith, partials-step f earlier Drops role, few-less (is_cancelled i Of11 (partial_of earlier Of11)) n, few-less (is_some (partial_of earlier (Of12 i))) (partials_in earlier))
 few-by f earlier Uncut b role l = omega (arith, partials-step f earlier Uncut role)
 few-by f earlier Apart b role l = omega (arith, partials-step f earlier Apart role)
 few-by f earlier Opens b role l = absurd l
@@ -111,33 +115,63 @@ few-by f earlier Carries b role l = absurd l
 few-by f earlier Ends b role l = absurd l
 
 pub leaves-role : (f : Frame) (earlier : List Frame) (r : Role) (b : Bool) → role_of f.header ≡ r → is_cancel f.header.kind ≡ b → IsLeaving r b → Leaves f earlier (f ∷ earlier)
-leaves-role f earlier r b role kind l = record { partial = λ i. leaves-by f earlier i r b role kind l; few = few-by f earlier r b role l }
+leaves-role f earlier r b role kind l = record { partial = λ k. leaves-by f earlier k r b role kind l; few = few-by f earlier r b role l }
 
-leaves-alone : (f : Frame) (earlier : List Frame) (r : Role) → role_of f.header ≡ r → is_cancel f.header.kind ≡ false → IsLeaving r false → Leaves f earlier (f ∷ earlier)
-leaves-alone f earlier r role kind l = leaves-role f earlier r false role kind l
+leaving-whole : (v : Version) → IsLeaving (whole_role v) false
+leaving-whole V10 = tt
+leaving-whole V11 = tt
+leaving-whole V12 = tt
 
 -- .. and by one that is cut, of a kind that cancels nothing
 
-cut-stays : (kind : MessageKind) → is_cut_kind V12 kind ≡ true → is_cancel kind ≡ false
-cut-stays Request e = refl
-cut-stays Reply e = refl
-cut-stays CancelRequest e = absurd cc
-cut-stays LocateRequest e = refl
-cut-stays LocateReply e = refl
-cut-stays CloseConnection e = absurd cc
-cut-stays MessageError e = absurd cc
-cut-stays Fragment e = absurd cc
+cut-stays : (v : Version) (kind : MessageKind) → is_cut_kind v kind ≡ true → is_cancel kind ≡ false
+cut-stays v Request e = refl
+cut-stays v Reply e = refl
+cut-stays V10 CancelRequest e = absurd cc
+cut-stays V11 CancelRequest e = absurd cc
+cut-stays V12 CancelRequest e = absurd cc
+cut-stays v LocateRequest e = refl
+cut-stays v LocateReply e = refl
+cut-stays v CloseConnection e = refl
+cut-stays v MessageError e = refl
+cut-stays v Fragment e = refl
 
-leaves-cut : (m first : Frame) (earlier e : List Frame) (i : ℕ) → id_of first ≡ i → role_of first.header ≡ Opens → partial_of earlier i ≡ None → is_cancel m.header.kind ≡ false
-    → partial_of e i ≡ None → ((j : ℕ) → i ≢ j → partial_of e j ≡ partial_of (first ∷ earlier) j) → partials_in e ≡ partials_in (first ∷ earlier) - 1 → Leaves m earlier e
-leaves-cut m first earlier e i named role gone kind none other count = record {
+leaves-cut : (m first : Frame) (earlier e : List Frame) (k : Key) → key_of first ≡ k → role_of first.header ≡ Opens → partial_of earlier k ≡ None → is_cancel m.header.kind ≡ false
+    → partial_of e k ≡ None → ((j : Key) → k ≢ j → partial_of e j ≡ partial_of (first ∷ earlier) j) → partials_in e ≡ partials_in (first ∷ earlier) - 1 → Leaves m earlier e
+leaves-cut m first earlier e k named role gone kind none other count = record {
   partial = λ j.
-      elim (test_eq i j) [
+      elim (test_key k j) [
         | inl t ↦ ap (partial_of e) (sym t.1) ∙ none ∙ sym gone ∙ ap (partial_of earlier) t.1 ∙ rw kind refl
-        | inr t ↦ other j t.1 ∙ partial-other first earlier j (λ k. t.1 (sym named ∙ k)) ∙ rw kind refl
+        | inr t ↦ other j t.1 ∙ partial-role first earlier j Opens role ∙ opens-other first j (partial_of earlier j) (λ e. t.1 (sym named ∙ e)) ∙ rw kind refl
       ];
   few = omega (arith, count, partials-step first earlier Opens role);
 }
+
+-- what may come while a message of a version is partial: in 1.2 none of 1.1 is
+
+abbrev IsFree : Version → Option Partial → Type 0
+IsFree V12 o = o ≡ None
+IsFree _ o = Unit {0}
+
+free-if : (v : Version) (o : Option Partial) → o ≡ None → IsFree v o
+free-if V10 o e = tt
+free-if V11 o e = tt
+free-if V12 o e = e
+
+free-carries : (v : Version) (o : Option Partial) → can_be_cut v Fragment ≡ true → IsFree v o → (not (may_come Carries v) && is_some o) ≡ false
+free-carries V10 o cut free = absurd cc
+free-carries V11 o cut free = refl
+free-carries V12 o cut free = free-none Carries V12 o free
+
+free-ends : (v : Version) (o : Option Partial) → can_be_cut v Fragment ≡ true → IsFree v o → (not (may_come Ends v) && is_some o) ≡ false
+free-ends V10 o cut free = absurd cc
+free-ends V11 o cut free = refl
+free-ends V12 o cut free = free-none Ends V12 o free
+
+free-next : (v : Version) (f : Frame) (earlier : List Frame) → f.header.version ≡ v → (key_of f ≢ Of11 → partial_of (f ∷ earlier) Of11 ≡ partial_of earlier Of11) → IsFree v (partial_of earlier Of11) → IsFree v (partial_of (f ∷ earlier) Of11)
+free-next V10 f earlier is same free = tt
+free-next V11 f earlier is same free = tt
+free-next V12 f earlier is same free = same (λ e. absurd (let k : Of12 (id_of f) ≡ Of11 = sym (ap (λ (w : Version). key_in w (id_of f)) is) ∙ e in cc)) ∙ free
 
 -- the Fragments of what is left, by how much it is
 
@@ -157,10 +191,10 @@ more-fragments h id left r some long =
 
 -- the Fragments of what is left, after a first frame
 
-module _ (again : HeadersAreReadAgain) (limits : Limits) (h hd : Header) (id whole : List ℕ) (r : ℕ) (v : h.version ≡ V12) (order : is_same_order hd.order h.order ≡ true) (four : length id ≡ 4) (some : 0 < r)
-    (aligned : (16 + r) % 8 ≡ 0) (within : 12 + length whole ≤ limits.message) (free : 16 + r ≤ limits.message) (ok : IsOk (content_of (record hd { more = false; size = length whole }) whole)) where
-  abbrev i : ℕ
-  i = number_of h.order 4 id
+module _ (again : HeadersAreReadAgain) (limits : Limits) (h hd : Header) (id whole : List ℕ) (r : ℕ) (cut : can_be_cut h.version Fragment ≡ true) (order : is_same_order hd.order h.order ≡ true) (full : length id ≡ id_length h.version) (some : 0 < r)
+    (aligned : (12 + (id_length h.version + r)) % 8 ≡ cut_place h.version) (within : 12 + length whole ≤ limits.message) (room : 12 + (id_length h.version + r) ≤ limits.message) (ok : IsOk (content_of (record hd { more = false; size = length whole }) whole)) where
+  abbrev k : Key
+  k = key_in h.version (number_of h.order 4 id)
 
   abbrev at : List ℕ → Partial
   at o = record { header = hd; octets = o }
@@ -168,76 +202,85 @@ module _ (again : HeadersAreReadAgain) (limits : Limits) (h hd : Header) (id who
   abbrev all_of : List ℕ → Frame
   all_of x = record { header = record hd { more = false; size = length x }; octets = x }
 
-  id-is : (more : Bool) (x : List ℕ) → id_of (fragment_of h id more x) ≡ i
-  id-is more x = number-front h.order id x (omega (arith, four))
+  key-is : (more : Bool) (x : List ℕ) → key_of (fragment_of h id more x) ≡ k
+  key-is more x = key-front h.version h.order id x (omega (arith, full))
 
   payload-is : (more : Bool) (x : List ℕ) → payload_of (fragment_of h id more x) ≡ x
-  payload-is more x = drop_at id x 4 four
+  payload-is more x = drop_at id x (id_length h.version) full
 
-  long-is : (x : List ℕ) → length (id ++ x) ≡ 4 + length x
-  long-is x = omega (arith, four, length-append id x)
+  long-is : (x : List ℕ) → length (id ++ x) ≡ length id + length x
+  long-is x = length-append id x
 
-  is-frame : (more : Bool) (x : List ℕ) → length x ≤ r → (more && not ((12 + (4 + length x)) % 8 == 0)) ≡ false → IsFrame limits (fragment_of h id more x) (frame_octets (fragment_of h id more x))
-  is-frame more x short even = frame-again again limits (fragment_of h id more x) v refl (sym (long-is x)) (omega (arith, long-is x, short, free)) even
+  is-frame : (more : Bool) (x : List ℕ) → length x ≤ r → is_unaligned (fragment_of h id more x).header ≡ false → IsFrame limits (fragment_of h id more x) (frame_octets (fragment_of h id more x))
+  is-frame more x short even = frame-again again limits (fragment_of h id more x) cut (sym (long-is x)) (omega (arith, long-is x, full, short, room)) even
 
-  even-is : (x : List ℕ) → length x ≡ r → (true && not ((12 + (4 + length x)) % 8 == 0)) ≡ false
+  even-is : (x : List ℕ) → length x ≡ r → is_unaligned (fragment_of h id true x).header ≡ false
   even-is x e =
-      let size : 12 + (4 + length x) ≡ 16 + r = omega (arith, e) in
-      and-not true _ (eq-eqb ((12 + (4 + length x)) % 8) 0 (ap (λ (k : ℕ). k % 8) size ∙ aligned))
+      let size : 12 + (length id + length x) ≡ 12 + (id_length h.version + r) = omega (arith, e, full) in
+      and-not true _ (eq-eqb ((12 + (length id + length x)) % 8) (cut_place h.version) (ap (λ (n : ℕ). n % 8) size ∙ aligned))
 
-  carries-on : (earlier : List Frame) (o x : List ℕ) → partial_of earlier i ≡ Some (at o) → 12 + length (o ++ x) ≤ limits.message → judged limits earlier (fragment_of h id true x) ≡ Quiet
-  carries-on earlier o x b fit =
+  carries-role : role_in h.version Fragment true ≡ Carries
+  carries-role = (fragment-roles h.version cut).0
+
+  ends-role : role_in h.version Fragment false ≡ Ends
+  ends-role = (fragment-roles h.version cut).1
+
+  carries-on : (earlier : List Frame) (o x : List ℕ) → IsFree h.version (partial_of earlier Of11) → partial_of earlier k ≡ Some (at o) → 12 + length (o ++ x) ≤ limits.message → judged limits earlier (fragment_of h id true x) ≡ Quiet
+  carries-on earlier o x free b fit =
       let f = fragment_of h id true x in
       let more : 12 + length (o ++ payload_of f) ≤ limits.message = omega (arith, fit, ap (λ (y : List ℕ). length (o ++ y)) (payload-is true x)) in
-      judged-carrying limits earlier f (at o) (ap (λ (w : Version). role_in w Fragment true) v) (omega (arith, long-is x)) (ap (partial_of earlier) (id-is true x) ∙ b) order more
+      judged-carrying limits earlier f (at o) carries-role (free-carries h.version (partial_of earlier Of11) cut free) (omega (arith, long-is x, full)) (ap (partial_of earlier) (key-is true x) ∙ b) order more
 
-  partial-on : (earlier : List Frame) (o x : List ℕ) → partial_of earlier i ≡ Some (at o) → partial_of (fragment_of h id true x ∷ earlier) i ≡ Some (at (o ++ x))
+  partial-on : (earlier : List Frame) (o x : List ℕ) → partial_of earlier k ≡ Some (at o) → partial_of (fragment_of h id true x ∷ earlier) k ≡ Some (at (o ++ x))
   partial-on earlier o x b =
       let f = fragment_of h id true x in
-      partial-same f earlier i Carries (id-is true x) (ap (λ (w : Version). role_in w Fragment true) v) ∙ ap (option_map (continued_by f)) b ∙ ap (λ (y : List ℕ). Some (at (o ++ y))) (payload-is true x)
+      partial-role f earlier k Carries carries-role ∙ carries-same f k (partial_of earlier k) (key-is true x) ∙ ap (option_map (continued_by f)) b ∙ ap (λ (y : List ℕ). Some (at (o ++ y))) (payload-is true x)
 
-  ends-it : (earlier : List Frame) (o x : List ℕ) → partial_of earlier i ≡ Some (at o) → o ++ x ≡ whole → judged limits earlier (fragment_of h id false x) ≡ Done (all_of whole)
-  ends-it earlier o x b is =
+  free-on : (earlier : List Frame) (x : List ℕ) → IsFree h.version (partial_of earlier Of11) → IsFree h.version (partial_of (fragment_of h id true x ∷ earlier) Of11)
+  free-on earlier x free =
+      let f = fragment_of h id true x in
+      free-next h.version f earlier refl (λ n. partial-role f earlier Of11 Carries carries-role ∙ carries-other f Of11 (partial_of earlier Of11) n) free
+
+  ends-it : (earlier : List Frame) (o x : List ℕ) → IsFree h.version (partial_of earlier Of11) → partial_of earlier k ≡ Some (at o) → o ++ x ≡ whole → judged limits earlier (fragment_of h id false x) ≡ Done (all_of whole)
+  ends-it earlier o x free b is =
       let f = fragment_of h id false x in
       let all : o ++ payload_of f ≡ whole = ap (λ (y : List ℕ). o ++ y) (payload-is false x) ∙ is in
       let fit : 12 + length (o ++ payload_of f) ≤ limits.message = omega (arith, within, ap length all) in
       let reads : IsOk (content_of (all_of (o ++ payload_of f)).header (o ++ payload_of f)) = subst (λ (y : List ℕ). IsOk (content_of (all_of y).header y)) (sym all) ok in
-      judged-ending limits earlier f (at o) (ap (λ (w : Version). role_in w Fragment false) v) (omega (arith, long-is x)) (ap (partial_of earlier) (id-is false x) ∙ b) order fit reads ∙ ap (λ (y : List ℕ). Done (all_of y)) all
+      judged-ending limits earlier f (at o) ends-role (free-ends h.version (partial_of earlier Of11) cut free) (omega (arith, long-is x, full)) (ap (partial_of earlier) (key-is false x) ∙ b) order fit reads ∙ ap (λ (y : List ℕ). Done (all_of y)) all
 
-  -- the message of that request id is partial no more, and all others are as they were
+  -- the message of that key is partial no more, and all others are as they were
   abbrev Ended : List Frame → List Frame → Type 0
-  Ended earlier e = (partial_of e i ≡ None) × ((j : ℕ) → i ≢ j → partial_of e j ≡ partial_of earlier j) × (partials_in e ≡ partials_in earlier - 1)
+  Ended earlier e = (partial_of e k ≡ None) × ((j : Key) → k ≢ j → partial_of e j ≡ partial_of earlier j) × (partials_in e ≡ partials_in earlier - 1)
 
-  ended-last : (earlier : List Frame) (o x : List ℕ) → partial_of earlier i ≡ Some (at o) → Ended earlier (fragment_of h id false x ∷ earlier)
+  ended-last : (earlier : List Frame) (o x : List ℕ) → partial_of earlier k ≡ Some (at o) → Ended earlier (fragment_of h id false x ∷ earlier)
   ended-last earlier o x b =
       let f = fragment_of h id false x in
-      let role : role_of f.header ≡ Ends = ap (λ (w : Version). role_in w Fragment false) v in
-      let was : is_some (partial_of earlier (id_of f)) ≡ true = ap (λ (k : ℕ). is_some (partial_of earlier k)) (id-is false x) ∙ ap is_some b in (
-        partial-same f earlier i Ends (id-is false x) role,
-        λ j n. partial-other f earlier j (λ e. n (sym (id-is false x) ∙ e)),
-        partials-step f earlier Ends role ∙ ap (λ (w : Bool). partials_after Ends w (partials_in earlier)) was,
+      let was : is_some (partial_of earlier (key_of f)) ≡ true = ap (λ (j : Key). is_some (partial_of earlier j)) (key-is false x) ∙ ap is_some b in (
+        partial-role f earlier k Ends ends-role ∙ ends-same f k (partial_of earlier k) (key-is false x),
+        λ j n. partial-role f earlier j Ends ends-role ∙ ends-other f j (partial_of earlier j) (λ e. n (sym (key-is false x) ∙ e)),
+        partials-step f earlier Ends ends-role ∙ ap (λ (w : Bool). less_if w (partials_in earlier)) was,
       )
 
   ended-more : (earlier e : List Frame) (x : List ℕ) → Ended (fragment_of h id true x ∷ earlier) e → Ended earlier e
   ended-more earlier e x d =
-      let f = fragment_of h id true x in
-      let role : role_of f.header ≡ Carries = ap (λ (w : Version). role_in w Fragment true) v in (
+      let f = fragment_of h id true x in (
         d.0,
-        λ j n. d.1 j n ∙ partial-other f earlier j (λ k. n (sym (id-is true x) ∙ k)),
-        d.2 ∙ ap (λ (n : ℕ). n - 1) (partials-step f earlier Carries role),
+        λ j n. d.1 j n ∙ partial-role f earlier j Carries carries-role ∙ carries-other f j (partial_of earlier j) (λ e. n (sym (key-is true x) ∙ e)),
+        d.2 ∙ ap (λ (n : ℕ). n - 1) (partials-step f earlier Carries carries-role),
       )
 
   abbrev Reads : List Frame → List Frame → Type 0
   Reads earlier fs = AreFrames limits fs × (e : List Frame) × (reading_from limits earlier None fs ≡ one_completed e (all_of whole)) × Ended earlier e
 
-  reads-last : (earlier : List Frame) (o left : List ℕ) → length left ≤ r → partial_of earlier i ≡ Some (at o) → o ++ left ≡ whole → Reads earlier (fragments_of h id (chunks_from r [] left))
-  reads-last earlier o left short b is =
+  reads-last : (earlier : List Frame) (o left : List ℕ) → length left ≤ r → IsFree h.version (partial_of earlier Of11) → partial_of earlier k ≡ Some (at o) → o ++ left ≡ whole → Reads earlier (fragments_of h id (chunks_from r [] left))
+  reads-last earlier o left short free b is =
       let f = fragment_of h id false left in
-      subst (Reads earlier) (sym (last-fragment h id left r short)) ((is-frame false left short refl, tt), f ∷ earlier, step-done limits earlier None f [] (all_of whole) (ends-it earlier o left b is), ended-last earlier o left b)
+      subst (Reads earlier) (sym (last-fragment h id left r short)) ((is-frame false left short refl, tt), f ∷ earlier, step-done limits earlier None f [] (all_of whole) (ends-it earlier o left free b is), ended-last earlier o left b)
 
-  reads-more : (k : ℕ) (left : List ℕ) → length left ≤ k → (earlier : List Frame) (o : List ℕ) → partial_of earlier i ≡ Some (at o) → o ++ left ≡ whole → Reads earlier (fragments_of h id (chunks_from r [] left))
-  reads-more zero left fuel earlier o b is = reads-last earlier o left (omega (arith, fuel)) b is
-  reads-more (suc k) left fuel earlier o b is =
+  reads-more : (n : ℕ) (left : List ℕ) → length left ≤ n → (earlier : List Frame) (o : List ℕ) → IsFree h.version (partial_of earlier Of11) → partial_of earlier k ≡ Some (at o) → o ++ left ≡ whole → Reads earlier (fragments_of h id (chunks_from r [] left))
+  reads-more zero left fuel earlier o free b is = reads-last earlier o left (omega (arith, fuel)) free b is
+  reads-more (suc n) left fuel earlier o free b is =
       elim (test_lt r (length left)) [
         | inl t ↦
             let x = take r left in
@@ -245,10 +288,10 @@ module _ (again : HeadersAreReadAgain) (limits : Limits) (h hd : Header) (id who
             let size : length x ≡ r = length-take-le r left (omega (arith, t.1)) in
             let parts : (o ++ x) ++ drop r left ≡ whole = append_assoc o x (drop r left) ∙ ap (λ (y : List ℕ). o ++ y) (take-append-drop r left) ∙ is in
             let fit : 12 + length (o ++ x) ≤ limits.message = omega (arith, within, ap length parts, length-append (o ++ x) (drop r left)) in
-            let less : length (drop r left) ≤ k = omega (arith, fuel, some, t.1, length-drop r left) in
-            let later = reads-more k (drop r left) less (f ∷ earlier) (o ++ x) (partial-on earlier o x b) parts in
-            subst (Reads earlier) (sym (more-fragments h id left r some t.1)) ((is-frame true x (omega (arith, size)) (even-is x size), later.0), later.1, step-quiet limits earlier None f _ (carries-on earlier o x b fit) ∙ later.2, ended-more earlier later.1 x later.3)
-        | inr t ↦ reads-last earlier o left t.1 b is
+            let less : length (drop r left) ≤ n = omega (arith, fuel, some, t.1, length-drop r left) in
+            let later = reads-more n (drop r left) less (f ∷ earlier) (o ++ x) (free-on earlier x free) (partial-on earlier o x b) parts in
+            subst (Reads earlier) (sym (more-fragments h id left r some t.1)) ((is-frame true x (omega (arith, size)) (even-is x size), later.0), later.1, step-quiet limits earlier None f _ (carries-on earlier o x free b fit) ∙ later.2, ended-more earlier later.1 x later.3)
+        | inr t ↦ reads-last earlier o left t.1 free b is
       ]
 
 -- a message that can be cut
@@ -261,21 +304,35 @@ not-true : (b : Bool) → not b ≡ true → b ≡ false
 not-true true e = absurd cc
 not-true false e = refl
 
-record IsCuttable (message : List ℕ) (h : Header) : Type 0 where
+same-version : (a b : Version) → is_version a b ≡ true → a ≡ b
+same-version V10 V10 e = refl
+same-version V10 V11 e = absurd cc
+same-version V10 V12 e = absurd cc
+same-version V11 V10 e = absurd cc
+same-version V11 V11 e = refl
+same-version V11 V12 e = absurd cc
+same-version V12 V10 e = absurd cc
+same-version V12 V11 e = absurd cc
+same-version V12 V12 e = refl
+
+record IsCuttable (v : Version) (message : List ℕ) (h : Header) : Type 0 where
   long : 12 ≤ length message
+  version : h.version ≡ v
   kind : is_cut_kind h.version h.kind ≡ true
   alone : h.more ≡ false
   size : 12 + h.size ≡ length message
 
-cuttable-is : (message : List ℕ) (h : Header) → is_cuttable message ≡ true → header_of (take 12 message) ≡ Ok h → IsCuttable message h
-cuttable-is message h is e =
+cuttable-is : (v : Version) (message : List ℕ) (h : Header) → is_cuttable_in v message ≡ true → header_of (take 12 message) ≡ Ok h → IsCuttable v message h
+cuttable-is v message h is e =
     let a = both (nat_le 12 (length message)) _ is in
-    let b : is_cuttable_under (length message) (Ok h) ≡ true = ap (is_cuttable_under (length message)) (sym e) ∙ a.1 in
-    let c = both (is_cut_kind h.version h.kind && not h.more) (frame_size h == length message) b in
-    let d = both (is_cut_kind h.version h.kind) (not h.more) c.0 in
+    let b : is_cuttable_under v (length message) (Ok h) ≡ true = ap (is_cuttable_under v (length message)) (sym e) ∙ a.1 in
+    let c = both (is_version h.version v && is_cut_kind h.version h.kind && not h.more) (frame_size h == length message) b in
+    let d = both (is_version h.version v && is_cut_kind h.version h.kind) (not h.more) c.0 in
+    let g = both (is_version h.version v) (is_cut_kind h.version h.kind) d.0 in
     record {
       long = elim (test_le 12 (length message)) [ inl t ↦ t.1 | inr t ↦ absurd (let k = a.0 in cc) ];
-      kind = d.0;
+      version = same-version h.version v g.0;
+      kind = g.1;
       alone = not-true h.more d.1;
       size = elim (test_eq (frame_size h) (length message)) [ inl t ↦ t.1 | inr t ↦ absurd (let k = c.1 in cc) ];
     }
@@ -283,14 +340,8 @@ cuttable-is message h is e =
 whole-header : (h : Header) (n : ℕ) → h.more ≡ false → h.size ≡ n → record h { more = false; size = n } ≡ h
 whole-header h n alone size = ap (λ (b : Bool). record h { more = b; size = n }) (sym alone) ∙ ap (λ (k : ℕ). record h { size = k }) (sym size)
 
-module _ (again : HeadersAreReadAgain) (limits : Limits) (s message : List ℕ) (h : Header) (n : fault_of limits s ≡ None) (none : rest_of limits s ≡ [])
-    (new : partial_of (frames_of limits s) (id_of (under h message)) ≡ None) (is : header_of (take 12 message) ≡ Ok h) (c : IsCuttable message h) (within : length message ≤ limits.message) (ok : IsOk (content_of h (drop 12 message))) where
-  v : h.version ≡ V12
-  v = version-12 h.version h.kind c.kind
-
-  kind : is_cut_kind V12 h.kind ≡ true
-  kind = ap (λ (w : Version). is_cut_kind w h.kind) (sym v) ∙ c.kind
-
+module _ (again : HeadersAreReadAgain) (limits : Limits) (s message : List ℕ) (v : Version) (h : Header) (n : fault_of limits s ≡ None) (none : rest_of limits s ≡ []) (new : partial_of (frames_of limits s) (key_of (under h message)) ≡ None)
+    (early : partial_of (frames_of limits s) Of11 ≡ None) (is : header_of (take 12 message) ≡ Ok h) (c : IsCuttable v message h) (within : length message ≤ limits.message) (ok : IsOk (content_of h (drop 12 message))) where
   whole-size : h.size ≡ length (drop 12 message)
   whole-size = omega (arith, c.size, c.long, length-drop 12 message)
 
@@ -299,56 +350,64 @@ module _ (again : HeadersAreReadAgain) (limits : Limits) (s message : List ℕ) 
   uncut =
       let f = under h message in
       let fs = f ∷ [] in
-      let role : role_of f.header ≡ Uncut = ap (λ (w : Version). role_in w h.kind h.more) v ∙ ap (role_in_12 h.kind) c.alone ∙ cut-uncut h.kind kind in
-      let reads : IsOk (message_of V12 h.kind h.order (drop 12 message)) = subst (λ (w : Version). IsOk (message_of w h.kind h.order (drop 12 message))) v ok in
-      let long : 4 ≤ length (drop 12 message) = cut-has_id h.kind h.order (drop 12 message) kind reads in
-      let even : (h.more && not (frame_size h % 8 == 0)) ≡ false = ap (λ (b : Bool). b && not (frame_size h % 8 == 0)) c.alone in
-      let frame : IsFrame limits f message = record { header = is; taken = admit-12 limits h v (omega (arith, c.size, within)) even; long = sym c.size; rest = refl } in
-      let verdict : judged limits (frames_of limits s) f ≡ Done f = judged-uncut limits (frames_of limits s) f role long new ok in
-      completes limits s n none message fs (f ∷ frames_of limits s) f (message, [], sym (append-nil message), frame, refl) (step-done limits (frames_of limits s) None f [] f verdict) (leaves-alone f (frames_of limits s) Uncut role (cut-stays h.kind kind) tt)
+      let role : role_of f.header ≡ whole_role h.version = ap (role_in h.version h.kind) c.alone ∙ cut-whole h.version h.kind c.kind in
+      let long : id_length h.version ≤ length (drop 12 message) = cut-has_id h.version h.kind h.order (drop 12 message) c.kind ok in
+      let even : is_unaligned h ≡ false = ap (λ (b : Bool). b && not (frame_size h % 8 == cut_place h.version)) c.alone in
+      let frame : IsFrame limits f message = record { header = is; taken = admit-cut limits h (omega (arith, c.size, within)) even; long = sym c.size; rest = refl } in
+      let verdict : judged limits (frames_of limits s) f ≡ Done f = judged-alone limits (frames_of limits s) f h.version refl role early long (λ u. new) ok in
+      completes limits s n none message fs (f ∷ frames_of limits s) f (message, [], sym (append-nil message), frame, refl) (step-done limits (frames_of limits s) None f [] f verdict)
+      (leaves-role f (frames_of limits s) (whole_role h.version) false role (cut-stays h.version h.kind c.kind) (leaving-whole h.version))
 
   -- in a first frame and Fragments
-  in_frames : (k : ℕ) → partials_in (frames_of limits s) < limits.partials → 24 ≤ k → k % 8 ≡ 0 → k < length message
-      → Completes limits s (flat_map frame_octets (first_frame h (drop 12 (take k message)) ∷ fragments_of h (take 4 (drop 12 message)) (chunks_from (k - 16) [] (drop k message)))) (under h message)
+  in_frames : (k : ℕ) → partials_in (frames_of limits s) < limits.partials → 20 + id_length h.version ≤ k → k % 8 ≡ cut_place h.version → k < length message
+      → Completes limits s (flat_map frame_octets (first_frame h (drop 12 (take k message)) ∷ fragments_of h (take (id_length h.version) (drop 12 message)) (chunks_from (k - (12 + id_length h.version)) [] (drop k message)))) (under h message)
   in_frames k free least even more =
       let whole = drop 12 message in
       let front = drop 12 (take k message) in
       let after = drop k message in
-      let id = take 4 whole in
+      let id = take (id_length h.version) whole in
+      let r = k - (12 + id_length h.version) in
       let first = first_frame h front in
       let earlier = frames_of limits s in
+      let key = key_in h.version (number_of h.order 4 id) in
       let size : length (take k message) ≡ k = length-take-le k message (omega (arith, more)) in
       let front-size : length front ≡ k - 12 = omega (arith, size, length-drop 12 (take k message)) in
       let parts : front ++ after ≡ whole = sym (drop-append-le 12 (take k message) after (omega (arith, size, least))) ∙ ap (drop 12) (take-append-drop k message) in
-      let four : length id ≡ 4 = length-take-le 4 whole (omega (arith, more, least, length-drop 12 message)) in
-      let same : id_of first ≡ id_of (under h message) = sym (number-front h.order front after (omega (arith, front-size, least))) ∙ ap (number_of h.order 4) parts in
-      let named : id_of first ≡ number_of h.order 4 id = same ∙ sym (number-take h.order whole) in
-      let role : role_of first.header ≡ Opens = ap (λ (w : Version). role_in w h.kind true) v ∙ cut-opens h.kind kind in
-      let verdict : judged limits earlier first ≡ Quiet = judged-opening limits earlier first role (omega (arith, front-size, least)) (ap (partial_of earlier) same ∙ new) free in
-      let opened : partial_of (first ∷ earlier) (number_of h.order 4 id) ≡ Some (record { header = first.header; octets = front }) = partial-same first earlier (number_of h.order 4 id) Opens named role in
-      let all : 16 + (k - 16) ≡ k = omega (arith, least) in
+      let full : length id ≡ id_length h.version = length-take-le (id_length h.version) whole (omega (arith, more, least, length-drop 12 message)) in
+      let there : id_length h.version ≤ length front = omega (arith, front-size, least) in
+      let same : key_of first ≡ key_of (under h message) = sym (key-front h.version h.order front after there) ∙ ap (λ (x : List ℕ). key_in h.version (number_of h.order 4 x)) parts in
+      let named : key_of first ≡ key = same ∙ sym (key-take h.version h.order whole) in
+      let role : role_of first.header ≡ Opens = cut-opens h.version h.kind c.kind in
+      let can = cut-can h.version h.kind c.kind in
+      let verdict : judged limits earlier first ≡ Quiet = judged-opening limits earlier first role early there (ap (partial_of earlier) same ∙ new) free in
+      let opened : partial_of (first ∷ earlier) key ≡ Some (record { header = first.header; octets = front }) = partial-role first earlier key Opens role ∙ opens-same first key (partial_of earlier key) named in
+      let freed : IsFree h.version (partial_of (first ∷ earlier) Of11) =
+      free-next h.version first earlier refl (λ not. partial-role first earlier Of11 Opens role ∙ opens-other first Of11 (partial_of earlier Of11) not) (free-if h.version (partial_of earlier Of11) early) in
+      let all : 12 + (id_length h.version + r) ≡ k = omega (arith, least) in
       let head : frame_size first.header ≡ k = omega (arith, front-size, least) in
       let fit : 12 + length whole ≤ limits.message = omega (arith, within, c.long, length-drop 12 message) in
       let ended : record first.header { more = false; size = length whole } ≡ h = whole-header h (length whole) c.alone whole-size in
       let reads : IsOk (content_of (record first.header { more = false; size = length whole }) whole) = subst (λ (x : Header). IsOk (content_of x whole)) (sym ended) ok in
-      let first-frame : IsFrame limits first (frame_octets first) = frame-again again limits first v (cut-can h.kind kind) refl (omega (arith, front-size, least, more, within)) (and-not true (frame_size first.header % 8 == 0) (eq-eqb (frame_size first.header % 8) 0 (ap (λ (m : ℕ). m % 8) head ∙ even))) in
-      let later = reads-more again limits h first.header id whole (k - 16) v (same-order h.order) four (omega (arith, least)) (ap (λ (m : ℕ). m % 8) all ∙ even) fit (omega (arith, all, more, within)) reads
-      (length after) after (omega arith) (first ∷ earlier) front opened parts in
-      let fs = first ∷ fragments_of h id (chunks_from (k - 16) [] after) in
+      let first-frame : IsFrame limits first (frame_octets first) = frame-again again limits first can.0 refl (omega (arith, front-size, least, more, within)) (and-not true (frame_size first.header % 8 == cut_place h.version) (eq-eqb (frame_size first.header % 8) (cut_place h.version) (ap (λ (m : ℕ). m % 8) head ∙ even))) in
+      let later = reads-more again limits h first.header id whole r can.1 (same-order h.order) full (omega (arith, least)) (ap (λ (m : ℕ). m % 8) all ∙ even) fit (omega (arith, all, more, within)) reads
+      (length after) after (omega arith) (first ∷ earlier) front freed opened parts in
+      let fs = first ∷ fragments_of h id (chunks_from r [] after) in
       let m : Frame = record { header = record first.header { more = false; size = length whole }; octets = whole } in
-      let gone : partial_of earlier (number_of h.order 4 id) ≡ None = ap (partial_of earlier) (sym named ∙ same) ∙ new in
-      let left : Leaves m earlier later.1 = leaves-cut m first earlier later.1 (number_of h.order 4 id) named role gone (cut-stays h.kind kind) later.3.0 later.3.1 later.3.2 in
+      let gone : partial_of earlier key ≡ None = ap (partial_of earlier) (sym named ∙ same) ∙ new in
+      let left : Leaves m earlier later.1 = leaves-cut m first earlier later.1 key named role gone (cut-stays h.version h.kind c.kind) later.3.0 later.3.1 later.3.2 in
       let done = completes limits s n none (flat_map frame_octets fs) fs later.1 (record { header = record first.header { more = false; size = length whole }; octets = whole }) (frames-split limits fs (first-frame, later.0)) (step-quiet limits earlier None first _ verdict ∙ later.2) left in
       subst (λ (x : Header). Completes limits s (flat_map frame_octets fs) (record { header = x; octets = whole })) ended done
 
-pub cut_again : HeadersAreReadAgain → CutIsReadAgain
-cut_again again limits s message n h faultless none new free is e least even within ok =
-    let c = cuttable-is message h is e in
+pub cut_again : HeadersAreReadAgain → (v : Version) → CutIsReadAgain v
+cut_again again v limits s message n h faultless none new early free is e least even within ok =
+    let c = cuttable-is v message h is e in
     elim (test_le (length message) n) [
       | inl t ↦
           let as_is : cut_octets n h message ≡ message = rw t.0 refl in
-          subst (λ (x : List ℕ). Completes limits s x (under h message)) (sym as_is) (uncut again limits s message h faultless none new e c within ok)
+          subst (λ (x : List ℕ). Completes limits s x (under h message)) (sym as_is) (uncut again limits s message v h faultless none new early e c within ok)
       | inr t ↦
-          let cut : cut_octets n h message ≡ flat_map frame_octets (first_frame h (drop 12 (take n message)) ∷ fragments_of h (take 4 (drop 12 message)) (chunks_from (n - 16) [] (drop n message))) = rw t.0 refl in
-          subst (λ (x : List ℕ). Completes limits s x (under h message)) (sym cut) (in_frames again limits s message h faultless none new e c within ok n free least even t.1)
+          let cut : cut_octets n h message ≡ flat_map frame_octets (first_frame h (drop 12 (take n message)) ∷ fragments_of h (take (id_length h.version) (drop 12 message)) (chunks_from (n - (12 + id_length h.version)) [] (drop n message))) = rw t.0 refl in
+          let long : 20 + id_length h.version ≤ n = subst (λ (w : Version). 20 + id_length w ≤ n) (sym c.version) least in
+          let place : n % 8 ≡ cut_place h.version = subst (λ (w : Version). n % 8 ≡ cut_place w) (sym c.version) even in
+          subst (λ (x : List ℕ). Completes limits s x (under h message)) (sym cut) (in_frames again limits s message v h faultless none new early e c within ok n free long place t.1)
     ]

@@ -1,6 +1,7 @@
 -- Samples: what the definitions give on streams written out in octets.
 use Rattle.std.proofs.Common.{◌≡◌, ℕ, ◌++◌, List, [], ◌∷◌, Some, None, refl, map, lit≤}
-use Rattle.cdr_core.specs.Reading.{value_at, whole_at, number_at, part_at, octets_at, length_at}
+use Rattle.cdr_core.specs.Reading.{value_at, each_at, boolean_at, string_at, text_at, whole_at, number_at, part_at, octets_at, length_at}
+use Rattle.giop_core.specs.Begun.{request_id_in}
 use Rattle.giop_core.specs.Headers.{header_of}
 use Rattle.giop_core.specs.Messages.{message_of}
 use Rattle.giop_core.specs.Rows.{row}
@@ -88,6 +89,41 @@ not_too_large : fault_of limits (71 ∷ 73 ∷ 79 ∷ 80 ∷ 1 ∷ 2 ∷ 0 ∷ 1
 unfolding of seen limits opening ending cancel again other messages_of fault_of rest_of split sight header_of judged_by judged_as message_of row value_at whole_at number_at part_at octets_at length_at
 not_too_large = refl
 
-cut_in_1_1 : fault_of limits (71 ∷ 73 ∷ 79 ∷ 80 ∷ 1 ∷ 1 ∷ 2 ∷ 1 ∷ 0 ∷ 0 ∷ 0 ∷ 12 ∷ []) ≡ Some StrayFragment
-unfolding of seen limits opening ending cancel again other messages_of fault_of rest_of split sight header_of judged_by judged_as message_of row value_at whole_at number_at part_at octets_at length_at
-cut_in_1_1 = refl
+-- a message of 1.1 in three frames: a Request of id 5 of the operation `add`, with a body of four octets
+opening_11 : List ℕ
+opening_11 = 71 ∷ 73 ∷ 79 ∷ 80 ∷ 1 ∷ 1 ∷ 2 ∷ 0 ∷ 0 ∷ 0 ∷ 0 ∷ 16 ∷ 0 ∷ 0 ∷ 0 ∷ 0 ∷ 0 ∷ 0 ∷ 0 ∷ 5 ∷ 1 ∷ 0 ∷ 0 ∷ 0 ∷ 0 ∷ 0 ∷ 0 ∷ 1 ∷ []
+
+middle_11 : List ℕ
+middle_11 = 71 ∷ 73 ∷ 79 ∷ 80 ∷ 1 ∷ 1 ∷ 2 ∷ 7 ∷ 0 ∷ 0 ∷ 0 ∷ 8 ∷ 99 ∷ 0 ∷ 0 ∷ 0 ∷ 0 ∷ 0 ∷ 0 ∷ 4 ∷ []
+
+ending_11 : List ℕ
+ending_11 = 71 ∷ 73 ∷ 79 ∷ 80 ∷ 1 ∷ 1 ∷ 0 ∷ 7 ∷ 0 ∷ 0 ∷ 0 ∷ 12 ∷ 97 ∷ 100 ∷ 100 ∷ 0 ∷ 0 ∷ 0 ∷ 0 ∷ 0 ∷ 0 ∷ 0 ∷ 0 ∷ 7 ∷ []
+
+-- a CancelRequest of its id
+cancel_11 : List ℕ
+cancel_11 = 71 ∷ 73 ∷ 79 ∷ 80 ∷ 1 ∷ 1 ∷ 0 ∷ 2 ∷ 0 ∷ 0 ∷ 0 ∷ 4 ∷ 0 ∷ 0 ∷ 0 ∷ 5 ∷ []
+
+joined_in_1_1 : of (opening_11 ++ middle_11 ++ ending_11) ≡ (72, 0 ∷ 0 ∷ 0 ∷ 0 ∷ 0 ∷ 0 ∷ 0 ∷ 5 ∷ 1 ∷ 0 ∷ 0 ∷ 0 ∷ 0 ∷ 0 ∷ 0 ∷ 1 ∷ 99 ∷ 0 ∷ 0 ∷ 0 ∷ 0 ∷ 0 ∷ 0 ∷ 4 ∷ 97 ∷ 100 ∷ 100 ∷ 0 ∷ 0 ∷ 0 ∷ 0 ∷ 0 ∷ 0 ∷ 0 ∷ 0 ∷ 7 ∷ []) ∷ []
+unfolding of seen limits opening ending cancel again other opening_11 middle_11 ending_11 cancel_11 messages_of fault_of rest_of split sight header_of judged_by judged_as message_of row request_id_in value_at each_at boolean_at string_at text_at whole_at number_at part_at octets_at length_at
+joined_in_1_1 = refl
+
+stray_in_1_1 : fault_of limits middle_11 ≡ Some StrayFragment
+unfolding of seen limits opening ending cancel again other opening_11 middle_11 ending_11 cancel_11 messages_of fault_of rest_of split sight header_of judged_by judged_as message_of row request_id_in value_at each_at boolean_at string_at text_at whole_at number_at part_at octets_at length_at
+stray_in_1_1 = refl
+
+cancelled_in_1_1 : fault_of limits (opening_11 ++ cancel_11 ++ middle_11) ≡ Some StrayFragment
+unfolding of seen limits opening ending cancel again other opening_11 middle_11 ending_11 cancel_11 messages_of fault_of rest_of split sight header_of judged_by judged_as message_of row request_id_in value_at each_at boolean_at string_at text_at whole_at number_at part_at octets_at length_at
+cancelled_in_1_1 = refl
+
+-- the id is not there yet
+cancelled_too_early : fault_of limits ((71 ∷ 73 ∷ 79 ∷ 80 ∷ 1 ∷ 1 ∷ 2 ∷ 0 ∷ 0 ∷ 0 ∷ 0 ∷ 8 ∷ 0 ∷ 0 ∷ 0 ∷ 1 ∷ 0 ∷ 0 ∷ 0 ∷ 1 ∷ []) ++ cancel_11) ≡ None
+unfolding of seen limits opening ending cancel again other opening_11 middle_11 ending_11 cancel_11 messages_of fault_of rest_of split sight header_of judged_by judged_as message_of row request_id_in value_at each_at boolean_at string_at text_at whole_at number_at part_at octets_at length_at
+cancelled_too_early = refl
+
+another_between : fault_of limits (opening_11 ++ ending) ≡ Some TwiceStarted
+unfolding of seen limits opening ending cancel again other opening_11 middle_11 ending_11 cancel_11 messages_of fault_of rest_of split sight header_of judged_by judged_as message_of row request_id_in value_at each_at boolean_at string_at text_at whole_at number_at part_at octets_at length_at
+another_between = refl
+
+unaligned_in_1_1 : fault_of limits (71 ∷ 73 ∷ 79 ∷ 80 ∷ 1 ∷ 1 ∷ 2 ∷ 0 ∷ 0 ∷ 0 ∷ 0 ∷ 20 ∷ []) ≡ Some UnalignedFragment
+unfolding of seen limits opening ending cancel again other opening_11 middle_11 ending_11 cancel_11 messages_of fault_of rest_of split sight header_of judged_by judged_as message_of row request_id_in value_at each_at boolean_at string_at text_at whole_at number_at part_at octets_at length_at
+unaligned_in_1_1 = refl

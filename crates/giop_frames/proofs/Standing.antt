@@ -3,8 +3,9 @@ use Rattle.std.proofs.Common.{◌≡◌, ℕ, ◌<◌, List, [], ◌∷◌, ◌+
 use Rattle.std.proofs.lemmas.List.{append-nil}
 use Rattle.giop_frames.specs.declared.fault.StreamFault.{StreamFault}
 use Rattle.giop_frames.specs.declared.limits.Limits.{Limits}
+use Rattle.giop_frames.specs.declared.partial.Key.TheVariants.{Of11}
 use Rattle.giop_frames.specs.Frames.{Frame, Split, Waiting, Whole, Refused, after_frame, frame_size, sight, split, split_from}
-use Rattle.giop_frames.specs.Fragments.{Bad, Quiet, Done, id_of, judged, judged_by}
+use Rattle.giop_frames.specs.Fragments.{Bad, Quiet, Done, key_of, judged, judged_by}
 use Rattle.giop_frames.specs.Streams.{Entry, part_in}
 use Rattle.giop_frames.specs.Private.{parts_after}
 use Rattle.giop_frames.specs.Streams.{Faults, Follows, Reading, Stands, fault_of, frames_of, messages_of, place_after, reading_from, reading_of, rest_of}
@@ -65,7 +66,7 @@ module _ (limits : Limits) (b : List ℕ) (ps : List Entry) (s : List ℕ) (stan
       record { is = ap (λ (x : Reading). x.fault) whole; same = ap (λ (x : Reading). x.messages) whole ∙ append-nil (messages_of limits s) }
 
   -- the judgement of the next frame
-  judged_next : (f : Frame) → judged_by limits (part_in ps (id_of f)) (length ps) f ≡ judged limits (frames_of limits s) f
+  judged_next : (f : Frame) → judged_by limits (part_in ps Of11) (part_in ps (key_of f)) (length ps) f ≡ judged limits (frames_of limits s) f
   judged_next f = judged-follows limits ps (frames_of limits s) f stands.partial
 
 pub stands-waiting : (limits : Limits) (b : List ℕ) (ps : List Entry) (s c : List ℕ) → Stands limits b ps s → sight limits (b ++ c) ≡ Waiting
@@ -80,29 +81,29 @@ alone-whole : (limits : Limits) (b c : List ℕ) (f : Frame) → sight limits (b
 alone-whole limits b c f w exact some = ap (split_from limits b) (sym (append-nil c)) ∙ split-whole limits b c [] f w exact some
 
 pub stands-quiet : (limits : Limits) (b : List ℕ) (ps : List Entry) (s c : List ℕ) (f : Frame) → Stands limits b ps s → sight limits (b ++ c) ≡ Whole f → length (b ++ c) ≡ frame_size f.header → 0 < length c
-    → judged_by limits (part_in ps (id_of f)) (length ps) f ≡ Quiet → Stands limits [] (parts_after ps f) (s ++ c) × (messages_of limits (s ++ c) ≡ messages_of limits s)
+    → judged_by limits (part_in ps Of11) (part_in ps (key_of f)) (length ps) f ≡ Quiet → Stands limits [] (parts_after ps f) (s ++ c) × (messages_of limits (s ++ c) ≡ messages_of limits s)
 stands-quiet limits b ps s c f stands w exact some j =
     let h = frames_of limits s in
     let verdict : judged limits h f ≡ Quiet = sym (judged_next limits b ps s stands f) ∙ j in
-    let fine : IsFine (judged_by limits (part_in ps (id_of f)) (length ps) f) = rw j tt in
+    let fine : IsFine (judged_by limits (part_in ps Of11) (part_in ps (key_of f)) (length ps) f) = rw j tt in
     let r = goes_on limits b ps s stands c (record { frames = f ∷ []; rest = []; fault = None }) (record { messages = []; fault = None; earlier = f ∷ h }) (parts_after ps f)
     (alone-whole limits b c f w exact some) (step-quiet limits h None f [] verdict) refl (follows-step limits ps h f stands.partial fine) in
     (r.0, r.1 ∙ append-nil (messages_of limits s))
 
 pub stands-done : (limits : Limits) (b : List ℕ) (ps : List Entry) (s c : List ℕ) (f m : Frame) → Stands limits b ps s → sight limits (b ++ c) ≡ Whole f → length (b ++ c) ≡ frame_size f.header → 0 < length c
-    → judged_by limits (part_in ps (id_of f)) (length ps) f ≡ Done m
+    → judged_by limits (part_in ps Of11) (part_in ps (key_of f)) (length ps) f ≡ Done m
     → Stands limits [] (parts_after ps f) (s ++ c) × (messages_of limits (s ++ c) ≡ messages_of limits s ++ record { place = length (s ++ c); message = m } ∷ [])
 stands-done limits b ps s c f m stands w exact some j =
     let h = frames_of limits s in
     let verdict : judged limits h f ≡ Done m = sym (judged_next limits b ps s stands f) ∙ j in
-    let fine : IsFine (judged_by limits (part_in ps (id_of f)) (length ps) f) = rw j tt in
+    let fine : IsFine (judged_by limits (part_in ps Of11) (part_in ps (key_of f)) (length ps) f) = rw j tt in
     let r = goes_on limits b ps s stands c (record { frames = f ∷ []; rest = []; fault = None }) (record { messages = record { place = place_after (f ∷ h); message = m } ∷ []; fault = None; earlier = f ∷ h }) (parts_after ps f)
     (alone-whole limits b c f w exact some) (step-done limits h None f [] m verdict) refl (follows-step limits ps h f stands.partial fine) in
     let place : place_after (f ∷ h) ≡ length (s ++ c) = omega (arith, place-length limits s stands.faultless, ap length stands.waiting, whole-length limits (b ++ c) f w, length-append b c, length-append s c) in
     (r.0, r.1 ∙ ap (λ (p : ℕ). messages_of limits s ++ record { place = p; message = m } ∷ []) place)
 
 pub faults-frame : (limits : Limits) (b : List ℕ) (ps : List Entry) (s c ys : List ℕ) (f : Frame) (e : StreamFault) → Stands limits b ps s → sight limits (b ++ c) ≡ Whole f → length (b ++ c) ≡ frame_size f.header → 0 < length c
-    → judged_by limits (part_in ps (id_of f)) (length ps) f ≡ Bad e → Faults limits s (c ++ ys) e
+    → judged_by limits (part_in ps Of11) (part_in ps (key_of f)) (length ps) f ≡ Bad e → Faults limits s (c ++ ys) e
 faults-frame limits b ps s c ys f e stands w exact some j =
     let h = frames_of limits s in
     let verdict : judged limits h f ≡ Bad e = sym (judged_next limits b ps s stands f) ∙ j in
@@ -116,4 +117,4 @@ faults-header limits b ps s c ys e stands w exact some =
 -- nothing is left of the empty stream
 pub stands-empty : (limits : Limits) → Stands limits [] [] []
 unfolding fault_of rest_of frames_of split
-stands-empty limits = record { faultless = refl; waiting = refl; partial = record { each = λ i. refl; count = refl; distinct = tt } }
+stands-empty limits = record { faultless = refl; waiting = refl; partial = record { each = λ k. refl; count = refl; distinct = tt } }

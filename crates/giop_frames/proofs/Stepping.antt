@@ -7,10 +7,11 @@ use Rattle.giop_frames.specs.declared.fault.StreamFault.{StreamFault}
 use Rattle.giop_frames.specs.declared.fault.StreamFault.TheVariants.{Header as BadHeader, TooLarge, UnalignedFragment, StrayFragment, TwiceStarted, TooManyPartial, Body, MixedOrder, Memory, Failed}
 use Rattle.giop_frames.specs.declared.deframer.Seen.{Seen}
 use Rattle.giop_frames.specs.declared.limits.Limits.{Limits}
+use Rattle.giop_frames.specs.declared.partial.Key.TheVariants.{Of11}
 use Rattle.giop_frames.specs.declared.reassembly.Settled.{Settled}
 use Rattle.giop_frames.specs.declared.reassembly.Settled.TheVariants.{Quiet as SettledQuiet, Done as SettledDone, Bad as SettledBad}
 use Rattle.giop_frames.specs.Frames.{Refused, Waiting, Whole, frame_size, sight}
-use Rattle.giop_frames.specs.Fragments.{id_of, judged_by}
+use Rattle.giop_frames.specs.Fragments.{key_of, judged_by}
 use Rattle.giop_frames.specs.Standing.{AreWithin, IsFault, OnFault, completed_at, framed, message_at, pending_at}
 use Rattle.giop_frames.specs.Streams.{Completed, Entry, Faults, Stands, fault_of, messages_of, part_in}
 use Rattle.giop_frames.specs.Private.{IsExact, IsSettled, IsStep, IsWhole, NeedsAsSeen, sight_at}
@@ -108,22 +109,22 @@ module _ (limits : Limits) (b g piece : List ℕ) (n : ℕ) (gathered : g ≡ b 
     pub fails-frame : (b' : List ℕ) (ps ps' : List Entry) (s : List ℕ) (e : StreamFault) → IsSettled (SettledBad e) limits h g b' ps ps' → Stands limits b ps s → IsFault limits s piece e
     fails-frame b' ps ps' s e settled stands =
         let f = faults-frame limits b ps s (take n piece) (drop n piece) (framed h g) e stands seen-whole exact-whole some-front settled in
-        fault-is limits s piece e (bad-error limits (part_in ps (id_of (framed h g))) (length ps) (framed h g) e frame-within settled) (subst (λ (x : List ℕ). Faults limits s x e) (take-append-drop n piece) f)
+        fault-is limits s piece e (bad-error limits (part_in ps Of11) (part_in ps (key_of (framed h g))) (length ps) (framed h g) e frame-within settled) (subst (λ (x : List ℕ). Faults limits s x e) (take-append-drop n piece) f)
 
     pub keeps-done : (m : Header) (b' : List ℕ) (ps ps' : List Entry) → IsSettled (SettledDone m) limits h g b' ps ps' → IsWhole limits m b'
     keeps-done m b' ps ps' settled =
-        let k = done-reads limits (part_in ps (id_of (framed h g))) (length ps) (framed h g) (framed m b') frame-within settled.0 in
+        let k = done-reads limits (part_in ps Of11) (part_in ps (key_of (framed h g))) (length ps) (framed h g) (framed m b') frame-within settled.0 in
         let all = settled.2 in
         record { headed = all; within = omega (arith, k.0, length-drop 12 b'); reads = k.1 }
 
     pub stays-quiet : (b' : List ℕ) (ps ps' : List Entry) → IsSettled SettledQuiet limits h g b' ps ps' → AreWithin limits ps → AreWithin limits ps'
     stays-quiet b' ps ps' settled w =
-        let fine : IsFine (judged_by limits (part_in ps (id_of (framed h g))) (length ps) (framed h g)) = rw settled.0 tt in
+        let fine : IsFine (judged_by limits (part_in ps Of11) (part_in ps (key_of (framed h g))) (length ps) (framed h g)) = rw settled.0 tt in
         subst (AreWithin limits) (sym settled.2) (within-step limits ps (framed h g) frame-within w fine)
 
     pub stays-done : (m : Header) (b' : List ℕ) (ps ps' : List Entry) → IsSettled (SettledDone m) limits h g b' ps ps' → AreWithin limits ps → AreWithin limits ps'
     stays-done m b' ps ps' settled w =
-        let fine : IsFine (judged_by limits (part_in ps (id_of (framed h g))) (length ps) (framed h g)) = rw settled.0 tt in
+        let fine : IsFine (judged_by limits (part_in ps Of11) (part_in ps (key_of (framed h g))) (length ps) (framed h g)) = rw settled.0 tt in
         subst (AreWithin limits) (sym settled.1) (within-step limits ps (framed h g) frame-within w fine)
 
 -- a step after a step

@@ -1,5 +1,5 @@
 -- A message that is written whole is read again.
-use Rattle.std.proofs.Common.{◌≡◌, ℕ, ◌+◌, ◌<◌, ◌≤◌, ◌^◌, ◌&&◌, nat_lt, true, false, List, [], ◌∷◌, length, take, None, Ok, Err, IsOk, refl, sym, ap, subst, ◌∙◌, inl, inr, arith, length-append, if◌then◌else◌}
+use Rattle.std.proofs.Common.{◌≡◌, ℕ, ◌+◌, ◌<◌, ◌≤◌, ◌^◌, true, false, List, [], ◌∷◌, length, take, None, Ok, Err, IsOk, refl, sym, ap, subst, ◌∙◌, inl, inr, arith, length-append}
 use Rattle.std.proofs.lemmas.Bool.{le-ltb, lt-ltb}
 use Rattle.std.proofs.lemmas.List.{append-nil, drop_at, take_all, take_at}
 use Rattle.cdr_core.specs.declared.order.Order.{Order}
@@ -16,15 +16,15 @@ use Rattle.giop_core.specs.Rows.{row}
 use Rattle.giop_core.specs.Written.{header_for, message_octets}
 use Rattle.giop_frames.specs.declared.fault.StreamFault.TheVariants.{TooLarge}
 use Rattle.giop_frames.specs.declared.limits.Limits.{Limits}
-use Rattle.giop_frames.specs.declared.reassembly.Role.{Role}
+use Rattle.giop_frames.specs.declared.partial.Key.TheVariants.{Of11}
 use Rattle.giop_frames.specs.declared.reassembly.Role.TheVariants.{Apart, Drops, Uncut}
-use Rattle.giop_frames.specs.ReadAgain.{WrittenIsReadAgain, WrittenTooLarge, written}
+use Rattle.giop_frames.specs.ReadAgain.{WrittenIsReadAgain, WrittenTooLarge, is_cancel, written}
 use Rattle.giop_frames.specs.Cutting.{is_cut_kind}
-use Rattle.giop_frames.specs.Fragments.{Done, Verdict, partial_of, has_id, id_of, judged, judged_as, judged_by, partials_in, role_before_12, role_in, role_of, too_short, content_of}
+use Rattle.giop_frames.specs.Fragments.{Done, partial_of, judged, judged_as, key_of, partials_in, role_in, role_in_10, role_of, content_of}
 use Rattle.giop_frames.specs.Frames.{Frame, Refused, admitted, frame_size, judged_header, sight, under_header}
 use Rattle.giop_frames.specs.Splitting.{IsFrame}
 use Rattle.giop_frames.specs.Streams.{Stands, frames_of}
-use Rattle.giop_frames.proofs.CutFrames.{cut-has_id, judged-uncut, length-header, too_few, whole-done}
+use Rattle.giop_frames.proofs.CutFrames.{cut-has_id, free-none, judged-alone, judged-role, length-header, too_few, whole-done}
 use Rattle.giop_frames.proofs.Deciding.{test_lt}
 use Rattle.giop_frames.proofs.Readings.{step-done}
 use Rattle.giop_frames.proofs.Completing.{partials_counted}
@@ -46,17 +46,8 @@ possible V10 Fragment order n not = absurd (not refl)
 possible V11 k order n not = refl
 possible V12 k order n not = refl
 
-taken : (limits : Limits) (v : Version) (k : MessageKind) (order : Order) (n : ℕ) → (k ≡ Fragment → ⊥) → 12 + n ≤ limits.message → admitted limits (header_for v k order n) ≡ Ok (header_for v k order n)
-taken limits V10 k order n not fits = rw (le-ltb limits.message (12 + n) fits) refl
-taken limits V12 k order n not fits = rw (le-ltb limits.message (12 + n) fits) refl
-taken limits V11 Request order n not fits = rw (le-ltb limits.message (12 + n) fits) refl
-taken limits V11 Reply order n not fits = rw (le-ltb limits.message (12 + n) fits) refl
-taken limits V11 CancelRequest order n not fits = rw (le-ltb limits.message (12 + n) fits) refl
-taken limits V11 LocateRequest order n not fits = rw (le-ltb limits.message (12 + n) fits) refl
-taken limits V11 LocateReply order n not fits = rw (le-ltb limits.message (12 + n) fits) refl
-taken limits V11 CloseConnection order n not fits = rw (le-ltb limits.message (12 + n) fits) refl
-taken limits V11 MessageError order n not fits = rw (le-ltb limits.message (12 + n) fits) refl
-taken limits V11 Fragment order n not fits = absurd (not refl)
+taken : (limits : Limits) (v : Version) (k : MessageKind) (order : Order) (n : ℕ) → 12 + n ≤ limits.message → admitted limits (header_for v k order n) ≡ Ok (header_for v k order n)
+taken limits v k order n fits = rw (le-ltb limits.message (12 + n) fits) refl
 
 is-frame : HeadersAreReadAgain → (limits : Limits) (v : Version) (k : MessageKind) (order : Order) (body : List ℕ) → (k ≡ Fragment → ⊥) → 12 + length body ≤ limits.message
     → IsFrame limits (written v k order body) (message_octets v k order body)
@@ -66,7 +57,7 @@ is-frame again limits v k order body not fits =
     let front : take 12 (message_octets v k order body) ≡ header_octets h = take_at (header_octets h) body 12 (length-header h) in
     record {
       header = ap header_of front ∙ again h small (possible v k order (length body) not);
-      taken = taken limits v k order (length body) not fits;
+      taken = taken limits v k order (length body) fits;
       long = omega (arith, length-append (header_octets h) body, length-header h);
       rest = sym (drop_at (header_octets h) body 12 (length-header h));
     }
@@ -86,60 +77,69 @@ cancel-long v order x ok =
       | inr t ↦ t.1
     ]
 
+-- in 1.1 a whole message has the role that it has in 1.0
+like-10 : (k : MessageKind) → (k ≡ Fragment → ⊥) → role_in V11 k false ≡ role_in_10 k
+like-10 Request not = refl
+like-10 Reply not = refl
+like-10 CancelRequest not = refl
+like-10 LocateRequest not = refl
+like-10 LocateReply not = refl
+like-10 CloseConnection not = refl
+like-10 MessageError not = refl
+like-10 Fragment not = absurd (not refl)
+
 -- a whole message is judged to be itself
 
 module _ (limits : Limits) (earlier : List Frame) where
-  abbrev by_role : Frame → Role → Verdict
-  by_role f r = if has_id r && nat_lt (length f.octets) 4 then too_short else judged_as r limits (partial_of earlier (id_of f)) (partials_in earlier) f
-
-  judged-apart : (f : Frame) → role_of f.header ≡ Apart → IsOk (content_of f.header f.octets) → judged limits earlier f ≡ Done f
-  unfolding judged_by judged_as
-  judged-apart f is ok = ap (by_role f) is ∙ whole-done f ok
+  judged-apart : (f : Frame) → role_of f.header ≡ Apart → partial_of earlier Of11 ≡ None → IsOk (content_of f.header f.octets) → judged limits earlier f ≡ Done f
+  unfolding judged_as
+  judged-apart f is none ok = judged-role limits (partial_of earlier Of11) (partial_of earlier (key_of f)) (partials_in earlier) f Apart is (free-none Apart f.header.version (partial_of earlier Of11) none) refl ∙ whole-done f ok
 
   judged-drops : (f : Frame) → role_of f.header ≡ Drops → 4 ≤ length f.octets → IsOk (content_of f.header f.octets) → judged limits earlier f ≡ Done f
-  unfolding judged_by judged_as
-  judged-drops f is long ok = ap (by_role f) is ∙ rw (le-ltb (length f.octets) 4 long) (whole-done f ok)
+  unfolding judged_as
+  judged-drops f is long ok = judged-role limits (partial_of earlier Of11) (partial_of earlier (key_of f)) (partials_in earlier) f Drops is refl (le-ltb (length f.octets) 4 long) ∙ whole-done f ok
 
   abbrev IsJudged : Version → MessageKind → Order → List ℕ → Type 0
   IsJudged v k order body =
-      (role_in v k false ≡ Uncut → partial_of earlier (id_of (written v k order body)) ≡ None) → IsOk (message_of v k order body)
+      (role_in v k false ≡ Uncut → partial_of earlier (key_of (written v k order body)) ≡ None) → (is_cancel k ≡ false → partial_of earlier Of11 ≡ None) → IsOk (message_of v k order body)
       → judged limits earlier (written v k order body) ≡ Done (written v k order body)
 
-  early : (v : Version) → ((k : MessageKind) → role_in v k false ≡ role_before_12 k) → (k : MessageKind) (order : Order) (body : List ℕ) → IsJudged v k order body
-  early v same Request order body new ok = judged-apart (written v Request order body) (same Request) ok
-  early v same Reply order body new ok = judged-apart (written v Reply order body) (same Reply) ok
-  early v same CancelRequest order body new ok = judged-drops (written v CancelRequest order body) (same CancelRequest) (cancel-long v order body ok) ok
-  early v same LocateRequest order body new ok = judged-apart (written v LocateRequest order body) (same LocateRequest) ok
-  early v same LocateReply order body new ok = judged-apart (written v LocateReply order body) (same LocateReply) ok
-  early v same CloseConnection order body new ok = judged-apart (written v CloseConnection order body) (same CloseConnection) ok
-  early v same MessageError order body new ok = judged-apart (written v MessageError order body) (same MessageError) ok
-  early v same Fragment order body new ok = judged-apart (written v Fragment order body) (same Fragment) ok
+  -- of a version in which no whole message is held against the partial ones
+  early : (v : Version) → ((k : MessageKind) → (k ≡ Fragment → ⊥) → role_in v k false ≡ role_in_10 k) → (k : MessageKind) (order : Order) (body : List ℕ) → (k ≡ Fragment → ⊥) → IsJudged v k order body
+  early v same Request order body not new none ok = judged-apart (written v Request order body) (same Request not) (none refl) ok
+  early v same Reply order body not new none ok = judged-apart (written v Reply order body) (same Reply not) (none refl) ok
+  early v same CancelRequest order body not new none ok = judged-drops (written v CancelRequest order body) (same CancelRequest not) (cancel-long v order body ok) ok
+  early v same LocateRequest order body not new none ok = judged-apart (written v LocateRequest order body) (same LocateRequest not) (none refl) ok
+  early v same LocateReply order body not new none ok = judged-apart (written v LocateReply order body) (same LocateReply not) (none refl) ok
+  early v same CloseConnection order body not new none ok = judged-apart (written v CloseConnection order body) (same CloseConnection not) (none refl) ok
+  early v same MessageError order body not new none ok = judged-apart (written v MessageError order body) (same MessageError not) (none refl) ok
+  early v same Fragment order body not new none ok = absurd (not refl)
 
-  uncut-12 : (k : MessageKind) → is_cut_kind V12 k ≡ true → role_in V12 k false ≡ Uncut → (order : Order) (body : List ℕ) → IsJudged V12 k order body
-  uncut-12 k kind is order body new ok = judged-uncut limits earlier (written V12 k order body) is (cut-has_id k order body kind ok) (new is) ok
+  uncut-12 : (k : MessageKind) → is_cut_kind V12 k ≡ true → role_in V12 k false ≡ Uncut → (order : Order) (body : List ℕ) → partial_of earlier Of11 ≡ None → IsJudged V12 k order body
+  uncut-12 k kind is order body free new none ok = judged-alone limits earlier (written V12 k order body) V12 refl is free (cut-has_id V12 k order body kind ok) (λ u. new is) ok
 
   is-judged : (v : Version) (k : MessageKind) (order : Order) (body : List ℕ) → (k ≡ Fragment → ⊥) → IsJudged v k order body
-  is-judged V10 k order body not new ok = early V10 (λ x. refl) k order body new ok
-  is-judged V11 k order body not new ok = early V11 (λ x. refl) k order body new ok
-  is-judged V12 Request order body not new ok = uncut-12 Request refl refl order body new ok
-  is-judged V12 Reply order body not new ok = uncut-12 Reply refl refl order body new ok
-  is-judged V12 CancelRequest order body not new ok = judged-drops (written V12 CancelRequest order body) refl (cancel-long V12 order body ok) ok
-  is-judged V12 LocateRequest order body not new ok = uncut-12 LocateRequest refl refl order body new ok
-  is-judged V12 LocateReply order body not new ok = uncut-12 LocateReply refl refl order body new ok
-  is-judged V12 CloseConnection order body not new ok = judged-apart (written V12 CloseConnection order body) refl ok
-  is-judged V12 MessageError order body not new ok = judged-apart (written V12 MessageError order body) refl ok
-  is-judged V12 Fragment order body not new ok = absurd (not refl)
+  is-judged V10 k order body not new none ok = early V10 (λ x n. refl) k order body not new none ok
+  is-judged V11 k order body not new none ok = early V11 like-10 k order body not new none ok
+  is-judged V12 Request order body not new none ok = uncut-12 Request refl refl order body (none refl) new none ok
+  is-judged V12 Reply order body not new none ok = uncut-12 Reply refl refl order body (none refl) new none ok
+  is-judged V12 CancelRequest order body not new none ok = judged-drops (written V12 CancelRequest order body) refl (cancel-long V12 order body ok) ok
+  is-judged V12 LocateRequest order body not new none ok = uncut-12 LocateRequest refl refl order body (none refl) new none ok
+  is-judged V12 LocateReply order body not new none ok = uncut-12 LocateReply refl refl order body (none refl) new none ok
+  is-judged V12 CloseConnection order body not new none ok = judged-apart (written V12 CloseConnection order body) refl (none refl) ok
+  is-judged V12 MessageError order body not new none ok = judged-apart (written V12 MessageError order body) refl (none refl) ok
+  is-judged V12 Fragment order body not new none ok = absurd (not refl)
 
 -- what it leaves of the partial messages
 
-leaves-early : (v : Version) → ((k : MessageKind) → role_in v k false ≡ role_before_12 k) → (k : MessageKind) (order : Order) (body : List ℕ) (earlier : List Frame) → (k ≡ Fragment → ⊥) → Leaves (written v k order body) earlier (written v k order body ∷ earlier)
-leaves-early v same Request order body earlier not = leaves-role (written v Request order body) earlier Apart false (same Request) refl tt
-leaves-early v same Reply order body earlier not = leaves-role (written v Reply order body) earlier Apart false (same Reply) refl tt
-leaves-early v same CancelRequest order body earlier not = leaves-role (written v CancelRequest order body) earlier Drops true (same CancelRequest) refl tt
-leaves-early v same LocateRequest order body earlier not = leaves-role (written v LocateRequest order body) earlier Apart false (same LocateRequest) refl tt
-leaves-early v same LocateReply order body earlier not = leaves-role (written v LocateReply order body) earlier Apart false (same LocateReply) refl tt
-leaves-early v same CloseConnection order body earlier not = leaves-role (written v CloseConnection order body) earlier Apart false (same CloseConnection) refl tt
-leaves-early v same MessageError order body earlier not = leaves-role (written v MessageError order body) earlier Apart false (same MessageError) refl tt
+leaves-early : (v : Version) → ((k : MessageKind) → (k ≡ Fragment → ⊥) → role_in v k false ≡ role_in_10 k) → (k : MessageKind) (order : Order) (body : List ℕ) (earlier : List Frame) → (k ≡ Fragment → ⊥) → Leaves (written v k order body) earlier (written v k order body ∷ earlier)
+leaves-early v same Request order body earlier not = leaves-role (written v Request order body) earlier Apart false (same Request not) refl tt
+leaves-early v same Reply order body earlier not = leaves-role (written v Reply order body) earlier Apart false (same Reply not) refl tt
+leaves-early v same CancelRequest order body earlier not = leaves-role (written v CancelRequest order body) earlier Drops true (same CancelRequest not) refl tt
+leaves-early v same LocateRequest order body earlier not = leaves-role (written v LocateRequest order body) earlier Apart false (same LocateRequest not) refl tt
+leaves-early v same LocateReply order body earlier not = leaves-role (written v LocateReply order body) earlier Apart false (same LocateReply not) refl tt
+leaves-early v same CloseConnection order body earlier not = leaves-role (written v CloseConnection order body) earlier Apart false (same CloseConnection not) refl tt
+leaves-early v same MessageError order body earlier not = leaves-role (written v MessageError order body) earlier Apart false (same MessageError not) refl tt
 leaves-early v same Fragment order body earlier not = absurd (not refl)
 
 leaves-written : (v : Version) (k : MessageKind) (order : Order) (body : List ℕ) (earlier : List Frame) → (k ≡ Fragment → ⊥) → Leaves (written v k order body) earlier (written v k order body ∷ earlier)
@@ -151,15 +151,15 @@ leaves-written V12 CancelRequest order body earlier not = leaves-role (written V
 leaves-written V12 CloseConnection order body earlier not = leaves-role (written V12 CloseConnection order body) earlier Apart false refl refl tt
 leaves-written V12 MessageError order body earlier not = leaves-role (written V12 MessageError order body) earlier Apart false refl refl tt
 leaves-written V12 Fragment order body earlier not = absurd (not refl)
-leaves-written V10 k order body earlier not = leaves-early V10 (λ x. refl) k order body earlier not
-leaves-written V11 k order body earlier not = leaves-early V11 (λ x. refl) k order body earlier not
+leaves-written V10 k order body earlier not = leaves-early V10 (λ x n. refl) k order body earlier not
+leaves-written V11 k order body earlier not = leaves-early V11 like-10 k order body earlier not
 
 pub written_again : HeadersAreReadAgain → WrittenIsReadAgain
-written_again again limits s body v k order faultless none new not fits ok =
+written_again again limits s body v k order faultless none new early not fits ok =
     let f = written v k order body in
     let octets = message_octets v k order body in
     let earlier = frames_of limits s in
-    let verdict : judged limits earlier f ≡ Done f = is-judged limits earlier v k order body not new ok in
+    let verdict : judged limits earlier f ≡ Done f = is-judged limits earlier v k order body not new early ok in
     completes limits s faultless none octets (f ∷ []) (f ∷ earlier) f (octets, [], sym (append-nil octets), is-frame again limits v k order body not fits, refl) (step-done limits earlier None f [] f verdict) (leaves-written v k order body earlier not)
 
 -- over the limit it is refused at its header

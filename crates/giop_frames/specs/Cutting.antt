@@ -1,4 +1,4 @@
--- 9.4.9: a message of 1.2, cut into a first frame and Fragments.
+-- 9.4.9: a message, cut into a first frame and Fragments.
 use Rattle.std.specs.Prelude.{ℕ, ◌+◌, ◌-◌, ◌==◌, ◌&&◌, nat_le, not, Bool, true, false, List, [], ◌∷◌, ◌++◌, length, take, drop, Result, Ok, Err, if◌then◌else◌}
 use Rattle.std.specs.List.{flat_map}
 use Rattle.giop_core.specs.declared.header.Header.{Header}
@@ -6,26 +6,44 @@ use Rattle.giop_core.specs.declared.header.HeaderFault.{HeaderFault}
 use Rattle.giop_core.specs.declared.header.MessageKind.{MessageKind}
 use Rattle.giop_core.specs.declared.header.MessageKind.TheVariants.{Request, Reply, LocateRequest, LocateReply, Fragment}
 use Rattle.giop_core.specs.declared.header.Version.{Version}
-use Rattle.giop_core.specs.declared.header.Version.TheVariants.{V12}
+use Rattle.giop_core.specs.declared.header.Version.TheVariants.{V10, V11, V12}
 use Rattle.giop_core.specs.Headers.{header_octets, header_of}
+use Rattle.giop_frames.specs.Fragments.{id_length}
 use Rattle.giop_frames.specs.Frames.{Frame, frame_size}
 
--- the messages of 1.2 that can be cut; a Fragment is one part of such a message
+-- the messages of a version that can be cut; a Fragment is one part of such a message
 abbrev pub is_cut_kind : Version → MessageKind → Bool
 is_cut_kind V12 Request = true
 is_cut_kind V12 Reply = true
 is_cut_kind V12 LocateRequest = true
 is_cut_kind V12 LocateReply = true
+is_cut_kind V11 Request = true
+is_cut_kind V11 Reply = true
 is_cut_kind _ _ = false
 
--- a header of so many octets that are one whole message that can be cut
-abbrev pub is_cuttable_under : ℕ → Result Header HeaderFault → Bool
-is_cuttable_under n (Err e) = false
-is_cuttable_under n (Ok h) = is_cut_kind h.version h.kind && not h.more && (frame_size h == n)
+-- whether two versions are one
+abbrev pub is_version : Version → Version → Bool
+is_version V10 V10 = true
+is_version V11 V11 = true
+is_version V12 V12 = true
+is_version _ _ = false
 
--- octets that are one whole message that can be cut
+-- a header of so many octets that are one whole message of a version that can be cut
+abbrev pub is_cuttable_under : Version → ℕ → Result Header HeaderFault → Bool
+is_cuttable_under v n (Err e) = false
+is_cuttable_under v n (Ok h) = is_version h.version v && is_cut_kind h.version h.kind && not h.more && (frame_size h == n)
+
+-- octets that are one whole message of a version that can be cut
+abbrev pub is_cuttable_in : Version → List ℕ → Bool
+is_cuttable_in v octets = nat_le 12 (length octets) && is_cuttable_under v (length octets) (header_of (take 12 octets))
+
+-- one of 1.2 ..
 abbrev pub is_cuttable : List ℕ → Bool
-is_cuttable octets = nat_le 12 (length octets) && is_cuttable_under (length octets) (header_of (take 12 octets))
+is_cuttable octets = is_cuttable_in V12 octets
+
+-- .. or of 1.1
+abbrev pub is_cuttable_11 : List ℕ → Bool
+is_cuttable_11 octets = is_cuttable_in V11 octets
 
 -- the octets of a frame
 abbrev pub frame_octets : Frame → List ℕ
@@ -40,9 +58,9 @@ chunks_from n chunk (x ∷ xs) = if length chunk == n then chunk ∷ chunks_from
 abbrev pub first_frame : Header → List ℕ → Frame
 first_frame h octets = record { header = record h { more = true; size = length octets }; octets = octets }
 
--- a Fragment of a request id with a payload, and whether more follow
+-- a Fragment of a request id, of which there are no octets in 1.1, with a payload, and whether more follow
 abbrev pub fragment_of : Header → List ℕ → Bool → List ℕ → Frame
-fragment_of h id more octets = record { header = record h { kind = Fragment; more = more; size = 4 + length octets }; octets = id ++ octets }
+fragment_of h id more octets = record { header = record h { kind = Fragment; more = more; size = length id + length octets }; octets = id ++ octets }
 
 -- a Fragment for each chunk, the last without the bit
 abbrev pub fragments_of : Header → List ℕ → List (List ℕ) → List Frame
@@ -54,4 +72,4 @@ fragments_of h id (p ∷ (q ∷ ps)) = fragment_of h id true p ∷ fragments_of 
 abbrev pub cut_octets : ℕ → Header → List ℕ → List ℕ
 cut_octets n h message =
     if nat_le (length message) n then message else
-    flat_map frame_octets (first_frame h (drop 12 (take n message)) ∷ fragments_of h (take 4 (drop 12 message)) (chunks_from (n - 16) [] (drop n message)))
+    flat_map frame_octets (first_frame h (drop 12 (take n message)) ∷ fragments_of h (take (id_length h.version) (drop 12 message)) (chunks_from (n - (12 + id_length h.version)) [] (drop n message)))

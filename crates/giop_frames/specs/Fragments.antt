@@ -12,12 +12,15 @@ use Rattle.giop_core.specs.declared.header.Header.{Header}
 use Rattle.giop_core.specs.declared.header.MessageKind.{MessageKind}
 use Rattle.giop_core.specs.declared.header.MessageKind.TheVariants.{CancelRequest, CloseConnection, MessageError, Fragment}
 use Rattle.giop_core.specs.declared.header.Version.{Version}
-use Rattle.giop_core.specs.declared.header.Version.TheVariants.{V12}
+use Rattle.giop_core.specs.declared.header.Version.TheVariants.{V10, V11, V12}
+use Rattle.giop_core.specs.Begun.{request_id_in}
 use Rattle.giop_core.specs.Content.{Content}
 use Rattle.giop_core.specs.Messages.{message_of}
 use Rattle.giop_frames.specs.declared.fault.StreamFault.{StreamFault}
 use Rattle.giop_frames.specs.declared.fault.StreamFault.TheVariants.{Body, MixedOrder, StrayFragment, TooLarge, TooManyPartial, TwiceStarted}
 use Rattle.giop_frames.specs.declared.limits.Limits.{Limits}
+use Rattle.giop_frames.specs.declared.partial.Key.{Key}
+use Rattle.giop_frames.specs.declared.partial.Key.TheVariants.{Of11, Of12}
 use Rattle.giop_frames.specs.declared.reassembly.Role.{Role}
 use Rattle.giop_frames.specs.declared.reassembly.Role.TheVariants.{Opens, Carries, Ends, Drops, Uncut, Apart}
 use Rattle.giop_frames.specs.Frames.{Frame}
@@ -32,27 +35,57 @@ role_in_12 MessageError more = Apart
 role_in_12 _ true = Opens
 role_in_12 _ false = Uncut
 
--- a rule of this project: a CancelRequest of any version drops what has come of its message
-abbrev pub role_before_12 : MessageKind → Role
-role_before_12 CancelRequest = Drops
-role_before_12 _ = Apart
+-- 9.4.9: in 1.1 a Request or a Reply may be cut: no other header has the bit
+abbrev pub role_in_11 : MessageKind → Bool → Role
+role_in_11 Fragment true = Carries
+role_in_11 Fragment false = Ends
+role_in_11 CancelRequest more = Drops
+role_in_11 _ true = Opens
+role_in_11 _ false = Apart
 
--- the role of a kind of message in a version
+-- in 1.0 no message is cut
+abbrev pub role_in_10 : MessageKind → Role
+role_in_10 CancelRequest = Drops
+role_in_10 _ = Apart
+
+-- the role of a kind of message in a version; a rule of this project: a CancelRequest of any version drops what has come
+-- of its message
 abbrev pub role_in : Version → MessageKind → Bool → Role
 role_in V12 kind more = role_in_12 kind more
-role_in _ kind more = role_before_12 kind
+role_in V11 kind more = role_in_11 kind more
+role_in V10 kind more = role_in_10 kind
 
 -- what a frame under a header is to the partial messages
 abbrev pub role_of : Header → Role
 role_of h = role_in h.version h.kind h.more
 
--- 9.4.9: in 1.2 the request id is in the first four octets after the header
+-- 9.4.9: in 1.2 the request id is in the first four octets after the header; so it is in a CancelRequest of any version
 abbrev pub id_of : Frame → ℕ
 id_of f = number_of f.header.order 4 f.octets
 
--- the payload of a Fragment, which follows its request id
+-- what a partial message is known by: in 1.2 its request id; in 1.1 a Fragment has none, and one message is partial at most
+abbrev pub key_in : Version → ℕ → Key
+key_in V12 i = Of12 i
+key_in _ i = Of11
+
+-- the key of the message that a frame is a part of
+abbrev pub key_of : Frame → Key
+key_of f = key_in f.header.version (id_of f)
+
+-- whether two keys are one
+abbrev pub is_key : Key → Key → Bool
+is_key (Of12 i) (Of12 j) = i == j
+is_key Of11 Of11 = true
+is_key _ _ = false
+
+-- how many octets of a Fragment come before its payload: in 1.2 those of its request id
+abbrev pub id_length : Version → ℕ
+id_length V12 = 4
+id_length _ = 0
+
+-- the payload of a Fragment
 abbrev pub payload_of : Frame → List ℕ
-payload_of f = drop 4 f.octets
+payload_of f = drop (id_length f.header.version) f.octets
 
 -- a partial message: the header of its first frame, and the octets so far after that
 pub record Partial : Type 0 where
@@ -67,31 +100,52 @@ opened_by f = record { header = f.header; octets = f.octets }
 abbrev pub continued_by : Frame → Partial → Partial
 continued_by f p = record p { octets = p.octets ++ payload_of f }
 
--- the partial message of a request id after one more frame of that id
-abbrev pub after_role : Role → Frame → Option Partial → Option Partial
-after_role Opens f before = Some (opened_by f)
-after_role Carries f before = option_map (continued_by f) before
-after_role Ends f before = None
-after_role Drops f before = None
-after_role Uncut f before = before
-after_role Apart f before = before
+-- whether there is a number, and it is this one
+abbrev pub is_number : ℕ → Option ℕ → Bool
+is_number i None = false
+is_number i (Some j) = i == j
 
--- the partial message of a request id after these frames, the latest first: started, and neither ended nor cancelled since
-abbrev pub partial_of : List Frame → ℕ → Option Partial
-partial_of [] i = None
-partial_of (f ∷ earlier) i = if id_of f == i then after_role (role_of f.header) f (partial_of earlier i) else partial_of earlier i
+-- whether a CancelRequest of a request id is for a partial message: in 1.1 the octets so far must spell its request id, a
+-- rule of this project
+abbrev pub cancels : ℕ → Key → Partial → Bool
+cancels i (Of12 j) p = i == j
+cancels i Of11 p = is_number i (request_id_in p.header.order p.octets)
 
--- one more for each first frame, one less for each end or cancel of a partial one
-abbrev pub partials_after : Role → Bool → ℕ → ℕ
-partials_after Opens was n = n + 1
-partials_after Ends was n = if was then n - 1 else n
-partials_after Drops was n = if was then n - 1 else n
-partials_after _ was n = n
+-- whether there is a partial message for it
+abbrev pub is_cancelled : ℕ → Key → Option Partial → Bool
+is_cancelled i k None = false
+is_cancelled i k (Some p) = cancels i k p
+
+-- the partial message of a key after one more frame
+abbrev pub after_role : Role → Frame → Key → Option Partial → Option Partial
+after_role Opens f k before = if is_key (key_of f) k then Some (opened_by f) else before
+after_role Carries f k before = if is_key (key_of f) k then option_map (continued_by f) before else before
+after_role Ends f k before = if is_key (key_of f) k then None else before
+after_role Drops f k before = if is_cancelled (id_of f) k before then None else before
+after_role Uncut f k before = before
+after_role Apart f k before = before
+
+-- the partial message of a key after these frames, the latest first: started, and neither ended nor cancelled since
+abbrev pub partial_of : List Frame → Key → Option Partial
+partial_of [] k = None
+partial_of (f ∷ earlier) k = after_role (role_of f.header) f k (partial_of earlier k)
+
+-- one less, if so
+abbrev pub less_if : Bool → ℕ → ℕ
+less_if true n = n - 1
+less_if false n = n
+
+-- one more for each first frame, one less for each partial message that a frame ends or cancels
+abbrev pub partials_after : Role → Frame → (Key → Option Partial) → ℕ → ℕ
+partials_after Opens f before n = n + 1
+partials_after Ends f before n = less_if (is_some (before (key_of f))) n
+partials_after Drops f before n = less_if (is_cancelled (id_of f) Of11 (before Of11)) (less_if (is_some (before (Of12 (id_of f)))) n)
+partials_after _ f before n = n
 
 -- how many messages are partial after these frames
 abbrev pub partials_in : List Frame → ℕ
 partials_in [] = 0
-partials_in (f ∷ earlier) = partials_after (role_of f.header) (is_some (partial_of earlier (id_of f))) (partials_in earlier)
+partials_in (f ∷ earlier) = partials_after (role_of f.header) f (partial_of earlier) (partials_in earlier)
 
 -- what a whole frame is judged to be: a fault, part of a message, or the end of a message, which is given joined
 pub data Verdict : Type 0 where
@@ -140,8 +194,8 @@ abbrev pub judged_ended : Frame → Result Partial StreamFault → Verdict
 judged_ended f (Err e) = Bad e
 judged_ended f (Ok p) = judged_whole (joined p f)
 
--- the judgement of a frame by its role, the partial message of its request id, and how many are partial. Rules of this
--- project: no message starts under the request id of a partial one, no more are partial than the limit, and both are
+-- the judgement of a frame by its role, the partial message of its key, and how many are partial. Rules of this project:
+-- no message starts under the key of a partial one, no more are partial than the limit, and both are
 -- judged before what a message says
 unfoldable pub judged_as : Role → Limits → Option Partial → ℕ → Frame → Verdict
 judged_as Opens limits before n f = if is_some before then Bad TwiceStarted else (if nat_le limits.partials n then Bad TooManyPartial else Quiet)
@@ -151,19 +205,31 @@ judged_as Drops limits before n f = judged_whole f
 judged_as Uncut limits before n f = if is_some before then Bad TwiceStarted else judged_whole f
 judged_as Apart limits before n f = judged_whole f
 
--- which frames begin with a request id, which is judged before anything else: a rule of this project
-abbrev pub has_id : Role → Bool
-has_id Apart = false
-has_id _ = true
+-- which frames must begin with a request id, which is judged before what they are: a rule of this project
+abbrev pub has_id : Role → Version → Bool
+has_id Drops v = true
+has_id Apart v = false
+has_id _ V12 = true
+has_id _ v = false
 
 -- the octets end inside the request id, which is at offset 12
 abbrev pub too_short : Verdict
 too_short = Bad (Body (Cdr (record { kind = Short; at = 12 })))
 
--- the judgement of a whole frame, by the partial message of its request id, if there is one, and how many are partial
-unfoldable pub judged_by : Limits → Option Partial → ℕ → Frame → Verdict
-judged_by limits before n f = if has_id (role_of f.header) && nat_lt (length f.octets) 4 then too_short else judged_as (role_of f.header) limits before n f
+-- what may come while a message of 1.1 is partial: its Fragments, and CancelRequests; a rule of this project
+abbrev pub may_come : Role → Version → Bool
+may_come Drops v = true
+may_come Carries V11 = true
+may_come Ends V11 = true
+may_come _ v = false
+
+-- the judgement of a whole frame, by the partial message of 1.1, if there is one, and that of the frame's key, and how many
+-- are partial
+unfoldable pub judged_by : Limits → Option Partial → Option Partial → ℕ → Frame → Verdict
+judged_by limits early before n f =
+    if not (may_come (role_of f.header) f.header.version) && is_some early then Bad TwiceStarted else
+    (if has_id (role_of f.header) f.header.version && nat_lt (length f.octets) 4 then too_short else judged_as (role_of f.header) limits before n f)
 
 -- the judgement of a whole frame after these frames
 abbrev pub judged : Limits → List Frame → Frame → Verdict
-judged limits earlier f = judged_by limits (partial_of earlier (id_of f)) (partials_in earlier) f
+judged limits earlier f = judged_by limits (partial_of earlier Of11) (partial_of earlier (key_of f)) (partials_in earlier) f

@@ -1,15 +1,13 @@
 -- Octets to frames (9.4.1): a frame is a header and the octets after it; where a frame ends, and where a header is
 -- refused.
-use Rattle.std.specs.Prelude.{ℕ, ◌+◌, ◌%◌, ◌==◌, ◌&&◌, nat_lt, not, Bool, true, false, List, [], ◌∷◌, ◌++◌, length, take, drop, Option, Some, None, Result, Ok, Err, if◌then◌else◌}
+use Rattle.std.specs.Prelude.{ℕ, ◌+◌, ◌%◌, ◌==◌, ◌&&◌, nat_lt, not, Bool, List, [], ◌∷◌, ◌++◌, length, take, drop, Option, Some, None, Result, Ok, Err, if◌then◌else◌}
 use Rattle.giop_core.specs.declared.header.Header.{Header}
 use Rattle.giop_core.specs.declared.header.HeaderFault.{HeaderFault}
-use Rattle.giop_core.specs.declared.header.MessageKind.{MessageKind}
-use Rattle.giop_core.specs.declared.header.MessageKind.TheVariants.{Fragment}
 use Rattle.giop_core.specs.declared.header.Version.{Version}
-use Rattle.giop_core.specs.declared.header.Version.TheVariants.{V11, V12}
+use Rattle.giop_core.specs.declared.header.Version.TheVariants.{V11}
 use Rattle.giop_core.specs.Headers.{header_of}
 use Rattle.giop_frames.specs.declared.fault.StreamFault.{StreamFault}
-use Rattle.giop_frames.specs.declared.fault.StreamFault.TheVariants.{Header as BadHeader, TooLarge, UnalignedFragment, StrayFragment}
+use Rattle.giop_frames.specs.declared.fault.StreamFault.TheVariants.{Header as BadHeader, TooLarge, UnalignedFragment}
 use Rattle.giop_frames.specs.declared.limits.Limits.{Limits}
 
 -- a header, and the octets after it
@@ -21,23 +19,22 @@ pub record Frame : Type 0 where
 abbrev pub frame_size : Header → ℕ
 frame_size h = 12 + h.size
 
--- 9.4.9: in 1.2 each frame of a cut message but the last has a length divisible by 8
-abbrev pub is_unaligned : Version → Header → Bool
-is_unaligned V12 h = h.more && not (frame_size h % 8 == 0)
-is_unaligned _ h = false
+-- 9.4.9: in 1.2 each frame of a cut message but the last has a length divisible by 8. A rule of this project, where the
+-- clause is silent: in 1.1 that length is 4 modulo 8, so that the octets after the next header stand, modulo 8, where they
+-- stand in the whole message.
+abbrev pub cut_place : Version → ℕ
+cut_place V11 = 4
+cut_place _ = 0
 
--- a rule of this project: cut messages of 1.1 are not joined
-abbrev pub is_old_fragment : Version → MessageKind → Bool → Bool
-is_old_fragment V11 Fragment more = true
-is_old_fragment V11 _ more = more
-is_old_fragment _ _ more = false
+-- more frames follow one of another length
+abbrev pub is_unaligned : Header → Bool
+is_unaligned h = h.more && not (frame_size h % 8 == cut_place h.version)
 
 -- a header judged by itself, under the limits; the order of these judgements is a rule of this project
 abbrev pub admitted : Limits → Header → Result Header StreamFault
 admitted limits h =
     if nat_lt limits.message (frame_size h) then Err TooLarge else
-    (if is_unaligned h.version h then Err UnalignedFragment else
-    (if is_old_fragment h.version h.kind h.more then Err StrayFragment else Ok h))
+    (if is_unaligned h then Err UnalignedFragment else Ok h)
 
 -- the first twelve octets of a frame, judged
 abbrev pub judged_header : Limits → Result Header HeaderFault → Result Header StreamFault

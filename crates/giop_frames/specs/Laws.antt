@@ -3,6 +3,7 @@ use Rattle.std.specs.Prelude.{◌≡◌, ℕ, ◌<◌, List, [], ◌++◌, lengt
 use Rattle.std.specs.List.{AllByRecursion}
 use Rattle.giop_frames.specs.declared.fault.StreamFault.{StreamFault}
 use Rattle.giop_frames.specs.declared.limits.Limits.{Limits}
+use Rattle.giop_frames.specs.declared.partial.Key.{Key}
 use Rattle.giop_frames.specs.Completing.{AreMessages, AreRising}
 use Rattle.giop_frames.specs.Frames.{Frame, Waiting, sight, split}
 use Rattle.giop_frames.specs.Fragments.{Partial, partial_of}
@@ -35,11 +36,11 @@ RestsHaveNoFrame = (limits : Limits) (rest front later : List ℕ) (f : Frame) �
 
 -- A partial message is found by positions ..
 abbrev pub PartialByPosition : Type 0
-PartialByPosition = (frames : List Frame) (i : ℕ) (p : Partial) → partial_of frames i ≡ Some p → IsPartial frames i p
+PartialByPosition = (frames : List Frame) (k : Key) (p : Partial) → partial_of frames k ≡ Some p → IsPartial frames k p
 
 -- .. and what is found by positions is partial.
 abbrev pub ByPositionIsPartial : Type 0
-ByPositionIsPartial = (frames : List Frame) (i : ℕ) (p : Partial) → IsPartial frames i p → partial_of frames i ≡ Some p
+ByPositionIsPartial = (frames : List Frame) (k : Key) (p : Partial) → IsPartial frames k p → partial_of frames k ≡ Some p
 
 -- More octets bring more messages after those of a stream, which complete among these octets ..
 abbrev pub MessagesGrow : Type 0
@@ -61,8 +62,8 @@ MessagesAreWhole = (limits : Limits) (s : List ℕ) → AreMessages limits (mess
 abbrev pub PlacesRise : Type 0
 PlacesRise = (limits : Limits) (s : List ℕ) → AreRising 0 (length s) (messages_of limits s)
 
--- The partial messages of a stream without a fault are a list in which each request id stands once, and as many are
--- counted as it has.
+-- The partial messages of a stream without a fault are a list in which each key stands once, and as many are counted as
+-- it has.
 abbrev pub PartialsAreCounted : Type 0
 PartialsAreCounted = (limits : Limits) (s : List ℕ) → fault_of limits s ≡ None → (parts : List Entry) × Follows parts (frames_of limits s)
 

@@ -1,11 +1,13 @@
 -- Words of private functions: what the code's own values stand for. No public contract cites them, and nobody has to read
 -- them to know what is promised.
-use Rattle.std.specs.Prelude.{◌≡◌, ℕ, ◌<◌, ◌≤◌, ◌++◌, ◌==◌, List, [], ◌∷◌, Option, Some, None, is_some, Ok, Err, IsOk, Bool, true, length, drop, if◌then◌else◌}
+use Rattle.std.specs.Prelude.{◌≡◌, ℕ, ◌<◌, ◌≤◌, ◌++◌, List, [], ◌∷◌, Option, Some, None, is_some, Ok, Err, IsOk, Bool, true, length, drop, if◌then◌else◌}
 use Rattle.giop_core.specs.declared.header.Header.{Header}
 use Rattle.giop_frames.specs.declared.fault.StreamFault.TheVariants.{TwiceStarted}
 use Rattle.giop_frames.specs.declared.deframer.Seen.{Seen}
 use Rattle.giop_frames.specs.declared.deframer.Seen.TheVariants.{Waiting as SeenWaiting, Whole as SeenWhole, Refused as SeenRefused}
 use Rattle.giop_frames.specs.declared.limits.Limits.{Limits}
+use Rattle.giop_frames.specs.declared.partial.Key.{Key}
+use Rattle.giop_frames.specs.declared.partial.Key.TheVariants.{Of11, Of12}
 use Rattle.giop_frames.specs.declared.partial.Part.{Part}
 use Rattle.giop_frames.specs.declared.reassembly.Role.{Role}
 use Rattle.giop_frames.specs.declared.reassembly.Role.TheVariants.{Opens, Carries, Ends, Drops, Uncut, Apart}
@@ -14,7 +16,7 @@ use Rattle.giop_frames.specs.declared.reassembly.Settled.TheVariants.{Quiet as S
 use Rattle.giop_frames.specs.declared.reassembly.TakenUp.{TakenUp}
 use Rattle.giop_frames.specs.declared.reassembly.TakenUp.TheVariants.{Continued, Refused as TakenUpRefused}
 use Rattle.giop_frames.specs.Frames.{Frame, Sight, Waiting, Whole, Refused, frame_size, sight}
-use Rattle.giop_frames.specs.Fragments.{Partial, Verdict, opened_by, role_of, Quiet, Done, Bad, content_of, continued_by, id_of, judged_as, judged_by, joinable, judged_whole}
+use Rattle.giop_frames.specs.Fragments.{Partial, Verdict, opened_by, role_of, Quiet, Done, Bad, content_of, continued_by, id_of, is_cancelled, is_key, key_of, judged_as, judged_by, joinable, judged_whole}
 use Rattle.giop_frames.specs.Standing.{AreWithin, completed_at, entry_of, framed, message_at, pending_at}
 use Rattle.giop_frames.specs.Streams.{Entry, Stands, messages_of, part_in}
 
@@ -42,22 +44,30 @@ NeedsAsSeen (SeenWaiting n) limits b = Needs limits b n
 NeedsAsSeen (SeenWhole h) limits b = Unit {0}
 NeedsAsSeen (SeenRefused e) limits b = Unit {0}
 
--- the partial messages but for that of a request id
-abbrev pub without : ℕ → List Entry → List Entry
-without i [] = []
-without i (p ∷ ps) = if p.id == i then ps else p ∷ without i ps
+-- the partial messages but for that of a key
+abbrev pub without : Key → List Entry → List Entry
+without k [] = []
+without k (p ∷ ps) = if is_key p.key k then ps else p ∷ without k ps
+
+-- .. but for that of 1.1, where a CancelRequest of a request id is for it
+abbrev pub without_early : ℕ → List Entry → List Entry
+without_early i ps = if is_cancelled i Of11 (part_in ps Of11) then without Of11 ps else ps
+
+-- .. and but for both that a CancelRequest of a request id is for
+abbrev pub uncancelled : ℕ → List Entry → List Entry
+uncancelled i ps = without_early i (without (Of12 i) ps)
 
 -- the partial messages after a Fragment with more to come
 abbrev pub carried : List Entry → Frame → Option Partial → List Entry
 carried ps f None = ps
-carried ps f (Some p) = without (id_of f) ps ++ record { id = id_of f; part = continued_by f p } ∷ []
+carried ps f (Some p) = without (key_of f) ps ++ record { key = key_of f; part = continued_by f p } ∷ []
 
 -- the partial messages that a frame leaves, by its role
 unfoldable pub parts_as : Role → List Entry → Frame → List Entry
-parts_as Opens ps f = ps ++ record { id = id_of f; part = opened_by f } ∷ []
-parts_as Carries ps f = carried ps f (part_in ps (id_of f))
-parts_as Ends ps f = without (id_of f) ps
-parts_as Drops ps f = without (id_of f) ps
+parts_as Opens ps f = ps ++ record { key = key_of f; part = opened_by f } ∷ []
+parts_as Carries ps f = carried ps f (part_in ps (key_of f))
+parts_as Ends ps f = without (key_of f) ps
+parts_as Drops ps f = uncancelled (id_of f) ps
 parts_as Uncut ps f = ps
 parts_as Apart ps f = ps
 
@@ -73,21 +83,21 @@ verdict_at (SettledBad e) b = Bad e
 
 -- the judgement of a whole message that could have been cut
 abbrev pub judged_uncut : List Entry → Frame → Verdict
-judged_uncut ps f = if is_some (part_in ps (id_of f)) then Bad TwiceStarted else judged_whole f
+judged_uncut ps f = if is_some (part_in ps (key_of f)) then Bad TwiceStarted else judged_whole f
 
 -- a Fragment, joined to its partial message, which is no longer among the others
 pub record IsContinued (p : Part) (limits : Limits) (f : Frame) (ps after : List Entry) : Type 0 where
   pub before : Partial
-  pub had : part_in ps (id_of f) ≡ Some before
+  pub had : part_in ps (key_of f) ≡ Some before
   pub fits : joinable limits f (Some before) ≡ Ok before
-  pub entry : entry_of p ≡ record { id = id_of f; part = continued_by f before }
-  pub others : after ≡ without (id_of f) ps
+  pub entry : entry_of p ≡ record { key = key_of f; part = continued_by f before }
+  pub others : after ≡ without (key_of f) ps
   pub within : length p.octets.items ≤ limits.message
 
 -- a Fragment is joined, or refused
 abbrev pub IsTakenUp : TakenUp → Limits → Frame → List Entry → List Entry → Type 0
 IsTakenUp (Continued p) limits f ps after = IsContinued p limits f ps after
-IsTakenUp (TakenUpRefused e) limits f ps after = joinable limits f (part_in ps (id_of f)) ≡ Err e
+IsTakenUp (TakenUpRefused e) limits f ps after = joinable limits f (part_in ps (key_of f)) ≡ Err e
 
 -- what is left of a frame and the partial messages, by what the frame is judged to be
 abbrev pub IsLeft : Settled → Verdict → List ℕ → List Entry → List Entry → Type 0
@@ -97,11 +107,11 @@ IsLeft (SettledBad e) v b ps after = v ≡ Bad e
 
 -- from the octets b and the partial messages ps to b' and ps', of a frame under the header h
 abbrev pub IsSettled : Settled → Limits → Header → List ℕ → List ℕ → List Entry → List Entry → Type 0
-IsSettled s limits h b b' ps ps' = IsLeft s (judged_by limits (part_in ps (id_of (framed h b))) (length ps) (framed h b)) b' ps' (parts_after ps (framed h b))
+IsSettled s limits h b b' ps ps' = IsLeft s (judged_by limits (part_in ps Of11) (part_in ps (key_of (framed h b))) (length ps) (framed h b)) b' ps' (parts_after ps (framed h b))
 
 -- the same, of a frame in a role
 abbrev pub IsSettledAs : Role → Settled → Limits → Header → List ℕ → List ℕ → List Entry → List Entry → Type 0
-IsSettledAs r s limits h b b' ps ps' = IsLeft s (judged_as r limits (part_in ps (id_of (framed h b))) (length ps) (framed h b)) b' ps' (parts_as r ps (framed h b))
+IsSettledAs r s limits h b b' ps ps' = IsLeft s (judged_as r limits (part_in ps (key_of (framed h b))) (length ps) (framed h b)) b' ps' (parts_as r ps (framed h b))
 
 -- a message that is lent reads, and is no longer than the limit
 pub record IsWhole (limits : Limits) (h : Header) (b : List ℕ) : Type 0 where

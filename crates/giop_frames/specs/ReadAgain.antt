@@ -1,5 +1,5 @@
 -- What is written is read again, whole or cut.
-use Rattle.std.specs.Prelude.{◌≡◌, ℕ, ◌+◌, ◌%◌, ◌^◌, ◌<◌, ◌≤◌, ◌==◌, ◌&&◌, List, [], ◌∷◌, ◌++◌, length, take, drop, Bool, true, false, Option, None, Ok, IsOk, if◌then◌else◌}
+use Rattle.std.specs.Prelude.{◌≡◌, ℕ, ◌+◌, ◌%◌, ◌^◌, ◌<◌, ◌≤◌, ◌&&◌, List, [], ◌∷◌, ◌++◌, length, take, drop, Bool, true, false, Option, None, Ok, IsOk, if◌then◌else◌}
 use Rattle.std.specs.List.{AllByRecursion, flat_map}
 use Rattle.cdr_core.specs.declared.order.Order.{Order}
 use Rattle.giop_core.specs.declared.header.Header.{Header}
@@ -11,10 +11,12 @@ use Rattle.giop_core.specs.Messages.{message_of}
 use Rattle.giop_core.specs.Written.{header_for, message_octets}
 use Rattle.giop_frames.specs.declared.fault.StreamFault.TheVariants.{TooLarge}
 use Rattle.giop_frames.specs.declared.limits.Limits.{Limits}
+use Rattle.giop_frames.specs.declared.partial.Key.{Key}
+use Rattle.giop_frames.specs.declared.partial.Key.TheVariants.{Of11}
 use Rattle.giop_frames.specs.declared.reassembly.Role.TheVariants.{Uncut}
-use Rattle.giop_frames.specs.Cutting.{cut_octets, is_cuttable}
-use Rattle.giop_frames.specs.Fragments.{Partial, partial_of, content_of, id_of, partials_in, role_of}
-use Rattle.giop_frames.specs.Frames.{Frame}
+use Rattle.giop_frames.specs.Cutting.{cut_octets, is_cuttable_in}
+use Rattle.giop_frames.specs.Fragments.{Partial, content_of, id_length, id_of, is_cancelled, key_of, partial_of, partials_in, role_of}
+use Rattle.giop_frames.specs.Frames.{Frame, cut_place}
 use Rattle.giop_frames.specs.Streams.{Completed, Faults, fault_of, frames_of, messages_of, rest_of}
 
 -- a message under its header
@@ -26,9 +28,9 @@ abbrev pub is_cancel : MessageKind → Bool
 is_cancel CancelRequest = true
 is_cancel _ = false
 
--- the partial message of a request id that a message leaves of the one before: a CancelRequest drops its own
-abbrev pub left_by : Frame → ℕ → Option Partial → Option Partial
-left_by m i before = if is_cancel m.header.kind && (id_of m == i) then None else before
+-- the partial message of a key that a message leaves of the one before: a CancelRequest drops its own
+abbrev pub left_by : Frame → Key → Option Partial → Option Partial
+left_by m k before = if is_cancel m.header.kind && is_cancelled (id_of m) k before then None else before
 
 -- with the octets c the stream s completes one message and no other, without a fault and without a rest, and the partial
 -- messages are those before but for one that is cancelled
@@ -36,7 +38,7 @@ pub record Completes (limits : Limits) (s c : List ℕ) (m : Frame) : Type 0 whe
   pub messages : messages_of limits (s ++ c) ≡ messages_of limits s ++ record { place = length (s ++ c); message = m } ∷ []
   pub faultless : fault_of limits (s ++ c) ≡ None
   pub all : rest_of limits (s ++ c) ≡ []
-  pub partial : (i : ℕ) → partial_of (frames_of limits (s ++ c)) i ≡ left_by m i (partial_of (frames_of limits s) i)
+  pub partial : (k : Key) → partial_of (frames_of limits (s ++ c)) k ≡ left_by m k (partial_of (frames_of limits s) k)
   pub few : partials_in (frames_of limits (s ++ c)) ≤ partials_in (frames_of limits s)
 
 -- a whole message, as it is written
@@ -44,21 +46,25 @@ abbrev pub written : Version → MessageKind → Order → List ℕ → Frame
 written version kind order body = record { header = header_for version kind order (length body); octets = body }
 
 -- what is written for a message of any kind but a Fragment, at the end of a stream without a fault and without a rest,
--- completes that message and no other, if it is valid within the limit and no message of its request id is partial
+-- completes that message and no other, if it is valid within the limit, no message of its request id is partial and, unless
+-- it is a CancelRequest, none of 1.1
 abbrev pub WrittenIsReadAgain : Type 0
 WrittenIsReadAgain = (limits : Limits) (s body : List ℕ) (version : Version) (kind : MessageKind) (order : Order)
     → fault_of limits s ≡ None → rest_of limits s ≡ []
-    → (role_of (header_for version kind order (length body)) ≡ Uncut → partial_of (frames_of limits s) (id_of (written version kind order body)) ≡ None)
+    → (role_of (header_for version kind order (length body)) ≡ Uncut → partial_of (frames_of limits s) (key_of (written version kind order body)) ≡ None)
+    → (is_cancel kind ≡ false → partial_of (frames_of limits s) Of11 ≡ None)
     → (kind ≡ Fragment → ⊥) → 12 + length body ≤ limits.message → IsOk (message_of version kind order body)
     → Completes limits s (message_octets version kind order body) (written version kind order body)
 
--- what a message that can be cut is cut into, at the end of a stream without a fault and without a rest, where no message
--- of its request id is partial and one more may be, completes that message and no other, if it is valid within the limit
-abbrev pub CutIsReadAgain : Type 0
-CutIsReadAgain = (limits : Limits) (s message : List ℕ) (n : ℕ) (h : Header)
+-- what a message of a version that can be cut is cut into, at the end of a stream without a fault and without a rest, where
+-- no message of its request id is partial, none of 1.1, and one more may be, completes that message and no other, if it is
+-- valid within the limit
+abbrev pub CutIsReadAgain : Version → Type 0
+CutIsReadAgain v = (limits : Limits) (s message : List ℕ) (n : ℕ) (h : Header)
     → fault_of limits s ≡ None → rest_of limits s ≡ []
-    → partial_of (frames_of limits s) (id_of (under h message)) ≡ None → partials_in (frames_of limits s) < limits.partials
-    → is_cuttable message ≡ true → header_of (take 12 message) ≡ Ok h → 24 ≤ n → n % 8 ≡ 0
+    → partial_of (frames_of limits s) (key_of (under h message)) ≡ None → partial_of (frames_of limits s) Of11 ≡ None
+    → partials_in (frames_of limits s) < limits.partials
+    → is_cuttable_in v message ≡ true → header_of (take 12 message) ≡ Ok h → 20 + id_length v ≤ n → n % 8 ≡ cut_place v
     → length message ≤ limits.message → IsOk (content_of h (drop 12 message))
     → Completes limits s (cut_octets n h message) (under h message)
 
@@ -94,7 +100,7 @@ sent_from n (m ∷ ms) = record { place = n + (12 + length m.body); message = wr
 pub record IsClear (limits : Limits) (s : List ℕ) : Type 0 where
   pub faultless : fault_of limits s ≡ None
   pub all : rest_of limits s ≡ []
-  pub none : (i : ℕ) → partial_of (frames_of limits s) i ≡ None
+  pub none : (k : Key) → partial_of (frames_of limits s) k ≡ None
 
 -- the empty stream is clear ..
 abbrev pub NothingIsClear : Type 0

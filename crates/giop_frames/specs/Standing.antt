@@ -25,11 +25,11 @@ pub record Standing : Type 0 where
 abbrev pub framed : Header → List ℕ → Frame
 framed h b = record { header = h; octets = drop 12 b }
 
--- a partial message under its request id, without the twelve octets of its header
+-- a partial message under its key, without the twelve octets of its header
 abbrev pub entry_of : Part → Entry
-entry_of p = record { id = p.id; part = record { header = p.header; octets = drop 12 p.octets.items } }
+entry_of p = record { key = p.key; part = record { header = p.header; octets = drop 12 p.octets.items } }
 
--- the partial messages under their request ids
+-- the partial messages under their keys
 abbrev pub entries : List Part → List Entry
 entries ps = map entry_of ps
 

@@ -1,9 +1,10 @@
 -- Whole streams: their messages, each with the place where it completes, and their first fault.
-use Rattle.std.specs.Prelude.{◌≡◌, ℕ, ◌+◌, ◌==◌, List, [], ◌∷◌, ◌++◌, length, Option, Some, None, if◌then◌else◌}
+use Rattle.std.specs.Prelude.{◌≡◌, ℕ, ◌+◌, List, [], ◌∷◌, ◌++◌, length, Option, Some, None, if◌then◌else◌}
 use Rattle.giop_frames.specs.declared.fault.StreamFault.{StreamFault}
 use Rattle.giop_frames.specs.declared.limits.Limits.{Limits}
+use Rattle.giop_frames.specs.declared.partial.Key.{Key}
 use Rattle.giop_frames.specs.Frames.{Frame, split}
-use Rattle.giop_frames.specs.Fragments.{Bad, Done, Partial, Quiet, judged, partial_of, partials_in}
+use Rattle.giop_frames.specs.Fragments.{Bad, Done, Partial, Quiet, is_key, judged, partial_of, partials_in}
 
 -- a message that completes, joined, and the number of octets of the stream up to its end
 pub record Completed : Type 0 where
@@ -55,24 +56,24 @@ rest_of limits s = (split limits s).rest
 unfoldable pub frames_of : Limits → List ℕ → List Frame
 frames_of limits s = (reading_of limits s).earlier
 
--- a partial message under its request id
+-- a partial message under its key
 pub record Entry : Type 0 where
-  pub id : ℕ
+  pub key : Key
   pub part : Partial
 
--- the partial message of a request id among those of a list
-abbrev pub part_in : List Entry → ℕ → Option Partial
-part_in [] i = None
-part_in (p ∷ ps) i = if p.id == i then Some p.part else part_in ps i
+-- the partial message of a key among those of a list
+abbrev pub part_in : List Entry → Key → Option Partial
+part_in [] k = None
+part_in (p ∷ ps) k = if is_key p.key k then Some p.part else part_in ps k
 
--- no two have one request id
+-- no two have one key
 abbrev pub IsDistinct : List Entry → Type 0
 IsDistinct [] = Unit {0}
-IsDistinct (p ∷ ps) = (part_in ps p.id ≡ None) × IsDistinct ps
+IsDistinct (p ∷ ps) = (part_in ps p.key ≡ None) × IsDistinct ps
 
 -- these are the partial messages after those frames
 pub record Follows (parts : List Entry) (earlier : List Frame) : Type 0 where
-  pub each : (i : ℕ) → part_in parts i ≡ partial_of earlier i
+  pub each : (k : Key) → part_in parts k ≡ partial_of earlier k
   pub count : length parts ≡ partials_in earlier
   pub distinct : IsDistinct parts
 

@@ -2,12 +2,12 @@
 
 ghost use Rattle.std.specs.Prelude.{◌≡◌, ◌+◌, ◌<◌, ◌≤◌, ◌++◌, length, take, IfOk};
 ghost use Rattle.giop_core.specs.Headers.{header_of};
-ghost use Rattle.giop_frames.specs.Frames.{admitted, frame_size, is_old_fragment, is_unaligned, judged_header, sight};
+ghost use Rattle.giop_frames.specs.Frames.{admitted, cut_place, frame_size, is_unaligned, judged_header, sight};
 ghost use Rattle.giop_frames.specs.Private.{Needs, IsExact, NeedsAsSeen, sight_at};
 
 use crate::fault::StreamFault;
 use crate::limits::Limits;
-use giop_core::{Header, MessageKind, Version};
+use giop_core::{Header, Version};
 use std::alloc::AllocError;
 
 /// What octets are that begin where a frame begins.
@@ -33,25 +33,22 @@ pub(crate) fn frame_size(header: &Header) -> usize
     Header::LEN + header.size as usize
 }
 
-/// Whether more fragments follow a frame of 1.2 whose length is not divisible by 8 (9.4.9).
-fn is_unaligned(header: &Header) -> bool
-    ensures { result ≡ is_unaligned header.now.version header.now }
+/// The length modulo 8 of each frame of a cut message but the last: in 1.2 it is 9.4.9's, in 1.1 a rule of this
+/// project.
+fn cut_place(version: Version) -> usize
+    ensures { result ≡ cut_place version }
 {
-    match header.version {
-        Version::V12 => header.more && !frame_size(header).is_multiple_of(8),
-        Version::V10 | Version::V11 => false,
+    match version {
+        Version::V11 => 4,
+        Version::V10 | Version::V12 => 0,
     }
 }
 
-/// Whether a header is that of a frame of a cut message of 1.1, which this crate does not join.
-fn is_old_fragment(header: &Header) -> bool
-    ensures { result ≡ is_old_fragment header.now.version header.now.kind header.now.more }
+/// Whether more frames follow one after which a message must not be cut.
+fn is_unaligned(header: &Header) -> bool
+    ensures { result ≡ is_unaligned header.now }
 {
-    match (header.version, header.kind) {
-        (Version::V11, MessageKind::Fragment) => true,
-        (Version::V11, _) => header.more,
-        (Version::V10 | Version::V12, _) => false,
-    }
+    header.more && frame_size(header) % 8 != cut_place(header.version)
 }
 
 /// Judges a header by itself, in the order that this project sets.
@@ -63,9 +60,6 @@ fn admit(limits: &Limits, header: Header) -> Result<Header, StreamFault>
     }
     if is_unaligned(&header) {
         return Err(StreamFault::UnalignedFragment);
-    }
-    if is_old_fragment(&header) {
-        return Err(StreamFault::StrayFragment);
     }
     Ok(header)
 }

@@ -10,8 +10,8 @@ use thiserror::Error;
 /// The first fault of a stream.
 ///
 /// When each is reported is a rule of this project. At the twelfth octet of a frame: `Header`, `TooLarge` of a
-/// frame, `UnalignedFragment`, and `StrayFragment` of a message of 1.1. At the last octet of a frame: the
-/// others, and `TooLarge` of a message that is joined.
+/// frame, and `UnalignedFragment`. At the last octet of a frame: the others, and `TooLarge` of a message that
+/// is joined.
 #[derive(Clone, Copy, Debug, PartialEq, Eq, Error)]
 pub enum StreamFault {
     /// The twelve octets at the head of a frame are no header.
@@ -21,15 +21,16 @@ pub enum StreamFault {
     /// of its header among them.
     #[error("too large")]
     TooLarge,
-    /// More fragments follow a frame of 1.2 whose length is not divisible by 8 (9.4.9).
+    /// More fragments follow a frame whose length is, in 1.2, not divisible by 8 (9.4.9), or in 1.1 not 4 modulo
+    /// 8: a rule of this project.
     #[error("unaligned fragment")]
     UnalignedFragment,
-    /// A Fragment of 1.2 whose request id is that of no partial message, or a frame of a cut message of 1.1,
-    /// which this crate does not join.
+    /// A Fragment of 1.2 whose request id is that of no partial message, or one of 1.1 where no message of 1.1
+    /// is partial.
     #[error("stray fragment")]
     StrayFragment,
-    /// A message of 1.2 with the request id of one whose fragments are still to come: a rule of this
-    /// project.
+    /// A message of 1.2 with the request id of one whose fragments are still to come; or, while a message of
+    /// 1.1 is partial, any frame but its Fragments and CancelRequests: rules of this project.
     #[error("twice started")]
     TwiceStarted,
     /// As many messages are partial as the limits allow, and one more starts.

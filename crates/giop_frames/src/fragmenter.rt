@@ -3,12 +3,14 @@
 ghost use Rattle.std.specs.Prelude.{◌≡◌, ◌+◌, ◌%◌, ◌<◌, ◌≤◌, ◌++◌, ◌^◌, [], true, false, length, take, drop, Ok, IsTrue, MatchOption, OnErr, OnOk};
 ghost use Rattle.std.specs.List.{flat_map};
 ghost use Rattle.giop_core.specs.declared.header.Header.{Header as GivenHeader};
-ghost use Rattle.giop_core.specs.declared.header.Version.TheVariants.{V12};
+ghost use Rattle.giop_core.specs.declared.header.MessageKind.TheVariants.{Fragment};
 ghost use Rattle.giop_core.specs.Headers.{can_be_cut, header_of};
-ghost use Rattle.giop_frames.specs.Cutting.{cut_octets, fragment_of, fragments_of, frame_octets, is_cut_kind, is_cuttable, chunks_from};
+ghost use Rattle.giop_frames.specs.Cutting.{cut_octets, fragment_of, fragments_of, frame_octets, is_cut_kind, is_cuttable, is_cuttable_11, is_cuttable_in, is_version, chunks_from};
+ghost use Rattle.giop_frames.specs.Fragments.{id_length};
 ghost use Rattle.giop_frames.specs.Private.{IsAppended};
 
 use crate::deframer::frame_size;
+use crate::reassembly::id_length;
 use giop_core::{Header, MessageKind, Version};
 use std::alloc::AllocError;
 
@@ -23,19 +25,31 @@ fn is_cut_kind(version: Version, kind: MessageKind) -> bool
             | MessageKind::Reply
             | MessageKind::LocateRequest
             | MessageKind::LocateReply,
-        ) => true,
+        )
+        | (Version::V11, MessageKind::Request | MessageKind::Reply) => true,
         _ => false,
     }
 }
 
-/// The header of octets that are one whole message that can be cut.
-fn cuttable(octets: &[u8]) -> Option<Header>
-    ensures { MatchOption result (is_cuttable octets.now ≡ false) (λ h. (header_of (take 12 octets.now) ≡ Ok h) × (is_cuttable octets.now ≡ true) × (12 + h.size ≡ length octets.now) × (h.version ≡ V12) × IsTrue (can_be_cut V12 h.kind)) }
+/// Whether two versions are one.
+fn is_version(first: Version, second: Version) -> bool
+    ensures { result ≡ is_version first second }
+{
+    matches!(
+        (first, second),
+        (Version::V10, Version::V10) | (Version::V11, Version::V11) | (Version::V12, Version::V12)
+    )
+}
+
+/// The header of octets that are one whole message of a version that can be cut.
+fn cuttable(version: Version, octets: &[u8]) -> Option<Header>
+    ensures { MatchOption result (is_cuttable_in version octets.now ≡ false) (λ h. (header_of (take 12 octets.now) ≡ Ok h) × (is_cuttable_in version octets.now ≡ true) × (12 + h.size ≡ length octets.now) × (h.version ≡ version) × IsTrue (can_be_cut h.version h.kind)) }
 {
     let head = octets.first_chunk::<{ Header::LEN }>()?;
     let header = Header::read(head).ok()?;
     let whole = frame_size(&header) == octets.len();
-    if is_cut_kind(header.version, header.kind) && !header.more && whole {
+    let cuts = is_version(header.version, version) && is_cut_kind(header.version, header.kind);
+    if cuts && !header.more && whole {
         Some(header)
     } else {
         None
@@ -47,7 +61,14 @@ fn cuttable(octets: &[u8]) -> Option<Header>
 pub fn is_cuttable(octets: &[u8]) -> bool
     ensures { result ≡ is_cuttable octets.now }
 {
-    cuttable(octets).is_some()
+    cuttable(Version::V12, octets).is_some()
+}
+
+/// Whether octets are one whole message of 1.1 that can be cut: a Request or a Reply (9.4.9).
+pub fn is_cuttable_11(octets: &[u8]) -> bool
+    ensures { result ≡ is_cuttable_11 octets.now }
+{
+    cuttable(Version::V11, octets).is_some()
 }
 
 /// Appends a Fragment with a payload.
@@ -58,15 +79,15 @@ fn put_fragment(
     octets: &[u8],
     out: &mut Vec<u8>,
 ) -> Result<(), AllocError>
-    requires version { header.now.version ≡ V12 }
-    requires small { 4 + length octets.now < 2 ^ 32 }
+    requires cuts { IsTrue (can_be_cut header.now.version Fragment) }
+    requires small { length id.now + length octets.now < 2 ^ 32 }
     ensures ok { OnOk result (out.new.items ≡ out.old.items ++ frame_octets (fragment_of header.now id.now more octets.now)) }
     ensures err { OnErr result (IsAppended out.old.items out.new.items) }
 {
     let fragment = Header {
         kind: MessageKind::Fragment,
         more,
-        size: 4 + octets.len() as u32,
+        size: (id.len() + octets.len()) as u32,
         ..*header
     };
     out.extend_from_slice(&fragment.write())?;
@@ -83,9 +104,9 @@ fn put_fragments(
     payload: usize,
     out: &mut Vec<u8>,
 ) -> Result<(), AllocError>
-    requires version { header.now.version ≡ V12 }
+    requires cuts { IsTrue (can_be_cut header.now.version Fragment) }
     requires some { 0 < payload }
-    requires small { 4 + length octets.now < 2 ^ 32 }
+    requires small { length id.now + length octets.now < 2 ^ 32 }
     ensures ok { OnOk result (out.new.items ≡ out.old.items ++ flat_map frame_octets (fragments_of header.now id.now (chunks_from payload [] octets.now))) }
     ensures err { OnErr result (IsAppended out.old.items out.new.items) }
 {
@@ -106,9 +127,8 @@ fn put_cut(
     size: usize,
     out: &mut Vec<u8>,
 ) -> Result<(), AllocError>
-    requires version { header.now.version ≡ V12 }
-    requires cuts { IsTrue (can_be_cut V12 header.now.kind) }
-    requires least { 24 ≤ size }
+    requires cuts { IsTrue (can_be_cut header.now.version header.now.kind) }
+    requires least { 20 + id_length header.now.version ≤ size }
     requires small { length message.now < 2 ^ 32 + 12 }
     ensures ok { OnOk result (out.new.items ≡ out.old.items ++ cut_octets size header.now message.now) }
     ensures err { OnErr result (IsAppended out.old.items out.new.items) }
@@ -126,9 +146,35 @@ fn put_cut(
     };
     out.extend_from_slice(&first.write())?;
     out.extend_from_slice(octets)?;
-    let (id, _) = octets.split_at(4);
-    put_fragments(header, id, others, size - 16, out)?;
+    let (id, _) = octets.split_at(id_length(header.version));
+    put_fragments(header, id, others, size - (Header::LEN + id.len()), out)?;
     Ok(())
+}
+
+/// Appends a whole message of a version in frames of at most `size` octets. Where an allocation fails, `out` is
+/// as it was.
+fn put_message(
+    version: Version,
+    message: &[u8],
+    size: u32,
+    out: &mut Vec<u8>,
+) -> Result<(), AllocError>
+    requires whole { IsTrue (is_cuttable_in version message.now) }
+    requires least { 20 + id_length version ≤ size }
+    ensures cut { (h : GivenHeader) → header_of (take 12 message.now) ≡ Ok h → OnOk result (out.new.items ≡ out.old.items ++ cut_octets size h message.now) }
+    ensures err { OnErr result (out.new.items ≡ out.old.items) }
+{
+    let Some(header) = cuttable(version, message) else {
+        return Ok(());
+    };
+    let before = out.len();
+    match put_cut(&header, message, size as usize, out) {
+        Ok(()) => Ok(()),
+        Err(error) => {
+            out.truncate(before);
+            Err(error)
+        }
+    }
 }
 
 /// Appends a whole message of 1.2 in frames of at most `size` octets, their headers among them: a first frame
@@ -143,15 +189,20 @@ pub fn fragments(message: &[u8], size: u32, out: &mut Vec<u8>) -> Result<(), All
     ensures cut { (h : GivenHeader) → header_of (take 12 message.now) ≡ Ok h → OnOk result (out.new.items ≡ out.old.items ++ cut_octets size h message.now) }
     ensures err { OnErr result (out.new.items ≡ out.old.items) }
 {
-    let Some(header) = cuttable(message) else {
-        return Ok(());
-    };
-    let before = out.len();
-    match put_cut(&header, message, size as usize, out) {
-        Ok(()) => Ok(()),
-        Err(error) => {
-            out.truncate(before);
-            Err(error)
-        }
-    }
+    put_message(Version::V12, message, size, out)
+}
+
+/// Appends a whole message of 1.1 in frames of at most `size` octets, their headers among them: a first frame
+/// and Fragments (9.4.9), which have no request id. A message that is no longer than that is appended as it is.
+///
+/// The message must be one that can be cut (`is_cuttable_11`), and `size` 4 modulo 8 and 20 at least. Where an
+/// allocation fails, `out` is as it was.
+pub fn fragments_11(message: &[u8], size: u32, out: &mut Vec<u8>) -> Result<(), AllocError>
+    requires whole { IsTrue (is_cuttable_11 message.now) }
+    requires least { 20 ≤ size }
+    requires aligned { size % 8 ≡ 4 }
+    ensures cut { (h : GivenHeader) → header_of (take 12 message.now) ≡ Ok h → OnOk result (out.new.items ≡ out.old.items ++ cut_octets size h message.now) }
+    ensures err { OnErr result (out.new.items ≡ out.old.items) }
+{
+    put_message(Version::V11, message, size, out)
 }

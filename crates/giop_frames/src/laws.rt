@@ -1,5 +1,6 @@
 //! Laws over the definitions: each is what a function with an empty body ensures.
 
+ghost use Rattle.giop_core.specs.declared.header.Version.TheVariants.{V11, V12};
 ghost use Rattle.giop_frames.specs.Laws.{ByPositionIsPartial, FaultsAreRefusals, FaultsEnd, FaultsStay, MessagesAreWhole, MessagesGrow, PartialByPosition, PartialsAreCounted, PlacesRise, RefusalsAreFaults, RefusedAreTheOnes, RestsHaveNoFrame, SplitsAreTheOnes, StreamsAreRefused, StreamsSplit};
 ghost use Rattle.giop_frames.specs.ReadAgain.{CutIsReadAgain, NothingIsClear, SentAreReadAgain, WrittenIsReadAgain, WrittenTooLarge};
 
@@ -13,8 +14,8 @@ pub fn streams_are_frames()
     ensures only_refused { RefusedAreTheOnes }
 {}
 
-/// A Fragment belongs to the last first frame of its request id, where no end and no cancel stands between,
-/// and what has come of that message is that frame with the payloads of the Fragments since.
+/// A Fragment belongs to the last first frame of its key, the request id in 1.2, where no end and no cancel of
+/// it stands between, and what has come of that message is that frame with the payloads of the Fragments since.
 pub fn looking_back_is_by_positions()
     ensures found { PartialByPosition }
     ensures only { ByPositionIsPartial }
@@ -34,8 +35,7 @@ pub fn messages_are_whole()
     ensures places { PlacesRise }
 {}
 
-/// The partial messages of a stream without a fault are as many as the request ids that are begun and not
-/// ended.
+/// The partial messages of a stream without a fault are as many as the keys that are begun and not ended.
 pub fn partials_are_counted()
     ensures { PartialsAreCounted }
 {}
@@ -47,7 +47,7 @@ pub fn faults_are_refusals()
 {}
 
 /// A whole message that is written is read again from a stream, alone and whole, where it reads within the
-/// limit and no message of its request id is partial; over the limit it is refused.
+/// limit and no message of its request id is partial, and none of 1.1; over the limit it is refused.
 pub fn written_messages_are_read_again()
     ensures again { WrittenIsReadAgain }
     ensures large { WrittenTooLarge }
@@ -63,10 +63,12 @@ pub fn lists_of_messages_are_read_again()
     giop_core::laws::headers_are_read_again();
 }
 
-/// A message that can be cut is read again from what `fragments` makes of it, alone and whole, where no
-/// message of its request id is partial and one more may be, and it reads within the limit.
+/// A message that can be cut is read again from what `fragments`, or in 1.1 `fragments_11`, makes of it, alone
+/// and whole, where no message of its request id is partial, none of 1.1, and one more may be, and it reads
+/// within the limit.
 pub fn cut_messages_are_read_again()
-    ensures { CutIsReadAgain }
+    ensures in_1_2 { CutIsReadAgain V12 }
+    ensures in_1_1 { CutIsReadAgain V11 }
 {
     giop_core::laws::headers_are_read_again();
 }

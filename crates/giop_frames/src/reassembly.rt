@@ -1,16 +1,18 @@
 //! Frames to messages: the role of a whole frame, what it is judged to be, and which messages are partial after
 //! it.
 
-ghost use Rattle.std.specs.Prelude.{◌≡◌, ◌<◌, ◌≤◌, length, IfOk};
+ghost use Rattle.std.specs.Prelude.{◌≡◌, ◌+◌, ◌≤◌, ◌&&◌, not, nat_lt, is_some, length, IfOk, IsTrue};
 ghost use Rattle.std.specs.Vec.{vec_len};
+ghost use Rattle.giop_frames.specs.declared.partial.Key.TheVariants.{Of11};
 ghost use Rattle.giop_frames.specs.declared.reassembly.Role.TheVariants as role;
-ghost use Rattle.giop_frames.specs.Private.{IsSettled, IsSettledAs, IsTakenUp, judged_uncut, verdict_at, without};
+ghost use Rattle.giop_frames.specs.Private.{IsSettled, IsSettledAs, IsTakenUp, judged_uncut, uncancelled, verdict_at};
 ghost use Rattle.giop_frames.specs.Standing.{framed, entries};
-ghost use Rattle.giop_frames.specs.Fragments.{id_of, judged_whole, role_in_12, role_of};
+ghost use Rattle.giop_frames.specs.Streams.{part_in};
+ghost use Rattle.giop_frames.specs.Fragments.{has_id, id_length, id_of, judged_whole, key_of, may_come, role_in_11, role_in_12, role_of};
 
 use crate::fault::StreamFault;
 use crate::limits::Limits;
-use crate::partial::Part;
+use crate::partial::{Key, Part};
 use cdr_core::{Fault, Kind};
 use giop_core::{Header, MessageFault, MessageKind, Version, read_message};
 use std::alloc::{AllocError, Global};
@@ -47,16 +49,90 @@ fn role_in_12(kind: MessageKind, more: bool) -> Role
     }
 }
 
+/// The role of a frame of 1.1 (9.4.9).
+fn role_in_11(kind: MessageKind, more: bool) -> Role
+    ensures { result ≡ role_in_11 kind more }
+{
+    match (kind, more) {
+        (MessageKind::Fragment, true) => Role::Carries,
+        (MessageKind::Fragment, false) => Role::Ends,
+        (MessageKind::CancelRequest, _) => Role::Drops,
+        (_, true) => Role::Opens,
+        (_, false) => Role::Apart,
+    }
+}
+
 /// The role of a frame under a header.
 fn role_of(header: &Header) -> Role
     ensures { result ≡ role_of header.now }
 {
     match header.version {
         Version::V12 => role_in_12(header.kind, header.more),
-        Version::V10 | Version::V11 => match header.kind {
+        Version::V11 => role_in_11(header.kind, header.more),
+        Version::V10 => match header.kind {
             MessageKind::CancelRequest => Role::Drops,
             _ => Role::Apart,
         },
+    }
+}
+
+/// Whether a frame must begin with a request id.
+fn has_id(role: Role, version: Version) -> bool
+    ensures { result ≡ has_id role version }
+{
+    match (role, version) {
+        (Role::Drops, _) => true,
+        (Role::Apart, _) => false,
+        (_, Version::V12) => true,
+        _ => false,
+    }
+}
+
+/// Whether a frame may come while a message of 1.1 is partial.
+fn may_come(role: Role, version: Version) -> bool
+    ensures { result ≡ may_come role version }
+{
+    matches!(
+        (role, version),
+        (Role::Drops, _) | (Role::Carries | Role::Ends, Version::V11)
+    )
+}
+
+/// Whether a frame comes where only a Fragment of 1.1 or a CancelRequest may.
+fn interrupts(role: Role, version: Version, parts: &[Part]) -> bool
+    ensures { result ≡ (not (may_come role version) && is_some (part_in (entries parts.now) Of11)) }
+{
+    !may_come(role, version) && Part::is_among(parts, Key::Of11)
+}
+
+/// Whether a frame ends inside the request id that it must begin with.
+fn lacks_id(role: Role, version: Version, frame: &[u8]) -> bool
+    ensures { result ≡ (has_id role version && nat_lt (length frame.now) 16) }
+{
+    has_id(role, version) && frame.len() < 16
+}
+
+/// How many octets of a Fragment come before its payload.
+pub(crate) fn id_length(version: Version) -> usize
+    ensures { result ≡ id_length version }
+{
+    match version {
+        Version::V12 => 4,
+        Version::V10 | Version::V11 => 0,
+    }
+}
+
+/// The key of the message that a frame is a part of.
+fn key_of(header: &Header, frame: &[u8]) -> Key
+    requires { 12 + id_length header.now.version ≤ length frame.now }
+    ensures { result ≡ key_of (framed header.now frame.now) }
+{
+    match header.version {
+        Version::V12 => {
+            let (_, octets) = frame.split_at(Header::LEN);
+            Key::Of12(header.order.ulong_of(octets))
+        }
+        Version::V10 | Version::V11 => Key::Of11,
     }
 }
 
@@ -95,15 +171,14 @@ fn open(
     limits: &Limits,
     alloc: Global,
     header: &Header,
-    id: u32,
     frame: &mut Vec<u8>,
     parts: &mut Vec<Part>,
 ) -> Result<Settled, AllocError>
-    requires headed { 12 ≤ vec_len frame.old }
-    requires id { id ≡ id_of (framed header.now frame.old.items) }
+    requires { 12 + id_length header.now.version ≤ vec_len frame.old }
     ensures { IfOk result (λ v. IsSettledAs role.Opens v limits.now header.now frame.old.items frame.new.items (entries parts.old.items) (entries parts.new.items)) }
 {
-    if Part::is_among(parts.as_slice(), id) {
+    let key = key_of(header, frame.as_slice());
+    if Part::is_among(parts.as_slice(), key) {
         return Ok(Settled::Bad(StreamFault::TwiceStarted));
     }
     if usize::from(limits.partials) <= parts.len() {
@@ -111,7 +186,7 @@ fn open(
     }
     let octets = mem::replace(frame, Vec::new(alloc));
     parts.push(Part {
-        id,
+        key,
         header: *header,
         octets,
     })?;
@@ -122,32 +197,31 @@ fn open(
 fn take_up(
     limits: &Limits,
     header: &Header,
-    id: u32,
     frame: &[u8],
     parts: &mut Vec<Part>,
 ) -> Result<TakenUp, AllocError>
-    requires long { 16 ≤ length frame.now }
-    requires id { id ≡ id_of (framed header.now frame.now) }
+    requires { 12 + id_length header.now.version ≤ length frame.now }
     ensures { IfOk result (λ t. IsTakenUp t limits.now (framed header.now frame.now) (entries parts.old.items) (entries parts.new.items)) }
 {
-    let Some(part) = Part::take_from(parts, id) else {
+    let key = key_of(header, frame);
+    let Some(part) = Part::take_from(parts, key) else {
         return Ok(TakenUp::Refused(StreamFault::StrayFragment));
     };
     if part.header.order != header.order {
         return Ok(TakenUp::Refused(StreamFault::MixedOrder));
     }
     let Part {
-        id: _,
+        key: _,
         header: first,
         mut octets,
     } = part;
-    let (_, payload) = frame.split_at(16);
+    let (_, payload) = frame.split_at(Header::LEN + id_length(header.version));
     if (limits.message as u64) < octets.len() as u64 + payload.len() as u64 {
         return Ok(TakenUp::Refused(StreamFault::TooLarge));
     }
     octets.extend_from_slice(payload)?;
     Ok(TakenUp::Continued(Part {
-        id,
+        key,
         header: first,
         octets,
     }))
@@ -157,15 +231,13 @@ fn take_up(
 fn carry(
     limits: &Limits,
     header: &Header,
-    id: u32,
     frame: &mut Vec<u8>,
     parts: &mut Vec<Part>,
 ) -> Result<Settled, AllocError>
-    requires long { 16 ≤ vec_len frame.old }
-    requires id { id ≡ id_of (framed header.now frame.old.items) }
+    requires { 12 + id_length header.now.version ≤ vec_len frame.old }
     ensures { IfOk result (λ v. IsSettledAs role.Carries v limits.now header.now frame.old.items frame.new.items (entries parts.old.items) (entries parts.new.items)) }
 {
-    match take_up(limits, header, id, frame.as_slice(), parts)? {
+    match take_up(limits, header, frame.as_slice(), parts)? {
         TakenUp::Refused(fault) => Ok(Settled::Bad(fault)),
         TakenUp::Continued(part) => {
             frame.clear();
@@ -179,19 +251,17 @@ fn carry(
 fn end(
     limits: &Limits,
     header: &Header,
-    id: u32,
     frame: &mut Vec<u8>,
     parts: &mut Vec<Part>,
 ) -> Result<Settled, AllocError>
-    requires long { 16 ≤ vec_len frame.old }
-    requires id { id ≡ id_of (framed header.now frame.old.items) }
+    requires { 12 + id_length header.now.version ≤ vec_len frame.old }
     ensures { IfOk result (λ v. IsSettledAs role.Ends v limits.now header.now frame.old.items frame.new.items (entries parts.old.items) (entries parts.new.items)) }
 {
-    match take_up(limits, header, id, frame.as_slice(), parts)? {
+    match take_up(limits, header, frame.as_slice(), parts)? {
         TakenUp::Refused(fault) => Ok(Settled::Bad(fault)),
         TakenUp::Continued(part) => {
             let Part {
-                id: _,
+                key: _,
                 header: first,
                 octets,
             } = part;
@@ -208,30 +278,29 @@ fn end(
 }
 
 /// A CancelRequest drops what has come of its message, in any version: a rule of this project.
-fn cancel(header: &Header, id: u32, frame: &[u8], parts: &mut Vec<Part>) -> Settled
-    requires headed { 12 ≤ length frame.now }
-    requires id { id ≡ id_of (framed header.now frame.now) }
+fn cancel(header: &Header, frame: &[u8], parts: &mut Vec<Part>) -> Settled
+    requires { 16 ≤ length frame.now }
     ensures verdict { verdict_at result frame.now ≡ judged_whole (framed header.now frame.now) }
-    ensures parts { entries parts.new.items ≡ without id (entries parts.old.items) }
+    ensures parts { entries parts.new.items ≡ uncancelled (id_of (framed header.now frame.now)) (entries parts.old.items) }
 {
-    let _ = Part::take_from(parts, id);
+    let (_, octets) = frame.split_at(Header::LEN);
+    Part::cancel_in(parts, header.order.ulong_of(octets));
     whole(header, frame)
 }
 
 /// A whole message that could have been cut must not have the request id of a partial one.
-fn uncut(header: &Header, id: u32, frame: &[u8], parts: &[Part]) -> Settled
-    requires headed { 12 ≤ length frame.now }
-    requires id { id ≡ id_of (framed header.now frame.now) }
+fn uncut(header: &Header, frame: &[u8], parts: &[Part]) -> Settled
+    requires { 12 + id_length header.now.version ≤ length frame.now }
     ensures { verdict_at result frame.now ≡ judged_uncut (entries parts.now) (framed header.now frame.now) }
 {
-    if Part::is_among(parts, id) {
+    if Part::is_among(parts, key_of(header, frame)) {
         return Settled::Bad(StreamFault::TwiceStarted);
     }
     whole(header, frame)
 }
 
-/// Judges a frame that begins with its request id, and updates the partial messages.
-fn settle_by_id(
+/// Judges a frame by its role, and updates the partial messages.
+fn settle_as(
     limits: &Limits,
     alloc: Global,
     role: Role,
@@ -239,17 +308,16 @@ fn settle_by_id(
     frame: &mut Vec<u8>,
     parts: &mut Vec<Part>,
 ) -> Result<Settled, AllocError>
-    requires long { 16 ≤ vec_len frame.old }
+    requires headed { 12 ≤ vec_len frame.old }
+    requires long { IsTrue (has_id role header.now.version) → 16 ≤ vec_len frame.old }
     ensures { IfOk result (λ v. IsSettledAs role v limits.now header.now frame.old.items frame.new.items (entries parts.old.items) (entries parts.new.items)) }
 {
-    let (_, octets) = frame.as_slice().split_at(Header::LEN);
-    let id = header.order.ulong_of(octets);
     match role {
-        Role::Opens => open(limits, alloc, header, id, frame, parts),
-        Role::Carries => carry(limits, header, id, frame, parts),
-        Role::Ends => end(limits, header, id, frame, parts),
-        Role::Drops => Ok(cancel(header, id, frame.as_slice(), parts)),
-        Role::Uncut => Ok(uncut(header, id, frame.as_slice(), parts.as_slice())),
+        Role::Opens => open(limits, alloc, header, frame, parts),
+        Role::Carries => carry(limits, header, frame, parts),
+        Role::Ends => end(limits, header, frame, parts),
+        Role::Drops => Ok(cancel(header, frame.as_slice(), parts)),
+        Role::Uncut => Ok(uncut(header, frame.as_slice(), parts.as_slice())),
         Role::Apart => Ok(whole(header, frame.as_slice())),
     }
 }
@@ -267,15 +335,15 @@ pub(crate) fn settle(
     ensures { IfOk result (λ v. IsSettled v limits.now header.now frame.old.items frame.new.items (entries parts.old.items) (entries parts.new.items)) }
 {
     let role = role_of(header);
-    if let Role::Apart = role {
-        return Ok(whole(header, frame.as_slice()));
+    if interrupts(role, header.version, parts.as_slice()) {
+        return Ok(Settled::Bad(StreamFault::TwiceStarted));
     }
-    if frame.len() < 16 {
+    if lacks_id(role, header.version, frame.as_slice()) {
         let short = Fault {
             kind: Kind::Short,
             at: 12,
         };
         return Ok(Settled::Bad(StreamFault::Body(MessageFault::Cdr(short))));
     }
-    settle_by_id(limits, alloc, role, header, frame, parts)
+    settle_as(limits, alloc, role, header, frame, parts)
 }

@@ -1,7 +1,9 @@
 //! Messages that are cut.
 
-use super::samples::{FIRST, LAST, MIDDLE, WHOLE};
-use giop_frames::{fragments, is_cuttable};
+use super::samples::{
+    FIRST, FIRST_11, LAST, LONG_MIDDLE_11, MIDDLE, SHORT_LAST_11, WHOLE, WHOLE_11,
+};
+use giop_frames::{fragments, fragments_11, is_cuttable, is_cuttable_11};
 use std::process::Abort;
 
 /// The frames of at most `size` octets that the message is cut into, one after another.
@@ -11,6 +13,18 @@ fn cut(rt: &(impl Abort + AllocGlobal), size: u32) -> Vec<u8> {
     }
     let mut out = Vec::new(rt.alloc());
     if fragments(WHOLE, size, &mut out).is_err() {
+        rt.abort();
+    }
+    out
+}
+
+/// The frames of at most `size` octets that the message of 1.1 is cut into, one after another.
+fn cut_11(rt: &(impl Abort + AllocGlobal), size: u32) -> Vec<u8> {
+    if !is_cuttable_11(WHOLE_11) || size < 20 || size % 8 != 4 {
+        rt.abort();
+    }
+    let mut out = Vec::new(rt.alloc());
+    if fragments_11(WHOLE_11, size, &mut out).is_err() {
         rt.abort();
     }
     out
@@ -38,4 +52,22 @@ fn assert_cut(rt: &(impl Abort + AllocGlobal), size: u32, frames: &[&[u8]]) {
 fn a_message_is_cut(rt: HostRuntime) {
     assert_cut(&rt, 32, &[FIRST, MIDDLE, LAST]);
     assert_cut(&rt, 56, &[WHOLE]);
+}
+
+/// Asserts that the message of 1.1 is cut into these frames, of at most `size` octets.
+fn assert_cut_11(rt: &(impl Abort + AllocGlobal), size: u32, frames: &[&[u8]]) {
+    let found = cut_11(rt, size);
+    let wanted = joined(rt, frames);
+    assert!(rt; found.as_slice() == wanted.as_slice());
+}
+
+#[test]
+fn a_message_of_1_1_is_cut(rt: HostRuntime) {
+    assert_cut_11(&rt, 28, &[FIRST_11, LONG_MIDDLE_11, SHORT_LAST_11]);
+    assert_cut_11(&rt, 52, &[WHOLE_11]);
+}
+
+#[test]
+fn messages_are_cut_by_their_version(rt: HostRuntime) {
+    assert!(rt; !is_cuttable(WHOLE_11) && !is_cuttable_11(WHOLE) && !is_cuttable_11(FIRST_11));
 }

@@ -1,6 +1,9 @@
 //! Streams whole, in pieces of thirteen octets and in pieces of one, and what they give.
 
-use super::samples::{CANCEL, FIRST, LAST, LITTLE_FIRST, LITTLE_LAST, MIDDLE, WHOLE};
+use super::samples::{
+    CANCEL, CANCEL_11, FIRST, FIRST_11, LAST, LAST_11, LITTLE_FIRST, LITTLE_LAST, MIDDLE,
+    MIDDLE_11, WHOLE, WHOLE_11,
+};
 use cdr_core::{Fault, Kind, Order};
 use giop_core::{Content, Header, Message, MessageFault, MessageKind, Version};
 use giop_frames::{Assembler, Limits, StreamFault};
@@ -79,7 +82,7 @@ fn gives(alloc: Global, row: &Row, size: usize) -> bool {
     messages == row.messages && row.fault.is_none() && is_partial && assembler.pending() == 0
 }
 
-static ROWS: [Row; 11] = [
+static ROWS: [Row; 26] = [
     Row {
         frames: &[FIRST, MIDDLE, LAST],
         messages: 1,
@@ -143,7 +146,7 @@ static ROWS: [Row; 11] = [
         partial: 0,
         fault: Some(StreamFault::MixedOrder),
     },
-    // A Fragment of 1.1.
+    // A Fragment of 1.1 where no message of 1.1 is partial.
     Row {
         frames: &[b"GIOP\x01\x01\x00\x07\x00\x00\x00\x00"],
         messages: 0,
@@ -155,6 +158,114 @@ static ROWS: [Row; 11] = [
         messages: 0,
         partial: 0,
         fault: Some(StreamFault::TwiceStarted),
+    },
+    // A message of 1.1 in three frames.
+    Row {
+        frames: &[FIRST_11, MIDDLE_11, LAST_11],
+        messages: 1,
+        partial: 0,
+        fault: None,
+    },
+    Row {
+        frames: &[FIRST_11],
+        messages: 0,
+        partial: 1,
+        fault: None,
+    },
+    // A CancelRequest of its id, of 1.1 or 1.2, drops it; one of another id, or before its id is there, does not.
+    Row {
+        frames: &[FIRST_11, CANCEL_11, MIDDLE_11],
+        messages: 1,
+        partial: 0,
+        fault: Some(StreamFault::StrayFragment),
+    },
+    Row {
+        frames: &[FIRST_11, CANCEL, LAST_11],
+        messages: 1,
+        partial: 0,
+        fault: Some(StreamFault::StrayFragment),
+    },
+    Row {
+        frames: &[
+            FIRST_11,
+            b"GIOP\x01\x01\x00\x02\x00\x00\x00\x04\x00\x00\x00\x06",
+            MIDDLE_11,
+            LAST_11,
+        ],
+        messages: 2,
+        partial: 0,
+        fault: None,
+    },
+    Row {
+        frames: &[
+            b"GIOP\x01\x01\x02\x00\x00\x00\x00\x08\x00\x00\x00\x01\x00\x00\x00\x01",
+            CANCEL_11,
+        ],
+        messages: 1,
+        partial: 1,
+        fault: None,
+    },
+    // No other frame comes between.
+    Row {
+        frames: &[FIRST_11, WHOLE_11],
+        messages: 0,
+        partial: 0,
+        fault: Some(StreamFault::TwiceStarted),
+    },
+    Row {
+        frames: &[FIRST_11, FIRST_11],
+        messages: 0,
+        partial: 0,
+        fault: Some(StreamFault::TwiceStarted),
+    },
+    Row {
+        frames: &[FIRST, FIRST_11, MIDDLE],
+        messages: 0,
+        partial: 0,
+        fault: Some(StreamFault::TwiceStarted),
+    },
+    Row {
+        frames: &[FIRST_11, b"GIOP\x01\x00\x00\x05\x00\x00\x00\x00"],
+        messages: 0,
+        partial: 0,
+        fault: Some(StreamFault::TwiceStarted),
+    },
+    // A partial message of 1.2 stays beside it.
+    Row {
+        frames: &[FIRST, FIRST_11, MIDDLE_11, LAST_11, MIDDLE, LAST],
+        messages: 2,
+        partial: 0,
+        fault: None,
+    },
+    // A first frame of 1.1 of 32 octets, and a Fragment with more to come of 16.
+    Row {
+        frames: &[b"GIOP\x01\x01\x02\x00\x00\x00\x00\x14"],
+        messages: 0,
+        partial: 0,
+        fault: Some(StreamFault::UnalignedFragment),
+    },
+    Row {
+        frames: &[FIRST_11, b"GIOP\x01\x01\x02\x07\x00\x00\x00\x04"],
+        messages: 0,
+        partial: 0,
+        fault: Some(StreamFault::UnalignedFragment),
+    },
+    // A Fragment of 1.1 in little order.
+    Row {
+        frames: &[FIRST_11, b"GIOP\x01\x01\x01\x07\x00\x00\x00\x00"],
+        messages: 0,
+        partial: 0,
+        fault: Some(StreamFault::MixedOrder),
+    },
+    // The last Fragment has no octets.
+    Row {
+        frames: &[
+            b"GIOP\x01\x01\x02\x00\x00\x00\x00\x20\x00\x00\x00\x00\x00\x00\x00\x05\x01\x00\x00\x00\x00\x00\x00\x01c\x00\x00\x00\x00\x00\x00\x04get\x00\x00\x00\x00\x00",
+            b"GIOP\x01\x01\x00\x07\x00\x00\x00\x00",
+        ],
+        messages: 1,
+        partial: 0,
+        fault: None,
     },
 ];
 

@@ -3,7 +3,7 @@ use Rattle.std.proofs.Math.Facts.{Fits-of_lt}
 use Rattle.std.proofs.lemmas.List.{append-nil}
 use Rattle.std.proofs.lemmas.Result.{err_from_is_err_and}
 use Rattle.std.specs.Int.{w32}
-use Rattle.giop_frames.proofs.Cuts.{appended-by, appended-more, appended-none}
+use Rattle.giop_frames.proofs.Cuts.{appended-by, appended-more, appended-none, can-fragment}
 use Rattle.giop_frames.proofs.fragmenter.put_cut.Goals as goal
 
 pub split_at-requires-2 : goal.split_at-requires-2
@@ -43,19 +43,13 @@ returns-in_err-extend_from_slice-3-clause-err c =
     rw (p.1) (appended-none c.args.out.now.items c.extend_from_slice-2.new.self.items c.extend_from_slice-3.new.self.items (appended-by c.args.out.now.items c.extend_from_slice-2.new.self.items _ c.in_ok-extend_from_slice-2.ensures.items) c.in_err-extend_from_slice-3.ensures.items)
 
 pub split_at-requires-3 : goal.split_at-requires-3
-split_at-requires-3 c = omega (arith, c.split_at.ensures.front_len, c.split_at-2.ensures.back_len, c.requires.least)
+split_at-requires-3 c = omega (arith, c.id_length.ensures, c.split_at.ensures.front_len, c.split_at-2.ensures.back_len, c.requires.least)
 
 pub overflow_sub-size : goal.overflow_sub-size
-overflow_sub-size c = omega (arith, c.requires.least)
+overflow_sub-size c = omega (arith, c.id_length.ensures, c.split_at-3.ensures.front_len, c.requires.least)
 
-pub put_fragments-requires-clause-version : goal.put_fragments-requires-clause-version
-put_fragments-requires-clause-version c = c.requires.version
-
-pub put_fragments-requires-clause-some : goal.put_fragments-requires-clause-some
-put_fragments-requires-clause-some c = omega (arith, c.requires.least)
-
-pub put_fragments-requires-clause-small : goal.put_fragments-requires-clause-small
-put_fragments-requires-clause-small c = omega (arith, c.split_at.ensures.back_len, c.requires.least, c.requires.small)
+pub put_fragments-requires-clause-cuts : goal.put_fragments-requires-clause-cuts
+put_fragments-requires-clause-cuts c = can-fragment c.args.header.now.version c.args.header.now.kind c.requires.cuts
 
 pub returns-in_err-put_fragments-clause-ok : goal.returns-in_err-put_fragments-clause-ok
 returns-in_err-put_fragments-clause-ok c =

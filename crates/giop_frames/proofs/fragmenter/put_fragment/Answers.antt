@@ -1,16 +1,8 @@
-use Rattle.std.proofs.Common.{[], sym, ◌∙◌, arith}
-use Rattle.std.proofs.Math.Facts.{Fits-of_lt}
+use Rattle.std.proofs.Common.{[], sym, ◌∙◌}
 use Rattle.std.proofs.lemmas.List.{append-nil}
 use Rattle.std.proofs.lemmas.Result.{err_from_is_err_and}
-use Rattle.std.specs.Int.{w32}
 use Rattle.giop_frames.proofs.Cuts.{appended-by, appended-more, appended-none, appended-three}
 use Rattle.giop_frames.proofs.fragmenter.put_fragment.Goals as goal
-
-pub overflow_cast-fragment : goal.overflow_cast-fragment
-overflow_cast-fragment c = Fits-of_lt {w = w32} (omega (arith, c.requires.small))
-
-pub overflow_add-fragment : goal.overflow_add-fragment
-overflow_add-fragment c = Fits-of_lt {w = w32} c.requires.small
 
 pub returns-in_err-extend_from_slice-clause-ok : goal.returns-in_err-extend_from_slice-clause-ok
 returns-in_err-extend_from_slice-clause-ok c =

@@ -32,14 +32,14 @@ returns-clause-ok c =
     let out = c.loop-left.out.items in
     c.in_ok-put_fragment-2.ensures.ok ∙ ap (λ (x : List ℕ). out ++ x) (sym (cut-last h id left n c.loop-left-test.false)) ∙ c.loop-left.invariant.same
 
-pub put_fragment-requires-clause-version : goal.put_fragment-requires-clause-version
-put_fragment-requires-clause-version c = c.requires.version
+pub put_fragment-requires-clause-cuts : goal.put_fragment-requires-clause-cuts
+put_fragment-requires-clause-cuts c = c.requires.cuts
 
 pub put_fragment-requires-clause-small : goal.put_fragment-requires-clause-small
 put_fragment-requires-clause-small c = omega (arith, c.split_at.ensures.front_len, c.loop-left-test.true, c.loop-left.invariant.small)
 
-pub put_fragment-requires-2-clause-version : goal.put_fragment-requires-2-clause-version
-put_fragment-requires-2-clause-version c = c.requires.version
+pub put_fragment-requires-2-clause-cuts : goal.put_fragment-requires-2-clause-cuts
+put_fragment-requires-2-clause-cuts c = c.requires.cuts
 
 pub put_fragment-requires-2-clause-small : goal.put_fragment-requires-2-clause-small
 put_fragment-requires-2-clause-small c = c.loop-left.invariant.small

@@ -8,7 +8,7 @@ abbrev pub invariant-loop-left : goal.invariant-loop-left
 invariant-loop-left l = record {
   same : l.out.items ++ flat_map frame_octets (fragments_of l.header l.id (chunks_from l.payload [] l.left)) ≡ l.fn.out.items ++ flat_map frame_octets (fragments_of l.header l.id (chunks_from l.payload [] l.octets));
   more : IsAppended l.fn.out.items l.out.items;
-  small : 4 + length l.left < 2 ^ 32;
+  small : length l.id + length l.left < 2 ^ 32;
 }
 
 abbrev pub decreases-loop-left : goal.decreases-loop-left

@@ -1,25 +1,25 @@
 use Rattle.std.proofs.Common.{rules, ℕ, ◌≤◌, ◌<◌, true, false, length, drop, refl, ap, arith, Vec, Global}
 use Rattle.giop_frames.specs.Standing.{framed, entries}
-use Rattle.giop_frames.proofs.Judging.{partial-at, count-of, opened, opens-quiet, opens-too_many, opens-twice}
-use Rattle.giop_frames.specs.Fragments.{id_of}
+use Rattle.giop_frames.proofs.Judging.{keyed, partial-at, count-of, opened, opens-quiet, opens-too_many, opens-twice}
+use Rattle.giop_frames.specs.Fragments.{key_of}
 use Rattle.giop_frames.proofs.reassembly.open.Goals as goal
 
 pub returns-then-is_among : goal.returns-then-is_among
 returns-then-is_among c =
     let f = framed c.args.header.now c.args.frame.now.items in
-    opens-twice c.args.limits.now _ _ f (partial-at c.args.id (id_of f) c.args.parts.now.items c.as_slice.result.now true c.as_slice.ensures.value c.requires.id c.if-is_among.ensures)
+    opens-twice c.args.limits.now _ _ f (partial-at c.key_of-key.result (key_of f) c.args.parts.now.items c.as_slice-2.result.now true c.as_slice-2.ensures.value (keyed c.args.header.now c.args.frame.now.items c.as_slice.result.now c.key_of-key.result c.as_slice.ensures.value c.key_of-key.ensures) c.if-is_among.ensures)
 
 pub returns-then-from-len : goal.returns-then-from-len
 returns-then-from-len c =
     let f = framed c.args.header.now c.args.frame.now.items in
     let full : c.args.limits.now.partials ≤ length (entries c.args.parts.now.items) = omega (arith, c.if-from-len.true, c.len.ensures, c.from.ensures, count-of c.args.parts.now.items) in
-    opens-too_many c.args.limits.now _ _ f (partial-at c.args.id (id_of f) c.args.parts.now.items c.as_slice.result.now false c.as_slice.ensures.value c.requires.id c.if-is_among.ensures) full
+    opens-too_many c.args.limits.now _ _ f (partial-at c.key_of-key.result (key_of f) c.args.parts.now.items c.as_slice-2.result.now false c.as_slice-2.ensures.value (keyed c.args.header.now c.args.frame.now.items c.as_slice.result.now c.key_of-key.result c.as_slice.ensures.value c.key_of-key.ensures) c.if-is_among.ensures) full
 
 pub returns : goal.returns
 returns c =
     let f = framed c.args.header.now c.args.frame.now.items in
     let free : length (entries c.args.parts.now.items) < c.args.limits.now.partials = omega (arith, c.if-from-len.false, c.len.ensures, c.from.ensures, count-of c.args.parts.now.items) in (
-      opens-quiet c.args.limits.now _ _ f (partial-at c.args.id (id_of f) c.args.parts.now.items c.as_slice.result.now false c.as_slice.ensures.value c.requires.id c.if-is_among.ensures) free,
+      opens-quiet c.args.limits.now _ _ f (partial-at c.key_of-key.result (key_of f) c.args.parts.now.items c.as_slice-2.result.now false c.as_slice-2.ensures.value (keyed c.args.header.now c.args.frame.now.items c.as_slice.result.now c.key_of-key.result c.as_slice.ensures.value c.key_of-key.ensures) c.if-is_among.ensures) free,
       search rules,
-      opened c.args.parts.now.items _ _ f c.in_ok-push.ensures.items c.requires.id refl (ap (λ (v : Vec ℕ Global). drop 12 v.items) c.replace-octets.ensures.value),
+      opened c.args.parts.now.items _ _ f c.in_ok-push.ensures.items (keyed c.args.header.now c.args.frame.now.items c.as_slice.result.now c.key_of-key.result c.as_slice.ensures.value c.key_of-key.ensures) refl (ap (λ (v : Vec ℕ Global). drop 12 v.items) c.replace-octets.ensures.value),
     )

@@ -1,19 +1,32 @@
-use Rattle.std.proofs.Common.{arith}
+use Rattle.std.proofs.Common.{not, false, true, arith}
 use Rattle.std.proofs.lemmas.Result.{IfOk-weaker}
+use Rattle.giop_frames.specs.Fragments.{has_id, may_come}
 use Rattle.giop_frames.specs.Standing.{entries}
-use Rattle.giop_frames.proofs.Judging.{settled-apart, settled-by, settled-short}
+use Rattle.giop_frames.proofs.Judging.{early-at, long-at, settled-by, settled-short, settled-twice, short-at}
 use Rattle.giop_frames.proofs.reassembly.settle.Goals as goal
 
-pub returns-in-Apart : goal.returns-in-Apart
-returns-in-Apart c =
-    settled-apart c.args.limits.now c.args.header.now c.args.frame.now.items c.as_slice.result.now (entries c.args.parts.now.items) c.whole.result c.in-Apart.ensures c.as_slice.ensures.value (omega (arith, c.requires.headed)) c.whole.ensures
+pub returns-then-interrupts : goal.returns-then-interrupts
+returns-then-interrupts c =
+    let r = c.role_of-role.result in
+    let h = c.args.header.now in
+    settled-twice c.args.limits.now h c.args.frame.now.items _ _ _ r c.role_of-role.ensures (early-at (not (may_come r h.version)) true c.args.parts.now.items c.as_slice.result.now c.as_slice.ensures.value c.if-interrupts.ensures)
 
-pub returns-then-len-lt16 : goal.returns-then-len-lt16
-returns-then-len-lt16 c =
-    settled-short c.args.limits.now c.args.header.now c.args.frame.now.items _ _ c.role_of-role.result c.role_of-role.ensures c.in_default.not-Apart (omega (arith, c.if-len-lt16.true, c.len.ensures))
+pub returns-then-lacks_id : goal.returns-then-lacks_id
+returns-then-lacks_id c =
+    let r = c.role_of-role.result in
+    let h = c.args.header.now in
+    settled-short c.args.limits.now h c.args.frame.now.items _ _ _ r c.role_of-role.ensures (early-at (not (may_come r h.version)) false c.args.parts.now.items c.as_slice.result.now c.as_slice.ensures.value c.if-interrupts.ensures)
+    (short-at h c.args.frame.now.items c.as_slice-2.result.now (has_id r h.version) true c.as_slice-2.ensures.value c.if-lacks_id.ensures)
+
+pub settle_as-requires-clause-long : goal.settle_as-requires-clause-long
+settle_as-requires-clause-long c = λ t. omega (arith, long-at c.args.frame.now.items c.as_slice-2.result.now (has_id c.role_of-role.result c.args.header.now.version) c.as_slice-2.ensures.value c.if-lacks_id.ensures t)
 
 pub returns : goal.returns
 returns c =
-    IfOk-weaker c.settle_by_id.result _ _
-    (λ s l. settled-by c.args.limits.now c.args.header.now c.args.frame.now.items c.settle_by_id.new.frame.items (entries c.args.parts.now.items) (entries c.settle_by_id.new.parts.items) c.role_of-role.result s c.role_of-role.ensures (omega (arith, c.if-len-lt16.false, c.len.ensures)) l)
-    c.settle_by_id.ensures
+    let r = c.role_of-role.result in
+    let h = c.args.header.now in
+    IfOk-weaker c.settle_as.result _ _
+    (λ s l. settled-by c.args.limits.now h c.args.frame.now.items c.settle_as.new.frame.items (entries c.args.parts.now.items) (entries c.settle_as.new.parts.items) r s c.role_of-role.ensures
+    (early-at (not (may_come r h.version)) false c.args.parts.now.items c.as_slice.result.now c.as_slice.ensures.value c.if-interrupts.ensures)
+    (short-at h c.args.frame.now.items c.as_slice-2.result.now (has_id r h.version) false c.as_slice-2.ensures.value c.if-lacks_id.ensures) l)
+    c.settle_as.ensures
