@@ -1,7 +1,9 @@
 -- Lists of keys and of kept outcomes: what is left after forgetting, and what one more adds.
 use Rattle.std.proofs.Common.{◌≡◌, ℕ, ◌+◌, ◌<◌, ◌≤◌, Bool, true, false, not, ◌&&◌, ◌||◌, cond, List, [], ◌∷◌, ◌++◌, length, map, filter, bytes_eq, nat_le, Option, Some, None, Result, Ok, Err, IsErrAnd, refl, sym, ap, ◌∙◌, subst, arith, rules}
 use Rattle.std.specs.List.{list_any}
-use Rattle.std.proofs.lemmas.Bool.{and_parts, and_from, or_parts, or_from, not_from_false}
+use Rattle.std.proofs.lemmas.Bool.{and_parts, and_from, or_parts, or_from, not_from_false, cond-true, cond-false}
+use Rattle.std.proofs.lemmas.Bool.Decides.{Decides-int_eq}
+use Rattle.std.specs.Ordering.{int_eq}
 use Rattle.std.proofs.lemmas.List.{map-append, length-map}
 use Rattle.std.proofs.lemmas.List.Folds.{list_any-append}
 use Rattle.std.proofs.lemmas.List.Sums.{sum_by-cons, sum_by_push}
@@ -104,15 +106,60 @@ pub other_error : {A : Type 0} (r : Result (Unit {0}) LogError) → IsErrAnd r (
 other_error (Ok u) h e = absurd h
 other_error (Err x) h e = absurd (let same : Memory ≡ ShareFull = cc in cc)
 
--- distinct keys: a later key is not an earlier one
-pub differ : (front rest : List RequestKey) (a b : RequestKey) (between : List RequestKey) → are_distinct (front ++ a ∷ between ++ b ∷ rest) ≡ true → same_key b a ≡ false
-differ [] rest a b between h =
+pub itself : (a : RequestKey) → same_key a a ≡ true
+itself a = and_from _ _ ((bytes_eq-Decides a.client_id a.client_id).1 refl) ((Decides-int_eq a.retention_id a.retention_id).1 refl)
+
+pub same_is : (a b : RequestKey) → same_key a b ≡ true → a ≡ b
+same_is a b h =
+    let parts = and_parts (bytes_eq a.client_id b.client_id) (int_eq a.retention_id b.retention_id) h in
+    let client = (bytes_eq-Decides a.client_id b.client_id).0 parts.0 in
+    let number = (Decides-int_eq a.retention_id b.retention_id).0 parts.1 in
+    λ i. record { client_id = client i; retention_id = number i }
+
+-- of distinct keys a later one is not the first
+not_first : (between rest : List RequestKey) (a b : RequestKey) → are_distinct (a ∷ between ++ b ∷ rest) ≡ true → same_key b a ≡ false
+not_first between rest a b h =
     let p : RequestKey → Bool = λ later. same_key later a in
     let parts = and_parts (not (list_any p (between ++ b ∷ rest))) (are_distinct (between ++ b ∷ rest)) h in
     let none = sym (list_any-append p between (b ∷ rest)) ∙ false_from_not _ parts.0 in
     let later = or_parts (list_any p between) (p b || list_any p rest) none in
     (or_parts (p b) (list_any p rest) later.1).0
-differ (x ∷ xs) rest a b between h =
+
+pub differ : (front between rest : List RequestKey) (a b : RequestKey) → are_distinct (front ++ a ∷ between ++ b ∷ rest) ≡ true → same_key b a ≡ false
+differ [] between rest a b h = not_first between rest a b h
+differ (x ∷ xs) between rest a b h =
     let p : RequestKey → Bool = λ later. same_key later x in
     let all : List RequestKey = xs ++ a ∷ between ++ b ∷ rest in
-    differ xs rest a b between (and_parts (not (list_any p all)) (are_distinct all) h).1
+    differ xs between rest a b (and_parts (not (list_any p all)) (are_distinct all) h).1
+
+-- where keys are distinct, each entry is found by its key
+pub found : {O : Type 0} (front rest : List (KeptOutcome O)) (e : KeptOutcome O) → are_distinct (keys_of (front ++ e ∷ rest)) ≡ true → kept_for e.key (front ++ e ∷ rest) ≡ Some e.outcome
+found [] rest e h = cond-true (same_key e.key e.key) (Some e.outcome) (kept_for e.key rest) (itself e.key)
+found {O} (x ∷ xs) rest e h =
+    let p : RequestKey → Bool = λ later. same_key later x.key in
+    let all : List (KeptOutcome O) = xs ++ e ∷ rest in
+    let parts = and_parts (not (list_any p (keys_of all))) (are_distinct (keys_of all)) h in
+    let split = map-append (λ (k : KeptOutcome O). k.key) xs (e ∷ rest) in
+    let none = sym (list_any-append p (keys_of xs) (keys_of (e ∷ rest))) ∙ sym (ap (list_any p) split) ∙ false_from_not _ parts.0 in
+    let later = or_parts (list_any p (keys_of xs)) (p e.key || list_any p (keys_of rest)) none in
+    let other = (or_parts (p e.key) (list_any p (keys_of rest)) later.1).0 in
+    cond-false (same_key e.key x.key) (Some x.outcome) (kept_for e.key all) other ∙ found xs rest e parts.1
+
+-- an entry of the list with this key and this outcome
+pub record IsEntry {O : Type 0} (key : RequestKey) (entries : List (KeptOutcome O)) (o : O) : Type 0 where
+  pub front : List (KeptOutcome O)
+  pub rest : List (KeptOutcome O)
+  pub entry : KeptOutcome O
+  pub is : entries ≡ front ++ entry ∷ rest
+  pub has_key : entry.key ≡ key
+  pub has_outcome : entry.outcome ≡ o
+
+pub entry_found : {O : Type 0} (key : RequestKey) (entries : List (KeptOutcome O)) (o : O) → kept_for key entries ≡ Some o → IsEntry key entries o
+entry_found key [] o h = absurd (let none : None ≡ Some o = h in cc)
+entry_found {O} key (x ∷ xs) o h =
+    let here : (b : Bool) → same_key key x.key ≡ b → cond b (Some x.outcome) (kept_for key xs) ≡ Some o → IsEntry key (x ∷ xs) o = λ b.
+    elim b as (λ b. same_key key x.key ≡ b → cond b (Some x.outcome) (kept_for key xs) ≡ Some o → IsEntry key (x ∷ xs) o) [
+      | true ↦ λ e k. record { front = []; rest = xs; entry = x; is = refl; has_key = sym (same_is key x.key e); has_outcome = cc }
+      | false ↦ λ e k. let later = entry_found key xs o k in record { front = x ∷ later.front; rest = later.rest; entry = later.entry; is = ap (λ l. x ∷ l) later.is; has_key = later.has_key; has_outcome = later.has_outcome }
+    ] in
+    here (same_key key x.key) refl h

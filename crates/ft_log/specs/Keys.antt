@@ -1,5 +1,5 @@
 -- What names a request over all its transmissions.
-use Rattle.std.specs.Prelude.{ℕ, ℤ, Bool, true, not, ◌&&◌, List, [], ◌∷◌, bytes_eq, count_by}
+use Rattle.std.specs.Prelude.{ℕ, ℤ, Bool, true, not, ◌&&◌, List, [], ◌∷◌, bytes_eq, count_by, length, nat_lt}
 use Rattle.std.specs.List.{list_any}
 use Rattle.std.specs.Ordering.{int_eq}
 
@@ -20,3 +20,7 @@ are_distinct (k ∷ ks) = not (list_any (λ later. same_key later k) ks) && are_
 -- how many of these keys a client has
 abbrev pub held_of : List ℕ → List RequestKey → ℕ
 held_of client keys = count_by (λ k. bytes_eq k.client_id client) keys
+
+-- there is room for another key: fewer than `capacity` in all, and fewer than `share` of its client
+abbrev pub has_room_for : ℕ → ℕ → RequestKey → List RequestKey → Bool
+has_room_for capacity share key keys = nat_lt (length keys) capacity && nat_lt (held_of key.client_id keys) share

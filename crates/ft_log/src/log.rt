@@ -94,12 +94,12 @@ impl Log {
         ensures err { OnErr result (logged self.new ≡ record (logged self.old) { room = None }) }
         ensures full { (result ≡ Err Full) ↔ (length (logged self.old).entries ≡ (logged self.old).capacity) }
         ensures share_full { (result ≡ Err ShareFull) ↔ ((length (logged self.old).entries < (logged self.old).capacity)
-            × (held_of key.now.client_id.items (keys_of (logged self.old).entries) ≡ (logged self.old).share)) }
+            × (held_of (key_of key.now).client_id (keys_of (logged self.old).entries) ≡ (logged self.old).share)) }
         ensures within { OnOk result (length (logged self.old).entries < (logged self.old).capacity) }
-        ensures shared { OnOk result (held_of key.now.client_id.items (keys_of (logged self.old).entries) < (logged self.old).share) }
+        ensures shared { OnOk result (held_of (key_of key.now).client_id (keys_of (logged self.old).entries) < (logged self.old).share) }
     {
         self.room = None;
-        if self.entries.len() == self.capacity as usize {
+        if self.len() == self.capacity as usize {
             return Err(LogError::Full);
         }
         if held_in(&self.entries, &key.client_id) == self.share as usize {
@@ -121,15 +121,27 @@ impl Log {
         } }
     {
         self.room = None;
-        self.entries.push_reserved(Entry {
+        let entry = Entry {
             key,
             expiration,
             outcome,
-        });
+        };
+        self.entries.push_reserved(entry);
     }
 
     /// No two entries have one key.
     pub fn keys_are_distinct(&self)
         ensures { IsTrue (are_distinct (keys_of (logged self.now).entries)) }
     {}
+}
+
+/// How many outcomes are kept, and how many may be; not the outcomes.
+impl fmt::Debug for Log {
+    fn fmt<W: fmt::Write>(&self, f: &mut fmt::Formatter<W>) -> fmt::Result {
+        f.debug_struct("Log")
+            .field("capacity", &self.capacity)
+            .field("share", &self.share)
+            .field("len", &self.len())
+            .finish_non_exhaustive()
+    }
 }

@@ -1,8 +1,9 @@
 use Rattle.std.proofs.Common.{◌<◌, ◌≤◌, ◌≡◌, ◌∙◌, true, List, ℕ, [], ◌∷◌, ◌++◌, ap, sym, subst, refl, Option, Some, option_map, vec_len, vec_capacity, arith, rules}
+use Rattle.std.proofs.lemmas.List.{length-map}
 use Rattle.ft_log.specs.Keys.{RequestKey, are_distinct, held_of}
 use Rattle.ft_log.specs.Kept.{keys_of}
 use Rattle.ft_log.specs.Private.{is_ready}
-use Rattle.ft_log.specs.View.{entries_at, key_of}
+use Rattle.ft_log.specs.View.{entries_at, entry_in, key_of}
 use Rattle.ft_log.proofs.Listed.{none_kept, length_keys, other_error}
 use Rattle.ft_log.proofs.Ready.{IsReady, ready_from}
 use Rattle.ft_log.proofs.log.Log.make_room.Goals as goal
@@ -48,7 +49,7 @@ invariant_of-self-2 c =
     let reserved : ℕ = vec_capacity c.reserve.new.self in
     let held = c.held_in.ensures.held ∙ ap (λ x. held_of x (keys_of (entries_at c.deref.result.now))) c.deref-2.ensures.value
     ∙ ap (λ es. held_of client (keys_of (entries_at es))) c.deref.ensures.value in
-    let fewer : vec_len s.entries < s.capacity = omega (arith, c.if-len-self.false, c.len.ensures, s.within) in
+    let fewer : vec_len s.entries < s.capacity = omega (arith, c.if-len-self.false, c.len.ensures.length, length-map s.entries.items entry_in, s.entries.ok.0, s.within) in
     let place : IsReady key old s.capacity s.share reserved = record {
       new = none_kept key (entries_at s.entries.items) c.requires;
       within = omega (arith, length_keys s.entries.items, s.entries.ok.0, fewer);
