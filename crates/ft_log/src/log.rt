@@ -102,7 +102,7 @@ impl Log {
         if self.len() == self.capacity as usize {
             return Err(LogError::Full);
         }
-        if held_in(&self.entries, &key.client_id) == self.share as usize {
+        if self.held_by(&key.client_id) == self.share {
             return Err(LogError::ShareFull);
         }
         let key = key.copy(self.alloc)?;

@@ -10,21 +10,18 @@ use Rattle.ft_log.proofs.log.Log.make_room.Goals as goal
 
 pub returns-in_err-key-clause-share_full : goal.returns-in_err-key-clause-share_full
 returns-in_err-key-clause-share_full c =
-    let held = c.held_in.ensures.held ∙ ap (λ x. held_of x (keys_of (entries_at c.deref.result.now))) c.deref-2.ensures.value
-    ∙ ap (λ es. held_of c.args.key.now.client_id.items (keys_of (entries_at es))) c.deref.ensures.value in
-    (other_error c.from_residual.result c.from_residual.ensures.1, λ h. absurd (c.if-held_in-self.false (held ∙ h.1)))
+    let held = c.held_by.ensures.held ∙ ap (λ x. held_of x (keys_of (entries_at c.args.self.now.entries.items))) c.deref.ensures.value in
+    (other_error c.from_residual.result c.from_residual.ensures.1, λ h. absurd (c.if-held_by-self.false (held ∙ h.1)))
 
 pub returns-in_err-reserve-clause-share_full : goal.returns-in_err-reserve-clause-share_full
 returns-in_err-reserve-clause-share_full c =
-    let held = c.held_in.ensures.held ∙ ap (λ x. held_of x (keys_of (entries_at c.deref.result.now))) c.deref-2.ensures.value
-    ∙ ap (λ es. held_of c.args.key.now.client_id.items (keys_of (entries_at es))) c.deref.ensures.value in
-    (other_error c.from_residual-in_err-reserve.result c.from_residual-in_err-reserve.ensures.1, λ h. absurd (c.if-held_in-self.false (held ∙ h.1)))
+    let held = c.held_by.ensures.held ∙ ap (λ x. held_of x (keys_of (entries_at c.args.self.now.entries.items))) c.deref.ensures.value in
+    (other_error c.from_residual-in_err-reserve.result c.from_residual-in_err-reserve.ensures.1, λ h. absurd (c.if-held_by-self.false (held ∙ h.1)))
 
 pub returns-clause-share_full : goal.returns-clause-share_full
 returns-clause-share_full c =
-    let held = c.held_in.ensures.held ∙ ap (λ x. held_of x (keys_of (entries_at c.deref.result.now))) c.deref-2.ensures.value
-    ∙ ap (λ es. held_of c.args.key.now.client_id.items (keys_of (entries_at es))) c.deref.ensures.value in
-    (λ e. cc, λ h. absurd (c.if-held_in-self.false (held ∙ h.1)))
+    let held = c.held_by.ensures.held ∙ ap (λ x. held_of x (keys_of (entries_at c.args.self.now.entries.items))) c.deref.ensures.value in
+    (λ e. cc, λ h. absurd (c.if-held_by-self.false (held ∙ h.1)))
 
 pub invariant_of-self-in-Break-branch-2 : goal.invariant_of-self-in-Break-branch-2
 invariant_of-self-in-Break-branch-2 c =
@@ -47,13 +44,12 @@ invariant_of-self-2 c =
     let client : List ℕ = key.client_id in
     let old : List RequestKey = keys_of (entries_at s.entries.items) in
     let reserved : ℕ = vec_capacity c.reserve.new.self in
-    let held = c.held_in.ensures.held ∙ ap (λ x. held_of x (keys_of (entries_at c.deref.result.now))) c.deref-2.ensures.value
-    ∙ ap (λ es. held_of client (keys_of (entries_at es))) c.deref.ensures.value in
+    let held = c.held_by.ensures.held ∙ ap (λ x. held_of x (keys_of (entries_at c.args.self.now.entries.items))) c.deref.ensures.value in
     let fewer : vec_len s.entries < s.capacity = omega (arith, c.if-len-self.false, c.len.ensures.length, length-map s.entries.items entry_in, s.entries.ok.0, s.within) in
     let place : IsReady key old s.capacity s.share reserved = record {
       new = none_kept key (entries_at s.entries.items) c.requires;
       within = omega (arith, length_keys s.entries.items, s.entries.ok.0, fewer);
-      shared = omega (arith, held, s.shared client, c.if-held_in-self.false);
+      shared = omega (arith, held, s.shared client, c.if-held_by-self.false);
       reserved_for = omega (arith, length_keys s.entries.items, s.entries.ok.0, made.len, made.ok);
     } in
     let at_old = subst (λ (k : RequestKey). is_ready (Some k) old s.capacity s.share reserved ≡ true) (sym c.in_ok-key.ensures) (ready_from key old s.capacity s.share reserved place) in
