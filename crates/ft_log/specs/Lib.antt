@@ -1,4 +1,4 @@
--- The retention log, CORBA 3.3 Part 2, 23.2.7: what the contracts of this crate say. Read it in this order.
+-- The retention log, Fault Tolerant CORBA 23.2.7: what the contracts of this crate say. Read it in this order.
 --
 --   Exceptions  the names of system exceptions, their repository ids, and the numbers of completion
 --   Performed   what performing a request gave
