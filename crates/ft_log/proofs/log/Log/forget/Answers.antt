@@ -1,4 +1,4 @@
-use Rattle.std.proofs.Common.{◌≤◌, ◌≡◌, ◌∙◌, true, List, ℕ, length, ap, sym, subst, vec_len, vec_capacity, option_map, arith, rules}
+use Rattle.std.proofs.Common.{◌≤◌, ◌≡◌, true, List, ℕ, length, sym, subst, vec_len, vec_capacity, option_map, arith}
 use Rattle.ft_log.specs.Keys.{are_distinct, held_of}
 use Rattle.ft_log.specs.Kept.{KeptOutcome, keys_of, unexpired}
 use Rattle.ft_log.specs.Performed.{Performed}

@@ -1,4 +1,4 @@
-use Rattle.std.proofs.Common.{◌≡◌, ap, ◌∙◌, arith}
+use Rattle.std.proofs.Common.{ap, ◌∙◌, arith}
 use Rattle.ft_log.specs.Keys.{held_of}
 use Rattle.ft_log.specs.Kept.{keys_of}
 use Rattle.ft_log.specs.View.{entries_at}

@@ -1,4 +1,4 @@
-use Rattle.std.proofs.Common.{◌<◌, ◌≤◌, ◌≡◌, ◌∙◌, true, List, ℕ, [], ◌∷◌, ◌++◌, ap, sym, subst, refl, Option, Some, option_map, vec_len, vec_capacity, arith, rules}
+use Rattle.std.proofs.Common.{◌<◌, ◌≤◌, ◌≡◌, ◌∙◌, true, List, ℕ, ap, sym, subst, refl, Some, vec_len, vec_capacity, arith}
 use Rattle.std.proofs.lemmas.List.{length-map}
 use Rattle.ft_log.specs.Keys.{RequestKey, are_distinct, held_of}
 use Rattle.ft_log.specs.Kept.{keys_of}
