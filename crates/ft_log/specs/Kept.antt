@@ -1,0 +1,22 @@
+-- Kept outcomes, in order of keeping.
+use Rattle.std.specs.Prelude.{ℕ, nat_le, if◌then◌else◌, List, [], ◌∷◌, map, filter, Option, Some, None}
+use Rattle.ft_log.specs.Keys.{RequestKey, same_key}
+
+-- an outcome under a key, until its expiration
+pub record KeptOutcome (Outcome : Type 0) : Type 0 where
+  pub key : RequestKey
+  pub expiration : ℕ
+  pub outcome : Outcome
+
+-- the keys of the entries
+abbrev pub keys_of : {Outcome : Type 0} → List (KeptOutcome Outcome) → List RequestKey
+keys_of entries = map (λ e. e.key) entries
+
+-- the outcome that is kept for a key
+abbrev pub kept_for : {Outcome : Type 0} → RequestKey → List (KeptOutcome Outcome) → Option Outcome
+kept_for key [] = None
+kept_for key (e ∷ es) = if same_key key e.key then Some e.outcome else kept_for key es
+
+-- the entries whose expiration is at or after the clock
+abbrev pub unexpired : {Outcome : Type 0} → ℕ → List (KeptOutcome Outcome) → List (KeptOutcome Outcome)
+unexpired clock entries = filter (λ e. nat_le clock e.expiration) entries

@@ -1,0 +1,18 @@
+-- The retention log, Fault Tolerant CORBA 23.2.7: what the contracts of this crate say. Read it in this order.
+--
+--   Exceptions  the names of system exceptions, their repository ids, and the numbers of completion
+--   Performed   what performing a request gave
+--   Keys        keys of requests, when two are one, and how many a client has
+--   Kept        kept outcomes: which is found for a key, and which are forgotten
+--   View        what a `Key`, an `Outcome` and an entry of the code stand for
+--   Logged      what a `Log` stands for
+-- Laws          what the tests of keys say
+-- Private       words for the fields of a `Log`; no public contract, definition or law uses them
+pub mod Exceptions
+pub mod Performed
+pub mod Keys
+pub mod Kept
+pub mod View
+pub mod Logged
+pub mod Laws
+pub mod Private

@@ -1,0 +1,24 @@
+-- What a `Log` stands for.
+use Rattle.std.specs.Prelude.{ℕ, List, Option, option_map}
+use Rattle.ft_log.specs.Keys.{RequestKey}
+use Rattle.ft_log.specs.Kept.{KeptOutcome}
+use Rattle.ft_log.specs.Performed.{Performed}
+use Rattle.ft_log.specs.View.{entries_at, key_of}
+use Rattle.ft_log.specs.declared.log.Log.{Log}
+
+-- how many outcomes may be kept, how many of each client, those that are kept, in order of keeping, and the key that room
+-- is made for, if there is one
+pub record Logged : Type 0 where
+  pub capacity : ℕ
+  pub share : ℕ
+  pub entries : List (KeptOutcome Performed)
+  pub room : Option RequestKey
+
+-- what a `Log` stands for; the public contracts say nothing else of it
+abbrev pub logged : Log → Logged
+logged l = record {
+  capacity = l.capacity;
+  share = l.share;
+  entries = entries_at l.entries.items;
+  room = option_map key_of l.room;
+}

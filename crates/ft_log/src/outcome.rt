@@ -1,0 +1,49 @@
+//! What performing a request gave.
+
+ghost use Rattle.std.specs.Prelude.{◌≡◌, IfOk};
+ghost use Rattle.cdr_core.specs.View.{values_of};
+ghost use Rattle.ft_log.specs.View.{performed_in};
+
+use crate::system_exception::{Completion, SystemName};
+use cdr_core::Val;
+use std::alloc::{AllocError, Global};
+
+/// What performing a request gave (CORBA 3.3 Part 2, 9.4.3).
+#[derive(Debug, Drop)]
+pub enum Outcome {
+    /// The results: the return value, and then the out and inout parameters in order.
+    Returned(Vec<Val>),
+    /// An exception that the operation declares: its repository id without its NUL, and its members.
+    Raised(Vec<u8>, Vec<Val>),
+    /// A system exception: its name, its minor code, and whether the operation was completed.
+    System(SystemName, u32, Completion),
+}
+
+impl Outcome {
+    /// An equal outcome in memory of its own; an error if an allocation failed.
+    pub fn copy(&self, alloc: Global) -> Result<Outcome, AllocError>
+        ensures { IfOk result (λ o. performed_in o ≡ performed_in self.now) }
+    {
+        match self {
+            Outcome::Returned(results) => Ok(Outcome::Returned(copied(alloc, results)?)),
+            Outcome::Raised(id, members) => {
+                let id = Vec::from_slice(alloc, id)?;
+                Ok(Outcome::Raised(id, copied(alloc, members)?))
+            }
+            Outcome::System(name, minor, completion) => {
+                Ok(Outcome::System(*name, *minor, *completion))
+            }
+        }
+    }
+}
+
+/// Equal values in memory of their own.
+fn copied(alloc: Global, all: &[Val]) -> Result<Vec<Val>, AllocError>
+    ensures { IfOk result (λ v. values_of v.items ≡ values_of all.now) }
+{
+    let mut copies = Vec::with_capacity(alloc, all.len())?;
+    for value in all {
+        copies.push(value.copy(alloc)?)?;
+    }
+    Ok(copies)
+}
