@@ -1,0 +1,14 @@
+//! Laws over the definitions: each is what a function with an empty body ensures.
+
+ghost use Rattle.giop_link.specs.Laws.{EndingsStay, EndsAreSilent, HearingGrows, NothingIsSilent};
+
+/// Where nothing has come, nothing is heard. More octets add messages to what is heard and take none away; the
+/// end of a stream stays, and after it nothing is heard.
+pub fn streams_are_heard()
+    ensures nothing { NothingIsSilent }
+    ensures grows { HearingGrows }
+    ensures stays { EndingsStay }
+    ensures silent { EndsAreSilent }
+{
+    giop_frames::laws::streams_grow();
+}
