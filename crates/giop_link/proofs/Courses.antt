@@ -40,7 +40,7 @@ going-step (says m) a n = n
 going-step (ends e) a n = absurd cc
 
 -- a stream that goes on has no fault
-course-faultless : (last : Option StreamFault) (ms : List Completed) → (course_from last ms).ending ≡ None → last ≡ None
+pub course-faultless : (last : Option StreamFault) (ms : List Completed) → (course_from last ms).ending ≡ None → last ≡ None
 course-faultless None [] n = refl
 course-faultless (Some e) [] n = absurd (let k : Some (faulty e) ≡ None = n in cc)
 course-faultless last (m ∷ ms) n = course-faultless last ms (going-step (meaning_of m.message) (course_from last ms) n)

@@ -1,3 +1,4 @@
 pub mod Courses
 pub mod Turns
 pub mod Lending
+pub mod Firsts

@@ -6,29 +6,26 @@ use Rattle.giop_core.specs.declared.header.Version.{Version}
 use Rattle.giop_core.specs.declared.request.ReplyWish.{ReplyWish}
 use Rattle.giop_core.specs.Content as content
 use Rattle.giop_core.specs.Content.{Addressed, Content, Rest}
-use Rattle.giop_core.specs.Ft.{Ft, ft_in}
-use Rattle.giop_core.specs.Keys.{key_of_addressed}
 use Rattle.giop_frames.specs.declared.fault.StreamFault.{StreamFault}
 use Rattle.giop_frames.specs.declared.limits.Limits.{Limits}
 use Rattle.giop_frames.specs.Fragments.{content_of}
 use Rattle.giop_frames.specs.Frames.{Frame}
 use Rattle.giop_frames.specs.Streams.{Completed, fault_of, messages_of}
 
--- GIOP 9.4.2: what a request asks of which object, what its contexts say of its client, and how it is to be answered. Of
--- its target only the object key counts, if it names one.
+-- GIOP 9.4.2: all that a request says, and its version
 pub record Question : Type 0 where
   pub version : Version
   pub id : ℕ
   pub wish : ReplyWish
-  pub object_key : Option (List ℕ)
+  pub target : Addressed
   pub operation : List ℕ
-  pub field : Ft
+  pub contexts : List (ℕ × List ℕ)
   pub body : Rest
 
--- a message that a server hears: a request, a locate of an object key, if it names one, or a cancel of a request's id
+-- a message that a server hears: a request, a locate of a target under a request id, or a cancel of a request's id
 pub data Incoming : Type 0 where
   asks : Question → Incoming
-  locates : Version → ℕ → Option (List ℕ) → Incoming
+  locates : Version → ℕ → Addressed → Incoming
   cancels : ℕ → Incoming
 
 -- how a stream ends: by the peer's CloseConnection or MessageError, by a message that a server sends and never hears, or
@@ -50,16 +47,16 @@ question_in version id wish to operation contexts body = record {
   version = version;
   id = id;
   wish = wish;
-  object_key = key_of_addressed to;
+  target = to;
   operation = operation;
-  field = ft_in contexts;
+  contexts = contexts;
   body = body;
 }
 
 -- GIOP 9.4: a client sends requests, locates and cancels, and either side may close or report an error
 abbrev pub meaning_in : Version → Content → Meaning
 meaning_in version (content.request id wish to operation contexts body) = says (asks (question_in version id wish to operation contexts body))
-meaning_in version (content.locate_request id to) = says (locates version id (key_of_addressed to))
+meaning_in version (content.locate_request id to) = says (locates version id to)
 meaning_in version (content.cancel id) = says (cancels id)
 meaning_in version content.close = ends peer_closed
 meaning_in version content.error = ends peer_error

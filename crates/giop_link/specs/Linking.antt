@@ -4,7 +4,6 @@ use Rattle.cdr_core.specs.declared.order.Order.TheVariants.{Big}
 use Rattle.giop_core.specs.declared.header.MessageKind.TheVariants.{CloseConnection}
 use Rattle.giop_core.specs.declared.header.Version.TheVariants.{V10}
 use Rattle.giop_core.specs.Content.{Rest}
-use Rattle.giop_core.specs.Keys.{key_of_addressed}
 use Rattle.giop_core.specs.Lent as lent
 use Rattle.giop_core.specs.Written.{message_octets}
 use Rattle.giop_frames.specs.declared.limits.Limits.{Limits}
@@ -38,7 +37,7 @@ pub record LinkStands (limits : Limits) (link : Linked) (s : List ℕ) : Type 0 
 -- what a lent message is
 abbrev pub meaning_at : Inbound → Meaning
 meaning_at (inbound.Request version request) = meaning_in version (lent.request_of request)
-meaning_at (inbound.Locate version id target) = says (locates version id (key_of_addressed (lent.addressed_by target)))
+meaning_at (inbound.Locate version id target) = says (locates version id (lent.addressed_by target))
 meaning_at (inbound.Cancelled id) = says (cancels id)
 meaning_at inbound.PeerClosed = ends peer_closed
 meaning_at inbound.PeerError = ends peer_error
@@ -62,6 +61,11 @@ StandsBelow r = r.place < 2 ^ 32
 abbrev pub IsNear : Inbound → Type 0
 IsNear (inbound.Request version request) = StandsBelow (lent.rest_of request.body)
 IsNear _ = Unit {0}
+
+-- octets after the stream s bring nothing: no message that is heard, and no end
+pub record IsQuiet (limits : Limits) (s t : List ℕ) : Type 0 where
+  pub heard_is : heard limits (s ++ t) ≡ heard limits s
+  pub ending_is : ending limits (s ++ t) ≡ ending limits s
 
 -- a stream that had not ended ends so with the piece, and no message is heard in it
 pub record EndsBy (limits : Limits) (s piece : List ℕ) (e : Ending) : Type 0 where

@@ -5,7 +5,7 @@ ghost use Rattle.std.specs.Option.{option_map};
 ghost use Rattle.giop_frames.specs.Standing.{StandsFor};
 ghost use Rattle.giop_frames.specs.declared.limits.Limits.{Limits};
 ghost use Rattle.giop_link.specs.Hearing.{ending, heard};
-ghost use Rattle.giop_link.specs.Linking.{IsFaultOf, IsNear, LinkStands, close_connection, ending_in, heard_in, meaning_at, shut};
+ghost use Rattle.giop_link.specs.Linking.{IsFaultOf, IsNear, IsQuiet, LinkStands, close_connection, ending_in, heard_in, meaning_at, shut};
 ghost use Rattle.giop_link.specs.Private.{IsHeard, told_with, spoken_by, turn_by};
 
 use crate::fault::LinkFault;
@@ -48,6 +48,8 @@ fn hear(assembler: &mut Assembler, piece: &[u8]) -> Result<Heard, LinkFault>
     requires { assembler.old.failed ≡ false }
     ensures heard { (s : List ℕ) → StandsFor assembler.old s → ending assembler.old.limits s ≡ None
         → IfOk result (λ h. IsHeard assembler.old.limits s (take h.taken piece.now) (told_with h.end (spoken_by assembler.new.message)) assembler.new) }
+    ensures first { (s : List ℕ) → StandsFor assembler.old s → ending assembler.old.limits s ≡ None
+        → IfOk result (λ h. (k : ℕ) → k < h.taken → IsQuiet assembler.old.limits s (take k piece.now)) }
     ensures fault { (s : List ℕ) → StandsFor assembler.old s → ending assembler.old.limits s ≡ None
         → IfErr result (λ e. IsFaultOf assembler.old.limits s piece.now e) }
     ensures within { IfOk result (λ h. h.taken ≤ length piece.now) }
@@ -59,6 +61,7 @@ fn hear(assembler: &mut Assembler, piece: &[u8]) -> Result<Heard, LinkFault>
 {
     crate::laws::streams_are_heard();
     giop_frames::laws::streams_grow();
+    giop_frames::laws::messages_are_whole();
     let taken = assembler.feed(piece)?;
     let end = match assembler.header() {
         Some(header) => turn_of(header.kind)?,
@@ -146,6 +149,8 @@ impl ServerLink {
         ensures heard { (limits : Limits) (s : List ℕ) → LinkStands limits self.old s → IfOk result (λ n. heard limits (s ++ take n piece.now) ≡ heard limits s ++ heard_in self.new.inbound) }
         // or it is the stream's end
         ensures ended { (limits : Limits) (s : List ℕ) → LinkStands limits self.old s → IfOk result (λ n. ending limits (s ++ take n piece.now) ≡ ending_in (ending limits s) self.new.inbound) }
+        // and nothing comes before the last octet that is taken
+        ensures first { (limits : Limits) (s : List ℕ) → LinkStands limits self.old s → IfOk result (λ n. (k : ℕ) → k < n → IsQuiet limits s (take k piece.now)) }
         ensures within { IfOk result (λ n. n ≤ length piece.now) }
         ensures some { IfOk result (λ n. 0 < length piece.now → 0 < n) }
         ensures all { IfOk result (λ n. self.new.inbound ≡ None → n ≡ length piece.now) }
@@ -172,7 +177,7 @@ impl ServerLink {
                 Ok(taken)
             }
             Err(fault) => {
-                self.state = State::Closed;
+                self.state = State::Closed; // what was held is dropped
                 Err(fault)
             }
         }
@@ -188,7 +193,7 @@ impl ServerLink {
         if !self.is_closed() {
             write_close(out)?;
         }
-        self.state = State::Closed;
+        self.state = State::Closed; // nothing more counts
         Ok(())
     }
 }

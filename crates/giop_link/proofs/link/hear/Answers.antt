@@ -6,6 +6,7 @@ use Rattle.giop_frames.specs.Streams.{fault_of, messages_of}
 use Rattle.giop_link.specs.declared.fault.LinkFault.TheVariants.{Stream}
 use Rattle.giop_link.specs.Linking.{IsFaultOf}
 use Rattle.giop_link.specs.Private.{IsHeard, spoken_by}
+use Rattle.giop_link.proofs.Firsts.{fewer-quiet}
 use Rattle.giop_link.proofs.Turns.{Comes, brings-none, brings-some, err-by, fault-of, strays-by, told-header}
 use Rattle.giop_link.proofs.link.hear.Goals as goal
 
@@ -58,3 +59,27 @@ returns-in-None-clause-heard c = λ s st going.
     } in
     let b = brings-none limits s t comes in
     subst (λ (m : Option Frame). IsHeard limits s t (spoken_by m) c.feed.new.self) (sym none) (record { heard_is = b.heard_is; ending_is = b.ending_is; stands = f.stands s st })
+
+pub returns-in_ok-end-in-Some-clause-first : goal.returns-in_ok-end-in-Some-clause-first
+returns-in_ok-end-in-Some-clause-first c = λ s st going k less.
+    let limits = c.args.assembler.now.limits in
+    let t = take c.in_ok-taken.taken c.args.piece.now in
+    let f = c.in_ok-taken.ensures in
+    let comes : Comes limits s t c.feed.new.self.message = record {
+      going = going;
+      messages = f.messages s st;
+      faultless = ap (λ (l : Limits). fault_of l (s ++ t)) (sym f.limits) ∙ (f.stands s st).stands.faultless;
+    } in
+    fewer-quiet c.streams_grow.ensures.messages c.streams_grow.ensures.fault c.messages_are_whole.ensures.places limits s c.args.piece.now c.in_ok-taken.taken k c.feed.new.self.message f.within less comes
+
+pub returns-in-None-clause-first : goal.returns-in-None-clause-first
+returns-in-None-clause-first c = λ s st going k less.
+    let limits = c.args.assembler.now.limits in
+    let t = take c.in_ok-taken.taken c.args.piece.now in
+    let f = c.in_ok-taken.ensures in
+    let comes : Comes limits s t c.feed.new.self.message = record {
+      going = going;
+      messages = f.messages s st;
+      faultless = ap (λ (l : Limits). fault_of l (s ++ t)) (sym f.limits) ∙ (f.stands s st).stands.faultless;
+    } in
+    fewer-quiet c.streams_grow.ensures.messages c.streams_grow.ensures.fault c.messages_are_whole.ensures.places limits s c.args.piece.now c.in_ok-taken.taken k c.feed.new.self.message f.within less comes
