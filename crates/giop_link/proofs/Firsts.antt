@@ -1,5 +1,5 @@
 -- Before the last octet that is taken nothing comes.
-use Rattle.std.proofs.Common.{◌≡◌, ℕ, ◌+◌, ◌<◌, ◌≤◌, List, [], ◌∷◌, ◌++◌, length, take, drop, Option, Some, None, refl, sym, ap, subst, ◌∙◌, arith, length-append}
+use Rattle.std.proofs.Common.{◌≡◌, ℕ, ◌<◌, ◌≤◌, List, [], ◌∷◌, ◌++◌, length, take, drop, Option, Some, None, refl, sym, ap, subst, ◌∙◌, arith, length-append}
 use Rattle.std.proofs.lemmas.List.{append-nil, append_assoc, append_cancel_left, length-take-le, take-append-drop, take-append-le}
 use Rattle.giop_frames.specs.declared.fault.StreamFault.{StreamFault}
 use Rattle.giop_frames.specs.declared.limits.Limits.{Limits}
@@ -57,7 +57,7 @@ front-quiet grow stay rise limits s u r t m parts some k =
     let before : fault_of limits s ≡ None = course-faultless (fault_of limits s) (messages_of limits s) k.going in
     let silent = front-silent grow rise limits s u r m some (ap (messages_of limits) whole ∙ k.messages ∙ ap (λ (xs : List ℕ). messages_of limits s ++ completed_at (length xs) m) (sym whole)) in
     let same : course_of limits (s ++ u) ≡ course_of limits s =
-      ap (λ (last : Option StreamFault). course_from last (messages_of limits (s ++ u))) (faultless ∙ sym before) ∙ ap (course_from (fault_of limits s)) silent in
+    ap (λ (last : Option StreamFault). course_from last (messages_of limits (s ++ u))) (faultless ∙ sym before) ∙ ap (course_from (fault_of limits s)) silent in
     record { heard_is = ap (λ (a : Course). a.heard) same; ending_is = ap (λ (a : Course). a.ending) same }
 
 -- fewer octets of a piece than are taken

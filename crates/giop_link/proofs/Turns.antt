@@ -16,7 +16,7 @@ use Rattle.giop_frames.specs.declared.fault.StreamFault.TheVariants as fault
 use Rattle.giop_frames.specs.declared.limits.Limits.{Limits}
 use Rattle.giop_frames.specs.Fragments.{content_of}
 use Rattle.giop_frames.specs.Frames.{Frame}
-use Rattle.giop_frames.specs.Standing.{IsFault, OnFault, completed_at}
+use Rattle.giop_frames.specs.Standing.{IsFault, OnFault, Standing, StandsFor, completed_at}
 use Rattle.giop_frames.specs.Streams.{Faults, fault_of, messages_of}
 use Rattle.giop_link.specs.declared.fault.LinkFault.{LinkFault}
 use Rattle.giop_link.specs.declared.fault.LinkFault.TheVariants.{Stream, WrongDirection}
@@ -81,6 +81,15 @@ pub record Comes (limits : Limits) (s t : List ℕ) (m : Option Frame) : Type 0 
   pub going : ending limits s ≡ None
   pub messages : messages_of limits (s ++ t) ≡ messages_of limits s ++ completed_at (length (s ++ t)) m
   pub faultless : fault_of limits (s ++ t) ≡ None
+
+-- what a call of the assembler ensures
+pub comes-by : (limits : Limits) (s t : List ℕ) (b : Standing) → ending limits s ≡ None → messages_of limits (s ++ t) ≡ messages_of limits s ++ completed_at (length (s ++ t)) b.message → StandsFor b (s ++ t) → b.limits ≡ limits
+    → Comes limits s t b.message
+comes-by limits s t b going messages stands same = record {
+  going = going;
+  messages = messages;
+  faultless = ap (λ (l : Limits). fault_of l (s ++ t)) (sym same) ∙ stands.stands.faultless;
+}
 
 -- the course of both
 course-comes : (limits : Limits) (s t : List ℕ) (m : Option Frame) → Comes limits s t m → course_of limits (s ++ t) ≡ after (course_of limits s) (course_from None (completed_at (length (s ++ t)) m))

@@ -1,7 +1,16 @@
 -- The laws, each over the definitions alone.
-use Rattle.std.specs.Prelude.{◌≡◌, ℕ, List, [], ◌++◌, Some, None}
+use Rattle.std.specs.Prelude.{◌≡◌, ℕ, List, [], ◌++◌, Option, Some, None}
 use Rattle.giop_frames.specs.declared.limits.Limits.{Limits}
 use Rattle.giop_link.specs.Hearing.{Ending, Incoming, ending, heard}
+use Rattle.giop_link.specs.Messages.{Hears}
+
+-- What is heard are the messages before the first that ends the stream, and the stream ends by that message, or by its fault ..
+abbrev pub MessagesAreHeard : Type 0
+MessagesAreHeard = (limits : Limits) (s : List ℕ) → Hears limits s (heard limits s) (ending limits s)
+
+-- .. and nothing else is heard, and it ends in no other way.
+abbrev pub NothingElseIsHeard : Type 0
+NothingElseIsHeard = (limits : Limits) (s : List ℕ) (xs : List Incoming) (end : Option Ending) → Hears limits s xs end → (xs ≡ heard limits s) × (end ≡ ending limits s)
 
 -- Where nothing has come, nothing is heard, and the stream has not ended.
 abbrev pub NothingIsSilent : Type 0

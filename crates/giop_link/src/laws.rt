@@ -1,6 +1,6 @@
 //! Laws over the definitions: each is what a function with an empty body ensures.
 
-ghost use Rattle.giop_link.specs.Laws.{EndingsStay, EndsAreSilent, HearingGrows, NothingIsSilent};
+ghost use Rattle.giop_link.specs.Laws.{EndingsStay, EndsAreSilent, HearingGrows, MessagesAreHeard, NothingElseIsHeard, NothingIsSilent};
 
 /// Where nothing has come, nothing is heard. More octets add messages to what is heard and take none away; the
 /// end of a stream stays, and after it nothing is heard.
@@ -12,3 +12,10 @@ pub fn streams_are_heard()
 {
     giop_frames::laws::streams_grow();
 }
+
+/// What is heard of a stream, and how it ends, are given by the messages of the stream, one by one, and by
+/// nothing else.
+pub fn messages_are_heard()
+    ensures heard { MessagesAreHeard }
+    ensures only { NothingElseIsHeard }
+{}
