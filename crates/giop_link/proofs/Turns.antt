@@ -1,5 +1,6 @@
 -- What one call of the assembler is to the link.
-use Rattle.std.proofs.Common.{◌≡◌, ℕ, List, [], ◌++◌, length, take, drop, Option, Some, None, Result, Ok, Err, IfErr, IsErrAnd, IsOk, IsSomeAnd, refl, sym, ap, subst, ◌∙◌}
+use Rattle.std.proofs.Common.{◌≡◌, ℕ, List, [], ◌∷◌, ◌++◌, length, take, drop, Option, Some, None, Result, Ok, Err, IfErr, IsErrAnd, IsOk, IsSomeAnd, refl, sym, ap, subst, ◌∙◌}
+use Rattle.std.specs.List.{AllByRecursion}
 use Rattle.std.proofs.lemmas.List.{append-nil, append_assoc, take-append-drop}
 use Rattle.cdr_core.specs.declared.order.Order.{Order}
 use Rattle.cdr_core.specs.Value.{Value}
@@ -14,10 +15,11 @@ use Rattle.giop_core.specs.Rows.{row}
 use Rattle.giop_frames.specs.declared.fault.StreamFault.{StreamFault}
 use Rattle.giop_frames.specs.declared.fault.StreamFault.TheVariants as fault
 use Rattle.giop_frames.specs.declared.limits.Limits.{Limits}
+use Rattle.giop_frames.specs.Completing.{AreMessages}
 use Rattle.giop_frames.specs.Fragments.{content_of}
 use Rattle.giop_frames.specs.Frames.{Frame}
 use Rattle.giop_frames.specs.Standing.{IsFault, OnFault, Standing, StandsFor, completed_at}
-use Rattle.giop_frames.specs.Streams.{Faults, fault_of, messages_of}
+use Rattle.giop_frames.specs.Streams.{Completed, Faults, fault_of, messages_of}
 use Rattle.giop_link.specs.declared.fault.LinkFault.{LinkFault}
 use Rattle.giop_link.specs.declared.fault.LinkFault.TheVariants.{Stream, WrongDirection}
 use Rattle.giop_link.specs.declared.link.PeerEnd.{PeerEnd}
@@ -25,6 +27,7 @@ use Rattle.giop_link.specs.declared.link.PeerEnd.TheVariants as peer
 use Rattle.giop_link.specs.Hearing.{Course, Ending, Incoming, Meaning, before, course_from, course_of, ending, ends, faulty, heard, meaning_in, meaning_of, meaning_read, peer_closed, peer_error, says, wrong_direction}
 use Rattle.giop_link.specs.Laws.{EndingsStay, EndsAreSilent}
 use Rattle.giop_link.specs.Linking.{EndsBy, IsFaultOf, ending_in, heard_in}
+use Rattle.giop_link.specs.Messages.{IsByKind}
 use Rattle.giop_link.specs.Private.{spoken, spoken_by, told_with, turn_by, turned}
 use Rattle.giop_link.proofs.Courses.{after, course-next}
 
@@ -56,6 +59,46 @@ turn-content V12 kind.MessageError vs r = refl
 turn-content V10 kind.Fragment vs r = refl
 turn-content V11 kind.Fragment vs r = refl
 turn-content V12 kind.Fragment vs r = refl
+
+by-content : (version : Version) (k : MessageKind) (vs : List Value) (r : Rest) → (k ≡ kind.Fragment → ⊥) → IsByKind k (meaning_in version (content version k vs r))
+unfolding content
+by-content V10 kind.Request vs r other = tt
+by-content V11 kind.Request vs r other = tt
+by-content V12 kind.Request vs r other = tt
+by-content V10 kind.Reply vs r other = tt
+by-content V11 kind.Reply vs r other = tt
+by-content V12 kind.Reply vs r other = tt
+by-content V10 kind.CancelRequest vs r other = tt
+by-content V11 kind.CancelRequest vs r other = tt
+by-content V12 kind.CancelRequest vs r other = tt
+by-content V10 kind.LocateRequest vs r other = tt
+by-content V11 kind.LocateRequest vs r other = tt
+by-content V12 kind.LocateRequest vs r other = tt
+by-content V10 kind.LocateReply vs r other = tt
+by-content V11 kind.LocateReply vs r other = tt
+by-content V12 kind.LocateReply vs r other = tt
+by-content V10 kind.CloseConnection vs r other = tt
+by-content V11 kind.CloseConnection vs r other = tt
+by-content V12 kind.CloseConnection vs r other = tt
+by-content V10 kind.MessageError vs r other = tt
+by-content V11 kind.MessageError vs r other = tt
+by-content V12 kind.MessageError vs r other = tt
+by-content V10 kind.Fragment vs r other = absurd (other refl)
+by-content V11 kind.Fragment vs r other = absurd (other refl)
+by-content V12 kind.Fragment vs r other = absurd (other refl)
+
+by-found : (version : Version) (k : MessageKind) (order : Order) (x : Found (List Value)) → (k ≡ kind.Fragment → ⊥)
+    → IsOk (x >>= λ y. Ok (content version k y.0 (rest_at version k order y.1 y.2))) → IsByKind k (meaning_read version (x >>= λ y. Ok (content version k y.0 (rest_at version k order y.1 y.2))))
+by-found version k order (Err e) other ok = absurd cc
+by-found version k order (Ok y) other ok = by-content version k y.0 (rest_at version k order y.1 y.2) other
+
+by-kind : (f : Frame) → (f.header.kind ≡ kind.Fragment → ⊥) → IsOk (content_of f.header f.octets) → IsByKind f.header.kind (meaning_of f)
+unfolding meaning_of message_of
+by-kind f other ok = by-found f.header.version f.header.kind f.header.order (fields_at (row f.header.version f.header.kind) f.header.order 12 f.octets) other ok
+
+pub all-by-kind : (limits : Limits) (ms : List Completed) → AreMessages limits ms → AllByRecursion (λ m. IsByKind m.message.header.kind (meaning_of m.message)) ms
+all-by-kind limits [] are = tt
+all-by-kind limits (m ∷ ms) are = (by-kind m.message are.0.kind are.0.reads, all-by-kind limits ms are.1)
 
 turn-found : (version : Version) (k : MessageKind) (order : Order) (x : Found (List Value))
     → IsOk (x >>= λ y. Ok (content version k y.0 (rest_at version k order y.1 y.2))) → turned (meaning_read version (x >>= λ y. Ok (content version k y.0 (rest_at version k order y.1 y.2)))) ≡ turn_by k

@@ -53,7 +53,8 @@ question_in version id wish to operation contexts body = record {
   body = body;
 }
 
--- GIOP 9.4: a client sends requests, locates and cancels, and either side may close or report an error
+-- GIOP 9.4.1: a client sends requests, locates and cancels, and either side may close or report an error. That a client
+-- closes by a message of 1.0 or 1.1, which only a server sends there, counts as well: a rule of this project.
 abbrev pub meaning_in : Version → Content → Meaning
 meaning_in version (content.request id wish to operation contexts body) = says (asks (question_in version id wish to operation contexts body))
 meaning_in version (content.locate_request id to) = says (locates version id to)

@@ -1,8 +1,10 @@
 -- The laws, each over the definitions alone.
 use Rattle.std.specs.Prelude.{◌≡◌, ℕ, List, [], ◌++◌, Option, Some, None}
+use Rattle.std.specs.List.{AllByRecursion}
 use Rattle.giop_frames.specs.declared.limits.Limits.{Limits}
-use Rattle.giop_link.specs.Hearing.{Ending, Incoming, ending, heard}
-use Rattle.giop_link.specs.Messages.{Hears}
+use Rattle.giop_frames.specs.Streams.{messages_of}
+use Rattle.giop_link.specs.Hearing.{Ending, Incoming, ending, heard, meaning_of}
+use Rattle.giop_link.specs.Messages.{Hears, IsByKind}
 
 -- What is heard are the messages before the first that ends the stream, and the stream ends by that message, or by its fault ..
 abbrev pub MessagesAreHeard : Type 0
@@ -11,6 +13,10 @@ MessagesAreHeard = (limits : Limits) (s : List ℕ) → Hears limits s (heard li
 -- .. and nothing else is heard, and it ends in no other way.
 abbrev pub NothingElseIsHeard : Type 0
 NothingElseIsHeard = (limits : Limits) (s : List ℕ) (xs : List Incoming) (end : Option Ending) → Hears limits s xs end → (xs ≡ heard limits s) × (end ≡ ending limits s)
+
+-- The kind of each message says whether a server hears it, or how the stream ends by it.
+abbrev pub MeaningsAreByKind : Type 0
+MeaningsAreByKind = (limits : Limits) (s : List ℕ) → AllByRecursion (λ m. IsByKind m.message.header.kind (meaning_of m.message)) (messages_of limits s)
 
 -- Where nothing has come, nothing is heard, and the stream has not ended.
 abbrev pub NothingIsSilent : Type 0

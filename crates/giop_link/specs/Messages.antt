@@ -1,10 +1,12 @@
 -- What is heard of a stream, and how it ends, without a reader.
-use Rattle.std.specs.Prelude.{◌≡◌, ℕ, List, [], ◌∷◌, ◌++◌, Option, Some}
+use Rattle.std.specs.Prelude.{◌≡◌, ℕ, List, [], ◌∷◌, ◌++◌, Option, Some, ⊤}
 use Rattle.std.specs.Option.{option_map}
+use Rattle.giop_core.specs.declared.header.MessageKind.{MessageKind}
+use Rattle.giop_core.specs.declared.header.MessageKind.TheVariants.{Request, Reply, CancelRequest, LocateRequest, LocateReply, CloseConnection, MessageError}
 use Rattle.giop_frames.specs.declared.fault.StreamFault.{StreamFault}
 use Rattle.giop_frames.specs.declared.limits.Limits.{Limits}
 use Rattle.giop_frames.specs.Streams.{Completed, fault_of, messages_of}
-use Rattle.giop_link.specs.Hearing.{Ending, Incoming, ends, faulty, meaning_of, says}
+use Rattle.giop_link.specs.Hearing.{Ending, Incoming, Meaning, asks, cancels, ends, faulty, locates, meaning_of, peer_closed, peer_error, says, wrong_direction}
 
 -- these messages, one by one, are what is heard
 abbrev pub AreHeard : List Completed → List Incoming → Type 0
@@ -25,3 +27,14 @@ pub record Hears (limits : Limits) (s : List ℕ) (xs : List Incoming) (end : Op
   pub parts : messages_of limits s ≡ front ++ later
   pub heard_are : AreHeard front xs
   pub end_is : IsEnd (fault_of limits s) later end
+
+-- GIOP 9.4.1: what a message of a kind is to a server, by who may send it
+abbrev pub IsByKind : MessageKind → Meaning → Type 0
+IsByKind Request (says (asks q)) = ⊤
+IsByKind LocateRequest (says (locates version id to)) = ⊤
+IsByKind CancelRequest (says (cancels id)) = ⊤
+IsByKind CloseConnection (ends peer_closed) = ⊤
+IsByKind MessageError (ends peer_error) = ⊤
+IsByKind Reply (ends wrong_direction) = ⊤
+IsByKind LocateReply (ends wrong_direction) = ⊤
+IsByKind _ _ = ⊥

@@ -1,6 +1,6 @@
 //! Laws over the definitions: each is what a function with an empty body ensures.
 
-ghost use Rattle.giop_link.specs.Laws.{EndingsStay, EndsAreSilent, HearingGrows, MessagesAreHeard, NothingElseIsHeard, NothingIsSilent};
+ghost use Rattle.giop_link.specs.Laws.{EndingsStay, EndsAreSilent, HearingGrows, MeaningsAreByKind, MessagesAreHeard, NothingElseIsHeard, NothingIsSilent};
 
 /// Where nothing has come, nothing is heard. More octets add messages to what is heard and take none away; the
 /// end of a stream stays, and after it nothing is heard.
@@ -19,3 +19,10 @@ pub fn messages_are_heard()
     ensures heard { MessagesAreHeard }
     ensures only { NothingElseIsHeard }
 {}
+
+/// The kind of each message of a stream says whether a server hears it, or how the stream ends by it.
+pub fn meanings_are_by_kind()
+    ensures { MeaningsAreByKind }
+{
+    giop_frames::laws::messages_are_whole();
+}
