@@ -67,7 +67,7 @@ fn hear(assembler: &mut Assembler, piece: &[u8]) -> Result<Heard, LinkFault>
         Some(header) => turn_of(header.kind)?,
         None => None,
     };
-    Ok(Heard { taken, end }) // up to the end of a message, or all
+    Ok(Heard { taken, end })
 }
 
 /// What a link does with what comes.
