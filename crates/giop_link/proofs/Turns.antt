@@ -25,7 +25,7 @@ use Rattle.giop_link.specs.declared.fault.LinkFault.TheVariants.{Stream, WrongDi
 use Rattle.giop_link.specs.declared.link.PeerEnd.{PeerEnd}
 use Rattle.giop_link.specs.declared.link.PeerEnd.TheVariants as peer
 use Rattle.giop_link.specs.Hearing.{Course, Ending, Incoming, Meaning, before, course_from, course_of, ending, ends, faulty, heard, meaning_in, meaning_of, meaning_read, peer_closed, peer_error, says, wrong_direction}
-use Rattle.giop_link.specs.Laws.{EndingsStay, EndsAreSilent}
+use Rattle.giop_link.specs.Laws.{CompletedIsHeard, EndingsStay, EndsAreSilent}
 use Rattle.giop_link.specs.Linking.{EndsBy, IsFaultOf, ending_in, heard_in}
 use Rattle.giop_link.specs.Messages.{IsByKind}
 use Rattle.giop_link.specs.Private.{spoken, spoken_by, told_with, turn_by, turned}
@@ -149,6 +149,21 @@ brings-course limits s t told later is h e = record {
   heard_is = ap (λ (a : Course). a.heard) is ∙ ap (λ (xs : List Incoming). (course_of limits s).heard ++ xs) h;
   ending_is = ap (λ (a : Course). a.ending) is ∙ e;
 }
+
+-- one message more
+alone-heard : (μ : Meaning) → (before μ (record { heard = []; ending = None })).heard ≡ heard_in (Some μ)
+alone-heard (says m) = refl
+alone-heard (ends e) = refl
+
+alone-ending : (μ : Meaning) → (before μ (record { heard = []; ending = None })).ending ≡ ending_in None (Some μ)
+alone-ending (says m) = refl
+alone-ending (ends e) = refl
+
+pub completed-heard : CompletedIsHeard
+completed-heard limits s c m going k =
+    let comes : Comes limits s c (Some m) = record { going = going; messages = k.messages; faultless = k.faultless } in
+    let b = brings-course limits s c (Some (meaning_of m)) (before (meaning_of m) (record { heard = []; ending = None })) (course-comes limits s c (Some m) comes) (alone-heard (meaning_of m)) (alone-ending (meaning_of m)) in
+    (b.heard_is, b.ending_is)
 
 -- a message by what it is
 turn-heard : (μ : Meaning) (end : Option PeerEnd) → turned μ ≡ Ok end → (before μ (record { heard = []; ending = None })).heard ≡ heard_in (told_with end (spoken μ))

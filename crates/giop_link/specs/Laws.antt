@@ -2,8 +2,11 @@
 use Rattle.std.specs.Prelude.{◌≡◌, ℕ, List, [], ◌++◌, Option, Some, None}
 use Rattle.std.specs.List.{AllByRecursion}
 use Rattle.giop_frames.specs.declared.limits.Limits.{Limits}
+use Rattle.giop_frames.specs.Frames.{Frame}
+use Rattle.giop_frames.specs.ReadAgain.{Completes}
 use Rattle.giop_frames.specs.Streams.{messages_of}
 use Rattle.giop_link.specs.Hearing.{Ending, Incoming, ending, heard, meaning_of}
+use Rattle.giop_link.specs.Linking.{ending_in, heard_in}
 use Rattle.giop_link.specs.Messages.{Hears, IsByKind}
 
 -- What is heard are the messages before the first that ends the stream, and the stream ends by that message, or by its fault ..
@@ -17,6 +20,12 @@ NothingElseIsHeard = (limits : Limits) (s : List ℕ) (xs : List Incoming) (end 
 -- The kind of each message says whether a server hears it, or how the stream ends by it.
 abbrev pub MeaningsAreByKind : Type 0
 MeaningsAreByKind = (limits : Limits) (s : List ℕ) → AllByRecursion (λ m. IsByKind m.message.header.kind (meaning_of m.message)) (messages_of limits s)
+
+-- Octets that complete one message of a stream that goes on, as those do that are written for it, bring what it says: it is
+-- heard, or the stream ends by it.
+abbrev pub CompletedIsHeard : Type 0
+CompletedIsHeard = (limits : Limits) (s c : List ℕ) (m : Frame) → ending limits s ≡ None → Completes limits s c m
+    → (heard limits (s ++ c) ≡ heard limits s ++ heard_in (Some (meaning_of m))) × (ending limits (s ++ c) ≡ ending_in None (Some (meaning_of m)))
 
 -- Where nothing has come, nothing is heard, and the stream has not ended.
 abbrev pub NothingIsSilent : Type 0

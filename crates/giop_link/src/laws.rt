@@ -1,6 +1,6 @@
 //! Laws over the definitions: each is what a function with an empty body ensures.
 
-ghost use Rattle.giop_link.specs.Laws.{EndingsStay, EndsAreSilent, HearingGrows, MeaningsAreByKind, MessagesAreHeard, NothingElseIsHeard, NothingIsSilent};
+ghost use Rattle.giop_link.specs.Laws.{CompletedIsHeard, EndingsStay, EndsAreSilent, HearingGrows, MeaningsAreByKind, MessagesAreHeard, NothingElseIsHeard, NothingIsSilent};
 
 /// Where nothing has come, nothing is heard. More octets add messages to what is heard and take none away; the
 /// end of a stream stays, and after it nothing is heard.
@@ -26,3 +26,8 @@ pub fn meanings_are_by_kind()
 {
     giop_frames::laws::messages_are_whole();
 }
+
+/// A message that completes alone, as one does that is written, is heard, or the stream ends by it.
+pub fn completed_messages_are_heard()
+    ensures { CompletedIsHeard }
+{}
