@@ -9,6 +9,8 @@ mod frames;
 #[cfg(test)]
 mod ior;
 #[cfg(test)]
+mod links;
+#[cfg(test)]
 mod messages;
 #[cfg(test)]
 mod rows;

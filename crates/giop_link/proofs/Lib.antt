@@ -1,0 +1,5 @@
+pub mod Courses
+pub mod Turns
+pub mod Lending
+pub mod Firsts
+pub mod Messages

@@ -1,0 +1,199 @@
+//! The server's end of a connection.
+
+ghost use Rattle.std.specs.Prelude.{◌≡◌, ◌<◌, ◌≤◌, ◌++◌, List, [], ℕ, length, take, true, false, Some, None, Ok, Err, IfOk, IfErr, IfSome, OnErr, OnOk, if◌then◌else◌};
+ghost use Rattle.std.specs.Option.{option_map};
+ghost use Rattle.giop_frames.specs.Standing.{StandsFor};
+ghost use Rattle.giop_frames.specs.declared.limits.Limits.{Limits};
+ghost use Rattle.giop_link.specs.Hearing.{ending, heard};
+ghost use Rattle.giop_link.specs.Linking.{IsFaultOf, IsNear, IsQuiet, LinkStands, close_connection, ending_in, heard_in, meaning_at, shut};
+ghost use Rattle.giop_link.specs.Private.{IsHeard, told_with, spoken_by, turn_by};
+
+use crate::fault::LinkFault;
+use crate::inbound::{Inbound, spoken};
+use giop_core::{MessageKind, write_close};
+use giop_frames::{Assembler, Limits};
+use std::alloc::{AllocError, Global};
+use std::marker::Model;
+
+/// The message by which a peer ended its stream.
+#[derive(Clone, Copy, Debug)]
+enum PeerEnd {
+    Closed,
+    Error,
+}
+
+/// Octets that were taken, and the end of the stream in them, if the peer made one.
+struct Heard {
+    taken: usize,
+    end: Option<PeerEnd>,
+}
+
+/// What a message of a kind is to a server: one that it hears, or the end that the peer made. An error is that
+/// it has the wrong direction.
+fn turn_of(kind: MessageKind) -> Result<Option<PeerEnd>, LinkFault>
+    ensures { result ≡ turn_by kind }
+{
+    match kind {
+        MessageKind::Request | MessageKind::LocateRequest | MessageKind::CancelRequest => Ok(None),
+        MessageKind::CloseConnection => Ok(Some(PeerEnd::Closed)),
+        MessageKind::MessageError => Ok(Some(PeerEnd::Error)),
+        MessageKind::Reply | MessageKind::LocateReply | MessageKind::Fragment => {
+            Err(LinkFault::WrongDirection)
+        }
+    }
+}
+
+/// Takes octets up to and with the end of the next message, or all.
+fn hear(assembler: &mut Assembler, piece: &[u8]) -> Result<Heard, LinkFault>
+    requires { assembler.old.failed ≡ false }
+    ensures heard { (s : List ℕ) → StandsFor assembler.old s → ending assembler.old.limits s ≡ None
+        → IfOk result (λ h. IsHeard assembler.old.limits s (take h.taken piece.now) (told_with h.end (spoken_by assembler.new.message)) assembler.new) }
+    ensures first { (s : List ℕ) → StandsFor assembler.old s → ending assembler.old.limits s ≡ None
+        → IfOk result (λ h. (k : ℕ) → k < h.taken → IsQuiet assembler.old.limits s (take k piece.now)) }
+    ensures fault { (s : List ℕ) → StandsFor assembler.old s → ending assembler.old.limits s ≡ None
+        → IfErr result (λ e. IsFaultOf assembler.old.limits s piece.now e) }
+    ensures within { IfOk result (λ h. h.taken ≤ length piece.now) }
+    ensures some { IfOk result (λ h. 0 < length piece.now → 0 < h.taken) }
+    ensures all { IfOk result (λ h. told_with h.end (spoken_by assembler.new.message) ≡ None → h.taken ≡ length piece.now) }
+    ensures empty { piece.now ≡ [] → (result ≡ Ok (record { taken = 0; end = None })) × (assembler.new ≡ record assembler.old { message = None }) }
+    ensures live { OnOk result (assembler.new.failed ≡ false) }
+    ensures limits { assembler.new.limits ≡ assembler.old.limits }
+{
+    crate::laws::streams_are_heard();
+    giop_frames::laws::streams_grow();
+    giop_frames::laws::messages_are_whole();
+    let taken = assembler.feed(piece)?;
+    let end = match assembler.header() {
+        Some(header) => turn_of(header.kind)?,
+        None => None,
+    };
+    Ok(Heard { taken, end })
+}
+
+/// What a link does with what comes.
+#[derive(Debug, Drop)]
+enum State {
+    /// It hears the messages that the assembler lends.
+    Live(Assembler),
+    /// The last call of `feed` took the message by which the peer ended the stream. It is lent until the next.
+    Parting(PeerEnd),
+    /// Nothing that comes counts.
+    Closed,
+}
+
+/// The server's end of a connection: it takes the octets of a client, and lends each message that is heard,
+/// until the stream ends or it is closed.
+///
+/// It opens no socket. A closed link holds no octets.
+#[derive(Debug, Drop)]
+pub struct ServerLink {
+    limits: Limits,
+    state: State,
+}
+
+impl Model for ServerLink {
+    ghost use Rattle.giop_link.specs.Linking.{Linked};
+    ghost use Rattle.giop_link.specs.Private.{IsSound, linked};
+
+    ghost Value = { Linked };
+
+    ghost view = { λ l. linked l.limits l.state };
+
+    ghost invariant = { λ l. IsSound l.limits l.state };
+}
+
+impl ServerLink {
+    /// The server's end of a connection on which nothing has come. It takes no memory.
+    pub fn new(alloc: Global, limits: Limits) -> ServerLink
+        ensures stands { LinkStands limits result [] }
+        ensures inbound { result.inbound ≡ None }
+    {
+        ServerLink {
+            limits,
+            state: State::Live(Assembler::new(alloc, limits)),
+        }
+    }
+
+    /// Tells whether the link is closed: nothing that comes counts any more.
+    pub fn is_closed(&self) -> bool
+        ensures { result ≡ self.now.is_closed }
+    {
+        !matches!(self.state, State::Live(_))
+    }
+
+    /// The message that the last call of `feed` completed, if it did.
+    pub fn inbound(&self) -> Option<Inbound<'_>>
+        ensures lent { option_map meaning_at result ≡ self.now.inbound }
+        // the place of a request's body fits 32 bits, as its arguments' reader asks
+        ensures near { IfSome result IsNear }
+    {
+        giop_core::laws::bodies_are_backs();
+        match &self.state {
+            State::Live(assembler) => spoken(assembler.message()?),
+            State::Parting(PeerEnd::Closed) => Some(Inbound::PeerClosed),
+            State::Parting(PeerEnd::Error) => Some(Inbound::PeerError),
+            State::Closed => None,
+        }
+    }
+
+    /// Takes octets of a piece up to and with the end of the next message that completes, or all of them, and
+    /// returns how many. What it lent before is dropped.
+    ///
+    /// Where the link is closed it takes all of them, without memory, and lends nothing. An error is the first
+    /// fault of the stream, a message of the wrong direction, or that an allocation failed; the link is closed
+    /// then. After the peer's CloseConnection or MessageError, which is lent once, it is closed too. An empty
+    /// piece takes no memory, and changes nothing but that no message is lent any more.
+    pub fn feed(&mut self, piece: &[u8]) -> Result<usize, LinkFault>
+        ensures stands { (limits : Limits) (s : List ℕ) → LinkStands limits self.old s → IfOk result (λ n. LinkStands limits self.new (s ++ take n piece.now)) }
+        // the message that is lent, if one is, is the next that is heard
+        ensures heard { (limits : Limits) (s : List ℕ) → LinkStands limits self.old s → IfOk result (λ n. heard limits (s ++ take n piece.now) ≡ heard limits s ++ heard_in self.new.inbound) }
+        // or it is the stream's end
+        ensures ended { (limits : Limits) (s : List ℕ) → LinkStands limits self.old s → IfOk result (λ n. ending limits (s ++ take n piece.now) ≡ ending_in (ending limits s) self.new.inbound) }
+        // and nothing comes before the last octet that is taken
+        ensures first { (limits : Limits) (s : List ℕ) → LinkStands limits self.old s → IfOk result (λ n. (k : ℕ) → k < n → IsQuiet limits s (take k piece.now)) }
+        ensures within { IfOk result (λ n. n ≤ length piece.now) }
+        ensures some { IfOk result (λ n. 0 < length piece.now → 0 < n) }
+        ensures all { IfOk result (λ n. self.new.inbound ≡ None → n ≡ length piece.now) }
+        ensures closed { self.old.is_closed ≡ true → (result ≡ Ok (length piece.now)) × (self.new ≡ shut self.old) }
+        // an allocation failed, or the stream ends so with the piece, and nothing is heard in it
+        ensures fault { (limits : Limits) (s : List ℕ) → LinkStands limits self.old s → IfErr result (λ e. IsFaultOf limits s piece.now e) }
+        ensures err { OnErr result (self.new ≡ shut self.old) }
+        ensures empty { self.old.is_closed ≡ false → piece.now ≡ [] → (result ≡ Ok 0) × (self.new ≡ record self.old { inbound = None }) }
+        ensures limits { self.new.limits ≡ self.old.limits }
+    {
+        crate::laws::streams_are_heard();
+        let next = match &mut self.state {
+            State::Live(assembler) => hear(assembler, piece),
+            State::Parting(_) | State::Closed => {
+                self.state = State::Closed;
+                return Ok(piece.len());
+            }
+        };
+        match next {
+            Ok(Heard { taken, end }) => {
+                if let Some(end) = end {
+                    self.state = State::Parting(end);
+                }
+                Ok(taken)
+            }
+            Err(fault) => {
+                self.state = State::Closed; // what was held is dropped
+                Err(fault)
+            }
+        }
+    }
+
+    /// Closes the link, and appends CloseConnection (CORBA 3.3 Part 2, 9.4.7), unless it was closed before. Where
+    /// an allocation fails nothing has changed.
+    pub fn close(&mut self, out: &mut Vec<u8>) -> Result<(), AllocError>
+        ensures ok { OnOk result (out.new.items ≡ out.old.items ++ (if self.old.is_closed then [] else close_connection)) }
+        ensures closed { OnOk result (self.new ≡ shut self.old) }
+        ensures err { OnErr result ((self.old.is_closed ≡ false) × (out.new.items ≡ out.old.items) × (self.new ≡ self.old)) }
+    {
+        if !self.is_closed() {
+            write_close(out)?;
+        }
+        self.state = State::Closed; // nothing more counts
+        Ok(())
+    }
+}
