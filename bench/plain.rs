@@ -430,7 +430,8 @@ pub struct Limits {
 }
 
 struct Partial {
-    id: u32,
+    /// The request id of a message of 1.2; none of one of 1.1.
+    id: Option<u32>,
     header: Header,
     octets: Vec<u8>,
 }
@@ -571,9 +572,7 @@ impl Assembler {
         }
         match header.version {
             Version::V12 if header.more && size % 8 != 0 => Err(Fault::UnalignedFragment),
-            Version::V11 if header.more || header.kind == Kind::Fragment => {
-                Err(Fault::StrayFragment)
-            }
+            Version::V11 if header.more && size % 8 != 4 => Err(Fault::UnalignedFragment),
             _ => Ok(header),
         }
     }
@@ -583,51 +582,75 @@ impl Assembler {
         Reader { octets: &self.frame, at: HEADER, order: header.order }.ulong()
     }
 
-    fn place(&self, id: u32) -> Option<usize> {
+    fn place(&self, id: Option<u32>) -> Option<usize> {
         self.partials.iter().position(|p| p.id == id)
+    }
+
+    /// Whether a partial message of 1.1 has this request id, as far as its octets have come.
+    fn has_id(&self, i: usize, id: u32) -> bool {
+        let Partial { header, octets, .. } = &self.partials[i];
+        let mut reader = Reader { octets, at: HEADER, order: header.order };
+        reader.contexts().is_ok() && reader.ulong() == Ok(id)
+    }
+
+    /// Drops what has come of the message of a request id.
+    fn cancel(&mut self, id: u32) {
+        if let Some(i) = self.place(Some(id)) {
+            self.partials.swap_remove(i);
+        }
+        if let Some(i) = self.place(None) {
+            if self.has_id(i, id) {
+                self.partials.swap_remove(i);
+            }
+        }
+    }
+
+    /// Takes a first frame.
+    fn begun(&mut self, id: Option<u32>, header: Header) -> Result<Option<Header>, Fault> {
+        if self.partials.len() >= usize::from(self.limits.partials) {
+            return Err(Fault::TooManyPartial);
+        }
+        self.partials.try_reserve(1)?;
+        let octets = std::mem::take(&mut self.frame);
+        self.partials.push(Partial { id, header, octets });
+        Ok(None)
     }
 
     /// Takes a whole frame; the header of the message in `frame`, if it completes one.
     fn settle(&mut self, header: Header) -> Result<Option<Header>, Fault> {
         match (header.version, header.kind) {
-            (_, Kind::CloseConnection | Kind::MessageError) => Ok(Some(header)),
             (_, Kind::CancelRequest) => {
                 let id = self.id(&header)?;
-                if let Some(i) = self.place(id) {
-                    self.partials.swap_remove(i);
-                }
+                self.cancel(id);
                 Ok(Some(header))
             }
-            (Version::V12, Kind::Fragment) => self.continued(header),
+            (Version::V11, Kind::Fragment) => self.continued(None, 0, header),
+            _ if self.place(None).is_some() => Err(Fault::TwiceStarted),
+            (_, Kind::CloseConnection | Kind::MessageError) => Ok(Some(header)),
+            (Version::V12, Kind::Fragment) => {
+                let id = self.id(&header)?;
+                self.continued(Some(id), 4, header)
+            }
             (Version::V12, _) => {
                 let id = self.id(&header)?;
-                if self.place(id).is_some() {
+                if self.place(Some(id)).is_some() {
                     return Err(Fault::TwiceStarted);
                 }
-                if !header.more {
-                    return Ok(Some(header));
-                }
-                if self.partials.len() >= usize::from(self.limits.partials) {
-                    return Err(Fault::TooManyPartial);
-                }
-                self.partials.try_reserve(1)?;
-                let octets = std::mem::take(&mut self.frame);
-                self.partials.push(Partial { id, header, octets });
-                Ok(None)
+                if header.more { self.begun(Some(id), header) } else { Ok(Some(header)) }
             }
+            _ if header.more => self.begun(None, header),
             _ => Ok(Some(header)),
         }
     }
 
-    /// Takes a Fragment of 1.2.
-    fn continued(&mut self, header: Header) -> Result<Option<Header>, Fault> {
-        let id = self.id(&header)?;
+    /// Takes a Fragment, whose payload follows so many octets after its header.
+    fn continued(&mut self, id: Option<u32>, skipped: usize, header: Header) -> Result<Option<Header>, Fault> {
         let i = self.place(id).ok_or(Fault::StrayFragment)?;
         let partial = &mut self.partials[i];
         if partial.header.order != header.order {
             return Err(Fault::MixedOrder);
         }
-        let data = &self.frame[HEADER + 4..];
+        let data = &self.frame[HEADER + skipped..];
         let size = partial.octets.len() + data.len();
         if size > self.limits.message as usize {
             return Err(Fault::TooLarge);
