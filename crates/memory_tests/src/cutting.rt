@@ -1,17 +1,19 @@
-//! `fragments` of the messages of samples.
+//! `fragments` and `fragments_11` of the messages of samples.
 
 ghost use Rattle.std.specs.Prelude.{◌≡◌, ◌++◌};
 
 use crate::output::{Output, Room};
 use crate::samples::{Gives, Sample};
 use crate::trial::{Miss, Trial, Wrong};
-use giop_frames::{fragments, is_cuttable};
+use giop_frames::{fragments, fragments_11, is_cuttable, is_cuttable_11};
 use std::alloc::Global;
 
-/// How many octets a frame may have.
+/// How many octets a frame of 1.2 may have, and one of 1.1.
 const SIZE: u32 = 32;
 
-/// `fragments` of the message of a sample.
+const SIZE_11: u32 = 28;
+
+/// `fragments` or `fragments_11` of the message of a sample.
 #[derive(Drop)]
 pub struct Cutting {
     message: &'static [u8],
@@ -39,10 +41,14 @@ impl Trial for Cutting {
     ghost is_right = { λ c. c.output.out.items ≡ c.output.before.now ++ c.frames.now };
 
     fn call(&mut self, _alloc: Global) -> Result<(), Miss> {
-        if !is_cuttable(self.message) {
+        let out = &mut self.output.out;
+        if is_cuttable(self.message) {
+            fragments(self.message, SIZE, out)?;
+        } else if is_cuttable_11(self.message) {
+            fragments_11(self.message, SIZE_11, out)?;
+        } else {
             return Err(Wrong::Inputs.into());
         }
-        fragments(self.message, SIZE, &mut self.output.out)?;
         if !self.output.has_gained(self.frames) {
             return Err(Wrong::Octets.into());
         }

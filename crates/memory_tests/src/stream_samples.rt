@@ -131,8 +131,22 @@ const SEVERAL: Sample = Sample {
     gives: Gives::Value("Given { messages: 3, id: Some(8), pending: 0, partial: 0, fault: None }"),
 };
 
+/// A Request of 1.1 in three frames.
+const THREE_OF_1_1: Sample = Sample {
+    name: "three_of_1_1",
+    shape: None,
+    order: Order::Big,
+    at: 0,
+    octets: &[
+        0x47, 0x49, 0x4f, 0x50, 1, 1, 2, 0, 0, 0, 0, 0x10, 0, 0, 0, 0, 0, 0, 0, 5, 1, 0, 0, 0, 0,
+        0, 0, 1, 0x47, 0x49, 0x4f, 0x50, 1, 1, 2, 7, 0, 0, 0, 8, 0x63, 0, 0, 0, 0, 0, 0, 4, 0x47,
+        0x49, 0x4f, 0x50, 1, 1, 0, 7, 0, 0, 0, 0x0c, 0x61, 0x64, 0x64, 0, 0, 0, 0, 0, 0, 0, 0, 7,
+    ],
+    gives: Gives::Value("Given { messages: 1, id: Some(5), pending: 0, partial: 0, fault: None }"),
+};
+
 /// Streams.
-pub static STREAMS: [Sample; 9] = [
+pub static STREAMS: [Sample; 10] = [
     REQUEST,
     REQUEST_LITTLE,
     THREE_FRAGMENTS,
@@ -142,6 +156,7 @@ pub static STREAMS: [Sample; 9] = [
     CANCELLED,
     STRAY,
     SEVERAL,
+    THREE_OF_1_1,
 ];
 
 /// Streams of whole messages, none of them cut.
@@ -204,5 +219,23 @@ const UNCUT_LOCATE: Sample = Sample {
     ]),
 };
 
-/// Messages that can be cut, and the octets of their frames of at most 32 octets.
-pub static CUTTABLE: [Sample; 3] = [IN_THREE, IN_THREE_LITTLE, UNCUT_LOCATE];
+/// A Request of 1.1, in frames of at most 28 octets.
+const IN_THREE_OF_1_1: Sample = Sample {
+    name: "in_three_of_1_1",
+    shape: None,
+    order: Order::Big,
+    at: 0,
+    octets: &[
+        0x47, 0x49, 0x4f, 0x50, 1, 1, 0, 0, 0, 0, 0, 0x24, 0, 0, 0, 0, 0, 0, 0, 5, 1, 0, 0, 0, 0,
+        0, 0, 1, 0x63, 0, 0, 0, 0, 0, 0, 4, 0x61, 0x64, 0x64, 0, 0, 0, 0, 0, 0, 0, 0, 7,
+    ],
+    gives: Gives::Frames(&[
+        0x47, 0x49, 0x4f, 0x50, 1, 1, 2, 0, 0, 0, 0, 0x10, 0, 0, 0, 0, 0, 0, 0, 5, 1, 0, 0, 0, 0,
+        0, 0, 1, 0x47, 0x49, 0x4f, 0x50, 1, 1, 2, 7, 0, 0, 0, 0x10, 0x63, 0, 0, 0, 0, 0, 0, 4,
+        0x61, 0x64, 0x64, 0, 0, 0, 0, 0, 0x47, 0x49, 0x4f, 0x50, 1, 1, 0, 7, 0, 0, 0, 4, 0, 0, 0,
+        7,
+    ]),
+};
+
+/// Messages that can be cut, and the octets of their frames: of at most 32 octets in 1.2, and 28 in 1.1.
+pub static CUTTABLE: [Sample; 4] = [IN_THREE, IN_THREE_LITTLE, UNCUT_LOCATE, IN_THREE_OF_1_1];

@@ -24,6 +24,17 @@ const LEAST: Limits = Limits {
     partials: 1,
 };
 
+/// First frames of 1.2 with the ids 0 to 7.
+const EIGHT: &[u8] =
+    b"GIOP\x01\x02\x02\x00\x00\x00\x00\x14\x00\x00\x00\x00\x03\x00\x00\x00\x00\x00\x00\x00\x00\x00\x00\x01c\x00\x00\x00\
+GIOP\x01\x02\x02\x00\x00\x00\x00\x14\x00\x00\x00\x01\x03\x00\x00\x00\x00\x00\x00\x00\x00\x00\x00\x01c\x00\x00\x00\
+GIOP\x01\x02\x02\x00\x00\x00\x00\x14\x00\x00\x00\x02\x03\x00\x00\x00\x00\x00\x00\x00\x00\x00\x00\x01c\x00\x00\x00\
+GIOP\x01\x02\x02\x00\x00\x00\x00\x14\x00\x00\x00\x03\x03\x00\x00\x00\x00\x00\x00\x00\x00\x00\x00\x01c\x00\x00\x00\
+GIOP\x01\x02\x02\x00\x00\x00\x00\x14\x00\x00\x00\x04\x03\x00\x00\x00\x00\x00\x00\x00\x00\x00\x00\x01c\x00\x00\x00\
+GIOP\x01\x02\x02\x00\x00\x00\x00\x14\x00\x00\x00\x05\x03\x00\x00\x00\x00\x00\x00\x00\x00\x00\x00\x01c\x00\x00\x00\
+GIOP\x01\x02\x02\x00\x00\x00\x00\x14\x00\x00\x00\x06\x03\x00\x00\x00\x00\x00\x00\x00\x00\x00\x00\x01c\x00\x00\x00\
+GIOP\x01\x02\x02\x00\x00\x00\x00\x14\x00\x00\x00\x07\x03\x00\x00\x00\x00\x00\x00\x00\x00\x00\x00\x01c\x00\x00\x00";
+
 /// Frames, and what they give: how many messages complete, how many are partial then, and the fault.
 struct Row {
     frames: &'static [&'static [u8]],
@@ -82,7 +93,7 @@ fn gives(alloc: Global, row: &Row, size: usize) -> bool {
     messages == row.messages && row.fault.is_none() && is_partial && assembler.pending() == 0
 }
 
-static ROWS: [Row; 26] = [
+static ROWS: [Row; 32] = [
     Row {
         frames: &[FIRST, MIDDLE, LAST],
         messages: 1,
@@ -257,6 +268,54 @@ static ROWS: [Row; 26] = [
         partial: 0,
         fault: Some(StreamFault::MixedOrder),
     },
+    // A cancel drops both that it names, and it may come in another byte order.
+    Row {
+        frames: &[FIRST, FIRST_11, CANCEL],
+        messages: 1,
+        partial: 0,
+        fault: None,
+    },
+    Row {
+        frames: &[
+            FIRST_11,
+            b"GIOP\x01\x01\x01\x02\x04\x00\x00\x00\x05\x00\x00\x00",
+        ],
+        messages: 1,
+        partial: 0,
+        fault: None,
+    },
+    // A LocateRequest comes between, and a Fragment of 1.2 without its request id.
+    Row {
+        frames: &[
+            FIRST_11,
+            b"GIOP\x01\x02\x00\x03\x00\x00\x00\x0d\x00\x00\x00\x01\x00\x00\x00\x00\x00\x00\x00\x01c",
+        ],
+        messages: 0,
+        partial: 0,
+        fault: Some(StreamFault::TwiceStarted),
+    },
+    Row {
+        frames: &[FIRST_11, b"GIOP\x01\x02\x00\x07\x00\x00\x00\x00"],
+        messages: 0,
+        partial: 0,
+        fault: Some(StreamFault::TwiceStarted),
+    },
+    // Eight messages are partial, and one more of 1.1 or of 1.2 starts.
+    Row {
+        frames: &[EIGHT, FIRST_11],
+        messages: 0,
+        partial: 0,
+        fault: Some(StreamFault::TooManyPartial),
+    },
+    Row {
+        frames: &[
+            EIGHT,
+            b"GIOP\x01\x02\x02\x00\x00\x00\x00\x14\x00\x00\x00\x08\x03\x00\x00\x00\x00\x00\x00\x00\x00\x00\x00\x01c\x00\x00\x00",
+        ],
+        messages: 0,
+        partial: 0,
+        fault: Some(StreamFault::TooManyPartial),
+    },
     // The last Fragment has no octets.
     Row {
         frames: &[
@@ -335,6 +394,8 @@ fn joined_messages_are_lent(rt: HostRuntime) {
             b"\x07\x00\x00\x00"
         )
     );
+    let body = b"\x00\x00\x00\x07";
+    assert!(rt; lends(rt.alloc(), &[FIRST_11, MIDDLE_11, LAST_11], body));
 }
 
 /// The header of the Request of id 5 whose fragments are joined, which has 52 octets with it.
@@ -346,13 +407,26 @@ const JOINED: Header = Header {
     size: 40,
 };
 
+/// That of 1.1, of 48 octets.
+const JOINED_11: Header = Header {
+    version: Version::V11,
+    size: 36,
+    ..JOINED
+};
+
+/// Whether a last frame completes a message under a header, and the frames before it none.
+fn is_headed(alloc: Global, before: &[&[u8]], last: &[u8], header: Header) -> bool {
+    let mut assembler = Assembler::new(alloc, LIMITS);
+    are_taken(&mut assembler, before)
+        && assembler.header().is_none()
+        && are_taken(&mut assembler, &[last])
+        && assembler.header() == Some(header)
+}
+
 #[test]
 fn header_is_that_of_the_joined_message(rt: HostRuntime) {
-    let mut assembler = Assembler::new(rt.alloc(), LIMITS);
-    assert!(rt; are_taken(&mut assembler, &[FIRST, MIDDLE]));
-    assert!(rt; assembler.header().is_none());
-    assert!(rt; are_taken(&mut assembler, &[LAST]));
-    assert!(rt; assembler.header() == Some(JOINED));
+    assert!(rt; is_headed(rt.alloc(), &[FIRST, MIDDLE], LAST, JOINED));
+    assert!(rt; is_headed(rt.alloc(), &[FIRST_11, MIDDLE_11], LAST_11, JOINED_11));
 }
 
 // Frames of one message, and how many octets are held after each.
