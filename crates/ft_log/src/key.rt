@@ -6,7 +6,7 @@ ghost use Rattle.ft_log.specs.View.{key_of};
 
 use std::alloc::{AllocError, Global};
 
-/// The client that asks, as octets without a NUL, and its number for the request: together they name the
+/// The client that asks, the octets of a string without the NUL at its end, and its number for the request: together they name the
 /// request over all its transmissions (Fault Tolerant CORBA 23.2.7).
 #[derive(Debug, Drop)]
 pub struct Key {
