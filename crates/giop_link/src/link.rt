@@ -128,7 +128,6 @@ impl ServerLink {
         // the place of a request's body fits 32 bits, as its arguments' reader asks
         ensures near { IfSome result IsNear }
     {
-        giop_core::laws::bodies_are_backs();
         match &self.state {
             State::Live(assembler) => spoken(assembler.message()?),
             State::Parting(PeerEnd::Closed) => Some(Inbound::PeerClosed),
