@@ -44,6 +44,11 @@ returns-in-Err-clause-did g c c' =
     let same = same-entries c.make_room.result (logged c.forget.new.self) (logged c.make_room.new.self) (Some (key_of c.args.key)) c.make_room.ensures.ok c.make_room.ensures.err in
     (forgot-alike _ (table_of c.args.self.now) _ _ c.in-Err.ensures.err (same ∙ ap (λ (l : Logged). l.entries) c.forget.ensures), refl)
 
+pub put_outcome-requires-2 : goal.put_outcome-requires-2
+put_outcome-requires-2 g c =
+    let gave = rw c.deref.ensures.value at c.in-Ok-perform.ensures.ok in
+    renderable-performed g.S.Servant.meaning c.args.self.now.servant c.perform.new.self c.in-Some-object_key.object_key.now c.args.request.now.operation.now (values_of c.in-Ok.arguments.items) (performed_in c.in-Ok-perform.outcome) g.S.Servant.promises c.known.ensures c.in-Ok.ensures.fit gave
+
 pub invariant_of-self-2 : goal.invariant_of-self-2
 invariant_of-self-2 g c =
     let same = same-entries c.make_room.result (logged c.forget.new.self) (logged c.make_room.new.self) (Some (key_of c.args.key)) c.make_room.ensures.ok c.make_room.ensures.err in
