@@ -1,10 +1,15 @@
--- The laws, each over the definitions alone.
-use Rattle.std.specs.Prelude.{◌≡◌, ◌↔◌, ℕ, ◌*◌, ◌<◌, ◌≤◌, IsTrue, List, [], ◌∷◌, ◌++◌, length, Option, Ok, Err}
+-- The laws: statements about the definitions alone, each of which a function of `laws` ensures.
+use Rattle.std.specs.Prelude.{◌≡◌, ◌↔◌, ℕ, ◌*◌, ◌<◌, ◌≤◌, IsTrue, List, [], ◌∷◌, ◌++◌, drop, length, Option, Ok, Err}
+use Rattle.cdr_core.specs.Value.{Values}
+use Rattle.cdr_core.specs.Writing.{octets_of_all}
+use Rattle.cdr_core.specs.declared.order.Order.TheVariants.{Big}
+use Rattle.giop_core.specs.declared.header.Version.{Version}
 use Rattle.giop_link.specs.Hearing.{Question}
 use Rattle.ft_log.specs.Keys.{RequestKey, held_of}
 use Rattle.ft_log.specs.declared.system_exception.SystemName.TheVariants.{BadContext, Marshal, NoResources}
 use Rattle.ft_orb.specs.ExactlyOnce.{Arrival, Bad, ClocksGrow, IsAdmissible, OneExpiration, Present, Rules, answer_of, answers_after, clock_after, is_admissible, live_keys, outcome_of, performed_of, state_after}
 use Rattle.ft_orb.specs.Interfaces.{Interface}
+use Rattle.ft_orb.specs.Replies.{reply}
 use Rattle.ft_orb.specs.Requests.{Call, IsAsked, Wanted, call_for, rules_of}
 use Rattle.ft_orb.specs.Servants.{Meaning}
 use Rattle.ft_orb.specs.Shares.{clients_of}
@@ -67,3 +72,7 @@ RoomForEachClient {State} meaning =
 -- A request is read as a call exactly where it asks for it.
 abbrev pub CallsAreAsked : Type 0
 CallsAreAsked = (interface : List ℕ → List ℕ → Interface) (q : Question) (named : Option (List ℕ)) (call : Call) → (call_for interface q named ≡ Ok call) ↔ IsAsked interface q named call
+
+-- GIOP 9.4.1, 9.4.3: in every version the body of a Reply stands at the place 24, and is all that stands there
+abbrev pub RepliesHaveOneBody : Type 0
+RepliesHaveOneBody = (version : Version) (id status : ℕ) (body : Values) → drop 24 (reply version id status body) ≡ octets_of_all Big body 24

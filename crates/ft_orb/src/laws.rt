@@ -1,8 +1,9 @@
-//! Laws over the definitions: each is what a function with an empty body ensures. `S.meaning` is what the
-//! servant means; the numbers are a log's capacity and the share of each client.
+//! Laws over the definitions. Each is ensured by a function with an empty body, which a crate above calls where a proof
+//! of its own rests on the law. `S.meaning` is what a servant means; the numbers are a log's capacity and the share of
+//! each client.
 
 ghost use Rattle.std.specs.Prelude.{ℕ};
-ghost use Rattle.ft_orb.specs.Laws.{AdmissibleArePassed, CallsAreAsked, ExpiredAreRefused, ExpiredEntriesAreIdle, InvalidAreRefused, KeysActOnce, RepeatsAreAnswered, RoomForEachClient, TablesAnswerAsTheFold, TablesGoOn, TablesStand};
+ghost use Rattle.ft_orb.specs.Laws.{AdmissibleArePassed, CallsAreAsked, ExpiredAreRefused, ExpiredEntriesAreIdle, InvalidAreRefused, KeysActOnce, RepeatsAreAnswered, RepliesHaveOneBody, RoomForEachClient, TablesAnswerAsTheFold, TablesGoOn, TablesStand};
 ghost use Rattle.ft_orb.specs.Requests.{rules_of};
 
 use crate::servant::Servant;
@@ -52,3 +53,10 @@ pub fn calls_are_asked()
     cdr_core::laws::read_is_spelled();
     cdr_core::laws::spelled_is_read();
 }
+
+/// The body of a Reply is the same octets in every version: what stands from the place 24 on, after the header's 12
+/// octets and 12 of fields (CORBA 3.3 Part 2, 9.4.1, 9.4.3).
+#[tactic(auto, using(crate::proofs::Replies::body_is_last))]
+pub fn replies_have_one_body()
+    ensures { RepliesHaveOneBody }
+{}
