@@ -1,13 +1,14 @@
 -- The laws: statements about the definitions alone, each of which a function of `laws` ensures.
-use Rattle.std.specs.Prelude.{◌≡◌, ◌↔◌, ℕ, ◌*◌, ◌<◌, ◌≤◌, IsTrue, List, [], ◌∷◌, ◌++◌, drop, length, Option, Ok, Err}
+use Rattle.std.specs.Prelude.{◌≡◌, ◌↔◌, ℕ, ◌*◌, ◌<◌, ◌≤◌, Bool, true, false, IsTrue, IsFalse, Contains, List, [], ◌∷◌, ◌++◌, drop, length, Option, Ok, Err}
 use Rattle.cdr_core.specs.Value.{Values}
 use Rattle.cdr_core.specs.Writing.{octets_of_all}
 use Rattle.cdr_core.specs.declared.order.Order.TheVariants.{Big}
 use Rattle.giop_core.specs.declared.header.Version.{Version}
 use Rattle.giop_link.specs.Hearing.{Question}
 use Rattle.ft_log.specs.Keys.{RequestKey, held_of}
+use Rattle.ft_log.specs.declared.system_exception.SystemName.{SystemName}
 use Rattle.ft_log.specs.declared.system_exception.SystemName.TheVariants.{BadContext, Marshal, NoResources}
-use Rattle.ft_orb.specs.ExactlyOnce.{Arrival, Bad, ClocksGrow, IsAdmissible, OneExpiration, Present, Rules, answer_of, answers_after, clock_after, is_admissible, live_keys, outcome_of, performed_of, state_after}
+use Rattle.ft_orb.specs.ExactlyOnce.{Absent, Arrival, Bad, ClocksGrow, Field, IsAdmissible, OneExpiration, Present, Rules, answer_of, answers_after, clock_after, is_admissible, live_keys, outcome_of, performed_of, state_after, state_of}
 use Rattle.ft_orb.specs.Interfaces.{Interface}
 use Rattle.ft_orb.specs.Replies.{reply}
 use Rattle.ft_orb.specs.Requests.{Call, IsAsked, Wanted, call_for, rules_of}
@@ -59,6 +60,37 @@ module _ {State Content Call Outcome : Type 0} (rules : Rules State Content Call
   -- A request whose FT_REQUEST is not valid is answered MARSHAL, and is not performed.
   abbrev pub InvalidAreRefused : Type 0
   InvalidAreRefused = (opening : State) (arrivals : List (Arrival Content)) (a : Arrival Content) → a.field ≡ Bad → (answer_of rules opening arrivals a ≡ Err Marshal) × IsIdle arrivals a
+
+  -- No request with this key was performed.
+  abbrev pub IsNewKey : List (Arrival Content) → RequestKey → Type 0
+  IsNewKey arrivals key = (p : Arrival Content) (expiration : ℕ) → Contains (performed_of rules arrivals) p → p.field ≡ Present key expiration → ⊥
+
+  -- A request carries no key, or one that is new and not expired.
+  abbrev pub IsFirst : List (Arrival Content) → ℕ → Field → Type 0
+  IsFirst arrivals clock Absent = Unit {0}
+  IsFirst arrivals clock Bad = ⊥
+  IsFirst arrivals clock (Present key expiration) = (clock ≤ expiration) × IsNewKey arrivals key
+
+  -- It carries no key, or one for which the live keys of performed requests leave room.
+  abbrev pub has_room_after : List (Arrival Content) → ℕ → Field → Bool
+  has_room_after arrivals clock Absent = true
+  has_room_after arrivals clock Bad = false
+  has_room_after arrivals clock (Present key expiration) = rules.has_room key (live_keys clock (performed_of rules arrivals))
+
+  -- A first request that asks for a call, and for which there is room, is performed, and answered with its outcome ..
+  abbrev pub FirstsAct : Type 0
+  FirstsAct = (opening : State) (arrivals : List (Arrival Content)) (a : Arrival Content) (call : Call) → IsFirst arrivals a.clock a.field → rules.asked a.content ≡ Ok call → IsTrue (has_room_after arrivals a.clock a.field)
+      → (answer_of rules opening arrivals a ≡ Ok (rules.apply (state_of rules opening arrivals) call).1) × (performed_of rules (arrivals ++ a ∷ []) ≡ performed_of rules arrivals ++ a ∷ [])
+
+  -- .. one for which there is no room is answered NO_RESOURCES, and is not performed ..
+  abbrev pub FirstsWithoutRoomAreRefused : Type 0
+  FirstsWithoutRoomAreRefused = (opening : State) (arrivals : List (Arrival Content)) (a : Arrival Content) (call : Call) → IsFirst arrivals a.clock a.field → rules.asked a.content ≡ Ok call → IsFalse (has_room_after arrivals a.clock a.field)
+      → (answer_of rules opening arrivals a ≡ Err NoResources) × IsIdle arrivals a
+
+  -- .. and one that asks for no call is answered with what refuses it, and is not performed.
+  abbrev pub FirstsWithoutCallAreRefused : Type 0
+  FirstsWithoutCallAreRefused = (opening : State) (arrivals : List (Arrival Content)) (a : Arrival Content) (refusal : SystemName) → IsFirst arrivals a.clock a.field → rules.asked a.content ≡ Err refusal
+      → (answer_of rules opening arrivals a ≡ Err refusal) × IsIdle arrivals a
 
 -- Where the capacity is enough for the share of each client, only a client that has used up its own share is answered
 -- NO_RESOURCES by the server.

@@ -3,7 +3,7 @@
 //! each client.
 
 ghost use Rattle.std.specs.Prelude.{ℕ};
-ghost use Rattle.ft_orb.specs.Laws.{AdmissibleArePassed, CallsAreAsked, ExpiredAreRefused, ExpiredEntriesAreIdle, InvalidAreRefused, KeysActOnce, RepeatsAreAnswered, RepliesHaveOneBody, RoomForEachClient, TablesAnswerAsTheFold, TablesGoOn, TablesStand};
+ghost use Rattle.ft_orb.specs.Laws.{AdmissibleArePassed, CallsAreAsked, ExpiredAreRefused, ExpiredEntriesAreIdle, FirstsAct, FirstsWithoutCallAreRefused, FirstsWithoutRoomAreRefused, InvalidAreRefused, KeysActOnce, RepeatsAreAnswered, RepliesHaveOneBody, RoomForEachClient, TablesAnswerAsTheFold, TablesGoOn, TablesStand};
 ghost use Rattle.ft_orb.specs.Requests.{rules_of};
 
 use crate::servant::Servant;
@@ -31,6 +31,14 @@ pub fn admissible_are_passed<S: Servant>()
 pub fn keys_act_once<S: Servant>()
     ensures once { (capacity share : ℕ) → KeysActOnce (rules_of S.meaning capacity share) }
     ensures repeats { (capacity share : ℕ) → RepeatsAreAnswered (rules_of S.meaning capacity share) }
+{}
+
+/// A request that carries no key, or a new one that is not expired, is performed where it asks for a call and there
+/// is room, and is refused otherwise.
+pub fn first_requests_act<S: Servant>()
+    ensures act { (capacity share : ℕ) → FirstsAct (rules_of S.meaning capacity share) }
+    ensures room { (capacity share : ℕ) → FirstsWithoutRoomAreRefused (rules_of S.meaning capacity share) }
+    ensures call { (capacity share : ℕ) → FirstsWithoutCallAreRefused (rules_of S.meaning capacity share) }
 {}
 
 /// A request that comes after its expiration, or whose FT_REQUEST is not valid, is refused and changes nothing.
