@@ -12,6 +12,7 @@ use Rattle.ft_orb.specs.declared.events.Note.TheVariants.{Done, Memory, Refused}
 use Rattle.ft_orb.specs.declared.server.Server.{Server}
 use Rattle.ft_orb.specs.ExactlyOnce.{Arrival, ClocksGrow, OneExpiration, Rules, clock_after, state_of}
 use Rattle.ft_orb.specs.History.{Close, Event, Gone, Line, Lost, Opened, Piece, Shut, Up, arrivals, arrivals_in, arrivals_on, clock, completed, heard_after, line, shortened}
+use Rattle.ft_orb.specs.Laws.{ArrivalsGrow}
 use Rattle.ft_orb.specs.Outputs.{IsCutShort, Made, Noted, Plays, Writes, after, farewell, law_says, output, past_after, table_of_past, table_says}
 use Rattle.ft_orb.specs.Renderings.{rendered}
 use Rattle.ft_orb.specs.Requests.{Call, Wanted, arrival_of, rules_of}
@@ -47,7 +48,7 @@ event-clocks limits past (Close c) first h = (tt, h)
 event-clocks limits past (Lost c) first h = (tt, h)
 
 -- the clocks of a past's arrivals grow, up to the clock
-past-clocks : (limits : Limits) (past : List Event) → ClocksGrow 0 (arrivals limits past) × (clock_after 0 (arrivals limits past) ≤ clock past)
+pub past-clocks : ArrivalsGrow
 past-clocks limits [] = (tt, omega arith)
 past-clocks limits (e ∷ past) =
     let before = past-clocks limits past in
@@ -133,5 +134,5 @@ module _ {S : Type 0} (meaning : Meaning S) (made : Made S) where
       → ((written : List ℕ) × (grown ≡ out ++ written) × Writes made.limits meaning.knows (table_says meaning made) past e written note × Stands meaning made server (after made.limits past e note))
       → (written : List ℕ) × (grown ≡ out ++ written)
       × (OneExpiration (arrivals made.limits (after made.limits past e note)) → Writes made.limits meaning.knows (law_says meaning made) past e written note
-        × (server.desk.servant ≡ state_of (rules_of meaning made.capacity made.share) made.opening (arrivals made.limits (after made.limits past e note))))
+      × (server.desk.servant ≡ state_of (rules_of meaning made.capacity made.share) made.opening (arrivals made.limits (after made.limits past e note))))
   event-once server past e note out grown x = (x.0, x.1, λ one. (writes-agree past e x.0 note one x.2, servant-is server (after made.limits past e note) x.3 one))

@@ -6,12 +6,11 @@ use Rattle.ft_orb.proofs.playing.play.Goals as goal
 pub loop-i-preserved : goal.loop-i-preserved
 loop-i-preserved g c made past st =
     let x = c.loop-i.invariant made past st in
-    let here : c.loop-i.i < length c.args.events.now = omega arith in
-    (
+    let here : c.loop-i.i < length c.args.events.now = omega arith in (
       x.0 ++ c.step-written.result ∷ [],
       rw (c.push.ensures.items, c.unwrap.ensures, c.reserve.ensures.items, x.1, append_assoc) (refl {A = List Written}),
       played_more g.S.Servant.meaning made past c.loop-i.server c.step-written.new.server c.args.events.now c.loop-i.i c.index-events-i.result x.0 c.step-written.result here c.index-events-i.is x.2
-      c.step-written.ensures.connection (c.step-written.ensures.table made),
+          c.step-written.ensures.connection (c.step-written.ensures.table made),
     )
 
 pub returns-clause-table : goal.returns-clause-table
