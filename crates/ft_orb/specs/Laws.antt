@@ -1,5 +1,5 @@
 -- The laws: statements about the definitions alone, each of which a function of `laws` ensures.
-use Rattle.std.specs.Prelude.{◌≡◌, ◌↔◌, ℕ, ◌*◌, ◌<◌, ◌≤◌, Bool, true, false, IsTrue, IsFalse, Contains, List, [], ◌∷◌, ◌++◌, drop, length, Option, Ok, Err}
+use Rattle.std.specs.Prelude.{◌≡◌, ◌↔◌, ℕ, ◌*◌, ◌<◌, ◌≤◌, Bool, true, false, IsTrue, IsFalse, Contains, List, [], ◌∷◌, ◌++◌, drop, length, Option, Ok, Err, Result, reverse}
 use Rattle.cdr_core.specs.Value.{Values}
 use Rattle.cdr_core.specs.Writing.{octets_of_all}
 use Rattle.cdr_core.specs.declared.order.Order.TheVariants.{Big}
@@ -15,6 +15,13 @@ use Rattle.ft_orb.specs.Requests.{Call, IsAsked, Wanted, call_for, rules_of}
 use Rattle.ft_orb.specs.Servants.{Meaning}
 use Rattle.ft_orb.specs.Shares.{clients_of}
 use Rattle.ft_orb.specs.Table.{AreAlike, StandsFor, Table, table_after, table_answers, table_step}
+use Rattle.std.specs.List.{AllByRecursion}
+use Rattle.giop_frames.specs.declared.limits.Limits.{Limits}
+use Rattle.ft_log.specs.Performed.{Performed}
+use Rattle.ft_orb.specs.declared.events.Note.{Note}
+use Rattle.ft_orb.specs.declared.events.Note.TheVariants.{Memory}
+use Rattle.ft_orb.specs.History.{Event, arrivals, clock, connection_of}
+use Rattle.ft_orb.specs.Outputs.{Noted, Plays, note_in, output, past_after}
 
 module _ {State Content Call Outcome : Type 0} (rules : Rules State Content Call Outcome) where
   -- A new table answers arrivals as the fold that remembers all does, where clocks grow and arrivals with one key carry one
@@ -108,3 +115,39 @@ CallsAreAsked = (interface : List ℕ → List ℕ → Interface) (q : Question)
 -- GIOP 9.4.1, 9.4.3: in every version the body of a Reply stands at the place 24, and is all that stands there
 abbrev pub RepliesHaveOneBody : Type 0
 RepliesHaveOneBody = (version : Version) (id status : ℕ) (body : Values) → drop 24 (reply version id status body) ≡ octets_of_all Big body 24
+
+-- The clocks of a past's arrivals grow, up to the clock of the past.
+abbrev pub ArrivalsGrow : Type 0
+ArrivalsGrow = (limits : Limits) (past : List Event) → ClocksGrow 0 (arrivals limits past) × (clock_after 0 (arrivals limits past) ≤ clock past)
+
+abbrev pub is_memory : Note → Bool
+is_memory (Memory handled answered) = true
+is_memory note = false
+
+-- no entry notes a failed allocation
+abbrev pub AreWithoutMemory : List Noted → Type 0
+AreWithoutMemory entries = AllByRecursion (λ w. is_memory w.note ≡ false) entries
+
+module _ (limits : Limits) (knows : List ℕ → Bool) (answers : List Event → Event → List (Result Performed SystemName)) where
+  -- the entry of an event in which no allocation fails
+  abbrev pub entry_in : List Event → Event → Noted
+  entry_in past e = record { connection = connection_of e; octets = output limits knows answers past e; note = note_in past e }
+
+  -- the entries of events that come after this past, one after another
+  abbrev pub entries_in : List Event → List Event → List Noted
+  entries_in past [] = []
+  entries_in past (e ∷ es) = entry_in past e ∷ entries_in (e ∷ past) es
+
+-- Where no allocation failed, what was written for each event is its output over the past before it ..
+abbrev pub PlaysWriteTheirOutputs : Type 0
+PlaysWriteTheirOutputs = (limits : Limits) (knows : List ℕ → Bool) (answers : List Event → Event → List (Result Performed SystemName)) (past es : List Event) (entries : List Noted)
+    → Plays limits knows answers past es entries → AreWithoutMemory entries → entries ≡ entries_in limits knows answers past es
+
+-- .. the past afterwards has all of these events, the newest first ..
+abbrev pub PlayedEventsCount : Type 0
+PlayedEventsCount = (limits : Limits) (past es : List Event) (entries : List Noted) → length es ≡ length entries → AreWithoutMemory entries → past_after limits past es entries ≡ reverse es ++ past
+
+-- .. and there is such a play of any events.
+abbrev pub OutputsArePlayed : Type 0
+OutputsArePlayed = (limits : Limits) (knows : List ℕ → Bool) (answers : List Event → Event → List (Result Performed SystemName)) (past es : List Event)
+    → Plays limits knows answers past es (entries_in limits knows answers past es) × AreWithoutMemory (entries_in limits knows answers past es)

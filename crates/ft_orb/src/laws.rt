@@ -3,7 +3,7 @@
 //! each client.
 
 ghost use Rattle.std.specs.Prelude.{ℕ};
-ghost use Rattle.ft_orb.specs.Laws.{AdmissibleArePassed, CallsAreAsked, ExpiredAreRefused, ExpiredEntriesAreIdle, FirstsAct, FirstsWithoutCallAreRefused, FirstsWithoutRoomAreRefused, InvalidAreRefused, KeysActOnce, RepeatsAreAnswered, RepliesHaveOneBody, RoomForEachClient, TablesAnswerAsTheFold, TablesGoOn, TablesStand};
+ghost use Rattle.ft_orb.specs.Laws.{AdmissibleArePassed, ArrivalsGrow, CallsAreAsked, ExpiredAreRefused, ExpiredEntriesAreIdle, FirstsAct, FirstsWithoutCallAreRefused, FirstsWithoutRoomAreRefused, InvalidAreRefused, KeysActOnce, OutputsArePlayed, PlayedEventsCount, PlaysWriteTheirOutputs, RepeatsAreAnswered, RepliesHaveOneBody, RoomForEachClient, TablesAnswerAsTheFold, TablesGoOn, TablesStand};
 ghost use Rattle.ft_orb.specs.Requests.{rules_of};
 
 use crate::servant::Servant;
@@ -67,4 +67,18 @@ pub fn calls_are_asked()
 #[tactic(auto, using(crate::proofs::Replies::body_is_last))]
 pub fn replies_have_one_body()
     ensures { RepliesHaveOneBody }
+{}
+
+/// The clocks of a past's arrivals grow, and none is greater than the clock of the past: so what is said above of
+/// arrivals whose clocks grow holds of every past.
+pub fn arrivals_grow()
+    ensures { ArrivalsGrow }
+{}
+
+/// Where no entry of a play notes a failed allocation, each is what its event says over the past before it, and the
+/// past afterwards has all of the events. Any events have such a play.
+pub fn plays_write_their_outputs()
+    ensures written { PlaysWriteTheirOutputs }
+    ensures past { PlayedEventsCount }
+    ensures any { OutputsArePlayed }
 {}
