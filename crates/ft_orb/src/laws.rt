@@ -47,8 +47,8 @@ pub fn refused_change_nothing<S: Servant>()
     ensures invalid { (capacity share : ℕ) → InvalidAreRefused (rules_of S.meaning capacity share) }
 {}
 
-/// Where the capacity is enough for the share of each client, only a client that has used up its own share is
-/// refused for want of room.
+/// Where the capacity is enough for the share of each client, the server answers NO_RESOURCES only to a client that has
+/// used up its own share.
 pub fn room_for_each_client<S: Servant>()
     ensures { RoomForEachClient S.meaning }
 {}
