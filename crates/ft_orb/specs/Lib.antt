@@ -18,3 +18,5 @@ pub mod Standing
 pub mod Facts
 -- words of private functions: nothing public rests on them
 pub mod Private
+pub mod Counter
+pub mod CounterFacts
