@@ -18,5 +18,3 @@ pub mod Standing
 pub mod Facts
 -- words of private functions: nothing public rests on them
 pub mod Private
-pub mod Counter
-pub mod CounterFacts

@@ -9,7 +9,6 @@
 
 mod answering;
 mod arguments;
-mod counter;
 mod desk;
 mod error;
 mod events;
@@ -26,9 +25,6 @@ pub use signature::{Lookup, Signature};
 // the server
 pub use error::{ConnectError, ServeError};
 pub use server::Server;
-
-// an object
-pub use counter::Counter;
 
 // events in a list
 pub use error::PlayError;
