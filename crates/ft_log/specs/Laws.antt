@@ -1,5 +1,8 @@
 -- The laws: statements about the definitions alone, each of which a function of `laws` ensures.
-use Rattle.std.specs.Prelude.{◌≡◌, ◌↔◌, ◌<◌, ℕ, List, ◌∷◌, ◌++◌, length, IsTrue, Some}
+use Rattle.std.specs.Prelude.{◌≡◌, ◌↔◌, ◌<◌, ◌≤◌, ℕ, List, ◌∷◌, ◌++◌, length, IsTrue, Some}
+use Rattle.cdr_core.specs.Spelling.{IsClean}
+use Rattle.ft_log.specs.declared.system_exception.SystemName.{SystemName}
+use Rattle.ft_log.specs.Exceptions.{repository_id}
 use Rattle.ft_log.specs.Keys.{RequestKey, are_distinct, has_room_for, held_of, same_key}
 use Rattle.ft_log.specs.Kept.{KeptOutcome, kept_for, keys_of}
 use Rattle.ft_log.specs.Performed.{Performed}
@@ -23,3 +26,11 @@ FoundIsAnEntry = (key : RequestKey) (entries : List (KeptOutcome Performed)) (o 
 -- There is room for another key exactly where neither the capacity nor the client's share is reached.
 abbrev pub RoomIsBelowBoth : Type 0
 RoomIsBelowBoth = (capacity share : ℕ) (key : RequestKey) (keys : List RequestKey) → IsTrue (has_room_for capacity share key keys) ↔ ((length keys < capacity) × (held_of key.client_id keys < share))
+
+-- The repository id of each system exception has no NUL ..
+abbrev pub IdsAreClean : Type 0
+IdsAreClean = (name : SystemName) → IsClean (repository_id name)
+
+-- .. and at most 38 octets.
+abbrev pub IdsAreShort : Type 0
+IdsAreShort = (name : SystemName) → length (repository_id name) ≤ 38

@@ -6,7 +6,7 @@
 --   Kept        kept outcomes: which is found for a key, and which are forgotten
 --   View        what a `Key`, an `Outcome` and an entry of the code stand for
 --   Logged      what a `Log` stands for
--- Laws          what the tests of keys say
+-- Laws          what the tests of keys say, and of repository ids
 -- Private       words for the fields of a `Log`; no public contract, definition or law uses them
 pub mod Exceptions
 pub mod Performed

@@ -15,7 +15,7 @@ pub record Logged : Type 0 where
   pub room : Option RequestKey
 
 -- what a `Log` stands for; the public contracts say nothing else of it
-abbrev pub logged : Log → Logged
+unfoldable pub logged : Log → Logged
 logged l = record {
   capacity = l.capacity;
   share = l.share;

@@ -1,7 +1,7 @@
 //! Laws over the definitions. Each is ensured by a function with an empty body, which a crate above
 //! calls where a proof of its own rests on the law.
 
-ghost use Rattle.ft_log.specs.Laws.{DistinctKeysDiffer, EntriesAreFound, FoundIsAnEntry, RoomIsBelowBoth, SameKeysAreEqual};
+ghost use Rattle.ft_log.specs.Laws.{DistinctKeysDiffer, EntriesAreFound, FoundIsAnEntry, IdsAreClean, IdsAreShort, RoomIsBelowBoth, SameKeysAreEqual};
 
 /// Two keys are one exactly where they are equal.
 pub fn same_keys_are_equal()
@@ -22,4 +22,10 @@ pub fn entries_are_found()
 /// There is room for another key exactly where neither the capacity nor its client's share is reached.
 pub fn room_is_below_both()
     ensures { RoomIsBelowBoth }
+{}
+
+/// The repository id of each system exception has no NUL, and at most 38 octets.
+pub fn repository_ids_are_clean()
+    ensures clean { IdsAreClean }
+    ensures bound { IdsAreShort }
 {}

@@ -41,6 +41,7 @@ impl Log {
     ghost use Rattle.ft_log.specs.declared.error.LogError.TheVariants.{Full, ShareFull};
 
     /// A log that keeps nothing. It may keep `capacity` outcomes, `share` of them for each client.
+    #[tactic(auto, unfolding(crate::specs::Logged::logged))]
     pub fn new(alloc: Global, capacity: u32, share: u32, hasher: RandomState) -> Log
         ensures { logged result ≡ record { capacity = capacity; share = share; entries = []; room = None } }
     {
@@ -55,6 +56,7 @@ impl Log {
     }
 
     /// The outcome that is kept for a key.
+    #[tactic(auto, unfolding(crate::specs::Logged::logged))]
     pub fn find(&self, key: &Key) -> Option<&Outcome>
         ensures { option_map (λ o. performed_in o.now) result ≡ kept_for (key_of key.now) (logged self.now).entries }
     {
@@ -62,6 +64,7 @@ impl Log {
     }
 
     /// How many outcomes are kept.
+    #[tactic(auto, unfolding(crate::specs::Logged::logged))]
     pub fn len(&self) -> usize
         ensures length { result ≡ length (logged self.now).entries }
         ensures bound { result ≤ (logged self.now).capacity }
@@ -70,6 +73,7 @@ impl Log {
     }
 
     /// How many outcomes of a client are kept.
+    #[tactic(auto, unfolding(crate::specs::Logged::logged))]
     pub fn held_by(&self, client_id: &[u8]) -> u32
         ensures held { result ≡ held_of client_id.now (keys_of (logged self.now).entries) }
         ensures bound { result ≤ (logged self.now).share }
@@ -80,6 +84,7 @@ impl Log {
 
     /// Drops exactly the entries whose expiration lies before a moment, given as the number of 100 ns
     /// since 15 October 1582.
+    #[tactic(auto, unfolding(crate::specs::Logged::logged))]
     pub fn forget(&mut self, now: u64)
         ensures { logged self.new ≡ record (logged self.old) { entries = unexpired now (logged self.old).entries } }
     {
@@ -88,6 +93,7 @@ impl Log {
 
     /// Makes room for the outcome of a key that has none, and for no other. An error leaves room for no
     /// key. The entries stay as they are in every case.
+    #[tactic(auto, unfolding(crate::specs::Logged::logged))]
     pub fn make_room(&mut self, key: &Key) -> Result<(), LogError>
         requires { kept_for (key_of key.now) (logged self.old).entries ≡ None }
         ensures ok { OnOk result (logged self.new ≡ record (logged self.old) { room = Some (key_of key.now) }) }
@@ -113,6 +119,7 @@ impl Log {
 
     /// Keeps the outcome of the key that room is made for, last of all, until its expiration. Afterwards
     /// room is made for none. It can't fail.
+    #[tactic(auto, unfolding(crate::specs::Logged::logged))]
     pub fn keep(&mut self, key: Key, expiration: u64, outcome: Outcome)
         requires { (logged self.old).room ≡ Some (key_of key) }
         ensures { logged self.new ≡ record (logged self.old) {
@@ -130,6 +137,7 @@ impl Log {
     }
 
     /// No two entries have one key.
+    #[tactic(auto, unfolding(crate::specs::Logged::logged))]
     pub fn keys_are_distinct(&self)
         ensures { IsTrue (are_distinct (keys_of (logged self.now).entries)) }
     {}

@@ -14,6 +14,7 @@ pub mod Renderings
 pub mod History
 pub mod Outputs
 pub mod Standing
+pub mod Laws
 -- a proof that a field of `Desk` cites
 pub mod Facts
 -- words of private functions: nothing public rests on them

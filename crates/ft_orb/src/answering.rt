@@ -3,7 +3,7 @@
 ghost use Rattle.std.specs.Prelude.{◌≡◌, ◌++◌, IfErr, OnErr, OnOk, Err, if◌then◌else◌};
 ghost use Rattle.giop_core.specs.declared.error.WriteError.TheVariants.{Memory};
 ghost use Rattle.ft_log.specs.View.{performed_in};
-ghost use Rattle.ft_orb.specs.Replies.{IsRenderable, answered_as, locate_reply, reply_by};
+ghost use Rattle.ft_orb.specs.Replies.{IsRenderable, answered_as, body_of, locate_reply, reply, reply_by, status_of};
 
 use cdr_core::{Order, Val};
 use ft_log::{Completion, Outcome, SystemName};
@@ -23,8 +23,62 @@ const UNKNOWN_OBJECT: u32 = 0;
 /// The status where the object is here.
 const OBJECT_HERE: u32 = 1;
 
+/// Appends the Reply that an outcome is, with its results.
+#[tactic(auto, using(crate::proofs::Replies::short_written))]
+fn put_whole(
+    version: Version,
+    request_id: u32,
+    outcome: &Outcome,
+    out: &mut Vec<u8>,
+) -> Result<(), WriteError>
+    requires { IsRenderable (performed_in outcome.now) }
+    ensures ok { OnOk result (out.new.items ≡ out.old.items ++ reply version request_id (status_of (performed_in outcome.now)) (body_of (performed_in outcome.now))) }
+    ensures err { IfErr result (λ e. (e ≡ Memory) × (out.new.items ≡ out.old.items)) }
+{
+    match outcome {
+        Outcome::Returned(results) => {
+            write_reply(
+                version,
+                Order::Big,
+                request_id,
+                NO_EXCEPTION,
+                &[],
+                results,
+                out,
+            )
+        }
+        Outcome::Raised(id, members) => {
+            write_exception(
+                version,
+                Order::Big,
+                request_id,
+                USER_EXCEPTION,
+                &[],
+                id,
+                members,
+                out,
+            )
+        }
+        Outcome::System(name, minor, completion) => {
+            let members = [Val::ULong(*minor), Val::Enum(completion.number())];
+            let id = name.repository_id();
+            write_exception(
+                version,
+                Order::Big,
+                request_id,
+                SYSTEM_EXCEPTION,
+                &[],
+                id,
+                &members,
+                out,
+            )
+        }
+    }
+}
+
 /// Appends the Reply that an outcome is, or nothing by the wish. Only a failed allocation refuses it, since an outcome
 /// that can be sent is short.
+#[tactic(auto, using(crate::proofs::Replies::short_written))]
 fn put_reply(
     version: Version,
     request_id: u32,
@@ -41,43 +95,7 @@ fn put_reply(
         (ReplyWish::Empty, Outcome::Returned(_)) => {
             write_reply(version, Order::Big, request_id, NO_EXCEPTION, &[], &[], out)
         }
-        (ReplyWish::Full, Outcome::Returned(results)) => {
-            write_reply(
-                version,
-                Order::Big,
-                request_id,
-                NO_EXCEPTION,
-                &[],
-                results,
-                out,
-            )
-        }
-        (_, Outcome::Raised(id, members)) => {
-            write_exception(
-                version,
-                Order::Big,
-                request_id,
-                USER_EXCEPTION,
-                &[],
-                id,
-                members,
-                out,
-            )
-        }
-        (_, Outcome::System(name, minor, completion)) => {
-            let members = [Val::ULong(*minor), Val::Enum(completion.number())];
-            let id = name.repository_id();
-            write_exception(
-                version,
-                Order::Big,
-                request_id,
-                SYSTEM_EXCEPTION,
-                &[],
-                id,
-                &members,
-                out,
-            )
-        }
+        _ => put_whole(version, request_id, outcome, out),
     }
 }
 
@@ -121,6 +139,7 @@ pub(crate) fn put_refusal(
 }
 
 /// Appends the answer to a locate: whether the object is here.
+#[tactic(auto, using(crate::proofs::Replies::locate_is_short))]
 pub(crate) fn put_location(
     version: Version,
     request_id: u32,

@@ -36,6 +36,10 @@ pub(crate) fn arguments<S: Servant>(
         ≡ Ok (record { object_key = object_key.now; operation = request.now.operation.now; arguments = values_of vs.items })) }
     ensures err { IfErr result (λ why. IsDeclined why (call_in (question_by version request.now) object_key.now (S.meaning.interface object_key.now request.now.operation.now))) }
 {
+    cdr_core::laws::spelled_is_read();
+    cdr_core::laws::faults_stop();
+    cdr_core::laws::read_fits();
+    cdr_core::laws::are_octets(request.body.octets);
     let signature = match servant.interface(object_key, request.operation) {
         Lookup::NoObject => return Err(Declined::Refused(SystemName::ObjectNotExist)),
         Lookup::NoOperation => return Err(Declined::Refused(SystemName::BadOperation)),

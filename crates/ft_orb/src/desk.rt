@@ -57,6 +57,7 @@ impl<S: Servant + Drop> Desk<S> {
     ghost use Rattle.ft_orb.specs.Standing.{capacity_of, share_of, table_of};
 
     /// Answers a request without a key: it is performed each time.
+    #[tactic(auto, unfolding(crate::specs::Renderings::rendering))]
     fn keyless(&mut self, version: Version, request: &Request<'_>, out: &mut Vec<u8>) -> Step
         requires near { request.now.body.at < 2 ^ 32 }
         ensures did { (c : ℕ) → StepsOne (rules_of S.meaning (capacity_of self.old) (share_of self.old)) S.meaning.knows self.old.clock
@@ -88,6 +89,7 @@ impl<S: Servant + Drop> Desk<S> {
 
     /// Answers a request with a key that is not expired: with what is kept for the key, or by performing it, if
     /// there is room to keep what it gives.
+    #[tactic(auto, unfolding(crate::specs::Renderings::rendering))]
     fn keyed(
         &mut self,
         version: Version,
@@ -140,6 +142,7 @@ impl<S: Servant + Drop> Desk<S> {
     }
 
     /// Answers a request.
+    #[tactic(auto, unfolding(crate::specs::Renderings::rendering))]
     fn handle(&mut self, version: Version, request: &Request<'_>, out: &mut Vec<u8>) -> Step
         requires near { request.now.body.at < 2 ^ 32 }
         ensures did { (c : ℕ) → StepsOne (rules_of S.meaning (capacity_of self.old) (share_of self.old)) S.meaning.knows self.old.clock
@@ -169,6 +172,7 @@ impl<S: Servant + Drop> Desk<S> {
     }
 
     /// Answers a locate: whether its target names an object that the servant has.
+    #[tactic(auto, unfolding(crate::specs::Renderings::rendering))]
     fn locate(
         &self,
         version: Version,
@@ -187,6 +191,7 @@ impl<S: Servant + Drop> Desk<S> {
     }
 
     /// Does what a message asks for: a request or a locate is answered, anything else is not.
+    #[tactic(auto, unfolding(crate::specs::Renderings::rendering))]
     pub(crate) fn handle_one(&mut self, message: &Inbound<'_>, out: &mut Vec<u8>) -> Step
         requires near { IsNear message.now }
         ensures did { (c : ℕ) → Steps (rules_of S.meaning (capacity_of self.old) (share_of self.old)) S.meaning.knows self.old.clock

@@ -12,6 +12,7 @@ mod arguments;
 mod desk;
 mod error;
 mod events;
+pub mod laws;
 mod playing;
 mod servant;
 mod server;

@@ -127,10 +127,14 @@ impl<S: Servant + Drop> Server<S> {
             → Writes made.limits S.meaning.knows (law_says S.meaning made) past (history.Piece connection moment piece.now) written (note_of result)
             × (self.new.desk.servant ≡ state_of (rules_of S.meaning made.capacity made.share) made.opening (arrivals made.limits (after made.limits past (history.Piece connection moment piece.now) (note_of result))))) }
     {
+        giop_link::laws::streams_are_heard();
         self.desk.clock = self.desk.clock.max(moment);
         let Some(link) = self.links.get_mut(&connection) else {
             return Err(ServeError::NoConnection);
         };
+        if link.is_closed() {
+            return Ok(());
+        }
         match serve(&mut self.desk, link, piece, out) {
             Ok(()) => Ok(()),
             Err(cut) => {

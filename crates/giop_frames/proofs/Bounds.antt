@@ -1,5 +1,5 @@
 -- What is judged fine is within the limits, and what is done reads.
-use Rattle.std.proofs.Common.{◌≡◌, ℕ, ◌+◌, ◌<◌, ◌≤◌, ◌&&◌, nat_lt, nat_le, not, Bool, true, false, cond, List, [], ◌∷◌, ◌++◌, length, take, Option, Some, None, is_some, Result, Ok, Err, IsOk, refl, sym, ap, subst, ◌∙◌, inl, inr, arith, length-append}
+use Rattle.std.proofs.Common.{◌≡◌, ℕ, ◌+◌, ◌^◌, ◌<◌, ◌≤◌, ◌&&◌, nat_lt, nat_le, not, Bool, true, false, cond, List, [], ◌∷◌, ◌++◌, length, take, Option, Some, None, is_some, Result, Ok, Err, IsOk, refl, sym, ap, subst, ◌∙◌, inl, inr, arith, length-append}
 use Rattle.giop_core.specs.declared.error.MessageFault.{MessageFault}
 use Rattle.giop_core.specs.declared.header.Header.{Header}
 use Rattle.giop_core.specs.declared.header.HeaderFault.{HeaderFault}
@@ -79,6 +79,9 @@ whole-within limits b f w =
       | inl t ↦ absurd (let k = sight-short limits b t.1 in cc)
       | inr t ↦ under-whole limits b (judged_header limits (header_of (take 12 b))) f (λ k. header-within limits (header_of (take 12 b)) k) (sym (sight-long limits b t.1) ∙ w)
     ]
+
+pub whole-short : (limits : Limits) (b : List ℕ) (f : Frame) → sight limits b ≡ Whole f → length b ≡ frame_size f.header → length b < 2 ^ 32
+whole-short limits b f w exact = omega (arith, whole-within limits b f w, exact, limits.message_in_range.1)
 
 -- the faults of a stream
 

@@ -1,5 +1,5 @@
 -- A part found by its place.
-use Rattle.std.proofs.Common.{◌≡◌, ℕ, ◌+◌, ◌<◌, Bool, true, List, [], ◌∷◌, length, get_or, suc, Option, Some, None, is_some, refl, sym, ap, subst, ◌∙◌, inl, inr, arith}
+use Rattle.std.proofs.Common.{◌≡◌, ℕ, ◌+◌, ◌<◌, Bool, true, List, [], ◌∷◌, length, get_or, set, zero, suc, Option, Some, None, is_some, refl, sym, ap, subst, ◌∙◌, inl, inr, arith}
 use Rattle.std.specs.List.{position, position_from, remove}
 use Rattle.std.proofs.lemmas.Iterator.Adapters.{position_from-zero}
 use Rattle.giop_frames.specs.declared.partial.Key.{Key}
@@ -76,3 +76,9 @@ some_by key ps (Some k) e = elim ps as (λ qs. FoundAt key qs k → true ≡ is_
 
 pub place-is_some : (key : Key) (ps : List Part) → is_some (position (of_key key) ps) ≡ is_some (part_in (entries ps) key)
 place-is_some key ps = some_by key ps (position (of_key key) ps) refl
+
+-- another part in the place of one, under the same key with the same header and octets
+pub entries-set : (ps : List Part) (k : ℕ) (p d : Part) → entry_of p ≡ entry_of (get_or ps k d) → entries (set ps k p) ≡ entries ps
+entries-set [] k p d e = refl
+entries-set (q ∷ qs) zero p d e = ap (λ (x : Entry). x ∷ entries qs) e
+entries-set (q ∷ qs) (suc k) p d e = ap (λ (xs : List Entry). entry_of q ∷ xs) (entries-set qs k p d e)

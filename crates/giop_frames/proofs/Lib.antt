@@ -8,6 +8,7 @@ pub mod Samples
 pub mod Standing
 pub mod Needs
 pub mod Found
+pub mod Ids
 pub mod Judging
 pub mod Bounds
 pub mod Stepping

@@ -8,7 +8,7 @@ use Rattle.giop_frames.specs.declared.limits.Limits.{Limits}
 use Rattle.giop_frames.specs.Fragments.{Bad, Done, Quiet, judged}
 use Rattle.giop_frames.specs.Frames.{Frame, Refused, Split, Waiting, Whole, after_frame, frame_size, judged_header, sight, split, split_from, under_header}
 use Rattle.giop_frames.specs.Laws.{FaultsAreRefusals, RefusalsAreFaults, RefusedAreTheOnes, StreamsAreRefused}
-use Rattle.giop_frames.specs.Refusing.{AreFine, IsFine, RefusesFrame, RefusesHeader, behind}
+use Rattle.giop_frames.specs.Refusing.{AreFine, IsFine, RefusesFrame, RefusesHeader, after}
 use Rattle.giop_frames.specs.Splitting.{IsFrame, Splits}
 use Rattle.giop_frames.specs.Streams.{Reading, fault_of, reading_from}
 use Rattle.giop_frames.proofs.Deciding.{test_lt}
@@ -102,7 +102,7 @@ refused_only limits front later fs e is h = refused-only limits front later fs e
 
 abbrev Found : Limits → List Frame → List ℕ → StreamFault → Type 0
 Found limits earlier s e =
-    (frames : List Frame) × (front : List ℕ) × (later : List ℕ) × (s ≡ front ++ later) × Splits limits front frames [] × AreFine limits earlier frames × (RefusesHeader limits later e ⊎ RefusesFrame limits (behind earlier frames) later e)
+    (frames : List Frame) × (front : List ℕ) × (later : List ℕ) × (s ≡ front ++ later) × Splits limits front frames [] × AreFine limits earlier frames × (RefusesHeader limits later e ⊎ RefusesFrame limits (after earlier frames) later e)
 
 found-next : (limits : Limits) (earlier : List Frame) (f : Frame) (octets s : List ℕ) (e : StreamFault) → IsFrame limits f octets → IsFine (judged limits earlier f) → Found limits (f ∷ earlier) s e → Found limits earlier (octets ++ s) e
 found-next limits earlier f octets s e is fine r =
@@ -149,7 +149,7 @@ fault-next limits earlier later e (inr r) =
     ∙ ap (λ (u : Split). (read_of limits earlier u).fault) (split-whole limits [] r.front r.later r.frame (frame-sight limits r.front r.frame r.is) r.is.long (omega (arith, r.is.long)))
     ∙ ap (λ (x : Reading). x.fault) (step-bad limits earlier t.fault r.frame t.frames e r.judged)
 
-fault-from : (limits : Limits) (earlier fs : List Frame) (front later : List ℕ) (e : StreamFault) → Splits limits front fs [] → AreFine limits earlier fs → RefusesHeader limits later e ⊎ RefusesFrame limits (behind earlier fs) later e
+fault-from : (limits : Limits) (earlier fs : List Frame) (front later : List ℕ) (e : StreamFault) → Splits limits front fs [] → AreFine limits earlier fs → RefusesHeader limits later e ⊎ RefusesFrame limits (after earlier fs) later e
     → (read_of limits earlier (split_from limits [] (front ++ later))).fault ≡ Some e
 fault-from limits earlier [] front later e is fine refused = ap (λ (y : List ℕ). (read_of limits earlier (split_from limits [] (y ++ later))).fault) is ∙ fault-next limits earlier later e refused
 fault-from limits earlier (f ∷ fs) front later e is fine refused =

@@ -14,3 +14,4 @@ pub mod ReadAgain
 pub mod Laws
 -- words of private functions: nothing public rests on them
 pub mod Private
+pub mod Naming

@@ -36,10 +36,10 @@ abbrev pub AreFine : Limits → List Frame → List Frame → Type 0
 AreFine limits earlier [] = Unit {0}
 AreFine limits earlier (f ∷ fs) = IsFine (judged limits earlier f) × AreFine limits (f ∷ earlier) fs
 
--- frames behind earlier ones, the latest first
-abbrev pub behind : List Frame → List Frame → List Frame
-behind earlier [] = earlier
-behind earlier (f ∷ fs) = behind (f ∷ earlier) fs
+-- frames after earlier ones, the latest first
+abbrev pub after : List Frame → List Frame → List Frame
+after earlier [] = earlier
+after earlier (f ∷ fs) = after (f ∷ earlier) fs
 
 -- a stream is frames that are judged fine, and then octets of which a header or a frame is refused
 pub record Refuses (limits : Limits) (s : List ℕ) (e : StreamFault) : Type 0 where
@@ -49,4 +49,4 @@ pub record Refuses (limits : Limits) (s : List ℕ) (e : StreamFault) : Type 0 w
   pub parts : s ≡ front ++ later
   pub splits : Splits limits front frames []
   pub fine : AreFine limits [] frames
-  pub refused : RefusesHeader limits later e ⊎ RefusesFrame limits (behind [] frames) later e
+  pub refused : RefusesHeader limits later e ⊎ RefusesFrame limits (after [] frames) later e

@@ -12,6 +12,7 @@ mod fault;
 mod fragmenter;
 pub mod laws;
 mod limits;
+mod naming;
 mod partial;
 mod reassembly;
 

@@ -1,10 +1,12 @@
 //! Partial messages: those of which a first frame has come, and not yet the last fragment.
 
-ghost use Rattle.std.specs.Prelude.{◌≡◌, ◌≤◌};
+ghost use Rattle.std.specs.Prelude.{◌≡◌, ◌<◌, ◌≤◌, ◌^◌};
 ghost use Rattle.std.specs.Vec.{vec_len};
 ghost use Rattle.giop_frames.specs.Fragments.{is_key};
+ghost use Rattle.giop_frames.specs.Naming.{IsReadTo};
 
-use giop_core::{Header, request_id_of_1_1};
+use crate::naming::Named;
+use giop_core::Header;
 
 /// What a partial message is known by.
 #[derive(Clone, Copy)]
@@ -26,14 +28,17 @@ fn is_key(first: Key, second: Key) -> bool
     }
 }
 
-/// A partial message: its key, the header of its first frame, and its octets so far, those of that header
-/// among them.
+/// A partial message: its key, the header of its first frame, its octets so far, those of that header among
+/// them, and in 1.1 how far they were read for the request id.
 #[derive(Drop)]
 pub struct Part {
     pub key: Key,
     pub header: Header,
     pub octets: Vec<u8>,
+    pub named: Named,
     ghost headed: { 12 ≤ vec_len octets },
+    ghost short: { vec_len octets < 2 ^ 32 },
+    ghost read: { IsReadTo header.order named octets.items },
 }
 
 impl Part {
@@ -68,19 +73,20 @@ impl Part {
         Some(parts.remove(at))
     }
 
-    /// Whether the octets so far of the partial message of 1.1 spell a request id, and it is this one.
-    fn is_named(parts: &[Part], id: u32) -> bool
-        ensures { result ≡ is_cancelled id Of11 (part_in (entries parts.now) Of11) }
+    /// Whether the octets so far of the partial message of 1.1 spell a request id, and it is this one. They are
+    /// read on from where they were read to.
+    fn is_named(parts: &mut Vec<Part>, id: u32) -> bool
+        ensures parts { entries parts.new.items ≡ entries parts.old.items }
+        ensures named { result ≡ is_cancelled id Of11 (part_in (entries parts.old.items) Of11) }
     {
-        let Some(at) = Part::place(parts, Key::Of11) else {
+        let Some(at) = Part::place(parts.as_slice(), Key::Of11) else {
             return false;
         };
-        let part = &parts[at];
-        let (_, octets) = part.octets.as_slice().split_at(Header::LEN);
-        match request_id_of_1_1(part.header.order, octets) {
-            Some(named) => id == named,
-            None => false,
-        }
+        let part = &mut parts[at];
+        part.named = part
+            .named
+            .read_on(part.header.order, part.octets.as_slice());
+        part.named.is(id)
     }
 
     /// Takes out the partial messages that a CancelRequest of a request id is for.
@@ -88,7 +94,7 @@ impl Part {
         ensures { entries parts.new.items ≡ uncancelled id (entries parts.old.items) }
     {
         let _ = Part::take_from(parts, Key::Of12(id));
-        if Part::is_named(parts.as_slice(), id) {
+        if Part::is_named(parts, id) {
             let _ = Part::take_from(parts, Key::Of11);
         }
     }

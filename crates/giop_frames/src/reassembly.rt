@@ -1,7 +1,7 @@
 //! Frames to messages: the role of a whole frame, what it is judged to be, and which messages are partial after
 //! it.
 
-ghost use Rattle.std.specs.Prelude.{◌≡◌, ◌+◌, ◌≤◌, ◌&&◌, not, nat_lt, is_some, length, IfOk, IsTrue};
+ghost use Rattle.std.specs.Prelude.{◌≡◌, ◌+◌, ◌<◌, ◌≤◌, ◌^◌, ◌&&◌, not, nat_lt, is_some, length, IfOk, IsTrue};
 ghost use Rattle.std.specs.Vec.{vec_len};
 ghost use Rattle.giop_frames.specs.declared.partial.Key.TheVariants.{Of11};
 ghost use Rattle.giop_frames.specs.declared.reassembly.Role.TheVariants as role;
@@ -12,6 +12,7 @@ ghost use Rattle.giop_frames.specs.Fragments.{has_id, id_length, id_of, judged_w
 
 use crate::fault::StreamFault;
 use crate::limits::Limits;
+use crate::naming::Named;
 use crate::partial::{Key, Part};
 use cdr_core::{Fault, Kind};
 use giop_core::{Header, MessageFault, MessageKind, Version, read_message};
@@ -174,7 +175,8 @@ fn open(
     frame: &mut Vec<u8>,
     parts: &mut Vec<Part>,
 ) -> Result<Settled, AllocError>
-    requires { 12 + id_length header.now.version ≤ vec_len frame.old }
+    requires long { 12 + id_length header.now.version ≤ vec_len frame.old }
+    requires short { vec_len frame.old < 2 ^ 32 }
     ensures { IfOk result (λ v. IsSettledAs role.Opens v limits.now header.now frame.old.items frame.new.items (entries parts.old.items) (entries parts.new.items)) }
 {
     let key = key_of(header, frame.as_slice());
@@ -189,6 +191,7 @@ fn open(
         key,
         header: *header,
         octets,
+        named: Named::Unread,
     })?;
     Ok(Settled::Quiet)
 }
@@ -214,6 +217,7 @@ fn take_up(
         key: _,
         header: first,
         mut octets,
+        named,
     } = part;
     let (_, payload) = frame.split_at(Header::LEN + id_length(header.version));
     if (limits.message as u64) < octets.len() as u64 + payload.len() as u64 {
@@ -224,6 +228,7 @@ fn take_up(
         key,
         header: first,
         octets,
+        named,
     }))
 }
 
@@ -264,6 +269,7 @@ fn end(
                 key: _,
                 header: first,
                 octets,
+                named: _,
             } = part;
             *frame = octets;
             let size = (frame.len() - Header::LEN) as u32;
@@ -309,6 +315,7 @@ fn settle_as(
     parts: &mut Vec<Part>,
 ) -> Result<Settled, AllocError>
     requires headed { 12 ≤ vec_len frame.old }
+    requires short { vec_len frame.old < 2 ^ 32 }
     requires long { IsTrue (has_id role header.now.version) → 16 ≤ vec_len frame.old }
     ensures { IfOk result (λ v. IsSettledAs role v limits.now header.now frame.old.items frame.new.items (entries parts.old.items) (entries parts.new.items)) }
 {
@@ -332,6 +339,7 @@ pub(crate) fn settle(
     parts: &mut Vec<Part>,
 ) -> Result<Settled, AllocError>
     requires headed { 12 ≤ vec_len frame.old }
+    requires short { vec_len frame.old < 2 ^ 32 }
     ensures { IfOk result (λ v. IsSettled v limits.now header.now frame.old.items frame.new.items (entries parts.old.items) (entries parts.new.items)) }
 {
     let role = role_of(header);

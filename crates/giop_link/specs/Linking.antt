@@ -1,13 +1,12 @@
 -- What callers see of a link, and the stream that it stands for.
-use Rattle.std.specs.Prelude.{◌≡◌, ℕ, ◌<◌, ◌^◌, ◌++◌, Bool, true, List, [], ◌∷◌, Option, Some, None, is_some}
+use Rattle.std.specs.Prelude.{◌≡◌, ℕ, ◌++◌, Bool, true, List, [], ◌∷◌, Option, Some, None, is_some}
 use Rattle.cdr_core.specs.declared.order.Order.TheVariants.{Big}
 use Rattle.giop_core.specs.declared.header.MessageKind.TheVariants.{CloseConnection}
 use Rattle.giop_core.specs.declared.header.Version.TheVariants.{V10}
-use Rattle.giop_core.specs.Content.{Rest}
 use Rattle.giop_core.specs.Lent as lent
 use Rattle.giop_core.specs.Written.{message_octets}
 use Rattle.giop_frames.specs.declared.limits.Limits.{Limits}
-use Rattle.giop_frames.specs.Standing.{OnFault}
+use Rattle.giop_frames.specs.Standing.{HasPlace, OnFault}
 use Rattle.giop_frames.specs.Streams.{Entry, Stands}
 use Rattle.giop_link.specs.declared.fault.LinkFault.{LinkFault}
 use Rattle.giop_link.specs.declared.fault.LinkFault.TheVariants.{Stream, WrongDirection}
@@ -53,13 +52,9 @@ ending_in (Some e) m = Some e
 ending_in None (Some (ends e)) = Some e
 ending_in None _ = None
 
--- the place of a body fits 32 bits
-abbrev pub StandsBelow : Rest → Type 0
-StandsBelow r = r.place < 2 ^ 32
-
--- so does that of a request's body
+-- the place of a request's body is one that the readers of values take
 abbrev pub IsNear : Inbound → Type 0
-IsNear (inbound.Request version request) = StandsBelow (lent.rest_of request.body)
+IsNear (inbound.Request version request) = HasPlace (lent.rest_of request.body)
 IsNear _ = Unit {0}
 
 -- octets after the stream s bring nothing: no message that is heard, and no end

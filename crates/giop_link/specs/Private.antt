@@ -66,8 +66,12 @@ linked limits (state.Live a) = record { limits = limits; is_closed = false; pend
 linked limits (state.Parting p) = record { limits = limits; is_closed = true; pending = []; parts = []; inbound = Some (ends (ending_by p)) }
 linked limits state.Closed = record { limits = limits; is_closed = true; pending = []; parts = []; inbound = None }
 
+-- an assembler lends no message but one that is heard
+abbrev pub LendsHeard : Standing → Type 0
+LendsHeard a = spoken_by a.message ≡ None → a.message ≡ None
+
 -- what is true of a link's fields
 abbrev pub IsSound : Limits → State → Type 0
-IsSound limits (state.Live a) = (a.limits ≡ limits) × (a.failed ≡ false)
+IsSound limits (state.Live a) = (a.limits ≡ limits) × (a.failed ≡ false) × LendsHeard a
 IsSound limits (state.Parting p) = Unit {0}
 IsSound limits state.Closed = Unit {0}

@@ -4,8 +4,9 @@ ghost use Rattle.std.specs.Prelude.{◌≡◌, IfSome};
 ghost use Rattle.std.specs.Option.{option_map};
 ghost use Rattle.giop_core.specs.Lent.{content_of};
 ghost use Rattle.giop_core.specs.Messages.{OnBody};
+ghost use Rattle.giop_frames.specs.Standing.{HasPlace};
 ghost use Rattle.giop_link.specs.Hearing.{meaning_in};
-ghost use Rattle.giop_link.specs.Linking.{IsNear, StandsBelow, meaning_at};
+ghost use Rattle.giop_link.specs.Linking.{IsNear, meaning_at};
 ghost use Rattle.giop_link.specs.Private.{spoken};
 
 use giop_core::{Content, Message, Request, Target, Version};
@@ -27,7 +28,7 @@ pub enum Inbound<'m> {
 
 /// What is heard in a message, if it is one that a client sends.
 pub(crate) fn spoken(message: Message<'_>) -> Option<Inbound<'_>>
-    requires { OnBody StandsBelow (content_of message.content) }
+    requires { OnBody HasPlace (content_of message.content) }
     ensures told { option_map meaning_at result ≡ spoken (meaning_in message.entry.version (content_of message.entry.content)) }
     ensures near { IfSome result IsNear }
 {

@@ -1,12 +1,12 @@
 //! The server's end of a connection.
 
-ghost use Rattle.std.specs.Prelude.{◌≡◌, ◌<◌, ◌≤◌, ◌++◌, List, [], ℕ, length, take, true, false, Some, None, Ok, Err, IfOk, IfErr, IfSome, OnErr, OnOk, if◌then◌else◌};
+ghost use Rattle.std.specs.Prelude.{◌≡◌, ◌≢◌, ◌<◌, ◌≤◌, ◌+◌, ◌*◌, ◌++◌, List, [], ℕ, length, take, true, false, Some, None, Ok, Err, IfOk, IfErr, IfSome, OnErr, OnOk, if◌then◌else◌};
 ghost use Rattle.std.specs.Option.{option_map};
-ghost use Rattle.giop_frames.specs.Standing.{StandsFor};
+ghost use Rattle.giop_frames.specs.Standing.{StandsFor, parts_held};
 ghost use Rattle.giop_frames.specs.declared.limits.Limits.{Limits};
 ghost use Rattle.giop_link.specs.Hearing.{ending, heard};
 ghost use Rattle.giop_link.specs.Linking.{IsFaultOf, IsNear, IsQuiet, LinkStands, close_connection, ending_in, heard_in, meaning_at, shut};
-ghost use Rattle.giop_link.specs.Private.{IsHeard, told_with, spoken_by, turn_by};
+ghost use Rattle.giop_link.specs.Private.{IsHeard, LendsHeard, told_with, spoken_by, turn_by};
 
 use crate::fault::LinkFault;
 use crate::inbound::{Inbound, spoken};
@@ -57,6 +57,7 @@ fn hear(assembler: &mut Assembler, piece: &[u8]) -> Result<Heard, LinkFault>
     ensures all { IfOk result (λ h. told_with h.end (spoken_by assembler.new.message) ≡ None → h.taken ≡ length piece.now) }
     ensures empty { piece.now ≡ [] → (result ≡ Ok (record { taken = 0; end = None })) × (assembler.new ≡ record assembler.old { message = None }) }
     ensures live { OnOk result (assembler.new.failed ≡ false) }
+    ensures lent { IfOk result (λ h. h.end ≡ None → LendsHeard assembler.new) }
     ensures limits { assembler.new.limits ≡ assembler.old.limits }
 {
     crate::laws::streams_are_heard();
@@ -127,12 +128,26 @@ impl ServerLink {
         // the place of a request's body fits 32 bits, as its arguments' reader asks
         ensures near { IfSome result IsNear }
     {
-        giop_core::laws::bodies_are_backs();
         match &self.state {
             State::Live(assembler) => spoken(assembler.message()?),
             State::Parting(PeerEnd::Closed) => Some(Inbound::PeerClosed),
             State::Parting(PeerEnd::Error) => Some(Inbound::PeerError),
             State::Closed => None,
+        }
+    }
+
+    /// How many octets the link holds: those of the frame that is not whole, or of the message that is lent, and
+    /// those of the partial messages, the headers of their first frames among them. A closed link holds none.
+    pub fn held(&self) -> usize
+        ensures octets { self.now.inbound ≡ None → result ≡ length self.now.pending + parts_held self.now.parts }
+        // a message that is lent counts, with its header
+        ensures lent { self.now.is_closed ≡ false → self.now.inbound ≢ None → 12 + parts_held self.now.parts ≤ result }
+        ensures closed { self.now.is_closed ≡ true → result ≡ 0 }
+        ensures bound { result ≤ (self.now.limits.partials + 1) * self.now.limits.message }
+    {
+        match &self.state {
+            State::Live(assembler) => assembler.held(),
+            State::Parting(_) | State::Closed => 0,
         }
     }
 

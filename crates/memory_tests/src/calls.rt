@@ -2,10 +2,15 @@
 //! `suites`.
 
 use crate::clients::ClientWriting;
+use crate::closing::Closing;
 use crate::copying::Copying;
 use crate::cutting::Cutting;
 use crate::feeding::Feeding;
+use crate::hearing::Hearing;
+use crate::keeping::Keeping;
+use crate::keys::{KeyCopying, KeyMaking};
 use crate::messages::{By, MessageWriting};
+use crate::outcomes::{OutcomeCopying, Performed};
 use crate::output::Room;
 use crate::profiles::{ProfileReading, ProfileWriting};
 use crate::reading::{ListReading, Reading};
@@ -14,6 +19,7 @@ use crate::samples::Sample;
 use crate::trial::{Ending, Miss, Trial, tried};
 use crate::writing::{ListWriting, Writing};
 use std::alloc::Global;
+use std::hash::RandomState;
 
 /// A call that takes memory.
 #[derive(Clone, Copy)]
@@ -50,6 +56,18 @@ pub enum Call {
     Feed(u32, usize),
     /// `fragments` into a vector with such room.
     Cut(Room),
+    /// A link that is fed in pieces of as many octets.
+    Hear(usize),
+    /// `ServerLink::close` into a vector with such room.
+    CloseLink(Room),
+    /// `Key::new`.
+    NewKey,
+    /// `Key::copy`.
+    CopyKey,
+    /// `Outcome::copy` of such an outcome.
+    CopyOutcome(Performed),
+    /// `Log::make_room` and `keep`, in a log that keeps so many outcomes.
+    Keep(i32),
 }
 
 /// Makes a call on these inputs, and once more where an allocation of it was refused.
@@ -60,7 +78,12 @@ fn ended<T: Trial + Drop>(alloc: Global, inputs: Result<T, Miss>) -> Result<Endi
 impl Call {
     /// Makes the call on a sample, and once more where an allocation of it was refused. At `Memory`
     /// the call was not made, since an allocation for its inputs was refused.
-    pub(crate) fn run(self, alloc: Global, sample: &'static Sample) -> Result<Ending, Miss> {
+    pub(crate) fn run(
+        self,
+        alloc: Global,
+        hasher: RandomState,
+        sample: &'static Sample,
+    ) -> Result<Ending, Miss> {
         match self {
             Call::Read => ended(alloc, Reading::new(alloc, sample)),
             Call::ReadList => ended(alloc, ListReading::new(alloc, sample)),
@@ -83,6 +106,14 @@ impl Call {
             Call::WriteClient(room) => ended(alloc, ClientWriting::new(alloc, sample, room)),
             Call::Feed(times, size) => ended(alloc, Ok(Feeding::new(alloc, sample, times, size))),
             Call::Cut(room) => ended(alloc, Cutting::new(alloc, sample, room)),
+            Call::Hear(size) => ended(alloc, Ok(Hearing::new(alloc, sample, size))),
+            Call::CloseLink(room) => ended(alloc, Closing::new(alloc, sample, room)),
+            Call::NewKey => ended(alloc, Ok(KeyMaking { sample })),
+            Call::CopyKey => ended(alloc, KeyCopying::new(alloc, sample)),
+            Call::CopyOutcome(performed) => {
+                ended(alloc, OutcomeCopying::new(alloc, sample, performed))
+            }
+            Call::Keep(count) => ended(alloc, Keeping::new(alloc, hasher, sample, count)),
         }
     }
 }

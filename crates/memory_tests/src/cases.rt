@@ -6,6 +6,7 @@ use crate::samples::Sample;
 use crate::suites::{SUITES, Suite};
 use crate::trial::{Ending, Miss};
 use std::alloc::Global;
+use std::hash::RandomState;
 use std::io;
 use std::io::Write;
 
@@ -60,7 +61,7 @@ impl Case {
     }
 
     /// Makes the call, as `Call::run` does.
-    pub(crate) fn run(self, alloc: Global) -> Result<Ending, Miss> {
-        self.suite.1.run(alloc, self.sample)
+    pub(crate) fn run(self, alloc: Global, hasher: RandomState) -> Result<Ending, Miss> {
+        self.suite.1.run(alloc, hasher, self.sample)
     }
 }

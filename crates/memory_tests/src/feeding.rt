@@ -11,7 +11,7 @@ use giop_frames::{Assembler, Limits, StreamFault};
 use std::alloc::Global;
 
 /// The least limits.
-const LEAST: Limits = Limits {
+pub(crate) const LEAST: Limits = Limits {
     message: 4096,
     partials: 1,
 };

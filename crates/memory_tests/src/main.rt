@@ -1,10 +1,10 @@
-//! The program `memory_tests`: calls of `cdr_core`, `ior_core`, `giop_core` and `giop_frames` that take
-//! memory, each made by name.
+//! The program `memory_tests`: calls of `cdr_core`, `ior_core`, `giop_core`, `giop_frames`, `giop_link` and
+//! `ft_log` that take memory, each made by name.
 //!
 //! A case is one call on fixed inputs. Where an allocation of it is refused, the program checks that
 //! nothing changed, and makes the same call again. What the calls give is compared with octets and
-//! texts written out in `samples`, `message_samples` and `stream_samples`. tests/refused_allocations.py
-//! runs it under a `malloc` that refuses one allocation.
+//! texts written out in `samples`, `message_samples`, `stream_samples`, `link_samples` and `log_samples`.
+//! tests/refused_allocations.py runs it under a `malloc` that refuses one allocation.
 //!
 //! By the word `lines` the calls are those that the lines of standard input ask for, on octets that stand
 //! there, and what each gives is printed. tests/bounded_allocations.py runs it so on hostile octets.
@@ -13,12 +13,19 @@
 mod calls;
 mod cases;
 mod clients;
+mod closing;
 mod copying;
 mod cutting;
 mod feeding;
+mod hearing;
+mod keeping;
+mod keys;
 mod lines;
+mod link_samples;
+mod log_samples;
 mod message_samples;
 mod messages;
+mod outcomes;
 mod output;
 mod profiles;
 mod reading;
@@ -34,6 +41,7 @@ mod trial;
 mod types;
 mod writing;
 
+use std::hash::RandomState;
 use std::process::ExitCode;
 use std::{env, io};
 
@@ -41,9 +49,11 @@ use std::{env, io};
 fn status_of(rt: &HostRuntime) -> io::Result<u8> {
     let alloc = rt.alloc();
     let words: Vec<String> = env::args(rt)?.collect(alloc)?;
+    let hasher = RandomState::new(rt)?;
     let word = words.get(1).map_or("", |word| word.as_str());
     Ok(run::run(
         alloc,
+        hasher,
         word,
         &mut rt.stdin(),
         &mut rt.stdout(),

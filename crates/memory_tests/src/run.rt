@@ -7,6 +7,7 @@ use crate::lines::answer_lines;
 use crate::stop::Stop;
 use crate::trial::Ending;
 use std::alloc::Global;
+use std::hash::RandomState;
 use std::io;
 use std::io::{Read, Write};
 
@@ -22,6 +23,7 @@ fn print_ending<W: Write>(ending: Ending, out: &mut W) -> io::Result<()> {
 /// of that name and prints how it ended.
 fn answer<R: Read, W: Write>(
     alloc: Global,
+    hasher: RandomState,
     word: &str,
     input: &mut R,
     out: &mut W,
@@ -32,7 +34,7 @@ fn answer<R: Read, W: Write>(
         _ => {}
     }
     let case = Case::named(word).ok_or(Stop::Unknown)?;
-    let ending = case.run(alloc)?;
+    let ending = case.run(alloc, hasher)?;
     Ok(print_ending(ending, out)?)
 }
 
@@ -55,6 +57,7 @@ fn report<E: Write>(stop: Stop, err: &mut E) -> io::Result<()> {
 /// where no case has that name. The reason goes to `err`.
 pub(crate) fn run<R: Read, W: Write, E: Write>(
     alloc: Global,
+    hasher: RandomState,
     word: &str,
     input: &mut R,
     out: &mut W,
@@ -62,7 +65,7 @@ pub(crate) fn run<R: Read, W: Write, E: Write>(
 ) -> u8
     ensures { result ≤ 2 }
 {
-    match answer(alloc, word, input, out) {
+    match answer(alloc, hasher, word, input, out) {
         Ok(()) => 0,
         Err(stop) => {
             let _ = report(stop, err);

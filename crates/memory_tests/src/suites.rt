@@ -1,10 +1,13 @@
 //! The samples on which each call is made.
 
 use crate::calls::Call;
+use crate::link_samples::HEARD;
+use crate::log_samples::{KEYS, RAISED, RETURNED};
 use crate::message_samples::{
     CANCELS, CLIENTS, CLOSINGS, ERRORS, EXCEPTIONS, LOCATE_REPLIES, LOCATE_REQUESTS, REPLIES,
     REQUESTS,
 };
+use crate::outcomes::Performed;
 use crate::output::Room;
 use crate::samples::{
     FAULTS, LISTS, PROFILE_FAULTS, PROFILES, REFERENCE_FAULTS, REFERENCES, Sample, TEXT_FAULTS,
@@ -59,6 +62,14 @@ pub enum Set {
     Cut,
     /// Messages that can be cut, and the octets of their frames of at most 32 octets.
     Cuttable,
+    /// Streams in which a request is heard.
+    Heard,
+    /// Clients, and the keys of requests of theirs.
+    Keys,
+    /// Structs, and their members as results.
+    Returned,
+    /// Structs, and their members as those of an exception.
+    Raised,
 }
 
 impl Set {
@@ -87,6 +98,10 @@ impl Set {
             Set::Uncut => &UNCUT,
             Set::Cut => &CUT,
             Set::Cuttable => &CUTTABLE,
+            Set::Heard => &HEARD,
+            Set::Keys => &KEYS,
+            Set::Returned => &RETURNED,
+            Set::Raised => &RAISED,
         }
     }
 }
@@ -96,11 +111,15 @@ impl Set {
 #[derive(Clone, Copy)]
 pub struct Suite(pub &'static str, pub Call, pub Set);
 
+/// Half as many octets as the first request of `HEARD` has.
+const HALF: usize = 26;
+
 /// As many octets as a piece needs to hold any stream of the samples.
 const WHOLE: usize = 4096;
 
-/// The calls of `cdr_core` and `ior_core`, those of the writers of `giop_core`, and those of `giop_frames`.
-pub static SUITES: [Suite; 62] = [
+/// The calls of `cdr_core` and `ior_core`, those of the writers of `giop_core`, and those of `giop_frames`,
+/// `giop_link` and `ft_log`.
+pub static SUITES: [Suite; 73] = [
     Suite("read", Call::Read, Set::Values),
     Suite("read_faulty", Call::Read, Set::Faults),
     Suite("read_list", Call::ReadList, Set::Lists),
@@ -315,4 +334,35 @@ pub static SUITES: [Suite; 62] = [
         Call::Cut(Room::Ample),
         Set::Cuttable,
     ),
+    Suite("hear_whole", Call::Hear(WHOLE), Set::Heard),
+    Suite("hear_in_two", Call::Hear(HALF), Set::Heard),
+    Suite(
+        "close_link_empty",
+        Call::CloseLink(Room::Empty),
+        Set::Closings,
+    ),
+    Suite(
+        "close_link_full",
+        Call::CloseLink(Room::Full),
+        Set::Closings,
+    ),
+    Suite(
+        "close_link_without_allocation",
+        Call::CloseLink(Room::Ample),
+        Set::Closings,
+    ),
+    Suite("new_key", Call::NewKey, Set::Keys),
+    Suite("copy_key", Call::CopyKey, Set::Keys),
+    Suite(
+        "copy_returned",
+        Call::CopyOutcome(Performed::Returned),
+        Set::Returned,
+    ),
+    Suite(
+        "copy_raised",
+        Call::CopyOutcome(Performed::Raised),
+        Set::Raised,
+    ),
+    Suite("keep_first", Call::Keep(0), Set::Keys),
+    Suite("keep_fifth", Call::Keep(4), Set::Keys),
 ];

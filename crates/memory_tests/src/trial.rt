@@ -3,9 +3,11 @@
 ghost use Rattle.std.specs.Prelude.{OnOk};
 
 use cdr_core::CdrError;
+use ft_log::LogError;
 use giop_core::WriteError;
+use giop_link::LinkFault;
 use ior_core::IorError;
-use std::alloc::{AllocError, Global};
+use std::alloc::{AllocError, AllocFailed, Global};
 use thiserror::Error;
 
 /// What is wrong with a call.
@@ -60,6 +62,13 @@ impl From<AllocError> for Miss {
     }
 }
 
+/// Out of memory; the element that was not stored is dropped.
+impl<T: Drop> From<AllocFailed<T>> for Miss {
+    fn from(_e: AllocFailed<T>) -> Miss {
+        Miss::Memory
+    }
+}
+
 /// Out of memory, or a fault where none is wanted.
 impl From<CdrError> for Miss {
     fn from(error: CdrError) -> Miss {
@@ -86,6 +95,26 @@ impl From<WriteError> for Miss {
         match error {
             WriteError::TooLong => Miss::Wrong(Wrong::Fault),
             WriteError::Memory => Miss::Memory,
+        }
+    }
+}
+
+/// Out of memory, or a stream that ends where none is to end.
+impl From<LinkFault> for Miss {
+    fn from(fault: LinkFault) -> Miss {
+        if fault.is_memory() {
+            return Miss::Memory;
+        }
+        Miss::Wrong(Wrong::Fault)
+    }
+}
+
+/// Out of memory, or a log that is full where none is to be.
+impl From<LogError> for Miss {
+    fn from(error: LogError) -> Miss {
+        match error {
+            LogError::Full | LogError::ShareFull => Miss::Wrong(Wrong::Fault),
+            LogError::Memory => Miss::Memory,
         }
     }
 }

@@ -1,6 +1,6 @@
 //! Links: what a server's end lends of a client's octets, and how it is closed.
 
-use crate::rows::assert_named;
+use crate::rows::{assert_named, assert_printed};
 use giop_core::{HeaderFault, ReplyWish, Target, Version};
 use giop_frames::{Limits, StreamFault};
 use giop_link::{Inbound, LinkFault, ServerLink};
@@ -31,6 +31,16 @@ const ERROR: &[u8] = b"GIOP\x01\x00\x00\x06\x00\x00\x00\x00";
 const REPLY: &[u8] =
     b"GIOP\x01\x00\x00\x01\x00\x00\x00\x0c\x00\x00\x00\x00\x00\x00\x00\x05\x00\x00\x00\x00";
 
+/// A LocateReply of 1.2 and of id 6: the object is unknown.
+const LOCATE_REPLY: &[u8] = b"GIOP\x01\x02\x00\x04\x00\x00\x00\x08\x00\x00\x00\x06\x00\x00\x00\x00";
+
+/// The first frame of a Reply of 1.2 and of id 5, of 24 octets: no exception, and no contexts.
+const REPLY_FIRST: &[u8] =
+    b"GIOP\x01\x02\x02\x01\x00\x00\x00\x0c\x00\x00\x00\x05\x00\x00\x00\x00\x00\x00\x00\x00";
+
+/// Its last four octets, after the request id.
+const REPLY_LAST: &[u8] = b"GIOP\x01\x02\x00\x07\x00\x00\x00\x08\x00\x00\x00\x05\x00\x00\x00\x07";
+
 /// What is lent.
 #[derive(Clone, Copy)]
 enum Came {
@@ -53,7 +63,7 @@ struct Row {
     fault: Option<LinkFault>,
 }
 
-static ROWS: [Row; 6] = [
+static ROWS: [Row; 9] = [
     Row {
         name: "a request, a locate and a cancel",
         messages: &[REQUEST, LOCATE, CANCEL, REQUEST],
@@ -79,6 +89,27 @@ static ROWS: [Row; 6] = [
         name: "a reply",
         messages: &[REQUEST, REPLY],
         came: &[Came::Add],
+        is_closed: true,
+        fault: Some(LinkFault::WrongDirection),
+    },
+    Row {
+        name: "a locate's reply",
+        messages: &[LOCATE_REPLY, REQUEST],
+        came: &[],
+        is_closed: true,
+        fault: Some(LinkFault::WrongDirection),
+    },
+    Row {
+        name: "the first frame of a reply",
+        messages: &[REPLY_FIRST, LOCATE],
+        came: &[Came::Located],
+        is_closed: false,
+        fault: None,
+    },
+    Row {
+        name: "both frames of a reply",
+        messages: &[REPLY_FIRST, LOCATE, REPLY_LAST],
+        came: &[Came::Located],
         is_closed: true,
         fault: Some(LinkFault::WrongDirection),
     },
@@ -202,4 +233,39 @@ fn faults_are_memory_or_not(rt: HostRuntime) {
     assert!(rt; LinkFault::Stream(StreamFault::Memory).is_memory());
     assert!(rt; !LinkFault::Stream(StreamFault::TooLarge).is_memory());
     assert!(rt; !LinkFault::WrongDirection.is_memory());
+}
+
+/// Pieces in turn, and how many octets are held once each is taken.
+static HELD: [(&[u8], usize); 6] = [
+    (REPLY_FIRST, 24),
+    (b"GIOP\x01\x00\x01\x03\x0a\x00\x00\x00\x06\x00", 24 + 14),
+    (b"\x00\x00\x02\x00\x00\x00cd", 24 + 22),
+    (b"", 24),
+    (ERROR, 0),
+    (REQUEST, 0),
+];
+
+#[test]
+fn a_link_holds_what_is_not_whole(rt: HostRuntime) {
+    let mut link = ServerLink::new(rt.alloc(), Limits::default());
+    assert_eq!(rt; link.held(), 0);
+    for (piece, held) in &HELD {
+        assert!(rt; link.feed(piece) == Ok(piece.len()));
+        assert_eq!(rt; link.held(), *held);
+    }
+}
+
+static TEXTS: [(LinkFault, &str); 4] = [
+    (LinkFault::WrongDirection, "wrong direction"),
+    (LinkFault::Stream(StreamFault::Memory), "memory"),
+    (LinkFault::Stream(StreamFault::TooLarge), "too large"),
+    (
+        LinkFault::Stream(StreamFault::Header(HeaderFault::BadMagic)),
+        "bad magic",
+    ),
+];
+
+#[test]
+fn faults_of_links_are_printed(rt: HostRuntime) {
+    assert_printed(&rt, &TEXTS);
 }

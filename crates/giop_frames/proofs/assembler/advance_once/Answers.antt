@@ -1,9 +1,10 @@
-use Rattle.std.proofs.Common.{ℕ, List, sym, subst}
+use Rattle.std.proofs.Common.{ℕ, List, sym, subst, arith}
 use Rattle.std.proofs.lemmas.Result.{err_from_is_err_and}
 use Rattle.giop_frames.specs.declared.deframer.Seen.TheVariants as seen
 use Rattle.giop_frames.specs.declared.reassembly.Settled.TheVariants as settled
 use Rattle.giop_frames.specs.Private.{Needs}
-use Rattle.giop_frames.specs.Standing.{entries}
+use Rattle.giop_frames.specs.Standing.{entries, framed}
+use Rattle.giop_frames.proofs.Bounds.{whole-short}
 use Rattle.giop_frames.proofs.Needs.{needs-nothing}
 use Rattle.giop_frames.proofs.Stepping.{exact-as, fails-frame, fails-header, goes-done, goes-quiet, goes-waiting, keeps-done, needs-as, seen-as, settled-as, stays-done, stays-quiet}
 use Rattle.giop_frames.proofs.assembler.advance_once.Goals as goal
@@ -49,6 +50,12 @@ pub returns-in-Refused-clause-stands : goal.returns-in-Refused-clause-stands
 returns-in-Refused-clause-stands c = λ s stands.
     let v = seen.Refused c.in-Refused.fault in
     fails-header c.args.limits.now c.args.frame.now.items c.gather.new.frame.items c.args.piece.now c.in_ok-taken.field-0.taken c.in_ok-taken.ensures.octets c.in_ok-taken.ensures.taken.1 (entries c.args.parts.now.items) s c.in-Refused.fault c.in_ok-taken.ensures.taken.0 (seen-as c.args.limits.now c.gather.new.frame.items c.in_ok-taken.field-0.seen v c.in-Refused.is c.in_ok-taken.ensures.seen) (exact-as c.gather.new.frame.items c.in_ok-taken.field-0.seen v c.in-Refused.is c.in_ok-taken.ensures.exact) stands
+
+pub settle-requires-clause-short : goal.settle-requires-clause-short
+settle-requires-clause-short c =
+    let v = seen.Whole c.in-Whole.header in
+    let b = c.gather.new.frame.items in
+    omega (arith, whole-short c.args.limits.now b (framed c.in-Whole.header b) (sym (seen-as c.args.limits.now b c.in_ok-taken.field-0.seen v c.in-Whole.is c.in_ok-taken.ensures.seen)) (exact-as b c.in_ok-taken.field-0.seen v c.in-Whole.is c.in_ok-taken.ensures.exact))
 
 pub returns-in-Quiet-clause-stands : goal.returns-in-Quiet-clause-stands
 returns-in-Quiet-clause-stands c = λ s stands.

@@ -1,4 +1,5 @@
-use Rattle.std.proofs.Common.{rules, ℕ, ◌≤◌, ◌<◌, true, false, length, drop, refl, ap, arith, Vec, Global}
+use Rattle.std.proofs.Common.{rules, ◌≡◌, ℕ, ◌≤◌, ◌<◌, true, false, length, drop, refl, ap, arith, Vec, Global}
+use Rattle.std.specs.Vec.{vec_len}
 use Rattle.giop_frames.specs.Standing.{framed, entries}
 use Rattle.giop_frames.proofs.Judging.{keyed, partial-at, count-of, opened, opens-quiet, opens-too_many, opens-twice}
 use Rattle.giop_frames.specs.Fragments.{key_of}
@@ -23,3 +24,8 @@ returns c =
       search rules,
       opened c.args.parts.now.items _ _ f c.in_ok-push.ensures.items (keyed c.args.header.now c.args.frame.now.items c.as_slice.result.now c.key_of-key.result c.as_slice.ensures.value c.key_of-key.ensures) refl (ap (λ (v : Vec ℕ Global). drop 12 v.items) c.replace-octets.ensures.value),
     )
+
+pub invariant_of-push-clause-read : goal.invariant_of-push-clause-read
+invariant_of-push-clause-read c =
+    let same : vec_len c.replace-octets.result ≡ vec_len c.args.frame.now = ap (λ (v : Vec ℕ Global). vec_len v) c.replace-octets.ensures.value in
+    record { place = omega (arith, same, c.requires.long); same = λ more. refl }

@@ -1,8 +1,9 @@
-use Rattle.std.proofs.Common.{◌≡◌, take, Option, None, subst, sym, ◌∙◌}
+use Rattle.std.proofs.Common.{◌≡◌, take, Option, None, subst, sym, ap, ◌∙◌}
 use Rattle.giop_frames.specs.Frames.{Frame}
 use Rattle.giop_link.specs.declared.fault.LinkFault.TheVariants.{Stream}
+use Rattle.giop_link.specs.declared.link.PeerEnd.{PeerEnd}
 use Rattle.giop_link.specs.Linking.{IsFaultOf}
-use Rattle.giop_link.specs.Private.{IsHeard, spoken_by}
+use Rattle.giop_link.specs.Private.{IsHeard, spoken_by, told_with}
 use Rattle.giop_link.proofs.Firsts.{fewer-quiet}
 use Rattle.giop_link.proofs.Turns.{Comes, comes-by, brings-none, brings-some, err-by, fault-of, strays-by, told-header}
 use Rattle.giop_link.proofs.link.hear.Goals as goal
@@ -60,3 +61,9 @@ returns-in-None-clause-first c = λ s st going k less.
     let f = c.in_ok-taken.ensures in
     let comes = comes-by limits s t c.feed.new.self going (f.messages s st) (f.stands s st) f.limits in
     fewer-quiet c.streams_grow.ensures.messages c.streams_grow.ensures.fault c.messages_are_whole.ensures.places limits s c.args.piece.now c.in_ok-taken.taken k c.feed.new.self.message f.within less comes
+
+pub returns-in_ok-end-in-Some-clause-lent : goal.returns-in_ok-end-in-Some-clause-lent
+returns-in_ok-end-in-Some-clause-lent c = λ stays none.
+    let m = c.feed.new.self.message in
+    absurd (told-header m c.in-Some.header c.in_ok-end-in-Some.end c.in-Some.ensures (sym c.turn_of.ensures ∙ c.in_ok-end-in-Some.was)
+    (ap (λ (end : Option PeerEnd). told_with end (spoken_by m)) stays ∙ none))

@@ -1,12 +1,14 @@
 use Rattle.std.proofs.Common.{◌≤◌, ◌≡◌, ◌∙◌, true, List, ℕ, ap, sym, subst, refl, option_map, vec_len, vec_capacity, arith}
 use Rattle.ft_log.specs.Keys.{RequestKey, are_distinct, held_of}
 use Rattle.ft_log.specs.Kept.{keys_of}
+use Rattle.ft_log.specs.Logged.{logged}
 use Rattle.ft_log.specs.View.{entries_at, key_of}
 use Rattle.ft_log.proofs.Listed.{are_distinct-push, within_share-push, keys-push, length_keys}
 use Rattle.ft_log.proofs.Ready.{ready_at}
 use Rattle.ft_log.proofs.log.Log.keep.Goals as goal
 
 pub invariant_of-self : goal.invariant_of-self
+unfolding logged
 invariant_of-self c =
     let s = c.args.self.now in
     let keys : List RequestKey = keys_of (entries_at s.entries.items) in

@@ -2,6 +2,7 @@ use Rattle.std.proofs.Common.{◌<◌, ◌≤◌, ◌≡◌, ◌∙◌, true, Li
 use Rattle.std.proofs.lemmas.List.{length-map}
 use Rattle.ft_log.specs.Keys.{RequestKey, are_distinct, held_of}
 use Rattle.ft_log.specs.Kept.{keys_of}
+use Rattle.ft_log.specs.Logged.{logged}
 use Rattle.ft_log.specs.Private.{is_ready}
 use Rattle.ft_log.specs.View.{entries_at, entry_in, key_of}
 use Rattle.ft_log.proofs.Listed.{none_kept, length_keys, other_error}
@@ -9,16 +10,19 @@ use Rattle.ft_log.proofs.Ready.{IsReady, ready_from}
 use Rattle.ft_log.proofs.log.Log.make_room.Goals as goal
 
 pub returns-in_err-key-clause-share_full : goal.returns-in_err-key-clause-share_full
+unfolding logged
 returns-in_err-key-clause-share_full c =
     let held = c.held_by.ensures.held ∙ ap (λ x. held_of x (keys_of (entries_at c.args.self.now.entries.items))) c.deref.ensures.value in
     (other_error c.from_residual.result c.from_residual.ensures.1, λ h. absurd (c.if-held_by-self.false (held ∙ h.1)))
 
 pub returns-in_err-reserve-clause-share_full : goal.returns-in_err-reserve-clause-share_full
+unfolding logged
 returns-in_err-reserve-clause-share_full c =
     let held = c.held_by.ensures.held ∙ ap (λ x. held_of x (keys_of (entries_at c.args.self.now.entries.items))) c.deref.ensures.value in
     (other_error c.from_residual-in_err-reserve.result c.from_residual-in_err-reserve.ensures.1, λ h. absurd (c.if-held_by-self.false (held ∙ h.1)))
 
 pub returns-clause-share_full : goal.returns-clause-share_full
+unfolding logged
 returns-clause-share_full c =
     let held = c.held_by.ensures.held ∙ ap (λ x. held_of x (keys_of (entries_at c.args.self.now.entries.items))) c.deref.ensures.value in
     (λ e. cc, λ h. absurd (c.if-held_by-self.false (held ∙ h.1)))
@@ -36,6 +40,7 @@ invariant_of-self-in-Break-branch-2 c =
     }
 
 pub invariant_of-self-2 : goal.invariant_of-self-2
+unfolding logged
 invariant_of-self-2 c =
     let s = c.args.self.now in
     let made = c.in_ok-reserve.ensures in

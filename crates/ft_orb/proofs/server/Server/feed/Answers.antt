@@ -1,32 +1,38 @@
-use Rattle.std.proofs.Common.{rules, ◌≡◌, ◌++◌, ℕ, List, [], ◌∷◌, not, ◌+◌, ◌-◌, ◌*◌, ◌<◌, ◌≤◌, length, ◌/◌, ◌%◌, Bool, true, false, nat_eq, nat_lt, slice_index_or, slice_set, bit_and, bit_or, Fits, w8, w32, w64, Bor, MutBor}
-use Rattle.ft_orb.specs.History as history
-use Rattle.ft_orb.specs.History.{arrivals, line}
-use Rattle.ft_orb.specs.ExactlyOnce.{OneExpiration, state_of}
-use Rattle.ft_orb.specs.Outputs.{Made, Writes, after, is_going, law_says, table_says}
-use Rattle.ft_orb.specs.Requests.{rules_of}
-use Rattle.ft_orb.specs.Standing.{Stands, note_of, note_of_opening}
+use Rattle.std.proofs.Common.{sym, refl, ◌∙◌, arith}
+use Rattle.std.proofs.lemmas.Grind.{common_steps}
+use Rattle.ft_orb.proofs.Pieces.{IsSameBut, fed-none, fed-closed, fed-ok, fed-err}
 use Rattle.ft_orb.proofs.server.Server.feed.Goals as goal
 
--- src/server.rt:132:13
 pub returns-in_default-clause-table : goal.returns-in_default-clause-table
-returns-in_default-clause-table g c = ?
+returns-in_default-clause-table g c made past st =
+    fed-none g.S.Servant.meaning made c.args.self.now _ past c.args.connection c.args.moment c.args.piece.now c.args.out.now.items st
+    (record { limits = refl; capacity = refl; share = refl; greatest = refl; others = λ q n. grind (arith, common_steps) }) c.max-self.ensures refl (sym c.in_default.ensures.value) (grind (arith, common_steps))
 
--- src/server.rt:132:13
-pub returns-in_default-clause-once : goal.returns-in_default-clause-once
-returns-in_default-clause-once g c = ?
+pub returns-then-is_closed-clause-table : goal.returns-then-is_closed-clause-table
+returns-then-is_closed-clause-table g c made past st =
+    fed-closed g.S.Servant.meaning made c.args.self.now _ past c.args.connection c.args.moment c.args.piece.now c.args.out.now.items c.in-Some.link.now c.streams_are_heard.ensures.stays c.streams_are_heard.ensures.silent st
+    (record { limits = refl; capacity = refl; share = refl; greatest = refl; others = λ q n. grind (arith, common_steps) }) c.max-self.ensures refl (sym c.in-Some.ensures.value) (grind (arith, common_steps)) (sym c.is_closed.ensures ∙ c.if-is_closed.true)
 
--- src/server.rt:112:5
 pub returns-in-Ok-clause-table : goal.returns-in-Ok-clause-table
-returns-in-Ok-clause-table g c = ?
+returns-in-Ok-clause-table g c made past st =
+    fed-ok g.S.Servant.meaning made c.args.self.now _ past c.args.connection c.args.moment c.args.piece.now c.max-self.result c.args.out.now.items c.serve.new.out.items c.in-Some.link.now c.serve.new.link st
+    (record { limits = refl; capacity = c.serve.ensures.capacity; share = c.serve.ensures.share; greatest = refl; others = λ q n. grind (arith, common_steps) }) c.max-self.ensures c.serve.ensures.clock (sym c.in-Some.ensures.value) (grind (arith, common_steps)) (sym c.is_closed.ensures ∙ c.if-is_closed.false)
+    (λ s t h alike. c.in-Ok.ensures.ok made.limits c.args.connection s t h alike)
 
--- src/server.rt:112:5
-pub returns-in-Ok-clause-once : goal.returns-in-Ok-clause-once
-returns-in-Ok-clause-once g c = ?
-
--- src/server.rt:112:5
 pub returns-in-Err-clause-table : goal.returns-in-Err-clause-table
-returns-in-Err-clause-table g c = ?
+returns-in-Err-clause-table g c made past st =
+    fed-err g.S.Servant.meaning made c.args.self.now _ past c.args.connection c.args.moment c.args.piece.now c.max-self.result c.args.out.now.items c.serve.new.out.items c.in-Some.link.now c.in-Err.cut st
+    (record { limits = refl; capacity = c.serve.ensures.capacity; share = c.serve.ensures.share; greatest = refl; others = λ q n. grind (arith, common_steps) }) c.max-self.ensures c.serve.ensures.clock (sym c.in-Some.ensures.value) (grind (arith, common_steps)) (sym c.is_closed.ensures ∙ c.if-is_closed.false) c.in-Err.ensures.some
+    (λ s t h alike. c.in-Err.ensures.err made.limits c.args.connection s t h alike)
 
--- src/server.rt:112:5
+pub returns-in_default-clause-once : goal.returns-in_default-clause-once
+returns-in_default-clause-once g c made past st = ?
+
+pub returns-then-is_closed-clause-once : goal.returns-then-is_closed-clause-once
+returns-then-is_closed-clause-once g c made past st = ?
+
+pub returns-in-Ok-clause-once : goal.returns-in-Ok-clause-once
+returns-in-Ok-clause-once g c made past st = ?
+
 pub returns-in-Err-clause-once : goal.returns-in-Err-clause-once
-returns-in-Err-clause-once g c = ?
+returns-in-Err-clause-once g c made past st = ?

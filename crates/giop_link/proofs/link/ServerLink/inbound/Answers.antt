@@ -2,14 +2,8 @@ use Rattle.std.proofs.Common.{sym, ap, ◌∙◌}
 use Rattle.giop_link.specs.declared.link.State.{State}
 use Rattle.giop_link.specs.Linking.{Linked}
 use Rattle.giop_link.specs.Private.{linked}
-use Rattle.giop_link.proofs.Lending.{lent-below, lent-spoken}
+use Rattle.giop_link.proofs.Lending.{lent-spoken}
 use Rattle.giop_link.proofs.link.ServerLink.inbound.Goals as goal
-
-pub spoken-requires : goal.spoken-requires
-spoken-requires c =
-    let a = c.in-Live.assembler in
-    let m = c.in_ok-message-in-Live in
-    lent-below c.bodies_are_backs.ensures a.limits a.message a.pending m.field-0 m.ensures.lent m.ensures.within
 
 pub returns-in_ok-message-in-Live-clause-lent : goal.returns-in_ok-message-in-Live-clause-lent
 returns-in_ok-message-in-Live-clause-lent c =
