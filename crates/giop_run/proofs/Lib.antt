@@ -2,4 +2,4 @@ pub mod Lines
 pub mod Endings
 pub mod Printing
 pub mod Counting
-pub mod Playing
+pub mod Scripts

@@ -18,10 +18,11 @@ use Rattle.ft_orb.specs.Servants.{IsServant}
 -- each operation's types are valid
 valid : (key name : List ℕ) → IsValidInterface (counter_interface key name)
 valid key name =
-    elim (is_counter key) as (λ b. IsValidInterface (cond b (operation_of name) no_object))
-    [ true ↦ elim (is_add name) as (λ b. IsValidInterface (cond b (operation add_types) (cond (is_get name) (operation get_types) no_operation)))
-        [ true ↦ search rules | false ↦ elim (is_get name) as (λ b. IsValidInterface (cond b (operation get_types) no_operation)) [ true ↦ search rules | false ↦ search rules ] ]
-    | false ↦ search rules ]
+    elim (is_counter key) as (λ b. IsValidInterface (cond b (operation_of name) no_object)) [
+      | true ↦ elim (is_add name) as (λ b. IsValidInterface (cond b (operation add_types) (cond (is_get name) (operation get_types) no_operation)))
+          [ true ↦ search rules | false ↦ elim (is_get name) as (λ b. IsValidInterface (cond b (operation get_types) no_operation)) [ true ↦ search rules | false ↦ search rules ] ]
+      | false ↦ search rules
+    ]
 
 -- the key of no object is that of no operation, and `add` is found under every other
 named : (b : Bool) → cond b (operation add_types) no_object ≡ no_object → b ≡ false
@@ -92,10 +93,11 @@ got total h = let k = long_long total h in record { stays = h; fits = search rul
 of_operation : (total : ℤ) (name : List ℕ) (arguments : Values) → IsTrue (is_long_long total) → AreArgumentsOf (operation_of name) arguments → Suits (operation_of name) (counter_apply total name arguments)
 of_operation total name arguments h =
     elim (is_add name) as (λ b. AreArgumentsOf (cond b (operation add_types) (cond (is_get name) (operation get_types) no_operation)) arguments
-        → Suits (cond b (operation add_types) (cond (is_get name) (operation get_types) no_operation)) (cond b (add total (long_in arguments)) (cond (is_get name) (total, tells total) (unasked total))))
-    [ true ↦ added total arguments h
-    | false ↦ elim (is_get name) as (λ b. AreArgumentsOf (cond b (operation get_types) no_operation) arguments → Suits (cond b (operation get_types) no_operation) (cond b (total, tells total) (unasked total)))
-        [ true ↦ λ a. got total h | false ↦ λ a. absurd a ] ]
+    → Suits (cond b (operation add_types) (cond (is_get name) (operation get_types) no_operation)) (cond b (add total (long_in arguments)) (cond (is_get name) (total, tells total) (unasked total)))) [
+      | true ↦ added total arguments h
+      | false ↦ elim (is_get name) as (λ b. AreArgumentsOf (cond b (operation get_types) no_operation) arguments → Suits (cond b (operation get_types) no_operation) (cond b (total, tells total) (unasked total)))
+          [ true ↦ λ a. got total h | false ↦ λ a. absurd a ]
+    ]
 
 suits : (total : ℤ) (key name : List ℕ) (arguments : Values) → IsTrue (is_long_long total) → AreArgumentsOf (counter_interface key name) arguments → Suits (counter_interface key name) (counter_apply total name arguments)
 suits total key name arguments h =

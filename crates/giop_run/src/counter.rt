@@ -6,9 +6,9 @@ ghost use Rattle.giop_run.specs.Counter.{add_types, get_types, long_in, sum_of, 
 ghost use Rattle.ft_orb.specs.Interfaces.{types_of};
 ghost use Rattle.ft_log.specs.View.{performed_in};
 
-use ft_orb::{Lookup, Servant, Signature};
 use cdr_core::{Ty, Val};
 use ft_log::{Completion, Outcome, SystemName};
+use ft_orb::{Lookup, Servant, Signature};
 use std::alloc::{AllocError, Global};
 use std::marker::Model;
 
@@ -134,7 +134,7 @@ impl Servant for Counter {
     ghost promises = { counter_is_servant };
 
     fn known(&self) {
-        self.total();
+        let _total = self.total();
     }
 
     fn interface(&self, object_key: &[u8], operation: &[u8]) -> Lookup<'_> {

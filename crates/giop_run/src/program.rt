@@ -1,6 +1,6 @@
 //! The program over a reader and two writers.
 
-ghost use Rattle.std.specs.Prelude.{◌≤◌, IfOk};
+ghost use Rattle.std.specs.Prelude.{◌≡◌, ◌<◌, ◌≤◌, ◌⊎◌, IfOk, OnErr, unwrap_or};
 ghost use Rattle.giop_run.specs.Settings.{IsInRange};
 
 use crate::play::{Terms, play_events};
@@ -95,7 +95,8 @@ fn play_script<R: Read, W: Write>(
 /// The share of each client, which is the capacity where none is given.
 fn share_in(capacity: u32, share: Option<u32>) -> Result<u32, Stop>
     requires { 1 ≤ capacity }
-    ensures { IfOk result (λ n. (1 ≤ n) × (n ≤ capacity)) }
+    ensures ok { IfOk result (λ n. (n ≡ unwrap_or share capacity) × (1 ≤ n) × (n ≤ capacity)) }
+    ensures err { OnErr result ((unwrap_or share capacity ≡ 0) ⊎ (capacity < unwrap_or share capacity)) }
 {
     match share.unwrap_or(capacity) {
         0 => Err(Stop::BadShare),

@@ -5,8 +5,8 @@ ghost use Rattle.giop_run.specs.Settings.{IsInRange};
 ghost use Rattle.giop_tool.specs.Settings.{IsOfWords};
 
 use crate::help;
-use clap::error::ErrorKind;
 use clap::builder::ValueParser;
+use clap::error::ErrorKind;
 use clap::{Arg, ArgAction, ArgMatches, Command};
 use giop_run::Setting;
 use std::alloc::{AllocError, Global};
