@@ -4,7 +4,8 @@
 - docs/PROMISES.md names each must-fail edit of each crate, and no other: in the last column of the tables
   under the crate's heading.
 - Each name in the other columns of these tables stands in a source or a definition of some crate.
-- Each block of Rust that README.md and docs/GUIDE.md show stands in a file of crates/uses/src.
+- Each block of Rust that README.md, docs/GUIDE.md and the pages of giop_link and ft_log show stands in a
+  file of crates/uses/src.
 - docs/ARCHITECTURE.md names each crate, with the libraries that it stands on, and each room of the crates
   whose rooms it lists.
 - Each relative link of a document, and each path such as `crates/NAME/..` that it gives between backquotes,
@@ -18,7 +19,7 @@ import sys
 
 ROOT = os.path.dirname(os.path.dirname(os.path.abspath(__file__)))
 PROMISES = "docs/PROMISES.md"
-QUOTING = ["README.md", "docs/GUIDE.md"]
+QUOTING = ["README.md", "docs/GUIDE.md", "crates/giop_link/README.md", "crates/ft_log/README.md"]
 USES = "crates/uses/src"
 ARCHITECTURE = "docs/ARCHITECTURE.md"
 FOUR = "`cdr_core`, `ior_core`, `giop_core`, `giop_frames`"

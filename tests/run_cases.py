@@ -8,6 +8,10 @@ NAME.status, NAME.stdout and NAME.stderr. Where NAME.stderr is missing, nothing 
 where NAME.stdout is missing too, any text may be. The folders are the program's subcommands, and
 `words` for help, the version and words that are refused. Without FOLDER all of them run.
 
+A case of `play` that ends well runs once more with each piece cut into pieces of one octet, at the same
+moment on the same connection: what is printed must be the same, where lines of one connection that follow one
+another count as one.
+
 The last line is 'N passed, M failed'.
 """
 import os
@@ -27,12 +31,52 @@ def content(path):
         return None
 
 
+def run_of(program, base, script):
+    """The program's run with a case's words and this standard input."""
+    words = content(base + ".args").decode().splitlines()
+    return subprocess.run([program] + words, input=script, capture_output=True, timeout=SECONDS)
+
+
+def in_octets(script):
+    """A script with each piece cut into pieces of one octet."""
+    lines = []
+    for line in script.split(b"\n"):
+        words = line.rstrip(b"\r").split(b" ")
+        if words[0] == b"bytes":
+            digits = words[3]
+            lines += [b" ".join(words[:3] + [digits[i:i + 2]]) for i in range(0, len(digits), 2)]
+        else:
+            lines.append(line)
+    return b"\n".join(lines)
+
+
+def joined(printed):
+    """The lines with those of one connection that follow one another as one."""
+    lines = []
+    for line in printed.splitlines():
+        connection, _, digits = line.partition(b" ")
+        if lines and lines[-1][0] == connection:
+            lines[-1][1] += digits
+        else:
+            lines.append([connection, digits])
+    return lines
+
+
+def fault_in_octets(program, base):
+    """What differs where each piece comes in single octets, or None."""
+    try:
+        run = run_of(program, base, in_octets(content(base + ".stdin")))
+    except subprocess.TimeoutExpired:
+        return f"in octets: no end after {SECONDS} seconds"
+    if run.returncode != 0 or joined(run.stdout) != joined(content(base + ".stdout")):
+        return f"in octets: status {run.returncode}, printed {run.stdout[:200]!r}"
+    return None
+
+
 def fault_of(program, base):
     """What is wrong with the program's run on a case, or None."""
-    words = content(base + ".args").decode().splitlines()
     try:
-        run = subprocess.run([program] + words, input=content(base + ".stdin") or b"",
-                             capture_output=True, timeout=SECONDS)
+        run = run_of(program, base, content(base + ".stdin") or b"")
     except subprocess.TimeoutExpired:
         return f"no end after {SECONDS} seconds"
     status = int(content(base + ".status"))
@@ -64,12 +108,16 @@ def main():
             failed += 1
             print(f"FAILS {folder}: it has no case")
         for name in names:
-            fault = fault_of(program, os.path.join(HERE, folder, name))
-            if fault is None:
-                passed += 1
-            else:
-                failed += 1
-                print(f"FAILS {folder}/{name}: {fault}")
+            base = os.path.join(HERE, folder, name)
+            faults = [fault_of(program, base)]
+            if folder == "play" and content(base + ".status").strip() == b"0":
+                faults.append(fault_in_octets(program, base))
+            for fault in faults:
+                if fault is None:
+                    passed += 1
+                else:
+                    failed += 1
+                    print(f"FAILS {folder}/{name}: {fault}")
     print(f"{passed} passed, {failed} failed")
     return 1 if failed else 0
 

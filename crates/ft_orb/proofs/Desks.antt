@@ -1,6 +1,5 @@
 -- What a desk's log keeps: each outcome can be sent, and what is forgotten changes nothing.
-use Rattle.std.proofs.Common.{◌≡◌, ℕ, Bool, true, false, cond, List, [], ◌∷◌, ◌++◌, nat_le, Option, Some, None, Result, Ok, Err, OnOk, OnErr, IsTrue, refl, sym, ap, ◌∙◌, subst}
-use Rattle.std.proofs.lemmas.Bool.{cond-true}
+use Rattle.std.proofs.Common.{◌≡◌, ℕ, true, false, cond, List, [], ◌∷◌, ◌++◌, nat_le, Option, Some, None, Result, Ok, Err, OnOk, OnErr, IsTrue, sym, ap, ◌∙◌, subst, arith}
 use Rattle.cdr_core.specs.Value.{Values}
 use Rattle.ft_log.specs.Keys.{RequestKey, same_key}
 use Rattle.ft_log.specs.Kept.{KeptOutcome, kept_for, unexpired}
@@ -10,6 +9,7 @@ use Rattle.ft_orb.specs.Interfaces.{AreArgumentsOf}
 use Rattle.ft_orb.specs.Replies.{AreRenderable, IsRenderable}
 use Rattle.ft_orb.specs.Servants.{IsServant, Meaning}
 use Rattle.ft_orb.specs.Table.{AreAlike, Table}
+use Rattle.ft_orb.proofs.Law.{unexpired_twice}
 
 renderable-later : (now : ℕ) (es : List (KeptOutcome Performed)) → AreRenderable es → AreRenderable (unexpired now es)
 renderable-later now [] h = h
@@ -47,17 +47,7 @@ pub renderable-performed : {S : Type 0} (m : Meaning S) (state next : S) (key op
 renderable-performed m state next key operation arguments p promises known fit e =
     subst (λ w. IsRenderable w.1) e (promises.renderable state key operation arguments known fit)
 
--- forgetting twice is forgetting once
-unexpired-twice : {O : Type 0} (now : ℕ) (es : List (KeptOutcome O)) → unexpired now (unexpired now es) ≡ unexpired now es
-unexpired-twice now [] = refl
-unexpired-twice {O} now (e ∷ es) =
-    let f : List (KeptOutcome O) = unexpired now es in
-    elim (nat_le now e.expiration) as (λ b. nat_le now e.expiration ≡ b → unexpired now (cond b (e ∷ f) f) ≡ cond b (e ∷ f) f) [
-      | true ↦ λ live. cond-true (nat_le now e.expiration) (e ∷ unexpired now f) (unexpired now f) live ∙ ap (λ l. e ∷ l) (unexpired-twice now es)
-      | false ↦ λ late. unexpired-twice now es
-    ] refl
-
 -- a table that has forgotten is alike
 pub forgot-alike : {S O : Type 0} (now : ℕ) (old : Table S O) (state : S) (entries : List (KeptOutcome O)) → state ≡ old.state → entries ≡ unexpired now old.entries
     → AreAlike now (record { state = state; entries = entries }) old
-forgot-alike now old state entries same e = record { state = same; entries = ap (unexpired now) e ∙ unexpired-twice now old.entries }
+forgot-alike now old state entries same e = record { state = same; entries = ap (unexpired now) e ∙ unexpired_twice now now old.entries (omega arith) }

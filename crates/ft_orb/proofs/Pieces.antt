@@ -199,13 +199,12 @@ module _ {S : Type 0} (meaning : Meaning S) (made : Made S) (server new : Server
       let front = front_on made.limits c (max (clock past) moment) (line past c) octets handled in
       let short : List Event = Piece c moment front ∷ past in
       let alike : AreAlike new.desk.clock (table_of new.desk) (table_of_past meaning made short) =
-      table-next front st at (subst (λ (n : ℕ). AreAlike new.desk.clock (table_of new.desk) (table_after (rules_of meaning made.capacity made.share) (table_of_past meaning made past) (arrivals_on made.limits c new.desk.clock (line past c) (front_on made.limits c n (line past c) octets handled)))) now x.alike) in
-      (
+      table-next front st at (subst (λ (n : ℕ). AreAlike new.desk.clock (table_of new.desk) (table_after (rules_of meaning made.capacity made.share) (table_of_past meaning made past) (arrivals_on made.limits c new.desk.clock (line past c) (front_on made.limits c n (line past c) octets handled)))) now x.alike) in (
         record { out = y.out; few = y.few; within = y.within; near = y.near; needs = needs-by made.limits past c moment octets some y.going },
         stands-next meaning made server new past c (Lost c ∷ short) st same now refl
-        (λ q is. apart-by (c == q) Gone (line short q) is ∙ apart-by (c == q) (longer front (line past q)) (line past q) is)
-        (subst (λ (l : Line). IsFor made.limits (get nat_cmp new.links c) l) (sym (same-by c Gone (line short c))) (subst (λ (o : Option Linked). IsFor made.limits o Gone) (sym gone) tt))
-        (subst (λ (xs : List (Arrival Wanted)). AreAlike new.desk.clock (table_of new.desk) (table_after (rules_of meaning made.capacity made.share) (record { state = made.opening; entries = [] }) xs)) (sym (append-nil (arrivals made.limits short))) alike),
+            (λ q is. apart-by (c == q) Gone (line short q) is ∙ apart-by (c == q) (longer front (line past q)) (line past q) is)
+            (subst (λ (l : Line). IsFor made.limits (get nat_cmp new.links c) l) (sym (same-by c Gone (line short c))) (subst (λ (o : Option Linked). IsFor made.limits o Gone) (sym gone) tt))
+            (subst (λ (xs : List (Arrival Wanted)). AreAlike new.desk.clock (table_of new.desk) (table_after (rules_of meaning made.capacity made.share) (record { state = made.opening; entries = [] }) xs)) (sym (append-nil (arrivals made.limits short))) alike),
       )
 
   -- The exits: what was written after what stood in the output, and what the server stands for then.
@@ -242,7 +241,7 @@ module _ {S : Type 0} (meaning : Meaning S) (made : Made S) (server new : Server
   pub fed-ok : (now : ℕ) (out grown : List ℕ) (link next : Linked) → Stands meaning made server past → IsSameBut c server new → now ≡ max server.desk.clock moment → new.desk.clock ≡ now
       → get nat_cmp server.links c ≡ Some link → get nat_cmp new.links c ≡ Some next → link.is_closed ≡ false
       → ((s : List ℕ) (t : Table S Performed) → LinkStands made.limits link s → AreAlike now (table_of server.desk) t → (written : List ℕ) × (grown ≡ out ++ written)
-        × Served (rules_of meaning (capacity_of server.desk) (share_of server.desk)) meaning.knows made.limits c now t s octets next (table_of new.desk) written)
+      × Served (rules_of meaning (capacity_of server.desk) (share_of server.desk)) meaning.knows made.limits c now t s octets next (table_of new.desk) written)
       → (written : List ℕ) × (grown ≡ out ++ written) × Writes made.limits meaning.knows (table_says meaning made) past (Piece c moment octets) written Done
       × Stands meaning made new (after made.limits past (Piece c moment octets) Done)
   fed-ok now out grown link next st same at then-at was is live serves =
@@ -257,7 +256,7 @@ module _ {S : Type 0} (meaning : Meaning S) (made : Made S) (server new : Server
   pub fed-err : (now : ℕ) (out grown : List ℕ) (link : Linked) (cut : Cut) → Stands meaning made server past → IsSameBut c server new → now ≡ max server.desk.clock moment → new.desk.clock ≡ now
       → get nat_cmp server.links c ≡ Some link → get nat_cmp new.links c ≡ None → link.is_closed ≡ false → 0 < length octets
       → ((s : List ℕ) (t : Table S Performed) → LinkStands made.limits link s → AreAlike now (table_of server.desk) t → (written : List ℕ) × (grown ≡ out ++ written)
-        × IsCut (rules_of meaning (capacity_of server.desk) (share_of server.desk)) meaning.knows made.limits c now t s octets cut (table_of new.desk) written)
+      × IsCut (rules_of meaning (capacity_of server.desk) (share_of server.desk)) meaning.knows made.limits c now t s octets cut (table_of new.desk) written)
       → (written : List ℕ) × (grown ≡ out ++ written) × Writes made.limits meaning.knows (table_says meaning made) past (Piece c moment octets) written (Memory cut.handled cut.answered)
       × Stands meaning made new (after made.limits past (Piece c moment octets) (Memory cut.handled cut.answered))
   fed-err now out grown link cut st same at then-at was is live some cuts =

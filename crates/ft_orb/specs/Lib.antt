@@ -3,7 +3,8 @@
 -- Interfaces: what a servant offers. Replies: the octets of replies. Servants: what a servant means and promises. ExactlyOnce:
 -- which requests are performed, and what each is answered, looking back over all. Table: the same by a log that forgets.
 -- Requests: what arrives, and what of it can be asked. Renderings: the octets of answers. History: what happens, and what of it
--- counts. Outputs: what each event writes. Standing: what a server stands for. Laws: what holds of these definitions.
+-- counts. Outputs: what each event writes. Standing: what a server stands for. Shares: the clients of arrivals.
+-- Laws: what holds of these definitions.
 pub mod Interfaces
 pub mod Replies
 pub mod Servants
@@ -14,6 +15,7 @@ pub mod Renderings
 pub mod History
 pub mod Outputs
 pub mod Standing
+pub mod Shares
 pub mod Laws
 -- a proof that a field of `Desk` cites
 pub mod Facts

@@ -75,6 +75,17 @@ module _ {S : Type 0} (rules : Rules S Wanted Call Performed) (knows : List ℕ 
   abbrev pub Steps : ℕ → Option Incoming → Table S Performed → Step → Table S Performed → List ℕ → List ℕ → Type 0
   Steps c m old step new before out = StepsAll (arrivals_at c now m) old step new before out
 
+-- a piece is cut off where all that were handled are answered
+abbrev pub all_answered : ℕ → Cut
+all_answered handled = record { handled = handled; answered = handled }
+
+-- how many are handled after a message of which this came, where all before it are answered; or where the piece is cut off
+abbrev pub counted_by : ℕ → Step → Result ℕ Cut
+counted_by handled Quiet = Ok handled
+counted_by handled Answered = Ok (handled + 1)
+counted_by handled Unanswered = Err (record { handled = handled + 1; answered = handled })
+counted_by handled Unhandled = Err (all_answered handled)
+
 -- One piece, after the stream s of connection c that the link stood for, and from a table t that the desk was alike to.
 module _ {S : Type 0} (rules : Rules S Wanted Call Performed) (knows : List ℕ → Bool) (limits : Limits) (c now : ℕ) (t : Table S Performed) (s : List ℕ) where
   -- these octets so far: the link stands for the stream with them, the desk is alike to t folded over the arrivals that they

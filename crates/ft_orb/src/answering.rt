@@ -2,6 +2,7 @@
 
 ghost use Rattle.std.specs.Prelude.{◌≡◌, ◌++◌, IfErr, OnErr, OnOk, Err, if◌then◌else◌};
 ghost use Rattle.giop_core.specs.declared.error.WriteError.TheVariants.{Memory};
+ghost use Rattle.ft_log.specs.Performed.{system};
 ghost use Rattle.ft_log.specs.View.{performed_in};
 ghost use Rattle.ft_orb.specs.Replies.{IsRenderable, answered_as, body_of, locate_reply, reply, reply_by, status_of};
 
@@ -22,6 +23,32 @@ const UNKNOWN_OBJECT: u32 = 0;
 
 /// The status where the object is here.
 const OBJECT_HERE: u32 = 1;
+
+/// Appends the Reply of a system exception.
+fn put_system(
+    version: Version,
+    request_id: u32,
+    name: SystemName,
+    minor: u32,
+    completion: Completion,
+    out: &mut Vec<u8>,
+) -> Result<(), WriteError>
+    requires { IsRenderable (system name minor completion) }
+    ensures ok { OnOk result (out.new.items ≡ out.old.items ++ reply version request_id 2 (body_of (system name minor completion))) }
+    ensures err { IfErr result (λ e. (e ≡ Memory) × (out.new.items ≡ out.old.items)) }
+{
+    let members = [Val::ULong(minor), Val::Enum(completion.number())];
+    write_exception(
+        version,
+        Order::Big,
+        request_id,
+        SYSTEM_EXCEPTION,
+        &[],
+        name.repository_id(),
+        &members,
+        out,
+    )
+}
 
 /// Appends the Reply that an outcome is, with its results.
 #[tactic(auto, using(crate::proofs::Replies::short_written))]
@@ -60,18 +87,7 @@ fn put_whole(
             )
         }
         Outcome::System(name, minor, completion) => {
-            let members = [Val::ULong(*minor), Val::Enum(completion.number())];
-            let id = name.repository_id();
-            write_exception(
-                version,
-                Order::Big,
-                request_id,
-                SYSTEM_EXCEPTION,
-                &[],
-                id,
-                &members,
-                out,
-            )
+            put_system(version, request_id, *name, *minor, *completion, out)
         }
     }
 }

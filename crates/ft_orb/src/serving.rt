@@ -1,10 +1,11 @@
 //! What a server does with one piece of a connection.
 
-ghost use Rattle.std.specs.Prelude.{◌≡◌, ◌<◌, ◌++◌, ℕ, List, IfErr, IsFalse, OnErr, OnOk, length};
+ghost use Rattle.std.specs.Prelude.{◌≡◌, ◌<◌, ◌+◌, ◌^◌, ◌++◌, ℕ, List, IfErr, IsFalse, OnErr, OnOk, length};
 ghost use Rattle.giop_frames.specs.declared.limits.Limits.{Limits};
 ghost use Rattle.giop_link.specs.Linking.{IsFaultOf, LinkStands};
 ghost use Rattle.ft_log.specs.Performed.{Performed};
-ghost use Rattle.ft_orb.specs.Private.{IsCut, IsEnd, Served};
+ghost use Rattle.ft_orb.specs.Private.{IsCut, IsEnd, Served, all_answered, counted_by};
+ghost use Rattle.ft_orb.specs.Replies.{message_error};
 ghost use Rattle.ft_orb.specs.Requests.{rules_of};
 ghost use Rattle.ft_orb.specs.Standing.{capacity_of, share_of, table_of};
 ghost use Rattle.ft_orb.specs.Table.{AreAlike, Table};
@@ -27,6 +28,40 @@ fn is_memory(fault: LinkFault) -> bool
     ensures { (limits : Limits) (s piece : List ℕ) → IsFaultOf limits s piece fault → IsFalse result → IsEnd limits s piece }
 {
     fault.is_memory()
+}
+
+/// How many requests and locates are handled after a message of which this came, where all before it are
+/// answered. An error is where the piece is cut off.
+fn counted(handled: u64, step: Step) -> Result<u64, Cut>
+    requires { handled + 1 < 2 ^ 64 }
+    ensures { result ≡ counted_by handled step }
+{
+    match step {
+        Step::Quiet => Ok(handled),
+        Step::Answered => Ok(handled + 1),
+        Step::Unanswered => Err(Cut {
+            handled: handled + 1,
+            answered: handled,
+        }),
+        Step::Unhandled => Err(Cut {
+            handled,
+            answered: handled,
+        }),
+    }
+}
+
+/// Ends a piece in which the link was closed: appends MessageError, unless an allocation failed.
+fn end(fault: LinkFault, handled: u64, out: &mut Vec<u8>) -> Result<(), Cut>
+    ensures ok { OnOk result ((out.new.items ≡ out.old.items ++ message_error) × ((limits : Limits) (s piece : List ℕ) → IsFaultOf limits s piece fault → IsEnd limits s piece)) }
+    ensures err { IfErr result (λ at. (at ≡ all_answered handled) × (out.new.items ≡ out.old.items)) }
+{
+    if is_memory(fault) || write_error(out).is_err() {
+        return Err(Cut {
+            handled,
+            answered: handled,
+        });
+    }
+    Ok(())
 }
 
 /// Serves a piece: appends the answers to all that it completes, and MessageError where its stream ends by a
@@ -55,33 +90,10 @@ pub(crate) fn serve<S: Servant + Drop>(
         let (_, left) = piece.split_at(taken);
         let n = match link.feed(left) {
             Ok(n) => n,
-            Err(fault) => {
-                if is_memory(fault) || write_error(out).is_err() {
-                    return Err(Cut {
-                        handled,
-                        answered: handled,
-                    });
-                }
-                return Ok(());
-            }
+            Err(fault) => return end(fault, handled, out),
         };
         if let Some(message) = link.inbound() {
-            match desk.handle_one(&message, out) {
-                Step::Quiet => {}
-                Step::Answered => handled += 1,
-                Step::Unanswered => {
-                    return Err(Cut {
-                        handled: handled + 1,
-                        answered: handled,
-                    });
-                }
-                Step::Unhandled => {
-                    return Err(Cut {
-                        handled,
-                        answered: handled,
-                    });
-                }
-            }
+            handled = counted(handled, desk.handle_one(&message, out))?;
         }
         taken += n;
     }

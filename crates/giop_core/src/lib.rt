@@ -38,7 +38,7 @@ pub use request::{ReplyWish, Request, write_request};
 // what messages lend
 pub use ft::{FT_REQUEST, FtField, ft_request, write_ft};
 pub use ior_view::IorView;
-pub use service_context::{Contexts, request_id_of_1_1};
+pub use service_context::Contexts;
 pub use target_address::Target;
 
 // errors

@@ -7,15 +7,13 @@ ghost use Rattle.cdr_core.specs.Reading.{each_at, value_at};
 ghost use Rattle.cdr_core.specs.Value.{values};
 ghost use Rattle.cdr_core.specs.Writing.{IsWritable, Appends, PutsAll, AreWritable};
 ghost use Rattle.ior_core.specs.Grammar.{tagged};
-ghost use Rattle.giop_core.specs.Begun.{request_id_in};
 ghost use Rattle.giop_core.specs.Items.{contexts_left, item_at, list_value, tagged_value};
 ghost use Rattle.giop_core.specs.Private.{Reads, Gives, contexts_value, lent_value, Checks};
 ghost use Rattle.giop_core.specs.Rows.{contexts};
 
 use crate::error::WriteError;
-use crate::message::AFTER_HEADER;
 use crate::writing::{LONGEST, check_octets};
-use cdr_core::{Cursor, Fault, Order, Writer};
+use cdr_core::{Cursor, Fault, Writer};
 use ior_core::read_tagged;
 use std::alloc::AllocError;
 
@@ -49,18 +47,6 @@ pub(crate) fn read_contexts<'m>(cursor: &mut Cursor<'m>) -> Result<Contexts<'m>,
         cursor: first,
         left,
     })
-}
-
-/// The request id of a Request or a Reply of 1.1 of which only the first octets after the header may be there,
-/// without memory: service contexts come first, and then the id (CORBA 3.3 Part 2, 9.4.2 and 9.4.3). `None`,
-/// where the octets end before the id does.
-#[tactic(auto, unfolding(crate::specs::Begun::request_id_in))]
-pub fn request_id_of_1_1(order: Order, octets: &[u8]) -> Option<u32>
-    ensures { result ≡ request_id_in order octets.now }
-{
-    let mut cursor = Cursor::new(octets, order, AFTER_HEADER);
-    read_contexts(&mut cursor).ok()?;
-    cursor.ulong().ok()
 }
 
 #[tactic(auto, using(crate::proofs::Passing::items_next, crate::proofs::Passing::items_none, crate::proofs::Passing::items_stop))]

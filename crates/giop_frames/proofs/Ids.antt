@@ -129,14 +129,14 @@ passes-next found only start old new v count left next message same one e p =
     }
 
 -- a cursor went on from a place of a message
-pub record Went (now : Position) (order : Order) (at count left : ℕ) (message : List ℕ) : Type 0 where
+pub record GoesOn (now : Position) (order : Order) (at count left : ℕ) (message : List ℕ) : Type 0 where
   pub ordered : now.order ≡ order
   pub here : IsAt now message
   pub same : (more : List ℕ) → id_after order (message ++ more) now.place left ≡ id_after order (message ++ more) at count
 
-pub goes : (start now : Position) (order : Order) (at place count left : ℕ) (octets message : List ℕ) → start ≡ record { order = order; place = place; rest = octets } → place ≡ at → octets ≡ drop at message → at ≤ length message → now.order ≡ start.order
-    → ((m : List ℕ) → IsAt start m → Passes start now count left m) → Went now order at count left message
-goes start now order at place count left octets message is there from within same passes =
+pub goes-on : (start now : Position) (order : Order) (at place count left : ℕ) (octets message : List ℕ) → start ≡ record { order = order; place = place; rest = octets } → place ≡ at → octets ≡ drop at message → at ≤ length message → now.order ≡ start.order
+    → ((m : List ℕ) → IsAt start m → Passes start now count left m) → GoesOn now order at count left message
+goes-on start now order at place count left octets message is there from within same passes =
     let order-is : start.order ≡ order = ap (λ (x : Position). x.order) is in
     let place-is : start.place ≡ at = ap (λ (x : Position). x.place) is ∙ there in
     let rest-is : start.rest ≡ drop start.place message = ap (λ (x : Position). x.rest) is ∙ from ∙ ap (λ (n : ℕ). drop n message) (sym place-is) in
@@ -144,7 +144,7 @@ goes start now order at place count left octets message is there from within sam
     record { ordered = same ∙ order-is; here = p.at; same = λ more. rw (← order-is, ← place-is) (p.same more) }
 
 -- the id that is found there, or not
-module _ (now : Position) (order : Order) (at count left : ℕ) (message : List ℕ) (w : Went now order at count left message) where
+module _ (now : Position) (order : Order) (at count left : ℕ) (message : List ℕ) (w : GoesOn now order at count left message) where
   pub found-id : ReadIsSpelled → SpelledIsRead → (new : Position) (i : ℕ) → left ≡ 0 → value_at ulong now.order now.place now.rest ≡ Ok (ulong_value i, new.place, new.rest) → (more : List ℕ) → Some i ≡ id_after order (message ++ more) at count
   found-id found only new i none e more =
       let t = is-there found only ulong order now.place message (ulong_value i) new.place new.rest w.here.place (stands ulong order now message (Ok (ulong_value i, new.place, new.rest)) w.ordered w.here e) in

@@ -1,4 +1,6 @@
 -- What the contracts of the examples cite. Each file goes with the file of the same subject in src/.
 pub mod Arguments
 pub mod Endpoint
+pub mod Hearing
 pub mod Invocation
+pub mod Keeping

@@ -1,12 +1,14 @@
-//! Five uses of the libraries, as a caller writes them: each is one file with one subject, proved, and
+//! Seven uses of the libraries, as a caller writes them: each is one file with one subject, proved, and
 //! run by a test on octets written out by hand from the standard's layouts (CORBA 3.3 Part 2, 9.3 and 9.4).
-//! docs/GUIDE.md quotes them.
+//! docs/GUIDE.md and the pages of `giop_link` and `ft_log` quote them.
 #![tactic(auto)]
 
 mod arguments;
 mod capture;
 mod endpoint;
+mod hearing;
 mod invocation;
+mod keeping;
 mod locating;
 #[cfg(test)]
 mod octets;
@@ -14,5 +16,7 @@ mod octets;
 pub use arguments::{DecodeError, first_arguments, publish_types};
 pub use capture::{Capture, read_capture};
 pub use endpoint::first_endpoint;
+pub use hearing::requests_heard;
 pub use invocation::{Retry, add_request, cut};
+pub use keeping::keep_once;
 pub use locating::answer_locate;

@@ -93,7 +93,7 @@ fn gives(alloc: Global, row: &Row, size: usize) -> bool {
     messages == row.messages && row.fault.is_none() && is_partial && assembler.pending() == 0
 }
 
-static ROWS: [Row; 32] = [
+static ROWS: [Row; 33] = [
     Row {
         frames: &[FIRST, MIDDLE, LAST],
         messages: 1,
@@ -215,6 +215,22 @@ static ROWS: [Row; 32] = [
         messages: 1,
         partial: 1,
         fault: None,
+    },
+    // So it is where contexts come in pieces: the first of two, the second, and then the id.
+    Row {
+        frames: &[
+            b"GIOP\x01\x01\x02\x00\x00\x00\x00\x10\x00\x00\x00\x02\x00\x00\x00\x07\x00\x00\x00\x01\xff\xee\xee\xee",
+            CANCEL_11,
+            b"GIOP\x01\x01\x02\x07\x00\x00\x00\x08\x00\x00\x00\x05\x00\x00\x00\x00",
+            CANCEL_11,
+            b"GIOP\x01\x01\x02\x07\x00\x00\x00\x08\x00\x00\x00\x05\x01\x00\x00\x00",
+            b"GIOP\x01\x01\x00\x02\x00\x00\x00\x04\x00\x00\x00\x07",
+            CANCEL_11,
+            LAST_11,
+        ],
+        messages: 4,
+        partial: 0,
+        fault: Some(StreamFault::StrayFragment),
     },
     // No other frame comes between.
     Row {

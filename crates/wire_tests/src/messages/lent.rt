@@ -1,8 +1,7 @@
 //! Service contexts as they are lent, and what the first one of id 13 says.
 
 use super::said::{octets_in, request_in};
-use cdr_core::Order;
-use giop_core::{Contexts, FtField, ft_request, request_id_of_1_1};
+use giop_core::{Contexts, FtField, ft_request};
 use std::process::Abort;
 
 // Whether the first of two handles goes on, and what it gives.
@@ -86,27 +85,5 @@ fn contexts_that_are_left_count(rt: HostRuntime) {
     for wanted in &LEFT {
         assert!(rt; is_ft(&contexts, wanted) && is_ft(&contexts, wanted));
         let _next = contexts.next();
-    }
-}
-
-// A byte order, the first octets after the header of a message of 1.1, and its request id, where they spell it.
-static BEGUN: [(Order, &str, Option<u32>); 6] = [
-    (Order::Big, "00000000 00000005", Some(5)),
-    (Order::Big, "00000000 00000005 01", Some(5)),
-    (Order::Big, "00000000 000000", None),
-    (
-        Order::Little,
-        "01000000 0d000000 01000000 ff eeeeee 06000000",
-        Some(6),
-    ),
-    (Order::Big, "00000001 0000000d 00000004 00", None),
-    (Order::Big, "", None),
-];
-
-#[test]
-fn the_id_of_a_begun_message_is_read(rt: HostRuntime) {
-    for (order, text, id) in &BEGUN {
-        let octets = octets_in(&rt, text);
-        assert!(rt; request_id_of_1_1(*order, &octets) == *id, "{text}");
     }
 }

@@ -1,5 +1,8 @@
 use Rattle.std.proofs.Common.{sym, refl, ◌∙◌, arith}
 use Rattle.std.proofs.lemmas.Grind.{common_steps}
+use Rattle.ft_orb.specs.declared.events.Note.TheVariants.{Done, Memory, Refused}
+use Rattle.ft_orb.specs.History.{Piece}
+use Rattle.ft_orb.proofs.Headline.{event-once}
 use Rattle.ft_orb.proofs.Pieces.{IsSameBut, fed-none, fed-closed, fed-ok, fed-err}
 use Rattle.ft_orb.proofs.server.Server.feed.Goals as goal
 
@@ -26,13 +29,17 @@ returns-in-Err-clause-table g c made past st =
     (λ s t h alike. c.in-Err.ensures.err made.limits c.args.connection s t h alike)
 
 pub returns-in_default-clause-once : goal.returns-in_default-clause-once
-returns-in_default-clause-once g c made past st = ?
+returns-in_default-clause-once g c made past st =
+    event-once g.S.Servant.meaning made _ past (Piece c.args.connection c.args.moment c.args.piece.now) Refused c.args.out.now.items c.args.out.now.items (returns-in_default-clause-table g c made past st)
 
 pub returns-then-is_closed-clause-once : goal.returns-then-is_closed-clause-once
-returns-then-is_closed-clause-once g c made past st = ?
+returns-then-is_closed-clause-once g c made past st =
+    event-once g.S.Servant.meaning made _ past (Piece c.args.connection c.args.moment c.args.piece.now) Done c.args.out.now.items c.args.out.now.items (returns-then-is_closed-clause-table g c made past st)
 
 pub returns-in-Ok-clause-once : goal.returns-in-Ok-clause-once
-returns-in-Ok-clause-once g c made past st = ?
+returns-in-Ok-clause-once g c made past st =
+    event-once g.S.Servant.meaning made _ past (Piece c.args.connection c.args.moment c.args.piece.now) Done c.args.out.now.items c.serve.new.out.items (returns-in-Ok-clause-table g c made past st)
 
 pub returns-in-Err-clause-once : goal.returns-in-Err-clause-once
-returns-in-Err-clause-once g c made past st = ?
+returns-in-Err-clause-once g c made past st =
+    event-once g.S.Servant.meaning made _ past (Piece c.args.connection c.args.moment c.args.piece.now) (Memory c.in-Err.cut.handled c.in-Err.cut.answered) c.args.out.now.items c.serve.new.out.items (returns-in-Err-clause-table g c made past st)

@@ -1,0 +1,74 @@
+//! Keep what a request gave, once.
+
+ghost use Rattle.std.specs.Prelude.{◌≡◌, OnErr, OnOk};
+ghost use Rattle.ft_log.specs.Kept.{unexpired};
+ghost use Rattle.ft_log.specs.Logged.{logged};
+ghost use Rattle.ft_log.specs.View.{key_of, performed_in};
+ghost use Rattle.uses.specs.Keeping.{kept_once};
+
+use ft_log::{Key, Log, LogError, Outcome};
+
+/// Keeps the outcome of a request until its expiration, unless one is kept for it, once what expired before `now`
+/// is forgotten.
+pub fn keep_once(
+    log: &mut Log,
+    key: Key,
+    now: u64,
+    expiration: u64,
+    outcome: Outcome,
+) -> Result<(), LogError>
+    ensures kept { OnOk result ((logged log.new).entries ≡ kept_once (key_of key) expiration (performed_in outcome) (unexpired now (logged log.old).entries)) }
+    ensures err { OnErr result ((logged log.new).entries ≡ unexpired now (logged log.old).entries) }
+{
+    log.forget(now);
+    if log.find(&key).is_none() {
+        log.make_room(&key)?;
+        log.keep(key, expiration, outcome);
+    }
+    Ok(())
+}
+
+#[cfg(test)]
+mod tests {
+    use super::keep_once;
+    use ft_log::{Completion, Key, Log, LogError, Outcome, SystemName};
+    use std::alloc::Global;
+    use std::hash::RandomState;
+    use std::test::Fail;
+
+    /// Keeps a system exception of this minor code for a request of the client `A`.
+    fn keep_minor(
+        alloc: Global,
+        log: &mut Log,
+        (retention_id, minor): (i32, u32),
+        (now, expiration): (u64, u64),
+    ) -> Result<(), LogError> {
+        let key = Key::new(alloc, b"A", retention_id)?;
+        let outcome = Outcome::System(SystemName::Transient, minor, Completion::Maybe);
+        keep_once(log, key, now, expiration, outcome)
+    }
+
+    /// The minor code of the system exception that is kept for a request of the client `A`.
+    fn minor_of(alloc: Global, log: &Log, retention_id: i32) -> Result<Option<u32>, LogError> {
+        let key = Key::new(alloc, b"A", retention_id)?;
+        match log.find(&key) {
+            Some(Outcome::System(_, minor, _)) => Ok(Some(*minor)),
+            _ => Ok(None),
+        }
+    }
+
+    #[test]
+    fn the_first_outcome_is_kept_until_it_expires(rt: HostRuntime) -> Result<(), Fail> {
+        let alloc = rt.alloc();
+        let mut log = Log::new(alloc, 2, 2, RandomState::new(&rt)?);
+        keep_minor(alloc, &mut log, (1, 7), (0, 20))?;
+        keep_minor(alloc, &mut log, (1, 8), (20, 30))?;
+        assert_eq!(rt; minor_of(alloc, &log, 1)?, Some(7));
+        keep_minor(alloc, &mut log, (1, 9), (21, 30))?;
+        assert_eq!(rt; minor_of(alloc, &log, 1)?, Some(9));
+        keep_minor(alloc, &mut log, (2, 10), (21, 30))?;
+        let refused = keep_minor(alloc, &mut log, (3, 11), (21, 30));
+        assert!(rt; refused == Err(LogError::Full));
+        Ok(())
+    }
+}
