@@ -115,12 +115,13 @@ impl Counter {
         ensures ok { IfOk result (λ outcome. sum_of self.old n ≡ (self.new, performed_in outcome)) }
         ensures err { OnErr result (self.new ≡ self.old) }
     {
-        let Some(sum) = self.total.checked_add(i64::from(n)) else {
+        let total = &mut self.total;
+        let Some(sum) = total.checked_add(i64::from(n)) else {
             let id = Vec::from_slice(alloc, OVERFLOW)?;
             return Ok(Outcome::Raised(id, Vec::new(alloc)));
         };
         let outcome = telling(alloc, sum)?;
-        self.total = sum;
+        *total = sum;
         Ok(outcome)
     }
 }
