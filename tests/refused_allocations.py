@@ -37,6 +37,8 @@ FRAGMENTS = (
     "47494f50 01020207 00000014 00000005 00000004 61646400 00000000 00000000"
     "47494f50 01020007 00000008 00000005 00000007")
 LOCATE = "47494f50010200030000000d00000001000000000000000163"
+KEYED = REQUEST.replace(" ", "")
+RETRY = f"open 1\nbytes 1 50 {KEYED}\nlost 1\nopen 2\nbytes 2 60 {KEYED}\n".encode()
 
 
 def words_of(case):
@@ -51,6 +53,8 @@ INPUTS = [
     ("a locate request", ["play"], f"open 1\nbytes 1 0 {LOCATE}\nclose 1\n".encode()),
     ("a hundred events", [], "".join(
         f"open {c}\nbytes {c} 0 {LOCATE}\nbytes {c} 1 00\nclose {c}\n" for c in range(25)).encode()),
+    ("a request that is sent twice", ["play", "--capacity", "1"], RETRY),
+    ("a share that is none", ["play", "--share", "0"], b""),
     ("a bad line", [], b"open 1\nclose\n"),
     ("input that is no text", [], b"open 1\n\xff\n"),
     ("a reference", words_of("ior/counter"), b""),

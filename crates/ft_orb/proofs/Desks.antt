@@ -1,5 +1,5 @@
 -- What a desk's log keeps: each outcome can be sent, and what is forgotten changes nothing.
-use Rattle.std.proofs.Common.{◌≡◌, ℕ, Bool, true, false, cond, List, [], ◌∷◌, ◌++◌, nat_le, Option, Some, None, Result, Ok, Err, OnOk, OnErr, IsTrue, sym, ap, ◌∙◌, subst, arith}
+use Rattle.std.proofs.Common.{◌≡◌, ℕ, true, false, cond, List, [], ◌∷◌, ◌++◌, nat_le, Option, Some, None, Result, Ok, Err, OnOk, OnErr, IsTrue, sym, ap, ◌∙◌, subst, arith}
 use Rattle.cdr_core.specs.Value.{Values}
 use Rattle.ft_log.specs.Keys.{RequestKey, same_key}
 use Rattle.ft_log.specs.Kept.{KeptOutcome, kept_for, unexpired}

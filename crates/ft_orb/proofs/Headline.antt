@@ -10,12 +10,12 @@ use Rattle.ft_log.specs.declared.system_exception.SystemName.{SystemName}
 use Rattle.ft_orb.specs.declared.events.Note.{Note}
 use Rattle.ft_orb.specs.declared.events.Note.TheVariants.{Done, Memory, Refused}
 use Rattle.ft_orb.specs.declared.server.Server.{Server}
-use Rattle.ft_orb.specs.ExactlyOnce.{Arrival, ClocksGrow, OneExpiration, Rules, clock_after, state_of}
+use Rattle.ft_orb.specs.ExactlyOnce.{Arrival, ClocksGrow, OneExpiration, clock_after, state_of}
 use Rattle.ft_orb.specs.History.{Close, Event, Gone, Line, Lost, Opened, Piece, Shut, Up, arrivals, arrivals_in, arrivals_on, clock, completed, heard_after, line, shortened}
 use Rattle.ft_orb.specs.Laws.{ArrivalsGrow}
 use Rattle.ft_orb.specs.Outputs.{IsCutShort, Made, Noted, Plays, Writes, after, farewell, law_says, output, past_after, table_of_past, table_says}
 use Rattle.ft_orb.specs.Renderings.{rendered}
-use Rattle.ft_orb.specs.Requests.{Call, Wanted, arrival_of, rules_of}
+use Rattle.ft_orb.specs.Requests.{Wanted, arrival_of, rules_of}
 use Rattle.ft_orb.specs.Servants.{Meaning}
 use Rattle.ft_orb.specs.Standing.{Stands}
 use Rattle.ft_orb.specs.Table.{StandsFor}

@@ -89,7 +89,7 @@ impl<S: Servant + Drop> Server<S> {
     pub fn lost(&mut self, connection: u64)
         ensures table { (made : Made S) (past : List history.Event) → Stands S.meaning made self.old past → Stands S.meaning made self.new (history.Lost connection ∷ past) }
     {
-        self.links.remove(&connection);
+        self.links.remove(&connection); // a message that is not whole goes with it
     }
 
     /// Whether what comes on a connection has no meaning: false exactly where it is connected, the server has

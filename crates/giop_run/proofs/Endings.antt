@@ -1,6 +1,6 @@
 -- A stream as it is fed, from one message to the next.
 use Rattle.std.proofs.Common.{◌≡◌, ◌≢◌, ℕ, zero, suc, ◌+◌, ◌≤◌, ◌<◌, ◌==◌, ◌&&◌, Bool, true, false, if◌then◌else◌, List, [], ◌∷◌, ◌++◌, length, take, drop, Option, Some, None, Result, Ok, Err, IfOk, IsSomeAnd, refl, sym, ap, subst, ◌∙◌, arith, append_assoc, length-append}
-use Rattle.std.proofs.lemmas.Bool.{eqb-true}
+use Rattle.std.proofs.lemmas.Bool.{and_parts, eqb-true}
 use Rattle.std.proofs.lemmas.List.{drop-take, take-append-drop, take-take}
 use Rattle.giop_run.specs.declared.stop.Stop.{Stop}
 use Rattle.giop_run.specs.declared.stream.Ending.TheVariants.{Clean, Rest, Fault}
@@ -14,7 +14,6 @@ use Rattle.giop_frames.specs.Fragments.{partials_in}
 use Rattle.giop_frames.specs.Frames.{Frame, split}
 use Rattle.giop_frames.specs.Standing.{completed_at, IsFault, Standing, StandsFor}
 use Rattle.giop_frames.specs.Streams.{fault_of, frames_of, messages_of, rest_of, Completed, Faults}
-use Rattle.giop_run.proofs.Frames.{and_true}
 
 -- no octets have no message
 pub no_messages : (limits : Limits) → length (messages_of limits []) ≡ 0
@@ -97,7 +96,7 @@ positive (suc a) b e = omega arith
 ending_by : (limits : Limits) (s : List ℕ) (octets partial : ℕ) (b : Bool) → (octets == 0 && partial == 0) ≡ b → fault_of limits s ≡ None → octets ≡ length (rest_of limits s) → partial ≡ partials_in (frames_of limits s)
     → IsEnding limits s (if b then Clean else Rest octets partial)
 ending_by limits s octets partial true e f o p =
-    let none = and_true (octets == 0) (partial == 0) e in
+    let none = and_parts (octets == 0) (partial == 0) e in
     (f, sym o ∙ eqb-true octets 0 none.0, sym p ∙ eqb-true partial 0 none.1)
 ending_by limits s octets partial false e f o p = (f, o, p, positive octets partial e)
 

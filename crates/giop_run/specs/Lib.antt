@@ -8,15 +8,12 @@ pub mod StreamLines
 pub mod StreamEnds
 -- `giop ior`
 pub mod ReferenceLines
--- `giop play`: what happens, what a piece asks and how it is answered, and what events write over their past
+-- `giop play`: its numbers, its script, the counter that it serves, and what its events write
+pub mod Settings
 pub mod Script
-pub mod Event
 pub mod Counter
-pub mod Locate
-pub mod Layout
-pub mod Answer
-pub mod History
-pub mod Output
-pub mod Standing
+pub mod Plays
+-- a proof that an `impl` cites
+pub mod CounterFacts
 -- vocabulary of private functions, which no promise of the crate needs
 pub mod Private

@@ -1,36 +1,106 @@
 //! The counter: the object that the program serves.
 
-ghost use Rattle.std.specs.Prelude.{◌≡◌, ◌↔◌, IfOk, IsTrue};
-ghost use Rattle.giop_run.specs.Counter.{is_counter};
+ghost use Rattle.std.specs.Prelude.{◌≡◌, [], ◌∷◌, IfOk, OnErr};
+ghost use Rattle.cdr_core.specs.View.{values_of};
+ghost use Rattle.giop_run.specs.Counter.{add_types, get_types, long_in, sum_of, tells};
+ghost use Rattle.ft_orb.specs.Interfaces.{types_of};
+ghost use Rattle.ft_log.specs.View.{performed_in};
 
+use cdr_core::{Ty, Val};
+use ft_log::{Completion, Outcome, SystemName};
+use ft_orb::{Lookup, Servant, Signature};
 use std::alloc::{AllocError, Global};
 use std::marker::Model;
 
-/// An object that counts. Contracts see its total.
+/// The repository id of the exception that an addition raises where its sum is no long long.
+const OVERFLOW: &[u8] = b"IDL:Counter/Overflow:1.0";
+
+/// An object that counts, and whose object key is the one octet `c`. Contracts see its total.
+///
+/// `add` takes a long and returns the new total, a long long; where that would leave the range of a long
+/// long it changes nothing and raises `IDL:Counter/Overflow:1.0`, which has no members. `get` returns the
+/// total.
 #[derive(Drop)]
 pub struct Counter {
-    key: Vec<u8>,
+    add: Signature,
+    get: Signature,
     total: i64,
 }
 
 impl Model for Counter {
     ghost use Rattle.std.specs.Prelude.{◌≡◌, ℤ};
-    ghost use Rattle.giop_run.specs.Counter.{key_of};
+    ghost use Rattle.giop_run.specs.Counter.{add_types, get_types};
+    ghost use Rattle.ft_orb.specs.Interfaces.{types_of};
 
     ghost Value = { ℤ };
 
     ghost view = { λ c. c.total };
 
-    ghost invariant = { λ c. c.key.items ≡ key_of };
+    ghost invariant = { λ c. (types_of c.add ≡ add_types) × (types_of c.get ≡ get_types) };
+}
+
+/// A vector of one item.
+fn one<T: Drop>(alloc: Global, item: T) -> Result<Vec<T>, AllocError>
+    ensures { IfOk result (λ v. v.items ≡ item ∷ []) }
+{
+    let mut items = Vec::with_capacity(alloc, 1)?;
+    items.push(item)?;
+    Ok(items)
+}
+
+/// The types of `add`.
+fn add_signature(alloc: Global) -> Result<Signature, AllocError>
+    ensures { IfOk result (λ s. types_of s ≡ add_types) }
+{
+    let overflow = Vec::from_slice(alloc, OVERFLOW)?;
+    Ok(Signature {
+        arguments: one(alloc, Ty::Long)?,
+        results: one(alloc, Ty::LongLong)?,
+        raises: one(alloc, (overflow, Vec::new(alloc)))?,
+    })
+}
+
+/// The types of `get`.
+fn get_signature(alloc: Global) -> Result<Signature, AllocError>
+    ensures { IfOk result (λ s. types_of s ≡ get_types) }
+{
+    Ok(Signature {
+        arguments: Vec::new(alloc),
+        results: one(alloc, Ty::LongLong)?,
+        raises: Vec::new(alloc),
+    })
+}
+
+/// The outcome that returns a total.
+fn telling(alloc: Global, total: i64) -> Result<Outcome, AllocError>
+    ensures { IfOk result (λ outcome. performed_in outcome ≡ tells total) }
+{
+    Ok(Outcome::Returned(one(alloc, Val::LongLong(total))?))
+}
+
+/// The long that is the one argument, if it is.
+fn long_in(arguments: &[Val]) -> Option<i32>
+    ensures { result ≡ long_in (values_of arguments.now) }
+{
+    let [argument] = arguments else {
+        return None;
+    };
+    match argument {
+        Val::Long(n) => Some(*n),
+        _ => None,
+    }
 }
 
 impl Counter {
-    /// A counter whose total is `start`. Its object key is the one octet `c`.
+    /// A counter whose total is `start`.
     pub fn new(alloc: Global, start: i64) -> Result<Counter, AllocError>
         ensures { IfOk result (λ counter. counter ≡ start) }
     {
-        let key = Vec::from_slice(alloc, b"c")?;
-        Ok(Counter { key, total: start })
+        Ok(Counter {
+            add: add_signature(alloc)?,
+            get: get_signature(alloc)?,
+            total: start,
+        })
     }
 
     /// The total.
@@ -40,10 +110,64 @@ impl Counter {
         self.total
     }
 
-    /// Whether an object key is the counter's.
-    pub fn has_object(&self, object_key: &[u8]) -> bool
-        ensures { result ≡ is_counter object_key.now }
+    /// Adds a number to the total, unless the sum is no long long.
+    fn add(&mut self, alloc: Global, n: i32) -> Result<Outcome, AllocError>
+        ensures ok { IfOk result (λ outcome. sum_of self.old n ≡ (self.new, performed_in outcome)) }
+        ensures err { OnErr result (self.new ≡ self.old) }
     {
-        self.key.as_slice() == object_key
+        let total = &mut self.total;
+        let Some(sum) = total.checked_add(i64::from(n)) else {
+            let id = Vec::from_slice(alloc, OVERFLOW)?;
+            return Ok(Outcome::Raised(id, Vec::new(alloc)));
+        };
+        let outcome = telling(alloc, sum)?;
+        *total = sum;
+        Ok(outcome)
+    }
+}
+
+impl Servant for Counter {
+    ghost use Rattle.giop_run.specs.Counter.{counter_meaning};
+    ghost use Rattle.giop_run.specs.CounterFacts.{counter_is_servant};
+
+    ghost meaning = { counter_meaning };
+
+    ghost promises = { counter_is_servant };
+
+    fn known(&self) {
+        let _total = self.total();
+    }
+
+    fn interface(&self, object_key: &[u8], operation: &[u8]) -> Lookup<'_> {
+        if !self.has_object(object_key) {
+            return Lookup::NoObject;
+        }
+        if operation == b"add".as_slice() {
+            return Lookup::Operation(&self.add);
+        }
+        if operation == b"get".as_slice() {
+            return Lookup::Operation(&self.get);
+        }
+        Lookup::NoOperation
+    }
+
+    fn has_object(&self, object_key: &[u8]) -> bool {
+        object_key == b"c".as_slice()
+    }
+
+    fn perform(
+        &mut self,
+        alloc: Global,
+        _object_key: &[u8],
+        operation: &[u8],
+        arguments: &[Val],
+    ) -> Result<Outcome, AllocError> {
+        if operation == b"get".as_slice() {
+            return telling(alloc, self.total);
+        }
+        match long_in(arguments) {
+            Some(n) => self.add(alloc, n),
+            None => Ok(Outcome::System(SystemName::BadOperation, 0, Completion::No)),
+        }
     }
 }

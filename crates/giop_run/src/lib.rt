@@ -5,15 +5,11 @@
 
 mod counter;
 mod digits;
-mod events;
-pub mod laws;
-mod locate;
 mod messages;
 mod play;
 mod program;
 mod reference;
 mod script;
-mod server;
 mod setting;
 mod stop;
 mod stream;

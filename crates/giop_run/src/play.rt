@@ -1,90 +1,59 @@
-//! Events played on a server, one after another.
+//! Events played on a server of one counter.
 
-ghost use Rattle.std.specs.Prelude.{◌≡◌, List, ◌++◌, length, map, take};
-ghost use Rattle.giop_run.specs.Event.{connection_of, event_of};
-ghost use Rattle.giop_run.specs.Event as history;
-ghost use Rattle.giop_run.specs.Output.{after, events_played, Plays, Writes};
-ghost use Rattle.giop_run.specs.Private.{note_of_opening, note_of_serving};
-ghost use Rattle.giop_run.specs.Standing.{Stands};
+ghost use Rattle.std.specs.Prelude.{IfOk, map};
+ghost use Rattle.ft_orb.specs.History.{event_of};
+ghost use Rattle.ft_orb.specs.Outputs.{noted};
+ghost use Rattle.giop_run.specs.Plays.{AreOfLaw, AreOfTable};
 
-use crate::events::{Event, Note, PlayError, Written};
-use crate::server::{ConnectError, ServeError, Server};
+use crate::counter::Counter;
+use crate::stop::Stop;
+use ft_orb::{Event, Server, Written, play};
+use giop_frames::Limits;
 use std::alloc::Global;
+use std::hash::RandomState;
 
-/// How the opening of a connection ended.
-fn opened(outcome: Result<(), ConnectError>) -> Note
-    ensures { result ≡ note_of_opening outcome }
-{
-    match outcome {
-        Ok(()) => Note::Done,
-        Err(ConnectError::NotNew) => Note::Refused,
-        Err(ConnectError::Memory) => Note::Memory {
-            handled: 0,
-            answered: 0,
-        },
-    }
+/// What a play keeps to.
+#[derive(Clone, Copy, Debug, PartialEq, Eq)]
+pub(crate) struct Terms {
+    /// How many outcomes the server keeps at a time.
+    pub(crate) capacity: u32,
+    /// How many of them it keeps of one client.
+    pub(crate) share: u32,
+    /// The counter's total at the beginning.
+    pub(crate) start: i64,
+    /// The limits of each connection.
+    pub(crate) limits: Limits,
 }
 
-/// How a piece or a close ended.
-fn served(outcome: Result<(), ServeError>) -> Note
-    ensures { result ≡ note_of_serving outcome }
-{
-    match outcome {
-        Ok(()) => Note::Done,
-        Err(ServeError::NoConnection) => Note::Refused,
-        Err(ServeError::Memory { handled, answered }) => Note::Memory { handled, answered },
-    }
+/// What was written for each event, and the total after them.
+#[derive(Debug, Drop)]
+pub(crate) struct Played {
+    pub(crate) written: Vec<Written>,
+    pub(crate) total: i64,
 }
 
-/// Plays one event, and returns what was written for it.
-fn step(alloc: Global, server: &mut Server, event: &Event) -> Written
-    ensures connection { result.connection ≡ connection_of (event_of event.now) }
-    ensures writes { (past : List history.Event) → Stands server.old past → Writes past (event_of event.now) result.octets.items result.note }
-    ensures stands { (past : List history.Event) → Stands server.old past → Stands server.new (after past (event_of event.now) result.note) }
-    ensures servant { server.new.counter ≡ server.old.counter }
-{
-    let mut octets = Vec::new(alloc);
-    let (connection, note) = match event {
-        Event::Opened(c) => (*c, opened(server.connect(*c))),
-        Event::Piece(c, moment, piece) => (
-            *c,
-            served(server.feed(*c, *moment, piece, &mut octets)),
-        ),
-        Event::Close(c) => (*c, served(server.close(*c, &mut octets))),
-        Event::Lost(c) => {
-            server.lost(*c);
-            (*c, Note::Done)
-        }
-    };
-    Written {
-        connection,
-        octets,
-        note,
-    }
-}
-
-/// Plays events in order on a server, and appends what was written for each.
-///
-/// Where the allocation for an entry of `out` fails, the events before it were played and have their
-/// entries, and it and those after it were not.
-pub fn play(
+/// Plays events on a new server.
+pub(crate) fn play_events(
     alloc: Global,
-    server: &mut Server,
+    terms: Terms,
+    hasher: RandomState,
     events: &[Event],
-    out: &mut Vec<Written>,
-) -> Result<(), PlayError>
-    ensures plays { (past : List history.Event) → Stands server.old past → (written : List Written) × (new : List history.Event)
-        × (out.new.items ≡ out.old.items ++ written)
-        × Plays past (map event_of (take (events_played (length events.now) result) events.now)) written new
-        × Stands server.new new }
-    ensures servant { server.new.counter ≡ server.old.counter }
+) -> Result<Played, Stop>
+    ensures table { IfOk result (λ played. AreOfTable terms (map event_of events.now) (map noted played.written.items)) }
+    // each distinct admissible request acts once
+    ensures once { IfOk result (λ played. AreOfLaw terms (map event_of events.now) (map noted played.written.items) played.total) }
 {
-    for (i, event) in events.iter().enumerate() {
-        if out.reserve(1).is_err() {
-            return Err(PlayError::Memory { events: i as u64 });
-        }
-        let written = step(alloc, server, event);
-        out.push(written).unwrap();
-    }
-    Ok(())
+    let counter = Counter::new(alloc, terms.start)?;
+    let mut server = Server::new(
+        alloc,
+        counter,
+        terms.limits,
+        terms.capacity,
+        terms.share,
+        hasher,
+    );
+    let mut written = Vec::new(alloc);
+    play(alloc, &mut server, events, &mut written)?;
+    let total = server.servant().total();
+    Ok(Played { written, total })
 }

@@ -1,19 +1,19 @@
 //! The program over a reader and two writers.
 
-ghost use Rattle.std.specs.Prelude.{◌≤◌};
+ghost use Rattle.std.specs.Prelude.{◌≡◌, ◌<◌, ◌≤◌, ◌⊎◌, IfOk, OnErr, unwrap_or};
+ghost use Rattle.giop_run.specs.Settings.{IsInRange};
 
-use crate::counter::Counter;
-use crate::events::{Event, Note, Written};
-use crate::play::play;
+use crate::play::{Terms, play_events};
 use crate::reference::reference_lines;
 use crate::script::read_script;
-use crate::server::Server;
 use crate::setting::Setting;
 use crate::stop::Stop;
 use crate::stream::{Detail, show_stream};
+use ft_orb::{Event, Note, Written};
 use giop_frames::Limits;
 use ior_core::parse_text;
 use std::alloc::Global;
+use std::hash::RandomState;
 use std::io;
 use std::io::{BufWriter, ErrorKind, Read, Write};
 
@@ -77,15 +77,32 @@ fn read_events<R: Read>(alloc: Global, input: &mut R) -> Result<Vec<Event>, Stop
 }
 
 /// Plays the script that a reader gives, and prints what is written.
-fn play_script<R: Read, W: Write>(alloc: Global, input: &mut R, out: &mut W) -> Result<(), Stop> {
+fn play_script<R: Read, W: Write>(
+    alloc: Global,
+    terms: Terms,
+    hasher: RandomState,
+    input: &mut R,
+    out: &mut W,
+) -> Result<(), Stop> {
     let events = read_events(alloc, input)?;
-    let mut server = Server::new(alloc, Counter::new(alloc, 0)?);
-    let mut written = Vec::new(alloc);
-    play(alloc, &mut server, events.as_slice(), &mut written)?;
-    if written.iter().any(is_cut_short) {
+    let played = play_events(alloc, terms, hasher, events.as_slice())?;
+    if played.written.iter().any(is_cut_short) {
         return Err(Stop::Memory);
     }
-    print_written(alloc, written.as_slice(), server.servant().total(), out)
+    print_written(alloc, played.written.as_slice(), played.total, out)
+}
+
+/// The share of each client, which is the capacity where none is given.
+fn share_in(capacity: u32, share: Option<u32>) -> Result<u32, Stop>
+    requires { 1 ≤ capacity }
+    ensures ok { IfOk result (λ n. (n ≡ unwrap_or share capacity) × (1 ≤ n) × (n ≤ capacity)) }
+    ensures err { OnErr result ((unwrap_or share capacity ≡ 0) ⊎ (capacity < unwrap_or share capacity)) }
+{
+    match share.unwrap_or(capacity) {
+        0 => Err(Stop::BadShare),
+        n if capacity < n => Err(Stop::BadShare),
+        n => Ok(n),
+    }
 }
 
 /// Prints the lines of the reference that a text is.
@@ -113,11 +130,28 @@ fn print_stream<R: Read, W: Write>(
 fn perform<R: Read, W: Write>(
     alloc: Global,
     setting: &Setting,
+    hasher: RandomState,
     input: &mut R,
     out: &mut W,
-) -> Result<bool, Stop> {
-    match setting {
-        Setting::Play => play_script(alloc, input, out)?,
+) -> Result<bool, Stop>
+    requires { IsInRange setting.now }
+{
+    match *setting {
+        Setting::Play {
+            capacity,
+            share,
+            start,
+            limit,
+            partials,
+        } => {
+            let terms = Terms {
+                capacity,
+                share: share_in(capacity, share)?,
+                start,
+                limits: Limits::new(limit, partials).unwrap(),
+            };
+            play_script(alloc, terms, hasher, input, out)?;
+        }
         Setting::Ior(text) => print_reference(alloc, text, out)?,
         Setting::Show => return print_stream(alloc, input, Detail::Messages, out),
         Setting::Check => return print_stream(alloc, input, Detail::EndAlone, out),
@@ -130,6 +164,7 @@ fn print_stop<E: Write>(stop: Stop, err: &mut E) -> io::Result<()> {
     match stop {
         Stop::Memory => writeln!(err, "memory"),
         Stop::Unreadable => writeln!(err, "input: unreadable"),
+        Stop::BadShare => writeln!(err, "play: bad share"),
         Stop::BadLine(line) => writeln!(err, "line {line}: bad event"),
         Stop::BadText(error) => writeln!(err, "ior: {error}"),
         Stop::OddDigits => writeln!(err, "input: odd digits"),
@@ -140,17 +175,20 @@ fn print_stop<E: Write>(stop: Stop, err: &mut E) -> io::Result<()> {
 
 /// Does what a setting asks for, and returns the exit status: 0, or 1 where a stream doesn't end after
 /// a message, the input is refused, the output can't be written or an allocation fails. Why the input
-/// is refused, and that an allocation failed, is printed to `err`.
+/// is refused, and that an allocation failed, is printed to `err`. The hasher is that of the log of a
+/// play.
 pub fn run<R: Read, W: Write, E: Write>(
     alloc: Global,
     setting: &Setting,
+    hasher: RandomState,
     input: &mut R,
     out: &mut W,
     err: &mut E,
 ) -> u8
+    requires { IsInRange setting.now }
     ensures { result ≤ 1 }
 {
-    match perform(alloc, setting, input, out) {
+    match perform(alloc, setting, hasher, input, out) {
         Ok(true) => 0,
         Ok(false) => 1,
         Err(stop) => {

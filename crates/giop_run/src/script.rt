@@ -3,7 +3,7 @@
 ghost use Rattle.std.specs.Prelude.{IfErr};
 ghost use Rattle.giop_run.specs.Script.{CountsFromOne};
 
-use crate::events::Event;
+use ft_orb::Event;
 use hex::FromHexError;
 use std::alloc::{AllocError, Global};
 

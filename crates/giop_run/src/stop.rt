@@ -1,8 +1,8 @@
 //! Why the program ends with status 1.
 
 use crate::digits::DigitError;
-use crate::events::PlayError;
 use crate::script::ScriptError;
+use ft_orb::PlayError;
 use ior_core::IorError;
 use std::alloc::{AllocError, AllocFailed};
 use std::io;
@@ -15,6 +15,8 @@ pub(crate) enum Stop {
     Memory,
     /// The input can't be read, isn't UTF-8, or hasn't ended.
     Unreadable,
+    /// The share is 0 or greater than the capacity.
+    BadShare,
     /// The line of the script with that number is no event.
     BadLine(u64),
     /// The text is no reference.

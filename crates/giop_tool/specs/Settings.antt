@@ -8,4 +8,5 @@ use Rattle.giop_tool.specs.declared.settings.SettingError.TheVariants as setting
 -- words are refused for what they are: a failed allocation has an error of its own
 abbrev pub IsOfWords : SettingError → Type 0
 IsOfWords (setting.Words e) = kind_of e ≢ kind.OutOfMemory
+IsOfWords setting.Range = ⊤
 IsOfWords setting.Memory = ⊤

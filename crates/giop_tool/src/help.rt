@@ -8,15 +8,37 @@ pub(crate) const BASE: &str =
     "Shows GIOP streams and object references, and plays scripts on a server of one counter.
 Without a subcommand it plays a script";
 
+/// The help of the options of `giop play`.
+pub(crate) const CAPACITY: &str =
+    "How many outcomes of requests are kept at a time, 1 to 65536 [default: 1024]";
+
+pub(crate) const SHARE: &str =
+    "How many of them are kept of one client, 1 to the capacity [default: the capacity]";
+
+pub(crate) const START: &str =
+    "The counter's total at the beginning, 0 to 9223372036854775807 [default: 0]";
+
+pub(crate) const LIMIT: &str =
+    "How many octets a message may have, 4096 to 16777216 [default: 1048576]";
+
+pub(crate) const PARTIALS: &str =
+    "How many messages may be partial at a time on a connection, 1 to 16 [default: 8]";
+
 /// What the help of `giop play` says after its options.
 pub(crate) const PLAY: &str =
     "Input: a line for each event, `open C`, `bytes C M HEX`, `close C` or `lost C`, where C is the number
 of a connection, M a moment in units of 100 ns, and HEX octets in hexadecimal digits.
 
-Example:
-  $ printf 'open 1\\nclose 1\\n' | giop play
-  1 47494f500100000500000000
-  total 0
+The server has one object, a counter with the object key `c` and the operations `add(in long n)`, which
+returns the new total, and `get()`, both of a long long.
+
+Example: the request get() of GIOP 1.2, its reply, and the total
+  $ cat get.script
+  open 1
+  bytes 1 0 47494f5001020000000000200000001403000000000000000000000163000000000000046765740000000000
+  $ giop play --start 5 < get.script
+  1 47494f5001020001000000140000001400000000000000000000000000000005
+  total 5
 
 Exit status: 0 where the script is played, else 1";
 

@@ -4,20 +4,27 @@
 mod help;
 mod settings;
 
+ghost use Rattle.giop_run.specs.Settings.{IsInRange};
+
 use giop_run::{Setting, run};
 use settings::{SettingError, settings};
+use std::hash::RandomState;
 use std::process::ExitCode;
 use std::{env, io};
 
 /// Does what a setting asks for on the standard streams, and returns the exit status.
-fn run_setting(rt: &HostRuntime, setting: &Setting) -> u8 {
-    run(
+fn run_setting(rt: &HostRuntime, setting: &Setting) -> io::Result<u8>
+    requires { IsInRange setting.now }
+{
+    let hasher = RandomState::new(rt)?;
+    Ok(run(
         rt.alloc(),
         setting,
+        hasher,
         &mut rt.stdin(),
         &mut rt.stdout(),
         &mut rt.stderr(),
-    )
+    ))
 }
 
 /// Prints the answer to words without a setting, help among them, and returns the exit status.
@@ -26,6 +33,10 @@ fn print_answer(rt: &HostRuntime, error: &SettingError) -> io::Result<u8> {
         SettingError::Words(error) => {
             error.print(rt)?;
             Ok(error.exit_code() as u8)
+        }
+        SettingError::Range => {
+            eprintln!(rt; "range")?;
+            Ok(2)
         }
         SettingError::Memory => {
             eprintln!(rt; "memory")?;
@@ -43,7 +54,7 @@ fn run_words(rt: &HostRuntime) -> io::Result<u8> {
         texts.push(word.as_str())?;
     }
     match settings(alloc, texts.as_slice()) {
-        Ok(setting) => Ok(run_setting(rt, &setting)),
+        Ok(setting) => run_setting(rt, &setting),
         Err(error) => print_answer(rt, &error),
     }
 }

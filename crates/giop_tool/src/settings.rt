@@ -1,19 +1,35 @@
 //! What the words of the command line ask for.
 
-ghost use Rattle.std.specs.Prelude.{IfErr};
+ghost use Rattle.std.specs.Prelude.{IfErr, IfOk};
+ghost use Rattle.giop_run.specs.Settings.{IsInRange};
 ghost use Rattle.giop_tool.specs.Settings.{IsOfWords};
 
 use crate::help;
+use clap::builder::ValueParser;
 use clap::error::ErrorKind;
 use clap::{Arg, ArgAction, ArgMatches, Command};
 use giop_run::Setting;
 use std::alloc::{AllocError, Global};
+
+/// How many outcomes a play keeps, where the words don't say it.
+const CAPACITY: u32 = 1_024;
+
+/// The counter's total at the beginning.
+const START: i64 = 0;
+
+/// How many octets a message may have.
+const LIMIT: u32 = 1_048_576;
+
+/// How many messages may be partial at a time.
+const PARTIALS: u8 = 8;
 
 /// Why the words were refused.
 #[derive(Debug, Drop)]
 pub(crate) enum SettingError {
     /// The words are not those of the program, or ask for help or the version.
     Words(clap::Error),
+    /// A number is out of its range.
+    Range,
     /// An allocation failed.
     Memory,
 }
@@ -29,11 +45,47 @@ impl From<AllocError> for SettingError {
     }
 }
 
+/// An option of `giop play`, which takes a number.
+fn number_option<'a>(
+    alloc: Global,
+    name: &'a str,
+    help: &'a str,
+    range: ValueParser<'a>,
+) -> Arg<'a> {
+    Arg::new(alloc, name)
+        .long(name)
+        .value_name("N")
+        .help(help)
+        .value_parser(range)
+        .action(ArgAction::Set)
+}
+
+/// The options for what a play keeps.
+fn with_log<'a>(alloc: Global, command: Command<'a>) -> Result<Command<'a>, AllocError> {
+    let outcomes = ValueParser::unsigned(1, 65_536);
+    let outcomes_each = ValueParser::unsigned(0, u64::from(u32::MAX));
+    command
+        .arg(number_option(alloc, "capacity", help::CAPACITY, outcomes))?
+        .arg(number_option(alloc, "share", help::SHARE, outcomes_each))
+}
+
+/// The options for the counter and for the limits of a connection.
+fn with_limits<'a>(alloc: Global, command: Command<'a>) -> Result<Command<'a>, AllocError> {
+    let totals = ValueParser::unsigned(0, i64::MAX as u64);
+    let octets = ValueParser::unsigned(4_096, 16_777_216);
+    let messages = ValueParser::unsigned(1, 16);
+    command
+        .arg(number_option(alloc, "start", help::START, totals))?
+        .arg(number_option(alloc, "limit", help::LIMIT, octets))?
+        .arg(number_option(alloc, "partials", help::PARTIALS, messages))
+}
+
 /// `giop play`.
-fn play_command<'a>(alloc: Global) -> Command<'a> {
-    Command::new(alloc, "play")
+fn play_command<'a>(alloc: Global) -> Result<Command<'a>, AllocError> {
+    let command = Command::new(alloc, "play")
         .about("Plays a script of events on standard input, and prints what is written")
-        .after_help(help::PLAY)
+        .after_help(help::PLAY);
+    with_limits(alloc, with_log(alloc, command)?)
 }
 
 /// `giop show`.
@@ -80,8 +132,28 @@ fn with_streams<'a>(alloc: Global, command: Command<'a>) -> Result<Command<'a>, 
 
 /// The whole command line.
 fn command<'a>(alloc: Global) -> Result<Command<'a>, AllocError> {
-    let command = base_command(alloc)?.subcommand(play_command(alloc))?;
+    let command = base_command(alloc)?.subcommand(play_command(alloc)?)?;
     with_streams(alloc, command)?.subcommand(ior_command(alloc)?)
+}
+
+/// A play whose numbers are those that the words don't say.
+const PLAY: Setting<'static> = Setting::Play {
+    capacity: CAPACITY,
+    share: None,
+    start: START,
+    limit: LIMIT,
+    partials: PARTIALS,
+};
+
+/// The play that the words of `giop play` ask for.
+fn play_of<'a>(words: &ArgMatches<'a>) -> Setting<'a> {
+    Setting::Play {
+        capacity: words.get_one::<u32>("capacity").unwrap_or(CAPACITY),
+        share: words.get_one::<u32>("share"),
+        start: words.get_one::<i64>("start").unwrap_or(START),
+        limit: words.get_one::<u32>("limit").unwrap_or(LIMIT),
+        partials: words.get_one::<u8>("partials").unwrap_or(PARTIALS),
+    }
 }
 
 /// The setting that parsed words ask for.
@@ -92,23 +164,38 @@ fn setting_of<'a>(matches: &ArgMatches<'a>) -> Setting<'a> {
     if matches.subcommand_matches("check").is_some() {
         return Setting::Check;
     }
+    if let Some(words) = matches.subcommand_matches("play") {
+        return play_of(words);
+    }
     match matches
         .subcommand_matches("ior")
         .and_then(|ior| ior.get_str("TEXT"))
     {
         Some(text) => Setting::Ior(text),
-        None => Setting::Play,
+        None => PLAY,
     }
+}
+
+/// A setting, unless a number of it is out of its range.
+fn in_range<'a>(setting: Setting<'a>) -> Result<Setting<'a>, SettingError>
+    ensures range { IfOk result IsInRange }
+    ensures words { IfErr result IsOfWords }
+{
+    if !setting.is_in_range() {
+        return Err(SettingError::Range);
+    }
+    Ok(setting)
 }
 
 /// What the words after the program's name ask for: the setting, or a text to print. No words ask for
 /// `play`.
 pub(crate) fn settings<'a>(alloc: Global, words: &'a [&'a str]) -> Result<Setting<'a>, SettingError>
-    ensures { IfErr result IsOfWords }
+    ensures range { IfOk result IsInRange }
+    ensures words { IfErr result IsOfWords }
 {
     let command = command(alloc)?;
     match command.try_get_matches_from(words) {
-        Ok(matches) => Ok(setting_of(&matches)),
+        Ok(matches) => in_range(setting_of(&matches)),
         Err(error) => {
             if error.kind() == ErrorKind::OutOfMemory {
                 return Err(SettingError::Memory);

@@ -1,4 +1,4 @@
-use Rattle.std.proofs.Common.{◌≡◌, ◌<◌, List, [], ◌∷◌, ◌++◌, length, refl, arith, append_assoc}
+use Rattle.std.proofs.Common.{◌<◌, List, [], ◌∷◌, ◌++◌, length, refl, arith, append_assoc}
 use Rattle.ft_orb.specs.declared.events.Written.{Written}
 use Rattle.ft_orb.proofs.Plays.{play-once, played_all, played_more}
 use Rattle.ft_orb.proofs.playing.play.Goals as goal

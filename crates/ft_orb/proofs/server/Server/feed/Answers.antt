@@ -3,7 +3,7 @@ use Rattle.std.proofs.lemmas.Grind.{common_steps}
 use Rattle.ft_orb.specs.declared.events.Note.TheVariants.{Done, Memory, Refused}
 use Rattle.ft_orb.specs.History.{Piece}
 use Rattle.ft_orb.proofs.Headline.{event-once}
-use Rattle.ft_orb.proofs.Pieces.{IsSameBut, fed-none, fed-closed, fed-ok, fed-err}
+use Rattle.ft_orb.proofs.Pieces.{fed-none, fed-closed, fed-ok, fed-err}
 use Rattle.ft_orb.proofs.server.Server.feed.Goals as goal
 
 pub returns-in_default-clause-table : goal.returns-in_default-clause-table
