@@ -4,3 +4,7 @@ pub mod Endpoint
 pub mod Hearing
 pub mod Invocation
 pub mod Keeping
+pub mod Tickets
+pub mod Serving
+-- a proof that `impl Servant for Tickets` cites
+pub mod TicketsFacts

@@ -1,0 +1,74 @@
+//! Serve: what comes again over another connection acts once.
+
+ghost use Rattle.std.specs.Prelude.{◌≡◌, IfOk};
+ghost use Rattle.uses.specs.Serving.{first_output, second_output};
+
+use crate::tickets::Tickets;
+use ft_orb::{ConnectError, ServeError, Server};
+use giop_frames::Limits;
+use std::alloc::{AllocError, Global};
+use std::hash::RandomState;
+use thiserror::Error;
+
+/// Why octets were not served.
+#[derive(Debug, Drop, Error)]
+pub enum ServingError {
+    #[error("memory")]
+    Memory(#[from] AllocError),
+    #[error("{0}")]
+    Connect(#[from] ConnectError),
+    #[error("{0}")]
+    Serve(#[from] ServeError),
+}
+
+/// Serves tickets to a client that loses its connection and sends its octets again on another: what is written
+/// on the first and on the second.
+pub fn serve_once(
+    alloc: Global,
+    hasher: RandomState,
+    limits: Limits,
+    octets: &[u8],
+) -> Result<(Vec<u8>, Vec<u8>), ServingError>
+    ensures first { IfOk result (λ written. written.0.items ≡ first_output limits octets.now) }
+    ensures second { IfOk result (λ written. written.1.items ≡ second_output limits octets.now) }
+{
+    let tickets = Tickets::new(alloc)?;
+    // at most 100 outcomes are kept, at most 10 of each client
+    let mut server = Server::new(alloc, tickets, limits, 100, 10, hasher);
+    let mut first = Vec::new(alloc);
+    server.connect(1)?;
+    server.feed(1, 50, octets, &mut first)?;
+    server.lost(1);
+    let mut second = Vec::new(alloc);
+    server.connect(2)?;
+    server.feed(2, 60, octets, &mut second)?;
+    Ok((first, second))
+}
+
+#[cfg(test)]
+mod tests {
+    use super::serve_once;
+    use giop_frames::Limits;
+    use std::hash::RandomState;
+    use std::test::Fail;
+
+    /// A Request of 1.2 with the id 5 for `next` at the key `tickets`, with FT_REQUEST: the client `A`, its
+    /// request 1, the expiration 100.
+    const NEXT: &[u8] = b"GIOP\x01\x02\x00\x00\x00\x00\x00\x48\
+        \x00\x00\x00\x05\x03\x00\x00\x00\x00\x00\x00\x00\x00\x00\x00\x07tickets\x00\
+        \x00\x00\x00\x05next\x00\x00\x00\x00\x00\x00\x00\x01\x00\x00\x00\x0d\x00\x00\x00\x18\
+        \x00\x00\x00\x00\x00\x00\x00\x02A\x00\x00\x00\x00\x00\x00\x01\x00\x00\x00\x00\x00\x00\x00\x64";
+
+    /// A Reply of 1.2 with the id 5: no exception, and ticket 1.
+    const TICKET: &[u8] = b"GIOP\x01\x02\x00\x01\x00\x00\x00\x14\
+        \x00\x00\x00\x05\x00\x00\x00\x00\x00\x00\x00\x00\x00\x00\x00\x00\x00\x00\x00\x01";
+
+    #[test]
+    fn a_request_that_comes_again_gets_the_same_ticket(rt: HostRuntime) -> Result<(), Fail> {
+        let hasher = RandomState::new(&rt)?;
+        let (first, second) = serve_once(rt.alloc(), hasher, Limits::default(), NEXT)?;
+        assert_eq!(rt; first.as_slice(), TICKET);
+        assert_eq!(rt; second.as_slice(), TICKET);
+        Ok(())
+    }
+}
