@@ -19,7 +19,7 @@ use Rattle.ft_orb.specs.Requests.{Wanted, arrival_of, rules_of}
 use Rattle.ft_orb.specs.Servants.{Meaning}
 use Rattle.ft_orb.specs.Standing.{Stands}
 use Rattle.ft_orb.specs.Table.{StandsFor}
-use Rattle.ft_orb.proofs.Folded.{ClocksGrow-append, clock_after-append, folded_stands}
+use Rattle.ft_orb.proofs.Folded.{ClocksGrow-append, ClocksGrow-front, clock_after-append, folded_stands}
 use Rattle.ft_orb.proofs.Law.{alike_refl, run_stands}
 
 -- one expiration for each key holds of each front
@@ -48,13 +48,18 @@ event-clocks limits past (Close c) first h = (tt, h)
 event-clocks limits past (Lost c) first h = (tt, h)
 
 -- the clocks of a past's arrivals grow, up to the clock
-pub past-clocks : ArrivalsGrow
+past-clocks : (limits : Limits) (past : List Event) → ClocksGrow 0 (arrivals limits past) × (clock_after 0 (arrivals limits past) ≤ clock past)
 past-clocks limits [] = (tt, omega arith)
 past-clocks limits (e ∷ past) =
     let before = past-clocks limits past in
     let now = event-clocks limits past e (clock_after 0 (arrivals limits past)) before.1 in
     let at = clock_after-append 0 (arrivals limits past) (completed limits past e) in
     (ClocksGrow-append 0 (arrivals limits past) (completed limits past e) before.0 now.0, let h = now.1 in omega (arith, at, h))
+
+pub arrivals-grow : ArrivalsGrow
+arrivals-grow limits past =
+    let grow = past-clocks limits past in
+    (grow.0, grow.1, λ front rest whole. ClocksGrow-front 0 front rest (subst (λ (xs : List (Arrival Wanted)). ClocksGrow 0 xs) whole grow.0))
 
 -- what more events bring
 after-grow : (limits : Limits) (past : List Event) (e : Event) (note : Note) → (more : List (Arrival Wanted)) × (arrivals limits (after limits past e note) ≡ arrivals limits past ++ more)
