@@ -1,6 +1,6 @@
 -- Words of private functions: what they do with one message and with one piece. No public contract cites them, and nobody has
 -- to read them to know what is promised.
-use Rattle.std.specs.Prelude.{◌≡◌, ℕ, ◌+◌, ◌≤◌, ◌<◌, ◌^◌, Bool, List, [], ◌∷◌, ◌++◌, length, take, Option, Some, None, Result, Ok, Err}
+use Rattle.std.specs.Prelude.{◌≡◌, ℕ, ◌+◌, ◌≤◌, Bool, List, [], ◌∷◌, ◌++◌, length, take, Option, Some, None, Result, Ok, Err}
 use Rattle.giop_core.specs.Items.{contexts_left}
 use Rattle.giop_core.specs.Lent.{addressed_by, rest_of}
 use Rattle.giop_core.specs.declared.header.Version.{Version}
