@@ -15,5 +15,6 @@ mod stop;
 mod stream;
 mod text;
 
+pub use counter::Counter;
 pub use program::run;
 pub use setting::Setting;
