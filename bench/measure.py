@@ -91,4 +91,5 @@ def main():
     table("instructions a message", engines, net)
 
 
-main()
+if __name__ == "__main__":
+    main()

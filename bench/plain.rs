@@ -1,9 +1,10 @@
-//! A plain assembler of GIOP streams, to measure against: no proofs, no crates.
+//! A plain assembler of GIOP streams and a plain server, to measure against: no proofs, no crates.
 //!
-//! usage: plain N PIECE [once]   builds N Requests, feeds them in pieces, prints count and checksum
-//!        plain check [PIECE]    reads digits on standard input, prints how the stream ends
+//! usage: plain N PIECE [once]        builds N Requests, feeds them in pieces, prints count and checksum
+//!        plain serve N PIECE KIND    serves N messages of a kind, `add`, `repeat` or `locate`, prints what was written
+//!        plain check [PIECE]         reads digits on standard input, prints how the stream ends
 
-use std::collections::TryReserveError;
+use std::collections::{BTreeMap, HashMap, TryReserveError};
 use std::fmt;
 use std::io::Read;
 
@@ -667,6 +668,392 @@ impl Assembler {
     }
 }
 
+/// The type of an argument, as far as the counter needs it.
+#[derive(Clone, Copy)]
+pub enum Ty {
+    Long,
+    LongLong,
+}
+
+#[derive(Clone, Copy)]
+pub enum Val {
+    Long(i32),
+    LongLong(i64),
+}
+
+pub struct Signature {
+    pub arguments: Vec<Ty>,
+}
+
+pub enum Lookup<'s> {
+    NoObject,
+    NoOperation,
+    Operation(&'s Signature),
+}
+
+pub enum Outcome {
+    Returned(Vec<Val>),
+    Raised(&'static [u8]),
+    System(&'static [u8]),
+}
+
+pub trait Servant {
+    fn interface(&self, key: &[u8], operation: &[u8]) -> Lookup<'_>;
+    fn has_object(&self, key: &[u8]) -> bool;
+    fn perform(&mut self, key: &[u8], operation: &[u8], arguments: &[Val]) -> Result<Outcome, TryReserveError>;
+}
+
+/// The counter of the program.
+pub struct Counter {
+    total: i64,
+    add: Signature,
+    get: Signature,
+}
+
+impl Counter {
+    fn new(total: i64) -> Counter {
+        Counter { total, add: Signature { arguments: vec![Ty::Long] }, get: Signature { arguments: vec![] } }
+    }
+}
+
+fn one(value: Val) -> Result<Outcome, TryReserveError> {
+    let mut values = Vec::new();
+    values.try_reserve_exact(1)?;
+    values.push(value);
+    Ok(Outcome::Returned(values))
+}
+
+impl Servant for Counter {
+    fn interface(&self, key: &[u8], operation: &[u8]) -> Lookup<'_> {
+        if key != b"c" {
+            return Lookup::NoObject;
+        }
+        match operation {
+            b"add" => Lookup::Operation(&self.add),
+            b"get" => Lookup::Operation(&self.get),
+            _ => Lookup::NoOperation,
+        }
+    }
+
+    fn has_object(&self, key: &[u8]) -> bool {
+        key == b"c"
+    }
+
+    fn perform(&mut self, _: &[u8], _: &[u8], arguments: &[Val]) -> Result<Outcome, TryReserveError> {
+        let Some(Val::Long(n)) = arguments.first() else {
+            return one(Val::LongLong(self.total));
+        };
+        let Some(total) = self.total.checked_add(i64::from(*n)) else {
+            return Ok(Outcome::Raised(b"IDL:Counter/Overflow:1.0"));
+        };
+        let outcome = one(Val::LongLong(total))?;
+        self.total = total;
+        Ok(outcome)
+    }
+}
+
+#[derive(PartialEq, Eq, Hash)]
+struct Key {
+    client_id: Vec<u8>,
+    retention_id: i32,
+}
+
+struct Kept {
+    expiration: u64,
+    outcome: Outcome,
+}
+
+enum Field<'a> {
+    Absent,
+    Bad,
+    Present { client_id: &'a [u8], retention_id: i32, expiration: u64 },
+}
+
+/// What the first FT_REQUEST says.
+fn field(contexts: Contexts) -> Field {
+    for (id, data) in contexts {
+        if id != 13 {
+            continue;
+        }
+        let order = match data.first() {
+            Some(0) => Order::Big,
+            Some(1) => Order::Little,
+            _ => return Field::Bad,
+        };
+        let mut r = Reader { octets: data, at: 1, order };
+        let mut read = || {
+            let client_id = r.string()?;
+            let retention_id = r.ulong()? as i32;
+            r.align(8);
+            let octets = r.take(8)?.try_into().unwrap();
+            let expiration = match order {
+                Order::Big => u64::from_be_bytes(octets),
+                Order::Little => u64::from_le_bytes(octets),
+            };
+            Ok::<_, BodyFault>((client_id, retention_id, expiration))
+        };
+        return match read() {
+            Ok((client_id, retention_id, expiration)) => Field::Present { client_id, retention_id, expiration },
+            Err(_) => Field::Bad,
+        };
+    }
+    Field::Absent
+}
+
+fn put_header(version: Version, kind: u8, start: usize, out: &mut [u8]) {
+    let size = (out.len() - start - HEADER) as u32;
+    let minor = match version {
+        Version::V10 => 0,
+        Version::V11 => 1,
+        Version::V12 => 2,
+    };
+    out[start..start + 8].copy_from_slice(&[b'G', b'I', b'O', b'P', 1, minor, 0, kind]);
+    out[start + 8..start + HEADER].copy_from_slice(&size.to_be_bytes());
+}
+
+fn put_string(text: &[u8], start: usize, out: &mut Vec<u8>) -> Result<(), TryReserveError> {
+    out.try_reserve(text.len() + 9)?;
+    while (out.len() - start) % 4 != 0 {
+        out.push(0);
+    }
+    out.extend_from_slice(&(text.len() as u32 + 1).to_be_bytes());
+    out.extend_from_slice(text);
+    out.push(0);
+    Ok(())
+}
+
+/// Appends a Reply, or nothing by the wish.
+fn put_reply(version: Version, id: u32, wish: Wish, outcome: &Outcome, out: &mut Vec<u8>) -> Result<(), TryReserveError> {
+    if wish == Wish::None {
+        return Ok(());
+    }
+    let start = out.len();
+    out.try_reserve(96)?;
+    out.extend_from_slice(&[0; HEADER]);
+    let status: u32 = match outcome {
+        Outcome::Returned(_) => 0,
+        Outcome::Raised(_) => 1,
+        Outcome::System(_) => 2,
+    };
+    let fields = if version == Version::V12 { [id, status, 0] } else { [0, id, status] };
+    for x in fields {
+        out.extend_from_slice(&x.to_be_bytes());
+    }
+    match outcome {
+        Outcome::Returned(_) if wish == Wish::Empty => {}
+        Outcome::Returned(values) => {
+            for value in values {
+                out.try_reserve(16)?;
+                let n = match value {
+                    Val::Long(_) => 4,
+                    Val::LongLong(_) => 8,
+                };
+                while (out.len() - start) % n != 0 {
+                    out.push(0);
+                }
+                match value {
+                    Val::Long(x) => out.extend_from_slice(&x.to_be_bytes()),
+                    Val::LongLong(x) => out.extend_from_slice(&x.to_be_bytes()),
+                }
+            }
+        }
+        Outcome::Raised(name) => put_string(name, start, out)?,
+        Outcome::System(name) => {
+            put_string(name, start, out)?;
+            while (out.len() - start) % 4 != 0 {
+                out.push(0);
+            }
+            out.extend_from_slice(&[0, 0, 0, 0, 0, 0, 0, 1]);
+        }
+    }
+    put_header(version, 1, start, out);
+    Ok(())
+}
+
+const MARSHAL: &[u8] = b"IDL:omg.org/CORBA/MARSHAL:1.0";
+const BAD_CONTEXT: &[u8] = b"IDL:omg.org/CORBA/BAD_CONTEXT:1.0";
+const NO_RESOURCES: &[u8] = b"IDL:omg.org/CORBA/NO_RESOURCES:1.0";
+const BAD_OPERATION: &[u8] = b"IDL:omg.org/CORBA/BAD_OPERATION:1.0";
+const OBJECT_NOT_EXIST: &[u8] = b"IDL:omg.org/CORBA/OBJECT_NOT_EXIST:1.0";
+
+/// The arguments of a request by their types.
+fn arguments(types: &[Ty], order: Order, body: Body) -> Result<Result<Vec<Val>, BodyFault>, TryReserveError> {
+    let mut values = Vec::new();
+    values.try_reserve_exact(types.len())?;
+    let mut r = Reader { octets: body.octets, at: 0, order };
+    for ty in types {
+        let n = match ty {
+            Ty::Long => 4,
+            Ty::LongLong => 8,
+        };
+        while (body.at + r.at) % n != 0 {
+            r.at += 1;
+        }
+        let octets = match r.take(n) {
+            Ok(octets) => octets,
+            Err(fault) => return Ok(Err(fault)),
+        };
+        values.push(match (ty, order) {
+            (Ty::Long, Order::Big) => Val::Long(i32::from_be_bytes(octets.try_into().unwrap())),
+            (Ty::Long, Order::Little) => Val::Long(i32::from_le_bytes(octets.try_into().unwrap())),
+            (Ty::LongLong, Order::Big) => Val::LongLong(i64::from_be_bytes(octets.try_into().unwrap())),
+            (Ty::LongLong, Order::Little) => Val::LongLong(i64::from_le_bytes(octets.try_into().unwrap())),
+        });
+    }
+    Ok(Ok(values))
+}
+
+/// A servant with what is kept for its clients.
+struct Desk<S> {
+    servant: S,
+    clock: u64,
+    capacity: usize,
+    log: HashMap<Key, Kept>,
+    /// No entry expires before this moment.
+    least: u64,
+}
+
+impl<S: Servant> Desk<S> {
+    /// What a request gives that is not in the log, and whether it was performed.
+    fn performed(&mut self, request: &Request, order: Order) -> Result<(Outcome, bool), TryReserveError> {
+        let Target::Key(key) = request.target else {
+            return Ok((Outcome::System(OBJECT_NOT_EXIST), false));
+        };
+        let signature = match self.servant.interface(key, request.operation) {
+            Lookup::NoObject => return Ok((Outcome::System(OBJECT_NOT_EXIST), false)),
+            Lookup::NoOperation => return Ok((Outcome::System(BAD_OPERATION), false)),
+            Lookup::Operation(signature) => signature,
+        };
+        match arguments(&signature.arguments, order, request.body)? {
+            Ok(values) => Ok((self.servant.perform(key, request.operation, &values)?, true)),
+            Err(_) => Ok((Outcome::System(MARSHAL), false)),
+        }
+    }
+
+    fn forget(&mut self) {
+        let clock = self.clock;
+        if self.least < clock {
+            self.log.retain(|_, kept| kept.expiration >= clock);
+            self.least = self.log.values().map(|kept| kept.expiration).min().unwrap_or(u64::MAX);
+        }
+    }
+
+    fn handle(&mut self, version: Version, order: Order, request: Request, out: &mut Vec<u8>) -> Result<(), TryReserveError> {
+        let (id, wish) = (request.id, request.wish);
+        let contexts = Contexts { reader: request.contexts.reader, left: request.contexts.left };
+        match field(contexts) {
+            Field::Absent => {
+                let (outcome, _) = self.performed(&request, order)?;
+                put_reply(version, id, wish, &outcome, out)
+            }
+            Field::Bad => put_reply(version, id, wish, &Outcome::System(MARSHAL), out),
+            Field::Present { expiration, .. } if expiration < self.clock => {
+                put_reply(version, id, wish, &Outcome::System(BAD_CONTEXT), out)
+            }
+            Field::Present { client_id, retention_id, expiration } => {
+                self.forget();
+                let mut copy = Vec::new();
+                copy.try_reserve_exact(client_id.len())?;
+                copy.extend_from_slice(client_id);
+                let key = Key { client_id: copy, retention_id };
+                if let Some(kept) = self.log.get(&key) {
+                    return put_reply(version, id, wish, &kept.outcome, out);
+                }
+                if self.log.len() == self.capacity {
+                    return put_reply(version, id, wish, &Outcome::System(NO_RESOURCES), out);
+                }
+                self.log.try_reserve(1)?;
+                let (outcome, was_performed) = self.performed(&request, order)?;
+                let put = put_reply(version, id, wish, &outcome, out);
+                if was_performed {
+                    self.least = self.least.min(expiration);
+                    self.log.insert(key, Kept { expiration, outcome });
+                }
+                put
+            }
+        }
+    }
+}
+
+/// The connections of a servant.
+struct Server<S> {
+    desk: Desk<S>,
+    links: BTreeMap<u64, Assembler>,
+}
+
+impl<S: Servant> Server<S> {
+    fn feed(&mut self, c: u64, now: u64, piece: &[u8], out: &mut Vec<u8>) -> Result<(), Fault> {
+        self.desk.clock = self.desk.clock.max(now);
+        let Some(link) = self.links.get_mut(&c) else {
+            return Ok(());
+        };
+        let mut left = piece;
+        while !left.is_empty() {
+            let (taken, complete) = link.advance(left)?;
+            link.complete = complete;
+            if let Some(header) = complete {
+                // (each message is read once)
+                match read_message(&header, &link.frame)? {
+                    Message::Request(request) => self.desk.handle(header.version, header.order, request, out)?,
+                    Message::LocateRequest(id, Target::Key(key)) => {
+                        let start = out.len();
+                        out.try_reserve(20)?;
+                        out.extend_from_slice(&[0; HEADER]);
+                        out.extend_from_slice(&id.to_be_bytes());
+                        out.extend_from_slice(&u32::from(self.desk.servant.has_object(key)).to_be_bytes());
+                        put_header(header.version, 4, start, out);
+                    }
+                    _ => {}
+                }
+            }
+            left = &left[taken..];
+        }
+        Ok(())
+    }
+}
+
+/// A Request of 1.2 without contexts: `add` with 7.
+const ADD: [u8; 52] = [
+    0x47, 0x49, 0x4f, 0x50, 1, 2, 0, 0, 0, 0, 0, 0x28, 0, 0, 0, 5, 3, 0, 0, 0, 0, 0, 0, 0, 0, 0, 0,
+    1, 0x63, 0, 0, 0, 0, 0, 0, 4, 0x61, 0x64, 0x64, 0, 0, 0, 0, 0, 0, 0, 0, 0, 0, 0, 0, 7,
+];
+
+/// A LocateRequest of 1.2 of the counter's key.
+const LOCATE: [u8; 25] = [
+    0x47, 0x49, 0x4f, 0x50, 1, 2, 0, 3, 0, 0, 0, 0x0d, 0, 0, 0, 1, 0, 0, 0, 0, 0, 0, 0, 1, 0x63,
+];
+
+/// Serves N messages of a kind in pieces, each piece's answers in one output, and says what came out.
+fn serve(kind: &str, count: usize, piece: usize) {
+    let message: &[u8] = match kind {
+        "add" => &ADD,
+        "repeat" => &REQUEST,
+        _ => &LOCATE,
+    };
+    let mut stream = Vec::with_capacity(count * message.len());
+    for _ in 0..count {
+        stream.extend_from_slice(message);
+    }
+    if piece == 0 {
+        println!("octets {}", std::hint::black_box(&stream).len());
+        return;
+    }
+    let desk = Desk { servant: Counter::new(0), clock: 0, capacity: 1024, log: HashMap::new(), least: u64::MAX };
+    let mut server = Server { desk, links: BTreeMap::new() };
+    server.links.insert(1, Assembler::new(LIMITS));
+    let (mut out, mut written, mut sum) = (Vec::new(), 0, 0u64);
+    for piece in stream.chunks(piece) {
+        out.clear();
+        if server.feed(1, 50, piece, &mut out).is_err() {
+            println!("fault");
+            return;
+        }
+        written += out.len();
+        sum = sum.wrapping_mul(31).wrapping_add(u64::from(*out.last().unwrap_or(&0)));
+    }
+    println!("octets {written} sum {sum} total {}", server.desk.servant.total);
+}
+
 /// A Request of 1.2 with an FT_REQUEST context.
 const REQUEST: [u8; 84] = [
     0x47, 0x49, 0x4f, 0x50, 1, 2, 0, 0, 0, 0, 0, 0x48, 0, 0, 0, 5, 3, 0, 0, 0, 0, 0, 0, 0, 0, 0, 0,
@@ -758,6 +1145,10 @@ fn main() {
         let mut text = String::new();
         std::io::stdin().read_to_string(&mut text).unwrap();
         println!("{}", check(&text, words[1].parse().unwrap(), once));
+        return;
+    }
+    if words[0] == "serve" {
+        serve(&words[3], words[1].parse().unwrap(), words[2].parse().unwrap());
         return;
     }
     let count: usize = words[0].parse().unwrap();

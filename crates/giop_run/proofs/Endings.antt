@@ -1,5 +1,5 @@
 -- A stream as it is fed, from one message to the next.
-use Rattle.std.proofs.Common.{◌≡◌, ◌≢◌, ℕ, zero, suc, ◌+◌, ◌≤◌, ◌<◌, ◌==◌, ◌&&◌, Bool, true, false, if◌then◌else◌, List, [], ◌∷◌, ◌++◌, length, take, drop, Option, Some, None, Result, Ok, Err, IfOk, IsSomeAnd, refl, sym, ap, subst, ◌∙◌, arith, append_assoc, length-append}
+use Rattle.std.proofs.Common.{◌≡◌, ◌≢◌, ℕ, zero, suc, ◌+◌, ◌<◌, ◌==◌, ◌&&◌, Bool, true, false, if◌then◌else◌, List, [], ◌++◌, length, take, drop, Option, Some, None, Result, Ok, Err, IfOk, IsSomeAnd, refl, sym, ap, subst, ◌∙◌, arith, length-append}
 use Rattle.std.proofs.lemmas.Bool.{and_parts, eqb-true}
 use Rattle.std.proofs.lemmas.List.{drop-take, take-append-drop, take-take}
 use Rattle.giop_run.specs.declared.stop.Stop.{Stop}
@@ -13,7 +13,7 @@ use Rattle.giop_frames.specs.declared.limits.Limits.{Limits}
 use Rattle.giop_frames.specs.Fragments.{partials_in}
 use Rattle.giop_frames.specs.Frames.{Frame, split}
 use Rattle.giop_frames.specs.Standing.{completed_at, IsFault, Standing, StandsFor}
-use Rattle.giop_frames.specs.Streams.{fault_of, frames_of, messages_of, rest_of, Completed, Faults}
+use Rattle.giop_frames.specs.Streams.{fault_of, frames_of, messages_of, rest_of, Faults}
 
 -- no octets have no message
 pub no_messages : (limits : Limits) → length (messages_of limits []) ≡ 0

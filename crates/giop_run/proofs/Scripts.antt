@@ -1,5 +1,5 @@
 -- A play of a whole script, from what `play` ensures of the events that it played.
-use Rattle.std.proofs.Common.{◌≡◌, ℤ, List, [], ◌∷◌, ◌++◌, length, map, take, sym, ap, subst, ◌∙◌}
+use Rattle.std.proofs.Common.{◌≡◌, ℤ, List, [], ◌++◌, length, map, take, sym, ap, subst, ◌∙◌}
 use Rattle.std.proofs.Math.Seq.{take-length}
 use Rattle.ft_orb.specs.ExactlyOnce.{OneExpiration, state_of}
 use Rattle.ft_orb.specs.History.{arrivals, event_of}
@@ -8,7 +8,7 @@ use Rattle.ft_orb.specs.Requests.{rules_of}
 use Rattle.ft_orb.specs.declared.events.Event.{Event}
 use Rattle.ft_orb.specs.declared.events.Written.{Written}
 use Rattle.giop_run.specs.Counter.{counter_meaning, is_counter}
-use Rattle.giop_run.specs.Plays.{AreOfLaw, AreOfTable, made_by}
+use Rattle.giop_run.specs.Plays.{AreOfLaw, AreOfTable}
 use Rattle.giop_run.specs.declared.play.Terms.{Terms}
 
 -- the server of a play, whose counter begins with this total

@@ -1,10 +1,9 @@
 -- That the counter keeps a servant's promises. Nobody has to read this proof; it stands here since `impl Servant` cites it.
-use Rattle.std.specs.Prelude.{◌≡◌, ◌≢◌, ◌↔◌, ℕ, zero, suc, ◌+◌, ◌<◌, ◌≤◌, ◌^◌, ℤ, pos, negsuc, ◌+ℤ◌, int_le, int_lt, Bool, true, false, not, cond, ◌&&◌, nat_eq, List, [], ◌∷◌, length, IsTrue, FitsSigned}
+use Rattle.std.specs.Prelude.{◌≡◌, ◌≢◌, ◌↔◌, ℕ, zero, suc, ◌≤◌, ℤ, pos, negsuc, ◌+ℤ◌, int_le, Bool, true, false, not, cond, nat_eq, List, [], ◌∷◌, IsTrue, FitsSigned}
 use Rattle.std.specs.Int.{w64}
 use Rattle.std.specs.List.{list_all}
 use Rattle.std.proofs.Common.{rules, arith, refl, sym, ap, subst, ltb-true, leb-true}
 use Rattle.std.proofs.lemmas.Bool.{and_parts}
-use Rattle.cdr_core.specs.Fitting.{FitsMembers}
 use Rattle.cdr_core.specs.Form as form
 use Rattle.cdr_core.specs.Spelling.{IsClean}
 use Rattle.cdr_core.specs.Value as value

@@ -1,5 +1,5 @@
 -- The lines that show a reference.
-use Rattle.std.specs.Prelude.{ℕ, suc, pos, ◌==◌, List, [], ◌∷◌, ◌++◌, codes, decimal, Option, Some, Result, Ok, Err, if◌then◌else◌}
+use Rattle.std.specs.Prelude.{ℕ, suc, pos, ◌==◌, List, [], ◌∷◌, ◌++◌, codes, decimal, Result, Ok, Err, if◌then◌else◌}
 use Rattle.std.specs.List.{concat}
 use Rattle.cdr_core.specs.declared.fault.Fault.{Fault}
 use Rattle.cdr_core.specs.Value as value

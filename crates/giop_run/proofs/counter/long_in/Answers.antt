@@ -1,4 +1,4 @@
-use Rattle.std.proofs.Common.{rules, ◌≡◌, ℕ, ◌+◌, ◌<◌, ◌≤◌, List, length, sym, ap, ◌∙◌}
+use Rattle.std.proofs.Common.{rules, sym, ap, ◌∙◌}
 use Rattle.giop_run.specs.Counter.{long_in}
 use Rattle.giop_run.proofs.Counting.{of_another, of_long, of_many, one_value}
 use Rattle.giop_run.proofs.counter.long_in.Goals as goal

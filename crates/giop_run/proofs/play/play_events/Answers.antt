@@ -1,4 +1,4 @@
-use Rattle.std.proofs.Common.{rules, ◌≡◌, [], ℤ, w64, to_z, of_z}
+use Rattle.std.proofs.Common.{rules, ◌≡◌, [], w64, to_z, of_z}
 use Rattle.giop_run.proofs.Scripts.{law_of, made_with, table_of}
 use Rattle.giop_run.proofs.play.play_events.Goals as goal
 

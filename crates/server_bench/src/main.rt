@@ -1,0 +1,129 @@
+//! The program `server_bench`: feeds a server of one counter with a stream of messages, to be timed.
+//!
+//! The words are how many messages the stream has, how many octets a piece has, and of what kind the messages
+//! are: `add` without FT_REQUEST, `repeat` with one key, or `locate`. It prints how many octets were written,
+//! a checksum of them, and the total. With pieces of 0 octets it only makes the stream.
+#![tactic(auto)]
+
+use ft_orb::Server;
+use giop_frames::Limits;
+use giop_run::Counter;
+use std::alloc::{AllocError, Global};
+use std::hash::RandomState;
+use std::process::ExitCode;
+use std::{env, io};
+
+/// A Request of 1.2 without contexts: `add` with 7.
+const ADD: [u8; 52] = [
+    0x47, 0x49, 0x4f, 0x50, 1, 2, 0, 0, 0, 0, 0, 0x28, 0, 0, 0, 5, 3, 0, 0, 0, 0, 0, 0, 0, 0, 0, 0,
+    1, 0x63, 0, 0, 0, 0, 0, 0, 4, 0x61, 0x64, 0x64, 0, 0, 0, 0, 0, 0, 0, 0, 0, 0, 0, 0, 7,
+];
+
+/// The same with an FT_REQUEST context.
+const REPEAT: [u8; 84] = [
+    0x47, 0x49, 0x4f, 0x50, 1, 2, 0, 0, 0, 0, 0, 0x48, 0, 0, 0, 5, 3, 0, 0, 0, 0, 0, 0, 0, 0, 0, 0,
+    1, 0x63, 0, 0, 0, 0, 0, 0, 4, 0x61, 0x64, 0x64, 0, 0, 0, 0, 1, 0, 0, 0, 0x0d, 0, 0, 0, 0x18, 0,
+    0, 0, 0, 0, 0, 0, 2, 0x41, 0, 0, 0, 0, 0, 0, 1, 0, 0, 0, 0, 0, 0, 0, 0x64, 0, 0, 0, 0, 0, 0, 0,
+    7,
+];
+
+/// A LocateRequest of 1.2 of the counter's key.
+const LOCATE: [u8; 25] = [
+    0x47, 0x49, 0x4f, 0x50, 1, 2, 0, 3, 0, 0, 0, 0x0d, 0, 0, 0, 1, 0, 0, 0, 0, 0, 0, 0, 1, 0x63,
+];
+
+/// How many octets were written, and a checksum of them.
+#[derive(Clone, Copy)]
+struct Tally {
+    octets: u64,
+    sum: u64,
+}
+
+/// A tally with what was written for a piece.
+fn added(tally: Tally, written: &[u8]) -> Tally {
+    let last = written.last().copied().unwrap_or(0);
+    Tally {
+        octets: tally.octets.wrapping_add(written.len() as u64),
+        sum: tally.sum.wrapping_mul(31).wrapping_add(u64::from(last)),
+    }
+}
+
+/// A stream of `count` messages of a kind.
+fn stream_of(alloc: Global, count: u32, kind: &str) -> Result<Vec<u8>, AllocError> {
+    let message = match kind {
+        "add" => ADD.as_slice(),
+        "repeat" => REPEAT.as_slice(),
+        _ => LOCATE.as_slice(),
+    };
+    let mut stream = Vec::with_capacity(alloc, count as usize * message.len())?;
+    for _ in 0..count {
+        stream.extend_from_slice(message)?;
+    }
+    Ok(stream)
+}
+
+/// Feeds a stream in pieces of `size` octets, on connection 1 at the moment 50.
+fn drive(alloc: Global, server: &mut Server<Counter>, stream: &[u8], size: usize) -> Option<Tally> {
+    let mut tally = Tally { octets: 0, sum: 0 };
+    let mut out = Vec::new(alloc);
+    let mut left = stream;
+    for _ in 0..u64::MAX {
+        if left.is_empty() {
+            return Some(tally);
+        }
+        let (piece, others) = left.split_at(size.min(left.len()));
+        out.clear();
+        server.feed(1, 50, piece, &mut out).ok()?;
+        tally = added(tally, &out);
+        left = others;
+    }
+    None
+}
+
+/// The number that a word is.
+fn number(words: &[String], at: usize) -> u32 {
+    match words.get(at) {
+        Some(word) => word.parse::<u32>().unwrap_or(0),
+        None => 0,
+    }
+}
+
+/// Does what the words ask for.
+fn answer(rt: &HostRuntime) -> io::Result<()> {
+    let alloc = rt.alloc();
+    let words: Vec<String> = env::args(rt)?.collect(alloc)?;
+    let kind = words.get(3).map_or("add", |word| word.as_str());
+    let stream = stream_of(alloc, number(words.as_slice(), 1), kind)?;
+    let size = number(words.as_slice(), 2);
+    if size == 0 {
+        return println!(rt; "octets {}", stream.len());
+    }
+    let counter = Counter::new(alloc, 0)?;
+    let mut server = Server::new(
+        alloc,
+        counter,
+        Limits::default(),
+        1024,
+        1024,
+        RandomState::new(rt)?,
+    );
+    if server.connect(1).is_err() {
+        return println!(rt; "memory");
+    }
+    match drive(alloc, &mut server, stream.as_slice(), size as usize) {
+        Some(tally) => println!(rt;
+            "octets {} sum {} total {}",
+            tally.octets,
+            tally.sum,
+            server.servant().total()
+        ),
+        None => println!(rt; "memory"),
+    }
+}
+
+fn main(rt: HostRuntime) -> ExitCode {
+    match answer(&rt) {
+        Ok(()) => ExitCode::from(0),
+        Err(_) => ExitCode::from(1),
+    }
+}
