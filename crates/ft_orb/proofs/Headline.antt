@@ -101,6 +101,7 @@ module _ {S : Type 0} (meaning : Meaning S) (made : Made S) where
     within = x.within;
     near = x.near;
     needs = x.needs;
+    further = x.further;
   }
 
   output-agree : (past : List Event) (e : Event) → OneExpiration (arrivals made.limits (e ∷ past)) → output made.limits meaning.knows (table_says meaning made) past e ≡ output made.limits meaning.knows (law_says meaning made) past e

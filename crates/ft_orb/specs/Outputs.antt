@@ -1,5 +1,5 @@
 -- What each event writes on its connection, as what happened before it says, and how it ends.
-use Rattle.std.specs.Prelude.{◌≡◌, ℕ, ◌+◌, ◌≤◌, Bool, true, false, not, if◌then◌else◌, List, [], ◌∷◌, ◌++◌, length, map, take, Option, Some, None, is_none, Result}
+use Rattle.std.specs.Prelude.{◌≡◌, ℕ, ◌+◌, ◌≤◌, ◌<◌, max, Bool, true, false, not, if◌then◌else◌, List, [], ◌∷◌, ◌++◌, length, take, Option, Some, None, is_none, Result}
 use Rattle.giop_frames.specs.declared.limits.Limits.{Limits}
 use Rattle.giop_link.specs.Hearing.{Ending, ending, faulty, peer_closed, peer_error, wrong_direction}
 use Rattle.giop_link.specs.Linking.{close_connection}
@@ -9,7 +9,7 @@ use Rattle.ft_orb.specs.declared.events.Note.{Note}
 use Rattle.ft_orb.specs.declared.events.Note.TheVariants.{Done, Memory, Refused}
 use Rattle.ft_orb.specs.declared.events.Written.{Written}
 use Rattle.ft_orb.specs.ExactlyOnce.{answers_after}
-use Rattle.ft_orb.specs.History.{Close, Event, Gone, Line, Lost, Opened, Piece, Shut, Up, arrivals, completed, connection_of, does_count, line, shortened}
+use Rattle.ft_orb.specs.History.{Close, Event, Gone, Line, Lost, Opened, Piece, Shut, Up, arrivals, clock, completed, connection_of, does_count, front_on, line, shortened}
 use Rattle.ft_orb.specs.Renderings.{rendered}
 use Rattle.ft_orb.specs.Replies.{message_error}
 use Rattle.ft_orb.specs.Requests.{rules_of}
@@ -85,6 +85,11 @@ needs_memory limits past (Piece c moment (octet ∷ octets)) = is_going limits (
 needs_memory limits past (Close c) = is_going limits (line past c)
 needs_memory limits past (Lost c) = false
 
+-- octets of a piece come after the kth arrival that it completes
+abbrev pub GoesFurther : Limits → List Event → Event → ℕ → Type 0
+GoesFurther limits past (Piece c moment octets) k = length (front_on limits c (max (clock past) moment) (line past c) octets k) < length octets
+GoesFurther limits past e k = Unit {0}
+
 -- what is left of an event in which an allocation failed after so many arrivals: its connection is lost, and an opening never was
 abbrev pub cut_short : Limits → List Event → Event → ℕ → List Event
 cut_short limits past (Opened c) handled = past
@@ -129,6 +134,7 @@ module _ (limits : Limits) (knows : List ℕ → Bool) (answers : List Event →
     pub within : answered ≤ handled
     pub near : handled ≤ answered + 1
     pub needs : needs_memory limits past e ≡ true
+    pub further : handled ≡ answered → GoesFurther limits past e handled
 
   -- an event may write these octets, and end so
   abbrev pub Writes : List Event → Event → List ℕ → Note → Type 0

@@ -1,6 +1,6 @@
 -- Words of private functions: what they do with one message and with one piece. No public contract cites them, and nobody has
 -- to read them to know what is promised.
-use Rattle.std.specs.Prelude.{◌≡◌, ℕ, ◌+◌, ◌≤◌, ◌<◌, ◌^◌, Bool, List, [], ◌∷◌, ◌++◌, length, take, Option, Some, None, Result, Ok, Err}
+use Rattle.std.specs.Prelude.{◌≡◌, ℕ, ◌+◌, ◌≤◌, ◌<◌, Bool, List, [], ◌∷◌, ◌++◌, length, take, Option, Some, None, Result, Ok, Err}
 use Rattle.giop_core.specs.Items.{contexts_left}
 use Rattle.giop_core.specs.Lent.{addressed_by, rest_of}
 use Rattle.giop_core.specs.declared.header.Version.{Version}
@@ -110,6 +110,7 @@ module _ {S : Type 0} (rules : Rules S Wanted Call Performed) (knows : List ℕ 
     pub few : at.handled ≤ length (arrivals_in limits c now s octets)
     pub within : at.answered ≤ at.handled
     pub near : at.handled ≤ at.answered + 1
+    pub further : at.handled ≡ at.answered → length (front_in limits c now s octets at.handled) < length octets
 
 -- the stream ends in the piece, a MessageError is due, and nothing is heard in it
 pub record IsEnd (limits : Limits) (s piece : List ℕ) : Type 0 where
