@@ -228,18 +228,21 @@ module _ {S : Type 0} (rules : Rules S Wanted Call Performed) (knows : List ℕ 
         within = omega arith;
         near = omega arith;
         further = λ same. omega (arith, short, within);
+        due = λ less. absurd (omega (arith, less));
       }
 
   -- an allocation failed where the first n octets are served but for the last answer
   cut-odd : HearingGrows → (piece : List ℕ) (n : ℕ) (link : Linked) (held : Table S Performed) (written more : List ℕ) (k : ℕ) (before : List (Arrival Wanted)) (a : Arrival Wanted) → n ≤ length piece
-      → Goes (take n piece) link held more (k + 1) → Here (take n piece) ≡ before ++ a ∷ [] → written ≡ answered before
+      → Goes (take n piece) link held more (k + 1) → Here (take n piece) ≡ before ++ a ∷ [] → written ≡ answered before → length written < length more
       → IsCut rules knows limits c now t s piece (record { handled = k + 1; answered = k }) held written
-  cut-odd grow piece n link held written more k before a within g last out =
+  cut-odd grow piece n link held written more k before a within g last out less =
       let same = front-is grow piece n (k + 1) within g.count in
       let front = same ∙ last in
       let size = length-append before (a ∷ []) in
       let count : k + 1 ≡ length (before ++ a ∷ []) = g.count ∙ ap (λ (l : List (Arrival Wanted)). length l) last in
       let most : k ≡ length before = omega (arith, size, count) in
+      let all : take (k + 1) (Here (take n piece)) ≡ Here (take n piece) =
+      ap (λ (i : ℕ). take i (Here (take n piece))) g.count ∙ take-length (Here (take n piece)) in
       let first : take k (before ++ a ∷ []) ≡ before = ap (λ (i : ℕ). take i (before ++ a ∷ [])) most ∙ take-append_seam before (a ∷ []) in
       record {
         alike = subst (λ (l : List (Arrival Wanted)). AreAlike now held (table_after rules t l)) (sym same) g.alike;
@@ -250,6 +253,10 @@ module _ {S : Type 0} (rules : Rules S Wanted Call Performed) (knows : List ℕ 
         within = omega arith;
         near = omega arith;
         further = λ even. absurd (omega (arith, even));
+        due = λ some. subst (λ (l : List ℕ). length written < length l)
+            (g.out ∙ sym (ap (λ (l : List (Arrival Wanted)). rendered knows (take (k + 1) l) (table_answers rules t l)) same
+            ∙ ap (λ (l : List (Arrival Wanted)). rendered knows l (table_answers rules t (Here (take n piece)))) all))
+            less;
       }
 
   -- at the end of the piece
@@ -375,6 +382,9 @@ module _ {S : Type 0} (rules : Rules S Wanted Call Performed) (knows : List ℕ 
         let p = take i piece in
         let q = take j left in
         let more = w.0 ++ rendering knows a.content (table_step rules held a).1 in
+        let size = length-append w.0 (rendering knows a.content (table_step rules held a).1) in
+        let due = d.2 in
+        let less : length w.0 < length more = omega (arith, size, due) in
         let cut : record { handled = n + 1; answered = n } ≡ at = let err : counted_by n Unanswered ≡ Err at = is in cc in
         let g : Goes (take (i + j) piece) later new more (n + 1) = subst (λ (l : List ℕ). Goes l later new more (n + 1)) (further piece left i j back)
         (goes-answered grow p q link later (Some m) a held new w.0 more n w.2 k one clock d.0 refl) in
@@ -382,7 +392,7 @@ module _ {S : Type 0} (rules : Rules S Wanted Call Performed) (knows : List ℕ 
         ap (λ (l : List ℕ). Here l) (sym (further piece left i j back)) ∙ took-arrivals grow p q later (Some m) k ∙ ap (λ (l : List (Arrival Wanted)). Here p ++ l) one in (
           w.0,
           d.1 ∙ w.1,
-          subst (λ (x : Cut). IsCut rules knows limits c now t s piece x new w.0) cut (cut-odd grow piece (i + j) later new w.0 more n (Here p) a within g last w.2.out),
+          subst (λ (x : Cut). IsCut rules knows limits c now t s piece x new w.0) cut (cut-odd grow piece (i + j) later new w.0 more n (Here p) a within g last w.2.out less),
         )
     one-cut at Unhandled a some within clock one d is =
         let cut : at ≡ all_answered n = let err : counted_by n Unhandled ≡ Err at = is in cc in
