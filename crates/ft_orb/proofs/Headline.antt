@@ -1,6 +1,6 @@
 -- From the table to the law: what is written with the table's answers is written with those of the fold that remembers all, where
 -- arrivals with one key carry one expiration.
-use Rattle.std.proofs.Common.{◌≡◌, ℕ, ◌≤◌, max, List, [], ◌∷◌, ◌++◌, Result, filter_map, take, refl, sym, ap, subst, ◌∙◌, arith, append_assoc}
+use Rattle.std.proofs.Common.{◌≡◌, ℕ, ◌≤◌, ◌<◌, max, List, [], ◌∷◌, ◌++◌, length, Result, filter_map, take, refl, sym, ap, subst, ◌∙◌, arith, append_assoc}
 use Rattle.std.proofs.lemmas.List.{append-nil}
 use Rattle.std.proofs.lemmas.List.Elements.{Contains-append_left}
 use Rattle.giop_frames.specs.declared.limits.Limits.{Limits}
@@ -101,6 +101,8 @@ module _ {S : Type 0} (meaning : Meaning S) (made : Made S) where
     within = x.within;
     near = x.near;
     needs = x.needs;
+    further = x.further;
+    due = λ few. subst (λ (answers : List (Result Performed SystemName)). length octets < length (rendered meaning.knows (take handled (completed made.limits past (shortened made.limits past e handled))) answers)) agree (x.due few);
   }
 
   output-agree : (past : List Event) (e : Event) → OneExpiration (arrivals made.limits (e ∷ past)) → output made.limits meaning.knows (table_says meaning made) past e ≡ output made.limits meaning.knows (law_says meaning made) past e
