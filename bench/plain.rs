@@ -989,11 +989,13 @@ impl<S: Servant> Server<S> {
         };
         let mut left = piece;
         while !left.is_empty() {
-            let taken = link.feed(left)?;
-            if let Some(header) = link.complete {
-                match link.message() {
-                    Some(Message::Request(request)) => self.desk.handle(header.version, header.order, request, out)?,
-                    Some(Message::LocateRequest(id, Target::Key(key))) => {
+            let (taken, complete) = link.advance(left)?;
+            link.complete = complete;
+            if let Some(header) = complete {
+                // (each message is read once)
+                match read_message(&header, &link.frame)? {
+                    Message::Request(request) => self.desk.handle(header.version, header.order, request, out)?,
+                    Message::LocateRequest(id, Target::Key(key)) => {
                         let start = out.len();
                         out.try_reserve(20)?;
                         out.extend_from_slice(&[0; HEADER]);

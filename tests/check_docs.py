@@ -4,6 +4,8 @@
 - docs/PROMISES.md names each must-fail edit of each crate, and no other: in the last column of the tables
   under the crate's heading.
 - Each name in the other columns of these tables stands in a source or a definition of some crate.
+- Each clause that PROMISES.md quotes stands in a source of some crate, word for word, and each row of a table of
+  words names a definition of the file beside it.
 - Each block of Rust that README.md, docs/GUIDE.md and the pages of giop_link and ft_log show stands in a
   file of crates/uses/src.
 - docs/ARCHITECTURE.md names each crate, with the libraries that it stands on, and each room of the crates
@@ -97,6 +99,21 @@ def calls():
             yield f"{PROMISES}: under `{crate}`: there is no {name}" if missing else None
 
 
+def clauses():
+    """A result for each clause that is quoted, and for each row of a table of words."""
+    sources = []
+    for folder, folders, names in os.walk(os.path.join(ROOT, "crates")):
+        folders[:] = [f for f in folders if f != "out"]
+        sources += [" ".join(text_of(os.path.join(folder, n)).split()) for n in names if n.endswith(".rt")]
+    for block in re.findall(r"^```text\n(ensures .*?)^```$", text_of(PROMISES), re.M | re.S):
+        is_there = any(" ".join(block.split()) in source for source in sources)
+        yield None if is_there else f"{PROMISES}: no source has the clause {block.split(chr(10))[0]}"
+    for table in text_of(PROMISES).split("| Word | In plain words | File |\n")[1:]:
+        for name, file in re.findall(r"^\| `(\w+)` \|.*\| `([\w./]+)` \|$", table.split("\n\n")[0], re.M):
+            is_there = os.path.exists(os.path.join(ROOT, file)) and re.search(rf"\bpub (?:data |record )?{name}\b", text_of(file))
+            yield None if is_there else f"{PROMISES}: {file} defines no {name}"
+
+
 def quotes():
     """A result for each block of Rust that is quoted."""
     folder = os.path.join(ROOT, USES)
@@ -161,7 +178,7 @@ def links():
 
 def main():
     passed = failed = 0
-    for part in (edits, calls, quotes, crates, rooms, links):
+    for part in (edits, calls, clauses, quotes, crates, rooms, links):
         results = list(part())
         if not results:
             results = [f"nothing was checked of {part.__name__}"]

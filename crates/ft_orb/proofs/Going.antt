@@ -1,10 +1,10 @@
 -- The octets of a piece that were served so far, and one message more.
-use Rattle.std.proofs.Common.{◌≡◌, ℕ, zero, suc, ◌+◌, ◌-◌, ◌≤◌, nat_le, Bool, true, false, List, [], ◌∷◌, ◌++◌, length, take, drop, Option, Some, None, Result, Ok, Err, if◌then◌else◌, is_some, inl, inr, refl, sym, ap, subst, ◌∙◌, arith, append_assoc, length-append}
+use Rattle.std.proofs.Common.{◌≡◌, ℕ, zero, suc, ◌+◌, ◌-◌, ◌≤◌, ◌<◌, nat_le, Bool, true, false, List, [], ◌∷◌, ◌++◌, length, take, drop, Option, Some, None, Result, Ok, Err, if◌then◌else◌, is_some, inl, inr, refl, sym, ap, subst, ◌∙◌, arith, append_assoc, length-append}
 use Rattle.std.specs.Option.{option_map}
 use Rattle.std.proofs.Math.Nat.{eq-or-lt_of_le}
 use Rattle.std.proofs.Math.Seq.{take-add, take-append_seam, take-length}
 use Rattle.std.proofs.lemmas.Bool.{le-leb, leb-true}
-use Rattle.std.proofs.lemmas.List.{append-nil, nil_from_length, take_all, take-append-drop}
+use Rattle.std.proofs.lemmas.List.{append-nil, length-take, nil_from_length, take_all, take-append-drop}
 use Rattle.giop_frames.specs.declared.limits.Limits.{Limits}
 use Rattle.giop_link.specs.declared.inbound.Inbound.{Inbound}
 use Rattle.giop_link.specs.declared.inbound.Inbound.TheVariants as inbound
@@ -192,47 +192,71 @@ module _ {S : Type 0} (rules : Rules S Wanted Call Performed) (knows : List ℕ 
       let none : more.0 ≡ [] = nil_from_length more.0 (omega (arith, all_length, size, enough, count)) in
       sym (all ∙ ap (λ (l : List (Arrival Wanted)). Here (take m octets) ++ l) none ∙ append-nil (Here (take m octets)))
 
-  -- an allocation failed where the first n octets were served: all that were handled are answered
-  cut-even : HearingGrows → (piece : List ℕ) (n : ℕ) (link : Linked) (held new : Table S Performed) (written : List ℕ) (k : ℕ) → n ≤ length piece
-      → Goes (take n piece) link held written k → AreAlike now new held → IsCut rules knows limits c now t s piece (all_answered k) new written
-  cut-even grow piece n link held new written k within g al =
-      let front = front-is grow piece n k within g.count in
-      let all : take k (Here (take n piece)) ≡ Here (take n piece) =
-      ap (λ (i : ℕ). take i (Here (take n piece))) g.count ∙ take-length (Here (take n piece)) in
+  -- .. and is no longer
+  front-few : (octets : List ℕ) (n k : ℕ) → n ≤ length octets → k ≡ length (Here (take n octets)) → length (front_in limits c now s octets k) ≤ n
+  unfolding front_in
+  front-few octets n k within count =
+      let test : ℕ → Bool = λ i. nat_le k (length (Here (take i octets))) in
+      let low = least-passes test n (length octets) within (le-leb k (length (Here (take n octets))) (omega (arith, count))) in
+      let size = length-take (least test (length octets)) octets in
+      let few = low.1 in
+      omega (arith, size, few)
+
+  -- as many arrivals are in the piece as in its first n octets
+  few-in : HearingGrows → (piece : List ℕ) (n k : ℕ) → k ≡ length (Here (take n piece)) → k ≤ length (Here piece)
+  few-in grow piece n k count =
       let more = arrivals_in-grows limits c now grow s (take n piece) (drop n piece) in
       let whole : length (Here piece) ≡ length (Here (take n piece) ++ more.0) =
       ap (λ (l : List ℕ). length (Here l)) (sym (take-append-drop n piece)) ∙ ap (λ (l : List (Arrival Wanted)). length l) more.1 in
       let size = length-append (Here (take n piece)) more.0 in
-      let count = g.count in
+      omega (arith, whole, size, count)
+
+  -- an allocation failed where the first n octets were served and more of them come: all that were handled are answered
+  cut-even : HearingGrows → (piece : List ℕ) (n : ℕ) (link : Linked) (held new : Table S Performed) (written : List ℕ) (k : ℕ) → n < length piece
+      → Goes (take n piece) link held written k → AreAlike now new held → IsCut rules knows limits c now t s piece (all_answered k) new written
+  cut-even grow piece n link held new written k within g al =
+      let front = front-is grow piece n k (omega (arith, within)) g.count in
+      let short = front-few piece n k (omega (arith, within)) g.count in
+      let all : take k (Here (take n piece)) ≡ Here (take n piece) =
+      ap (λ (i : ℕ). take i (Here (take n piece))) g.count ∙ take-length (Here (take n piece)) in
       record {
         alike = subst (λ (l : List (Arrival Wanted)). AreAlike now new (table_after rules t l)) (sym front)
             (alike_trans now new held (table_after rules t (Here (take n piece))) al g.alike);
         out = g.out ∙ sym (ap (λ (l : List (Arrival Wanted)). rendered knows (take k l) (table_answers rules t l)) front
             ∙ ap (λ (l : List (Arrival Wanted)). rendered knows l (table_answers rules t (Here (take n piece)))) all);
-        few = omega (arith, whole, size, count);
+        few = few-in grow piece n k g.count;
         within = omega arith;
         near = omega arith;
+        further = λ same. omega (arith, short, within);
+        due = λ less. absurd (omega (arith, less));
       }
 
   -- an allocation failed where the first n octets are served but for the last answer
   cut-odd : HearingGrows → (piece : List ℕ) (n : ℕ) (link : Linked) (held : Table S Performed) (written more : List ℕ) (k : ℕ) (before : List (Arrival Wanted)) (a : Arrival Wanted) → n ≤ length piece
-      → Goes (take n piece) link held more (k + 1) → Here (take n piece) ≡ before ++ a ∷ [] → written ≡ answered before
+      → Goes (take n piece) link held more (k + 1) → Here (take n piece) ≡ before ++ a ∷ [] → written ≡ answered before → length written < length more
       → IsCut rules knows limits c now t s piece (record { handled = k + 1; answered = k }) held written
-  cut-odd grow piece n link held written more k before a within g last out =
-      let even = cut-even grow piece n link held held more (k + 1) within g (record { state = refl; entries = refl }) in
-      let front = front-is grow piece n (k + 1) within g.count ∙ last in
+  cut-odd grow piece n link held written more k before a within g last out less =
+      let same = front-is grow piece n (k + 1) within g.count in
+      let front = same ∙ last in
       let size = length-append before (a ∷ []) in
       let count : k + 1 ≡ length (before ++ a ∷ []) = g.count ∙ ap (λ (l : List (Arrival Wanted)). length l) last in
       let most : k ≡ length before = omega (arith, size, count) in
+      let all : take (k + 1) (Here (take n piece)) ≡ Here (take n piece) =
+      ap (λ (i : ℕ). take i (Here (take n piece))) g.count ∙ take-length (Here (take n piece)) in
       let first : take k (before ++ a ∷ []) ≡ before = ap (λ (i : ℕ). take i (before ++ a ∷ [])) most ∙ take-append_seam before (a ∷ []) in
       record {
-        alike = even.alike;
+        alike = subst (λ (l : List (Arrival Wanted)). AreAlike now held (table_after rules t l)) (sym same) g.alike;
         out = out ∙ sym (rendered-more rules knows t before (a ∷ []))
             ∙ sym (ap (λ (l : List (Arrival Wanted)). rendered knows (take k l) (table_answers rules t l)) front
             ∙ ap (λ (l : List (Arrival Wanted)). rendered knows l (table_answers rules t (before ++ a ∷ []))) first);
-        few = even.few;
+        few = few-in grow piece n (k + 1) g.count;
         within = omega arith;
         near = omega arith;
+        further = λ even. absurd (omega (arith, even));
+        due = λ some. subst (λ (l : List ℕ). length written < length l)
+            (g.out ∙ sym (ap (λ (l : List (Arrival Wanted)). rendered knows (take (k + 1) l) (table_answers rules t l)) same
+            ∙ ap (λ (l : List (Arrival Wanted)). rendered knows l (table_answers rules t (Here (take n piece)))) all))
+            less;
       }
 
   -- at the end of the piece
@@ -295,8 +319,8 @@ module _ {S : Type 0} (rules : Rules S Wanted Call Performed) (knows : List ℕ 
             (subst (λ (x : Linked). Served rules knows limits c now t s (p ++ left) x held (w.0 ++ message_error)) (sym closed) served),
       )
 
-  -- an allocation failed, and nothing was done after i octets
-  pub stood-cut : HearingGrows → (start piece : List ℕ) (i : ℕ) (link : Linked) (held new : Table S Performed) (out grown : List ℕ) (n : ℕ) (at : Cut) → i ≤ length piece
+  -- an allocation failed, and nothing was done after i octets, which are not all
+  pub stood-cut : HearingGrows → (start piece : List ℕ) (i : ℕ) (link : Linked) (held new : Table S Performed) (out grown : List ℕ) (n : ℕ) (at : Cut) → i < length piece
       → Stood start piece i link held out n → AreAlike now new held → grown ≡ out → at ≡ all_answered n
       → (written : List ℕ) × (grown ≡ start ++ written) × IsCut rules knows limits c now t s piece at new written
   stood-cut grow start piece i link held new out grown n at within w al same is =
@@ -351,13 +375,16 @@ module _ {S : Type 0} (rules : Rules S Wanted Call Performed) (knows : List ℕ 
     abbrev CutAt : Cut → Type 0
     CutAt at = (written : List ℕ) × (grown ≡ start ++ written) × IsCut rules knows limits c now t s piece at new written
 
-    one-cut : (at : Cut) (step : Step) (a : Arrival Wanted) → i + j ≤ length piece → a.clock ≡ now → Brings (a ∷ []) → StepsOne rules knows now a held step new out grown → counted_by n step ≡ Err at → CutAt at
-    one-cut at Quiet a within clock one d is = absurd d
-    one-cut at Answered a within clock one d is = absurd cc
-    one-cut at Unanswered a within clock one d is =
+    one-cut : (at : Cut) (step : Step) (a : Arrival Wanted) → i < length piece → i + j ≤ length piece → a.clock ≡ now → Brings (a ∷ []) → StepsOne rules knows now a held step new out grown → counted_by n step ≡ Err at → CutAt at
+    one-cut at Quiet a some within clock one d is = absurd d
+    one-cut at Answered a some within clock one d is = absurd cc
+    one-cut at Unanswered a some within clock one d is =
         let p = take i piece in
         let q = take j left in
         let more = w.0 ++ rendering knows a.content (table_step rules held a).1 in
+        let size = length-append w.0 (rendering knows a.content (table_step rules held a).1) in
+        let due = d.2 in
+        let less : length w.0 < length more = omega (arith, size, due) in
         let cut : record { handled = n + 1; answered = n } ≡ at = let err : counted_by n Unanswered ≡ Err at = is in cc in
         let g : Goes (take (i + j) piece) later new more (n + 1) = subst (λ (l : List ℕ). Goes l later new more (n + 1)) (further piece left i j back)
         (goes-answered grow p q link later (Some m) a held new w.0 more n w.2 k one clock d.0 refl) in
@@ -365,21 +392,21 @@ module _ {S : Type 0} (rules : Rules S Wanted Call Performed) (knows : List ℕ 
         ap (λ (l : List ℕ). Here l) (sym (further piece left i j back)) ∙ took-arrivals grow p q later (Some m) k ∙ ap (λ (l : List (Arrival Wanted)). Here p ++ l) one in (
           w.0,
           d.1 ∙ w.1,
-          subst (λ (x : Cut). IsCut rules knows limits c now t s piece x new w.0) cut (cut-odd grow piece (i + j) later new w.0 more n (Here p) a within g last w.2.out),
+          subst (λ (x : Cut). IsCut rules knows limits c now t s piece x new w.0) cut (cut-odd grow piece (i + j) later new w.0 more n (Here p) a within g last w.2.out less),
         )
-    one-cut at Unhandled a within clock one d is =
+    one-cut at Unhandled a some within clock one d is =
         let cut : at ≡ all_answered n = let err : counted_by n Unhandled ≡ Err at = is in cc in
-        stood-cut grow start piece i link held new out grown n at (omega (arith, within)) w d.0 d.1 cut
+        stood-cut grow start piece i link held new out grown n at some w d.0 d.1 cut
 
-    cut-by : (at : Cut) (step : Step) (o : Option Incoming) → i + j ≤ length piece → Brings (arrivals_at c now o) → Steps rules knows now c o held step new out grown → counted_by n step ≡ Err at → CutAt at
-    cut-by at step None within none d is = absurd (let quiet : Ok n ≡ Err at = ap (counted_by n) (sym d.0) ∙ is in cc)
-    cut-by at step (Some (asks q)) within one d is = one-cut at step _ within refl one d is
-    cut-by at step (Some (locates version id to)) within one d is = one-cut at step _ within refl one d is
-    cut-by at step (Some (cancels id)) within none d is = absurd (let quiet : Ok n ≡ Err at = ap (counted_by n) (sym d.0) ∙ is in cc)
+    cut-by : (at : Cut) (step : Step) (o : Option Incoming) → i < length piece → i + j ≤ length piece → Brings (arrivals_at c now o) → Steps rules knows now c o held step new out grown → counted_by n step ≡ Err at → CutAt at
+    cut-by at step None some within none d is = absurd (let quiet : Ok n ≡ Err at = ap (counted_by n) (sym d.0) ∙ is in cc)
+    cut-by at step (Some (asks q)) some within one d is = one-cut at step _ some within refl one d is
+    cut-by at step (Some (locates version id to)) some within one d is = one-cut at step _ some within refl one d is
+    cut-by at step (Some (cancels id)) some within none d is = absurd (let quiet : Ok n ≡ Err at = ap (counted_by n) (sym d.0) ∙ is in cc)
 
-    pub stood-step-cut : (at x : Cut) (step : Step) (r : Result ℕ Cut) → i + j ≤ length piece → Steps rules knows now c (heard_by (meaning_at m)) held step new out grown → r ≡ counted_by n step → r ≡ Err x → at ≡ x → CutAt at
-    stood-step-cut at x step r within d by is same =
-        cut-by at step (heard_by (meaning_at m)) within (arriving-one limits c now (meaning_at m)) d (sym by ∙ is ∙ ap (λ (y : Cut). Err y) (sym same))
+    pub stood-step-cut : (at x : Cut) (step : Step) (r : Result ℕ Cut) → i < length piece → i + j ≤ length piece → Steps rules knows now c (heard_by (meaning_at m)) held step new out grown → r ≡ counted_by n step → r ≡ Err x → at ≡ x → CutAt at
+    stood-step-cut at x step r some within d by is same =
+        cut-by at step (heard_by (meaning_at m)) some within (arriving-one limits c now (meaning_at m)) d (sym by ∙ is ∙ ap (λ (y : Cut). Err y) (sym same))
 
 -- at most one more is handled
 few-by : (n h : ℕ) (step : Step) → counted_by n step ≡ Ok h → h ≤ n + 1

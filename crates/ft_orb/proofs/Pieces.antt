@@ -69,6 +69,8 @@ module _ {S : Type 0} (meaning : Meaning S) (made : Made S) (c now : ℕ) (octet
     pub few : handled ≤ length (arrivals_on made.limits c now l octets)
     pub within : answered ≤ handled
     pub near : handled ≤ answered + 1
+    pub further : handled ≡ answered → length (front_on made.limits c now l octets handled) < length octets
+    pub due : answered < handled → length written < length (rendered meaning.knows (take handled (arrivals_on made.limits c now l (front_on made.limits c now l octets handled))) (table_answers (rules_of meaning made.capacity made.share) t (arrivals_on made.limits c now l (front_on made.limits c now l octets handled))))
     pub going : is_going made.limits l ≡ true
     pub alike : AreAlike now table (table_after (rules_of meaning made.capacity made.share) t (arrivals_on made.limits c now l (front_on made.limits c now l octets handled)))
 
@@ -125,7 +127,7 @@ module _ {S : Type 0} (meaning : Meaning S) (made : Made S) (c now : ℕ) (octet
   left-cut rules are (Up s) link table out grown at held live cuts =
       let x = cuts s held in
       let y = subst (λ (r : Rules S Wanted Call Performed). IsCut r meaning.knows made.limits c now t s octets at table x.0) are x.2 in
-      (x.0, x.1, record { out = y.out; few = y.few; within = y.within; near = y.near; going = going-by (ending made.limits s) (sym held.is_ended ∙ live); alike = y.alike })
+      (x.0, x.1, record { out = y.out; few = y.few; within = y.within; near = y.near; further = y.further; due = y.due; going = going-by (ending made.limits s) (sym held.is_ended ∙ live); alike = y.alike })
     where
       going-by : (o : Option Ending) → is_some o ≡ false → is_none o ≡ true
       going-by None is = refl
@@ -200,7 +202,7 @@ module _ {S : Type 0} (meaning : Meaning S) (made : Made S) (server new : Server
       let short : List Event = Piece c moment front ∷ past in
       let alike : AreAlike new.desk.clock (table_of new.desk) (table_of_past meaning made short) =
       table-next front st at (subst (λ (n : ℕ). AreAlike new.desk.clock (table_of new.desk) (table_after (rules_of meaning made.capacity made.share) (table_of_past meaning made past) (arrivals_on made.limits c new.desk.clock (line past c) (front_on made.limits c n (line past c) octets handled)))) now x.alike) in (
-        record { out = y.out; few = y.few; within = y.within; near = y.near; needs = needs-by made.limits past c moment octets some y.going },
+        record { out = y.out; few = y.few; within = y.within; near = y.near; needs = needs-by made.limits past c moment octets some y.going; further = y.further; due = y.due },
         stands-next meaning made server new past c (Lost c ∷ short) st same now refl
             (λ q is. apart-by (c == q) Gone (line short q) is ∙ apart-by (c == q) (longer front (line past q)) (line past q) is)
             (subst (λ (l : Line). IsFor made.limits (get nat_cmp new.links c) l) (sym (same-by c Gone (line short c))) (subst (λ (o : Option Linked). IsFor made.limits o Gone) (sym gone) tt))

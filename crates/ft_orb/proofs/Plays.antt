@@ -1,7 +1,10 @@
 -- A play goes on by one event.
-use Rattle.std.proofs.Common.{◌≡◌, ℕ, ◌+◌, ◌<◌, ◌≤◌, Bool, true, false, if◌then◌else◌, Result, List, [], ◌∷◌, ◌++◌, get_or, length, map, reverse, take, refl, sym, ap, subst, ◌∙◌, append_assoc, arith}
-use Rattle.std.proofs.lemmas.List.{map-append, reverse-append, take_more, take_all}
+use Rattle.std.specs.Option.{option_map_or}
+use Rattle.std.proofs.Common.{◌≡◌, ℕ, suc, ◌+◌, ◌<◌, ◌≤◌, nat_lt, Option, Bool, true, false, if◌then◌else◌, Result, List, [], ◌∷◌, ◌++◌, get_or, length, map, reverse, take, refl, sym, ap, subst, ◌∙◌, append_assoc, arith}
+use Rattle.std.proofs.lemmas.List.{append-nil, map-append, reverse-append, take_more, take_all}
 use Rattle.giop_frames.specs.declared.limits.Limits.{Limits}
+use Rattle.giop_link.specs.Linking.{Linked}
+use Rattle.ft_log.specs.Kept.{KeptOutcome, unexpired}
 use Rattle.ft_log.specs.Performed.{Performed}
 use Rattle.ft_log.specs.declared.system_exception.SystemName.{SystemName}
 use Rattle.ft_orb.specs.declared.server.Server.{Server}
@@ -10,12 +13,12 @@ use Rattle.ft_orb.specs.declared.events.Note.TheVariants.{Done, Memory, Refused}
 use Rattle.ft_orb.specs.declared.events.Event.{Event as CodeEvent}
 use Rattle.ft_orb.specs.declared.events.Written.{Written}
 use Rattle.ft_orb.specs.ExactlyOnce.{OneExpiration, state_of}
-use Rattle.ft_orb.specs.History.{Event, arrivals, connection_of, event_of}
+use Rattle.ft_orb.specs.History.{Event, Gone, arrivals, connection_of, event_of}
 use Rattle.ft_orb.specs.Outputs.{Made, Noted, Plays, Writes, after, is_refused, law_says, note_in, noted, output, past_after, table_says}
-use Rattle.ft_orb.specs.Laws.{OutputsArePlayed, PlayedEventsCount, PlaysWriteTheirOutputs, entries_in, is_memory}
+use Rattle.ft_orb.specs.Laws.{AreWithoutMemory, OutputsArePlayed, PlayedEventsCount, PlaysWriteTheirOutputs, entries_in, is_memory}
 use Rattle.ft_orb.specs.Requests.{rules_of}
 use Rattle.ft_orb.specs.Servants.{Meaning}
-use Rattle.ft_orb.specs.Standing.{Stands}
+use Rattle.ft_orb.specs.Standing.{IsFor, IsNew, Stands}
 use Rattle.ft_orb.proofs.Headline.{plays-agree, servant-is}
 
 module _ (limits : Limits) (knows : List ℕ → Bool) (answers : List Event → Event → List (Result Performed SystemName)) where
@@ -116,3 +119,50 @@ outputs_played limits knows answers past (e ∷ es) =
     let first = plain_by limits knows answers past e (is_refused past e) refl in
     let rest = outputs_played limits knows answers (e ∷ past) es in
     ((refl, first.0, subst (λ (q : List Event). Plays limits knows answers q es (entries_in limits knows answers (e ∷ past) es)) (sym (after_plain limits past e (note_in past e) first.1)) rest.0), (first.1, rest.1))
+
+-- A new server.
+
+-- it stands for the empty past
+pub new_stands : {S : Type 0} (meaning : Meaning S) (made : Made S) (server : Server S) → IsNew made server → Stands meaning made server []
+new_stands meaning made server n = record {
+  limits_are = n.limits_are;
+  capacity_is = n.capacity_is;
+  share_is = n.share_is;
+  moment = n.moment;
+  greatest = λ c. sym (ap (λ (g : Option ℕ). option_map_or (λ g. nat_lt g c) g true) n.opened);
+  lines = λ c. subst (λ (l : Option Linked). IsFor made.limits l Gone) (sym (n.held c)) tt;
+  table = record { state = n.servant_is; entries = ap (λ (entries : List (KeptOutcome Performed)). unexpired server.desk.clock entries) n.kept };
+}
+
+-- each event has its entry
+plays_count : (limits : Limits) (knows : List ℕ → Bool) (answers : List Event → Event → List (Result Performed SystemName)) (past es : List Event) (ws : List Noted) → Plays limits knows answers past es ws → length es ≡ length ws
+plays_count limits knows answers past [] [] p = refl
+plays_count limits knows answers past (e ∷ es) (w ∷ ws) p = ap suc (plays_count limits knows answers (after limits past e w.note) es ws p.2)
+plays_count limits knows answers past [] (w ∷ ws) p = absurd p
+plays_count limits knows answers past (e ∷ es) [] p = absurd p
+
+module _ {S : Type 0} (meaning : Meaning S) (made : Made S) where
+  -- the past of a whole play, where no allocation failed
+  whole_past : (es : List Event) (ws : List Noted) → length es ≡ length ws → AreWithoutMemory ws → past_after made.limits [] es ws ≡ reverse es
+  whole_past es ws same n = played_count made.limits [] es ws same n ∙ append-nil (reverse es)
+
+  -- all events were played on a new server, and each admissible request acted once
+  pub play-new : (server : Server S) (events : List CodeEvent) (out grown written : List Written) → grown ≡ out ++ written → ArePlayed meaning made [] server (map event_of (take (length events) events)) written
+      → (entries : List Written) × (grown ≡ out ++ entries)
+      × (AreWithoutMemory (map noted entries) → OneExpiration (arrivals made.limits (reverse (map event_of events)))
+      → (map noted entries ≡ entries_in made.limits meaning.knows (law_says meaning made) [] (map event_of events))
+      × (server.desk.servant ≡ state_of (rules_of meaning made.capacity made.share) made.opening (arrivals made.limits (reverse (map event_of events)))))
+  play-new server events out grown written is x =
+      let es = map event_of events in
+      let ws = map noted written in
+      let all : take (length events) events ≡ events = take_all (length events) events (omega arith) in
+      let y : ArePlayed meaning made [] server es written = subst (λ (some : List CodeEvent). ArePlayed meaning made [] server (map event_of some) written) all x in (
+        written,
+        is,
+        λ n one.
+            let whole = whole_past es ws (plays_count made.limits meaning.knows (table_says meaning made) [] es ws y.plays) n in
+            let one-here = subst (λ (past : List Event). OneExpiration (arrivals made.limits past)) (sym whole) one in (
+              plays_written made.limits meaning.knows (law_says meaning made) [] es ws (plays-agree meaning made [] es ws one-here y.plays) n,
+              servant-is meaning made server (reverse es) (subst (λ (past : List Event). Stands meaning made server past) whole y.stands) one,
+            ),
+      )

@@ -1,5 +1,5 @@
 -- What a server stands for.
-use Rattle.std.specs.Prelude.{◌≡◌, ℕ, nat_lt, true, List, Option, Some, None, Result, Ok, Err}
+use Rattle.std.specs.Prelude.{◌≡◌, ℕ, nat_lt, true, List, [], Option, Some, None, Result, Ok, Err}
 use Rattle.std.specs.Option.{option_map_or}
 use Rattle.std.specs.Ordering.{nat_cmp}
 use Rattle.std.specs.BTreeMap.{get}
@@ -50,6 +50,18 @@ pub record Stands {State : Type 0} (meaning : Meaning State) (made : Made State)
   pub greatest : (c : ℕ) → does_count past c ≡ option_map_or (λ g. nat_lt g c) server.greatest true
   pub lines : (c : ℕ) → IsFor made.limits (get nat_cmp server.links c) (line past c)
   pub table : AreAlike server.desk.clock (table_of server.desk) (table_of_past meaning made past)
+
+-- a new server: it was made with these limits, this capacity, this share and this servant; no moment came, no connection was
+-- opened and none is held, and nothing is kept
+pub record IsNew {State : Type 0} (made : Made State) (server : Server State) : Type 0 where
+  pub limits_are : server.limits ≡ made.limits
+  pub capacity_is : capacity_of server.desk ≡ made.capacity
+  pub share_is : share_of server.desk ≡ made.share
+  pub servant_is : server.desk.servant ≡ made.opening
+  pub moment : server.desk.clock ≡ 0
+  pub opened : server.greatest ≡ None
+  pub held : (c : ℕ) → get nat_cmp server.links c ≡ None
+  pub kept : (logged server.desk.log).entries ≡ []
 
 -- how an opening ended
 abbrev pub note_of_opening : {A : Type 0} → Result A ConnectError → Note

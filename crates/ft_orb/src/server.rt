@@ -30,7 +30,7 @@ pub struct Server<S: Drop> {
 }
 
 impl<S: Servant + Drop> Server<S> {
-    ghost use Rattle.ft_orb.specs.Standing.{Stands, note_of, note_of_opening};
+    ghost use Rattle.ft_orb.specs.Standing.{IsNew, Stands, note_of, note_of_opening};
 
     /// A server without connections. Each connection keeps to the limits. At most `capacity` outcomes are kept
     /// at a time, at most `share` of each client. It takes no memory.
@@ -42,6 +42,7 @@ impl<S: Servant + Drop> Server<S> {
         share: u32,
         hasher: RandomState,
     ) -> Server<S>
+        ensures new { IsNew (record { limits = limits; capacity = capacity; share = share; opening = servant }) result }
         ensures stands { Stands S.meaning (record { limits = limits; capacity = capacity; share = share; opening = servant }) result [] }
     {
         Server {

@@ -1,6 +1,7 @@
 //! The calls that take memory. A new one is a variant of `Call`, its trial in `Call::run`, and its rows in
 //! `suites`.
 
+use crate::asking::Asking;
 use crate::clients::ClientWriting;
 use crate::closing::Closing;
 use crate::copying::Copying;
@@ -16,6 +17,7 @@ use crate::profiles::{ProfileReading, ProfileWriting};
 use crate::reading::{ListReading, Reading};
 use crate::references::{Parsing, Printing, ReferenceReading, ReferenceWriting};
 use crate::samples::Sample;
+use crate::servers::{Idling, ServerClosing};
 use crate::trial::{Ending, Miss, Trial, tried};
 use crate::writing::{ListWriting, Writing};
 use std::alloc::Global;
@@ -68,6 +70,14 @@ pub enum Call {
     CopyOutcome(Performed),
     /// `Log::make_room` and `keep`, in a log that keeps so many outcomes.
     Keep(i32),
+    /// `Server::connect` and `feed` of a request.
+    Ask,
+    /// The same of a request that was served before.
+    AskAgain,
+    /// `Server::close` into a vector with such room.
+    CloseServer(Room),
+    /// `Server::feed` of pieces for which it takes no memory.
+    Idle,
 }
 
 /// Makes a call on these inputs, and once more where an allocation of it was refused.
@@ -114,6 +124,12 @@ impl Call {
                 ended(alloc, OutcomeCopying::new(alloc, sample, performed))
             }
             Call::Keep(count) => ended(alloc, Keeping::new(alloc, hasher, sample, count)),
+            Call::Ask => ended(alloc, Asking::new(alloc, hasher, sample)),
+            Call::AskAgain => ended(alloc, Asking::again(alloc, hasher, sample)),
+            Call::CloseServer(room) => {
+                ended(alloc, ServerClosing::new(alloc, hasher, sample, room))
+            }
+            Call::Idle => ended(alloc, Idling::new(alloc, hasher, sample)),
         }
     }
 }

@@ -1,15 +1,17 @@
-//! The program `memory_tests`: calls of `cdr_core`, `ior_core`, `giop_core`, `giop_frames`, `giop_link` and
-//! `ft_log` that take memory, each made by name.
+//! The program `memory_tests`: calls of `cdr_core`, `ior_core`, `giop_core`, `giop_frames`, `giop_link`,
+//! `ft_log` and `ft_orb` that take memory, each made by name.
 //!
 //! A case is one call on fixed inputs. Where an allocation of it is refused, the program checks that
 //! nothing changed, and makes the same call again. What the calls give is compared with octets and
-//! texts written out in `samples`, `message_samples`, `stream_samples`, `link_samples` and `log_samples`.
+//! texts written out in `samples`, `message_samples`, `stream_samples`, `link_samples`, `log_samples` and
+//! `server_samples`.
 //! tests/refused_allocations.py runs it under a `malloc` that refuses one allocation.
 //!
 //! By the word `lines` the calls are those that the lines of standard input ask for, on octets that stand
 //! there, and what each gives is printed. tests/bounded_allocations.py runs it so on hostile octets.
 #![tactic(auto)]
 
+mod asking;
 mod calls;
 mod cases;
 mod clients;
@@ -32,6 +34,8 @@ mod reading;
 mod references;
 mod run;
 mod samples;
+mod server_samples;
+mod servers;
 mod shapes;
 mod stop;
 mod stream_samples;

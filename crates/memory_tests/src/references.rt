@@ -28,7 +28,7 @@ fn text_of(sample: &Sample) -> Result<&'static str, Wrong> {
 pub(crate) fn is_that_of<T: Debug>(value: &T, sample: &Sample) -> bool {
     match sample.gives {
         Gives::Value(text) => is_printed_as(value, text),
-        Gives::Fault(_) | Gives::Frames(_) => false,
+        Gives::Fault(_) | Gives::Frames(_) | Gives::Answer(_) => false,
     }
 }
 

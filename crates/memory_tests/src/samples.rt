@@ -29,6 +29,8 @@ pub enum Gives {
     Fault(Fault),
     /// The octets of the frames that a message is cut into.
     Frames(&'static [u8]),
+    /// The octets that a server writes.
+    Answer(&'static [u8]),
 }
 
 /// "abc".

@@ -13,6 +13,7 @@ use crate::samples::{
     FAULTS, LISTS, PROFILE_FAULTS, PROFILES, REFERENCE_FAULTS, REFERENCES, Sample, TEXT_FAULTS,
     TEXTS, VALUES,
 };
+use crate::server_samples::ASKED;
 use crate::stream_samples::{CUT, CUTTABLE, STREAMS, UNCUT};
 
 /// A set of samples.
@@ -70,6 +71,8 @@ pub enum Set {
     Returned,
     /// Structs, and their members as those of an exception.
     Raised,
+    /// Requests that a server is asked.
+    Asked,
 }
 
 impl Set {
@@ -102,6 +105,7 @@ impl Set {
             Set::Keys => &KEYS,
             Set::Returned => &RETURNED,
             Set::Raised => &RAISED,
+            Set::Asked => &ASKED,
         }
     }
 }
@@ -118,8 +122,8 @@ const HALF: usize = 26;
 const WHOLE: usize = 4096;
 
 /// The calls of `cdr_core` and `ior_core`, those of the writers of `giop_core`, and those of `giop_frames`,
-/// `giop_link` and `ft_log`.
-pub static SUITES: [Suite; 73] = [
+/// `giop_link`, `ft_log` and `ft_orb`.
+pub static SUITES: [Suite; 79] = [
     Suite("read", Call::Read, Set::Values),
     Suite("read_faulty", Call::Read, Set::Faults),
     Suite("read_list", Call::ReadList, Set::Lists),
@@ -365,4 +369,22 @@ pub static SUITES: [Suite; 73] = [
     ),
     Suite("keep_first", Call::Keep(0), Set::Keys),
     Suite("keep_fifth", Call::Keep(4), Set::Keys),
+    Suite("ask_server", Call::Ask, Set::Asked),
+    Suite("ask_server_again", Call::AskAgain, Set::Asked),
+    Suite(
+        "close_server_empty",
+        Call::CloseServer(Room::Empty),
+        Set::Closings,
+    ),
+    Suite(
+        "close_server_full",
+        Call::CloseServer(Room::Full),
+        Set::Closings,
+    ),
+    Suite(
+        "close_server_without_allocation",
+        Call::CloseServer(Room::Ample),
+        Set::Closings,
+    ),
+    Suite("feed_server_without_allocation", Call::Idle, Set::Asked),
 ];

@@ -4,6 +4,7 @@ ghost use Rattle.std.specs.Prelude.{OnOk};
 
 use cdr_core::CdrError;
 use ft_log::LogError;
+use ft_orb::{ConnectError, ServeError};
 use giop_core::WriteError;
 use giop_link::LinkFault;
 use ior_core::IorError;
@@ -115,6 +116,26 @@ impl From<LogError> for Miss {
         match error {
             LogError::Full | LogError::ShareFull => Miss::Wrong(Wrong::Fault),
             LogError::Memory => Miss::Memory,
+        }
+    }
+}
+
+/// Out of memory, or a number that was used where a new one is wanted.
+impl From<ConnectError> for Miss {
+    fn from(error: ConnectError) -> Miss {
+        match error {
+            ConnectError::NotNew => Miss::Wrong(Wrong::Inputs),
+            ConnectError::Memory => Miss::Memory,
+        }
+    }
+}
+
+/// Out of memory, or no connection where there is to be one.
+impl From<ServeError> for Miss {
+    fn from(error: ServeError) -> Miss {
+        match error {
+            ServeError::NoConnection => Miss::Wrong(Wrong::Inputs),
+            ServeError::Memory { .. } => Miss::Memory,
         }
     }
 }

@@ -1,5 +1,5 @@
 -- A server of tickets, before and after the octets come.
-use Rattle.std.proofs.Common.{◌≡◌, ℕ, List, [], ◌∷◌, ◌++◌, refl, sym, subst, ap, ◌∙◌}
+use Rattle.std.proofs.Common.{◌≡◌, ℕ, List, [], ◌++◌, subst, ap, ◌∙◌}
 use Rattle.giop_frames.specs.declared.limits.Limits.{Limits}
 use Rattle.ft_orb.specs.declared.server.Server.{Server}
 use Rattle.ft_orb.specs.Standing.{Stands}

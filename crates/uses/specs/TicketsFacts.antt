@@ -1,6 +1,6 @@
 -- That the tickets keep a servant's promises. Nobody has to read this proof; it stands here since `impl Servant` cites it.
-use Rattle.std.specs.Prelude.{◌≡◌, ◌↔◌, ℕ, ◌+◌, ◌<◌, ◌^◌, ltb, Bool, true, false, cond, List, [], ◌∷◌, IsTrue}
-use Rattle.std.proofs.Common.{rules, arith, refl, ap, ltb-true}
+use Rattle.std.specs.Prelude.{◌≡◌, ◌↔◌, ℕ, ◌+◌, Bool, true, false, cond, List, [], ◌∷◌, IsTrue}
+use Rattle.std.proofs.Common.{rules, refl, ap, ltb-true}
 use Rattle.cdr_core.specs.Parts.{ulonglong_value}
 use Rattle.cdr_core.specs.Value.{Values, values}
 use Rattle.ft_log.specs.Performed.{Performed, returned, system}

@@ -31,7 +31,7 @@ pub returns-in-Err-clause-err : goal.returns-in-Err-clause-err
 returns-in-Err-clause-err g c =
     IfErr-weaker c.end.result _ _ (λ at kept limits c' s t st al.
     stood-cut _ _ limits c' c.args.desk.now.clock t s c.streams_are_heard.ensures.grows c.args.out.now.items c.args.piece.now c.loop-taken.taken
-    c.loop-taken.link (table_of c.loop-taken.desk) (table_of c.loop-taken.desk) c.loop-taken.out.items c.end.new.out.items c.loop-taken.handled at c.loop-taken.invariant.within
+    c.loop-taken.link (table_of c.loop-taken.desk) (table_of c.loop-taken.desk) c.loop-taken.out.items c.end.new.out.items c.loop-taken.handled at c.loop-taken-test.true
     (c.loop-taken.invariant.goes limits c' s t st al) (record { state = refl; entries = refl }) kept.1 kept.0) c.end.ensures.err
 
 pub returns-in_err-handled-clause-err : goal.returns-in_err-handled-clause-err
@@ -52,7 +52,7 @@ returns-in_err-handled-clause-err g c =
       heard_is = c.in-Ok.ensures.heard limits _ w.2.stands;
       ending_is = c.in-Ok.ensures.ended limits _ w.2.stands;
     })
-    p.0 c.in_err-handled.field-0.0 c.handle_one.result c.counted.result within
+    p.0 c.in_err-handled.field-0.0 c.handle_one.result c.counted.result c.loop-taken-test.true within
     (steps-at _ _ g.S.Servant.meaning.knows _ _ c' (heard_by (meaning_at c.in-Some.message)) (table_of c.loop-taken.desk) c.handle_one.result (table_of c.handle_one.new.self) c.loop-taken.out.items c.handle_one.new.out.items rules v.clock
     (c.handle_one.ensures.did c'))
     c.counted.ensures c.in_err-handled.was p.2)

@@ -1,4 +1,4 @@
-use Rattle.std.proofs.Common.{rules, ◌≡◌, List, [], ◌∷◌}
+use Rattle.std.proofs.Common.{[], ◌∷◌}
 use Rattle.ft_orb.specs.History.{Lost, Opened, Piece}
 use Rattle.uses.specs.Serving.{first_output, second_output, tickets_made}
 use Rattle.uses.proofs.Served.{appended, as_made}
