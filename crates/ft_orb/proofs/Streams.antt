@@ -1,5 +1,5 @@
 -- Sessions over a wire: how they begin, go on and end.
-use Rattle.std.proofs.Common.{◌≡◌, ◌⊎◌, ℕ, zero, suc, ◌+◌, ◌<◌, ◌≤◌, ◌==◌, Bool, true, false, not, if◌then◌else◌, List, [], ◌∷◌, ◌++◌, drop, length, map, take, Option, Some, Result, Ok, Err, OnErr, inl, inr, refl, sym, ap, subst, ◌∙◌, append_assoc, arith}
+use Rattle.std.proofs.Common.{◌≡◌, ◌⊎◌, ℕ, zero, suc, ◌+◌, ◌<◌, ◌≤◌, ◌==◌, Bool, true, false, not, if◌then◌else◌, List, [], ◌∷◌, ◌++◌, drop, length, map, take, Option, Some, None, is_err, is_none, Result, Ok, Err, OnErr, OnOk, inl, inr, refl, sym, ap, subst, ◌∙◌, append_assoc, arith}
 use Rattle.std.specs.BTreeMap.{get}
 use Rattle.std.specs.List.{concat}
 use Rattle.std.specs.Ordering.{nat_cmp}
@@ -7,9 +7,11 @@ use Rattle.std.proofs.Math.Seq.{take-add}
 use Rattle.std.proofs.lemmas.List.{append-nil, map-append, take-append-drop}
 use Rattle.std.proofs.lemmas.List.Folds.{concat-append}
 use Rattle.giop_frames.specs.declared.limits.Limits.{Limits}
+use Rattle.giop_link.specs.Hearing.{Ending, ending}
 use Rattle.giop_link.specs.Linking.{close_connection}
 use Rattle.ft_log.specs.Performed.{Performed}
 use Rattle.ft_log.specs.declared.system_exception.SystemName.{SystemName}
+use Rattle.ft_orb.specs.declared.error.ServeError.{ServeError}
 use Rattle.ft_orb.specs.declared.events.Note.{Note}
 use Rattle.ft_orb.specs.declared.events.Note.TheVariants as noting
 use Rattle.ft_orb.specs.declared.server.Server.{Server}
@@ -17,13 +19,13 @@ use Rattle.ft_orb.specs.declared.wire.StreamEnd.{StreamEnd}
 use Rattle.ft_orb.specs.declared.wire.StreamEnd.TheVariants.{LinkClosed, Memory, PeerEnded, ReadFault, ReadsUsed, WriteFault}
 use Rattle.ft_orb.specs.declared.wire.WireError.{WireError}
 use Rattle.ft_orb.specs.ExactlyOnce.{Arrival}
-use Rattle.ft_orb.specs.History.{Close, Event, Gone, Line, Lost, Piece, arrivals, line, shut}
+use Rattle.ft_orb.specs.History.{Close, Event, Gone, Line, Lost, Piece, Up, Shut, arrivals, line, shut}
 use Rattle.ft_orb.specs.Laws.{AreWithoutMemory}
-use Rattle.ft_orb.specs.Outputs.{Made, Noted, Plays, Writes, after, is_going, past_after, table_says}
+use Rattle.ft_orb.specs.Outputs.{Made, Noted, Plays, Writes, after, close_at, close_on, is_going, past_after, table_says}
 use Rattle.ft_orb.specs.Requests.{Wanted, rules_of}
 use Rattle.ft_orb.specs.Servants.{Meaning}
 use Rattle.ft_orb.specs.Sessions.{EndsEarly, GoesOn, HasEndedEarly, IsFarewell, WireTook, WireWent}
-use Rattle.ft_orb.specs.Standing.{IsFor, Stands, table_of}
+use Rattle.ft_orb.specs.Standing.{IsFor, Stands, note_of, table_of}
 use Rattle.ft_orb.specs.Table.{AreAlike, table_after}
 use Rattle.ft_orb.specs.Wires.{AreNoted, ClockSays, HasEnded, IsEndedBy, IsFront, Session, Timed, Traffic, WireSays, after_read, after_write, answers_in, events_in, past_with, traffic_with}
 
@@ -32,6 +34,14 @@ use Rattle.ft_orb.specs.Wires.{AreNoted, ClockSays, HasEnded, IsEndedBy, IsFront
 pub on_err-of : {A E P : Type 0} (r : Result A E) → P → OnErr r P
 on_err-of (Ok x) p = tt
 on_err-of (Err e) p = p
+
+pub on_err-is : {A E P : Type 0} (r : Result A E) → is_err r ≡ true → OnErr r P → P
+on_err-is (Ok x) is p = absurd cc
+on_err-is (Err e) is p = p
+
+pub on_ok-is : {A E P : Type 0} (r : Result A E) → is_err r ≡ false → OnOk r P → P
+on_ok-is (Ok x) is p = p
+on_ok-is (Err e) is p = absurd cc
 
 after_read-some : (t : Traffic) (buffer : List ℕ) (n : ℕ) → 0 < n → after_read t buffer (Ok n) ≡ record t { pieces = t.pieces ++ take n buffer ∷ [] }
 after_read-some t buffer zero h = absurd (omega arith)
@@ -50,8 +60,14 @@ pub took_more : (old mid new : Option Traffic) (octets left : List ℕ) (k n : �
     → ((t : Traffic) → mid ≡ Some t → new ≡ Some (after_write t left (Ok n))) → (t : Traffic) → old ≡ Some t → new ≡ Some (record t { written = t.written ++ take (k + n) octets })
 took_more old mid new octets left k n at some was did t is =
     let e : (t.written ++ take k octets) ++ take n left ≡ t.written ++ take (k + n) octets =
-        append_assoc t.written (take k octets) (take n left) ∙ ap (λ (xs : List ℕ). t.written ++ xs) (ap (λ (xs : List ℕ). take k octets ++ take n xs) at ∙ sym (take-add k n octets)) in
+    append_assoc t.written (take k octets) (take n left) ∙ ap (λ (xs : List ℕ). t.written ++ xs) (ap (λ (xs : List ℕ). take k octets ++ take n xs) at ∙ sym (take-add k n octets)) in
     did (record t { written = t.written ++ take k octets }) (was t is) ∙ ap (λ (u : Traffic). Some u) (after_write-some (record t { written = t.written ++ take k octets }) left n some) ∙ (λ i. Some (record t { written = e i }))
+
+-- a read of nothing
+pub was_none : (old new : Option Traffic) (buffer : List ℕ) (n : ℕ) → n ≡ 0 → ((t : Traffic) → old ≡ Some t → new ≡ Some (after_read t buffer (Ok n)))
+    → (t : Traffic) → old ≡ Some t → new ≡ Some (record t { empty_reads = t.empty_reads + 1 })
+was_none old new buffer zero h did t is = did t is
+was_none old new buffer (suc n) h did t is = absurd (omega arith)
 
 -- a read of a piece
 pub was_read : (old new : Option Traffic) (buffer piece : List ℕ) (n : ℕ) → piece ≡ take n buffer → 0 < n → ((t : Traffic) → old ≡ Some t → new ≡ Some (after_read t buffer (Ok n)))
@@ -101,7 +117,7 @@ answers-joined s u = ap (λ (xs : List (List ℕ)). concat xs) (map-append (λ (
 traffic-joined : (t : Traffic) (s u : Session) → traffic_with t (joined s u) ≡ traffic_with (traffic_with t s) u
 traffic-joined t s u =
     let came : t.pieces ++ map (λ (p : Timed). p.octets) (s.pieces ++ u.pieces) ≡ (t.pieces ++ map (λ (p : Timed). p.octets) s.pieces) ++ map (λ (p : Timed). p.octets) u.pieces =
-        ap (λ (xs : List (List ℕ)). t.pieces ++ xs) (map-append (λ (p : Timed). p.octets) s.pieces u.pieces) ∙ sym (append_assoc t.pieces (map (λ (p : Timed). p.octets) s.pieces) (map (λ (p : Timed). p.octets) u.pieces)) in
+    ap (λ (xs : List (List ℕ)). t.pieces ++ xs) (map-append (λ (p : Timed). p.octets) s.pieces u.pieces) ∙ sym (append_assoc t.pieces (map (λ (p : Timed). p.octets) s.pieces) (map (λ (p : Timed). p.octets) u.pieces)) in
     let went : t.written ++ (s.sent ++ u.sent) ≡ (t.written ++ s.sent) ++ u.sent = sym (append_assoc t.written s.sent u.sent) in
     λ i. record t { pieces = came i; written = went i }
 
@@ -149,7 +165,7 @@ module _ {State : Type 0} (meaning : Meaning State) (made : Made State) (past : 
       → Plays made.limits meaning.knows (table_says meaning made) past (events_in c (joined s u)) (s.entries ++ u.entries)
   plays-joined s u p q =
       subst (λ (es : List Event). Plays made.limits meaning.knows (table_says meaning made) past es (s.entries ++ u.entries)) (sym (events-joined c s u))
-          (plays-append made.limits meaning.knows (table_says meaning made) past (events_in c s) s.entries (events_in c u) u.entries p q)
+      (plays-append made.limits meaning.knows (table_says meaning made) past (events_in c s) s.entries (events_in c u) u.entries p q)
 
   pub goes-none : (server : Server State) → Stands meaning made server past → is_going made.limits (line past c) ≡ true → GoesOn meaning made past c wire clock none server wire clock
   goes-none server st going = record {
@@ -282,6 +298,24 @@ module _ {State : Type 0} (meaning : Meaning State) (made : Made State) (past : 
             not-false false h = absurd cc
 
 -- The end.
+
+-- what a close writes
+going-close : (limits : Limits) (l : Line) → is_going limits l ≡ true → close_on limits l ≡ close_connection
+going-close limits Gone h = absurd cc
+going-close limits Shut h = absurd cc
+going-close limits (Up s) h = going-end (ending limits s) h
+  where
+    going-end : (e : Option Ending) → is_none e ≡ true → close_at e ≡ close_connection
+    going-end None h = refl
+    going-end (Some e) h = absurd cc
+
+pub closed-by : {A : Type 0} (limits : Limits) (knows : List ℕ → Bool) (answers : List Event → Event → List (Result Performed SystemName)) (past : List Event) (c : ℕ) (r : Result A ServeError) (written : List ℕ) → is_err r ≡ false
+    → is_going limits (line past c) ≡ true → Writes limits knows answers past (Close c) written (note_of r) → written ≡ close_connection
+closed-by limits knows answers past c (Ok x) written n going h = h.0 ∙ going-close limits (line past c) going
+closed-by limits knows answers past c (Err e) written n going h = absurd cc
+
+pub front-of : (n : ℕ) (octets whole : List ℕ) → octets ≡ whole → IsFront (take n octets) whole
+front-of n octets whole is = (drop n octets, sym is ∙ sym (take-append-drop n octets))
 
 -- a connection that is lost after all
 lost-line : (b : Bool) (l : Line) → (if b then Gone else (if b then shut l else l)) ≡ (if b then Gone else l)

@@ -5,13 +5,18 @@ use Rattle.ft_orb.proofs.streaming.write_all.Goals as goal
 
 pub returns-in_err-n-clause-err : goal.returns-in_err-n-clause-err
 returns-in_err-n-clause-err g c =
-    on_err-of c.from_residual.result (c.loop-taken.taken, λ t is. let u = record t { written = t.written ++ take c.loop-taken.taken c.args.octets.now } in
-    (record u { failed_writes = u.failed_writes + 1 }, c.in_err-n.ensures.traffic u (c.loop-taken.invariant.wired t is), inr refl))
+    on_err-of c.from_residual.result (
+      c.loop-taken.taken,
+      λ t is. let u = record t { written = t.written ++ take c.loop-taken.taken c.args.octets.now } in
+          (record u { failed_writes = u.failed_writes + 1 }, c.in_err-n.ensures.traffic u (c.loop-taken.invariant.wired t is), inr refl),
+    )
 
 pub returns-then-n-eq0-clause-err : goal.returns-then-n-eq0-clause-err
-returns-then-n-eq0-clause-err g c =
-    (c.loop-taken.taken, λ t is. let u = record t { written = t.written ++ take c.loop-taken.taken c.args.octets.now } in
-    (record u { empty_writes = u.empty_writes + 1 }, c.in_ok-n.ensures.traffic u (c.loop-taken.invariant.wired t is) ∙ ap (λ (v : Traffic). Some v) (after_write-none u c.split_at.result.1.now c.in_ok-n.n c.if-n-eq0.true), inl refl))
+returns-then-n-eq0-clause-err g c = (
+  c.loop-taken.taken,
+  λ t is. let u = record t { written = t.written ++ take c.loop-taken.taken c.args.octets.now } in
+      (record u { empty_writes = u.empty_writes + 1 }, c.in_ok-n.ensures.traffic u (c.loop-taken.invariant.wired t is) ∙ ap (λ (v : Traffic). Some v) (after_write-none u c.split_at.result.1.now c.in_ok-n.n c.if-n-eq0.true), inl refl),
+)
 
 pub loop-taken-preserved : goal.loop-taken-preserved
 loop-taken-preserved g c = record {
