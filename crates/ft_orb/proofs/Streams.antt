@@ -27,9 +27,19 @@ use Rattle.ft_orb.specs.Servants.{Meaning}
 use Rattle.ft_orb.specs.Sessions.{EndsEarly, GoesOn, HasEndedEarly, IsFarewell, WireTook, WireWent}
 use Rattle.ft_orb.specs.Standing.{IsFor, Stands, note_of, table_of}
 use Rattle.ft_orb.specs.Table.{AreAlike, table_after}
-use Rattle.ft_orb.specs.Wires.{AreNoted, ClockSays, HasEnded, IsEndedBy, IsFront, Session, Timed, Traffic, WireSays, after_read, after_write, answers_in, events_in, past_with, traffic_with}
+use Rattle.ft_orb.specs.Wires.{AreNoted, ClockSays, Follows, HasEnded, IsEndedBy, IsFront, Session, Timed, Traffic, WireSays, after_read, after_write, answers_in, events_in, past_with, traffic_with}
 
 -- Calls of a wire.
+
+module _ {A : Type 0} where
+  pub follows-then : (P Q R : A → A → Type 0) (old mid new : Option A) → Follows P old mid → Follows Q mid new → ((a b d : A) → P a b → Q b d → R a d) → Follows R old new
+  follows-then P Q R old mid new p q r now is =
+      let y = q now is in
+      let x = p y.0 y.1 in
+      (x.0, x.1, r x.0 y.0 now x.2 y.2)
+
+  pub follows-as : (P Q : A → A → Type 0) (old new : Option A) → Follows P old new → ((a b : A) → P a b → Q a b) → Follows Q old new
+  follows-as P Q old new p r now is = let x = p now is in (x.0, x.1, r x.0 now x.2)
 
 pub on_err-of : {A E P : Type 0} (r : Result A E) → P → OnErr r P
 on_err-of (Ok x) p = tt
@@ -56,23 +66,21 @@ after_write-none t octets zero h = refl
 after_write-none t octets (suc n) h = absurd (omega arith)
 
 -- a write goes on
-pub took_more : (old mid new : Option Traffic) (octets left : List ℕ) (k n : ℕ) → left ≡ drop k octets → 0 < n → ((t : Traffic) → old ≡ Some t → mid ≡ Some (record t { written = t.written ++ take k octets }))
-    → ((t : Traffic) → mid ≡ Some t → new ≡ Some (after_write t left (Ok n))) → (t : Traffic) → old ≡ Some t → new ≡ Some (record t { written = t.written ++ take (k + n) octets })
-took_more old mid new octets left k n at some was did t is =
-    let e : (t.written ++ take k octets) ++ take n left ≡ t.written ++ take (k + n) octets =
-    append_assoc t.written (take k octets) (take n left) ∙ ap (λ (xs : List ℕ). t.written ++ xs) (ap (λ (xs : List ℕ). take k octets ++ take n xs) at ∙ sym (take-add k n octets)) in
-    did (record t { written = t.written ++ take k octets }) (was t is) ∙ ap (λ (u : Traffic). Some u) (after_write-some (record t { written = t.written ++ take k octets }) left n some) ∙ (λ i. Some (record t { written = e i }))
+pub took_more : (old mid new : Option Traffic) (octets left : List ℕ) (k n : ℕ) → left ≡ drop k octets → 0 < n → Follows (λ t u. u ≡ record t { written = t.written ++ take k octets }) old mid → Follows (λ t u. u ≡ after_write t left (Ok n)) mid new
+    → Follows (λ t u. u ≡ record t { written = t.written ++ take (k + n) octets }) old new
+took_more old mid new octets left k n at some was did =
+    let e : (t : Traffic) → (t.written ++ take k octets) ++ take n left ≡ t.written ++ take (k + n) octets =
+    λ t. append_assoc t.written (take k octets) (take n left) ∙ ap (λ (xs : List ℕ). t.written ++ xs) (ap (λ (xs : List ℕ). take k octets ++ take n xs) at ∙ sym (take-add k n octets)) in
+    follows-then _ _ _ old mid new was did (λ t u v a b. b ∙ after_write-some u left n some ∙ ap (λ (w : Traffic). record w { written = w.written ++ take n left }) a ∙ (λ i. record t { written = e t i }))
 
 -- a read of nothing
-pub was_none : (old new : Option Traffic) (buffer : List ℕ) (n : ℕ) → n ≡ 0 → ((t : Traffic) → old ≡ Some t → new ≡ Some (after_read t buffer (Ok n)))
-    → (t : Traffic) → old ≡ Some t → new ≡ Some (record t { empty_reads = t.empty_reads + 1 })
-was_none old new buffer zero h did t is = did t is
-was_none old new buffer (suc n) h did t is = absurd (omega arith)
+pub was_none : (old new : Option Traffic) (buffer : List ℕ) (n : ℕ) → n ≡ 0 → Follows (λ t u. u ≡ after_read t buffer (Ok n)) old new → Follows (λ t u. u ≡ record t { empty_reads = t.empty_reads + 1 }) old new
+was_none old new buffer zero h did = did
+was_none old new buffer (suc n) h did = absurd (omega arith)
 
 -- a read of a piece
-pub was_read : (old new : Option Traffic) (buffer piece : List ℕ) (n : ℕ) → piece ≡ take n buffer → 0 < n → ((t : Traffic) → old ≡ Some t → new ≡ Some (after_read t buffer (Ok n)))
-    → (t : Traffic) → old ≡ Some t → new ≡ Some (record t { pieces = t.pieces ++ piece ∷ [] })
-was_read old new buffer piece n at some did t is = did t is ∙ ap (λ (u : Traffic). Some u) (after_read-some t buffer n some) ∙ (λ i. Some (record t { pieces = t.pieces ++ sym at i ∷ [] }))
+pub was_read : (old new : Option Traffic) (buffer piece : List ℕ) (n : ℕ) → piece ≡ take n buffer → 0 < n → Follows (λ t u. u ≡ after_read t buffer (Ok n)) old new → Follows (λ t u. u ≡ record t { pieces = t.pieces ++ piece ∷ [] }) old new
+was_read old new buffer piece n at some did = follows-as _ _ old new did (λ t u is. is ∙ after_read-some t buffer n some ∙ (λ i. record t { pieces = t.pieces ++ sym at i ∷ [] }))
 
 -- Plays.
 
@@ -122,15 +130,16 @@ traffic-joined t s u =
     λ i. record t { pieces = came i; written = went i }
 
 clock-joined : (s u : Session) (old mid new : Option (List ℕ)) → ClockSays s old mid → ClockSays u mid new → ClockSays (joined s u) old new
-clock-joined s u old mid new x y moments is =
-    y (moments ++ map (λ (p : Timed). p.moment) s.pieces) (x moments is)
-    ∙ ap (λ (xs : List ℕ). Some xs) (append_assoc moments (map (λ (p : Timed). p.moment) s.pieces) (map (λ (p : Timed). p.moment) u.pieces) ∙ ap (λ (xs : List ℕ). moments ++ xs) (sym (map-append (λ (p : Timed). p.moment) s.pieces u.pieces)))
+clock-joined s u old mid new x y =
+    follows-then _ _ _ old mid new x y (λ before between now a b.
+    b ∙ ap (λ (xs : List ℕ). xs ++ map (λ (p : Timed). p.moment) u.pieces) a
+    ∙ append_assoc before (map (λ (p : Timed). p.moment) s.pieces) (map (λ (p : Timed). p.moment) u.pieces) ∙ ap (λ (xs : List ℕ). before ++ xs) (sym (map-append (λ (p : Timed). p.moment) s.pieces u.pieces)))
 
 traffic-none : (t : Traffic) → t ≡ traffic_with t none
 traffic-none t = let came = sym (append-nil t.pieces) in let went = sym (append-nil t.written) in λ i. record t { pieces = came i; written = went i }
 
 clock-none : (old : Option (List ℕ)) → ClockSays none old old
-clock-none old moments is = is ∙ ap (λ (xs : List ℕ). Some xs) (sym (append-nil moments))
+clock-none old moments is = (moments, is, sym (append-nil moments))
 
 noted-on : (end : StreamEnd) (ws vs : List Noted) → AreWithoutMemory ws → AreNoted end vs → AreNoted end (ws ++ vs)
 noted-on PeerEnded ws vs p q = plain-append ws vs p q
@@ -174,7 +183,7 @@ module _ {State : Type 0} (meaning : Meaning State) (made : Made State) (past : 
     stands = st;
     going = going;
     sent = refl;
-    wired = λ t is. is ∙ ap (λ (u : Traffic). Some u) (traffic-none t);
+    wired = λ u is. (u, is, traffic-none u);
     clocked = clock-none clock;
   }
 
@@ -188,7 +197,7 @@ module _ {State : Type 0} (meaning : Meaning State) (made : Made State) (past : 
         stands = subst (λ (q : List Event). Stands meaning made later q) (sym same) y.stands;
         going = subst (λ (q : List Event). is_going made.limits (line q c) ≡ true) (sym same) y.going;
         sent = whole-on s u x.sent y.sent;
-        wired = λ t is. y.wired (traffic_with t s) (x.wired t is) ∙ ap (λ (v : Traffic). Some v) (sym (traffic-joined t s u));
+        wired = follows-then _ _ _ wire mid new x.wired y.wired (λ t v w a b. b ∙ ap (λ (q : Traffic). traffic_with q u) a ∙ sym (traffic-joined t s u));
         clocked = clock-joined s u clock earlier now x.clocked y.clocked;
       }
 
@@ -201,39 +210,39 @@ module _ {State : Type 0} (meaning : Meaning State) (made : Made State) (past : 
         plain = noted-on end s.entries u.entries x.plain y.plain;
         stands = subst (λ (q : List Event). Stands meaning made later q) (sym same) y.stands;
         ended = ended-on made.limits past c s u end x.sent same y.ended;
-        wired = λ t is. let v = y.wired (traffic_with t s) (x.wired t is) in (v.0, v.1, subst (λ (q : Traffic). IsEndedBy end q v.0) (sym (traffic-joined t s u)) v.2);
+        wired = follows-then _ _ _ wire mid new x.wired y.wired (λ t v w a b. subst (λ (q : Traffic). IsEndedBy end q w) (ap (λ (q : Traffic). traffic_with q u) a ∙ sym (traffic-joined t s u)) b);
         clocked = clock-joined s u clock earlier now x.clocked y.clocked;
       }
 
   -- One read.
 
   -- a read that gave nothing
-  pub ends-peer : (server : Server State) (new : Option Traffic) → Stands meaning made server past → ((t : Traffic) → wire ≡ Some t → new ≡ Some (record t { empty_reads = t.empty_reads + 1 }))
+  pub ends-peer : (server : Server State) (new : Option Traffic) → Stands meaning made server past → Follows (λ t u. u ≡ record t { empty_reads = t.empty_reads + 1 }) wire new
       → EndsEarly meaning made past c wire clock none PeerEnded server new clock
   ends-peer server new st did = record {
     plays = tt;
     plain = tt;
     stands = st;
     ended = refl;
-    wired = λ t is. (record t { empty_reads = t.empty_reads + 1 }, did t is, ap (λ (v : Traffic). record v { empty_reads = v.empty_reads + 1 }) (traffic-none t));
+    wired = follows-as _ _ wire new did (λ t u is. is ∙ ap (λ (v : Traffic). record v { empty_reads = v.empty_reads + 1 }) (traffic-none t));
     clocked = clock-none clock;
   }
 
   -- a read that failed
-  pub ends-read : (server : Server State) (new : Option Traffic) → Stands meaning made server past → ((t : Traffic) → wire ≡ Some t → new ≡ Some (record t { failed_reads = t.failed_reads + 1 }))
+  pub ends-read : (server : Server State) (new : Option Traffic) → Stands meaning made server past → Follows (λ t u. u ≡ record t { failed_reads = t.failed_reads + 1 }) wire new
       → EndsEarly meaning made past c wire clock none ReadFault server new clock
   ends-read server new st did = record {
     plays = tt;
     plain = tt;
     stands = st;
     ended = refl;
-    wired = λ t is. (record t { failed_reads = t.failed_reads + 1 }, did t is, ap (λ (v : Traffic). record v { failed_reads = v.failed_reads + 1 }) (traffic-none t));
+    wired = follows-as _ _ wire new did (λ t u is. is ∙ ap (λ (v : Traffic). record v { failed_reads = v.failed_reads + 1 }) (traffic-none t));
     clocked = clock-none clock;
   }
 
   module _ (moment : ℕ) (piece written : List ℕ) (mid new : Option Traffic) (now : Option (List ℕ)) (server : Server State)
-      (read : (t : Traffic) → wire ≡ Some t → mid ≡ Some (record t { pieces = t.pieces ++ piece ∷ [] }))
-      (gave : (moments : List ℕ) → clock ≡ Some moments → now ≡ Some (moments ++ moment ∷ [])) where
+      (read : Follows (λ t u. u ≡ record t { pieces = t.pieces ++ piece ∷ [] }) wire mid)
+      (gave : Follows (λ before after. after ≡ before ++ moment ∷ []) clock now) where
     abbrev pub timed : Timed
     timed = record { moment = moment; octets = piece }
 
@@ -249,7 +258,7 @@ module _ {State : Type 0} (meaning : Meaning State) (made : Made State) (past : 
       plain = ([], entry (noting.Memory handled answered) ∷ [], refl, tt, omega arith);
       stands = st;
       ended = (written ++ [], refl);
-      wired = λ t is. (record t { pieces = t.pieces ++ piece ∷ [] }, read t is, (let went = sym (append-nil t.written) in λ i. record t { pieces = t.pieces ++ piece ∷ []; written = went i }));
+      wired = follows-as _ _ wire mid read (λ t u is. is ∙ (let went = sym (append-nil t.written) in λ i. record t { pieces = t.pieces ++ piece ∷ []; written = went i }));
       clocked = gave;
     }
 
@@ -261,11 +270,11 @@ module _ {State : Type 0} (meaning : Meaning State) (made : Made State) (past : 
         plain = (refl, tt);
         stands = st;
         ended = (drop n written, append-nil written ∙ sym (take-append-drop n written));
-        wired = λ t is. took (record t { pieces = t.pieces ++ piece ∷ [] }) (read t is);
+        wired = follows-then _ _ _ wire mid new read took (λ t u v a b. subst (λ (q : Traffic). IsEndedBy WriteFault (record q { written = q.written ++ take n written }) v) a b);
         clocked = gave;
       }
 
-      module _ (took : (t : Traffic) → mid ≡ Some t → new ≡ Some (record t { written = t.written ++ written })) where
+      module _ (took : Follows (λ t u. u ≡ record t { written = t.written ++ written }) mid new) where
         -- a stream that has ended
         pub ends-closed : (closed : Bool) → closed ≡ not (is_going made.limits (line (Piece c moment piece ∷ past) c)) → closed ≡ true → EndsEarly meaning made past c wire clock (one timed (entry noting.Done) written) LinkClosed server new now
         ends-closed closed is so = record {
@@ -273,7 +282,7 @@ module _ {State : Type 0} (meaning : Meaning State) (made : Made State) (past : 
           plain = (refl, tt);
           stands = st;
           ended = (sym (append-nil written), not-true (is_going made.limits (line (Piece c moment piece ∷ past) c)) (sym so ∙ is));
-          wired = λ t is. (record t { pieces = t.pieces ++ piece ∷ []; written = t.written ++ written }, took (record t { pieces = t.pieces ++ piece ∷ [] }) (read t is), refl);
+          wired = follows-then _ _ _ wire mid new read took (λ t u v a b. b ∙ ap (λ (q : Traffic). record q { written = q.written ++ written }) a);
           clocked = gave;
         }
           where
@@ -289,7 +298,7 @@ module _ {State : Type 0} (meaning : Meaning State) (made : Made State) (past : 
           stands = st;
           going = not-false (is_going made.limits (line (Piece c moment piece ∷ past) c)) (sym so ∙ is);
           sent = sym (append-nil written);
-          wired = λ t is. took (record t { pieces = t.pieces ++ piece ∷ [] }) (read t is);
+          wired = follows-then _ _ _ wire mid new read took (λ t u v a b. b ∙ ap (λ (q : Traffic). record q { written = q.written ++ written }) a);
           clocked = gave;
         }
           where
@@ -390,6 +399,7 @@ module _ {State : Type 0} (meaning : Meaning State) (made : Made State) (past : 
     ended-farewell made.limits past c reads s sent end x.sent all said,
     omega (arith, all),
     lost-closed meaning made lost (past_with made.limits past c s) c note (loses (after made.limits (past_with made.limits past c s) (Close c) note) st),
-    (λ t is. let v = took (traffic_with t s) (x.wired t is) in (v.0, v.1, subst (λ (xs : List ℕ). IsEndedBy end (record (traffic_with t s) { written = xs }) v.0) (append_assoc t.written s.sent sent) v.2)),
+    follows-then _ _ _ wire mid new x.wired took (λ t u v a b.
+        subst (λ (q : Traffic). IsEndedBy end q v) (ap (λ (q : Traffic). record q { written = q.written ++ sent }) a ∙ (λ i. record (traffic_with t s) { written = append_assoc t.written s.sent sent i })) b),
     x.clocked,
   )

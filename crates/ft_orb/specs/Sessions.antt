@@ -11,7 +11,7 @@ use Rattle.ft_orb.specs.Laws.{AreWithoutMemory}
 use Rattle.ft_orb.specs.Outputs.{Made, Plays, after, is_going, table_says}
 use Rattle.ft_orb.specs.Servants.{Meaning}
 use Rattle.ft_orb.specs.Standing.{Stands}
-use Rattle.ft_orb.specs.Wires.{AreNoted, ClockSays, IsEndedBy, IsFront, Session, Traffic, WireSays, answers_in, events_in, past_with, traffic_with}
+use Rattle.ft_orb.specs.Wires.{AreNoted, ClockSays, Follows, IsEndedBy, IsFront, Session, Traffic, WireSays, answers_in, events_in, past_with, traffic_with}
 
 -- what an end before the last read says
 abbrev pub HasEndedEarly : Limits → List Event → ℕ → Session → StreamEnd → Type 0
@@ -24,11 +24,11 @@ HasEndedEarly limits past c s Memory = IsFront s.sent (answers_in s)
 
 -- a wire that has done no more than the session
 abbrev pub WireWent : Session → Option Traffic → Option Traffic → Type 0
-WireWent s old new = (t : Traffic) → old ≡ Some t → new ≡ Some (traffic_with t s)
+WireWent s old new = Follows (λ t u. u ≡ traffic_with t s) old new
 
 -- a wire that took these octets, and ended so
 abbrev pub WireTook : StreamEnd → List ℕ → Option Traffic → Option Traffic → Type 0
-WireTook end octets old new = (t : Traffic) → old ≡ Some t → (u : Traffic) × (new ≡ Some u) × IsEndedBy end (record t { written = t.written ++ octets }) u
+WireTook end octets old new = Follows (λ t u. IsEndedBy end (record t { written = t.written ++ octets }) u) old new
 
 module _ {State : Type 0} (meaning : Meaning State) (made : Made State) (past : List Event) (c : ℕ) (wire : Option Traffic) (clock : Option (List ℕ)) (s : Session) where
   -- the session goes on

@@ -10,6 +10,10 @@ use Rattle.ft_orb.specs.History.{Event, Piece, line}
 use Rattle.ft_orb.specs.Laws.{AreWithoutMemory}
 use Rattle.ft_orb.specs.Outputs.{Noted, is_going, past_after}
 
+-- where something is known of a thing afterwards, something was known before, and the one follows from the other so
+abbrev pub Follows : {A : Type 0} → (A → A → Type 0) → Option A → Option A → Type 0
+Follows {A} step old new = (now : A) → new ≡ Some now → (before : A) × (old ≡ Some before) × step before now
+
 -- what a wire has done so far: the pieces that were read, the first first, how many reads gave no octet, and how many failed; the
 -- octets that it took, how many writes took none, and how many failed
 pub record Traffic : Type 0 where
@@ -84,10 +88,10 @@ IsEndedBy ReadFault t u = u ≡ record t { failed_reads = t.failed_reads + 1 }
 IsEndedBy WriteFault t u = (u ≡ record t { empty_writes = t.empty_writes + 1 }) ⊎ (u ≡ record t { failed_writes = t.failed_writes + 1 })
 IsEndedBy end t u = u ≡ t
 
--- where a wire says what it does, it says that
+-- what is known of a wire says that
 abbrev pub WireSays : StreamEnd → Session → Option Traffic → Option Traffic → Type 0
-WireSays end s old new = (t : Traffic) → old ≡ Some t → (u : Traffic) × (new ≡ Some u) × IsEndedBy end (traffic_with t s) u
+WireSays end s old new = Follows (λ t u. IsEndedBy end (traffic_with t s) u) old new
 
--- where a clock says what it gives, it gave the moments of the pieces
+-- what is known of a clock says that it gave the moments of the pieces
 abbrev pub ClockSays : Session → Option (List ℕ) → Option (List ℕ) → Type 0
-ClockSays s old new = (moments : List ℕ) → old ≡ Some moments → new ≡ Some (moments ++ map (λ p. p.moment) s.pieces)
+ClockSays s old new = Follows (λ before now. now ≡ before ++ map (λ p. p.moment) s.pieces) old new

@@ -6,7 +6,7 @@ ghost use Rattle.ft_orb.specs.History.{line};
 ghost use Rattle.ft_orb.specs.Outputs.{Made, Plays, after, is_going, table_says};
 ghost use Rattle.ft_orb.specs.Sessions.{EndsEarly, GoesOn, IsFarewell, WireTook};
 ghost use Rattle.ft_orb.specs.Standing.{Stands};
-ghost use Rattle.ft_orb.specs.Wires.{AreNoted, ClockSays, HasEnded, Session, Traffic, WireSays, events_in, past_with};
+ghost use Rattle.ft_orb.specs.Wires.{AreNoted, ClockSays, Follows, HasEnded, Session, Traffic, WireSays, events_in, past_with};
 ghost use Rattle.ft_orb.specs.declared.events.Note.{Note};
 
 use crate::error::ServeError;
@@ -20,7 +20,7 @@ const PIECE: usize = 4096;
 
 /// Writes octets until the wire has taken them all.
 fn write_all<W: Wire>(wire: &mut W, octets: &[u8]) -> Result<(), WireError>
-    ensures ok { OnOk result ((t : Traffic) → W.traffic wire.old ≡ Some t → W.traffic wire.new ≡ Some (record t { written = t.written ++ octets.now })) }
+    ensures ok { OnOk result (Follows (λ t u. u ≡ record t { written = t.written ++ octets.now }) (W.traffic wire.old) (W.traffic wire.new)) }
     ensures err { OnErr result ((n : ℕ) × WireTook StreamEnd.WriteFault (take n octets.now) (W.traffic wire.old) (W.traffic wire.new)) }
 {
     let mut taken = 0;

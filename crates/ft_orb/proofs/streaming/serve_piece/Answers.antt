@@ -4,7 +4,7 @@ use Rattle.ft_orb.specs.declared.wire.StreamEnd.TheVariants.{WriteFault}
 use Rattle.ft_orb.specs.History.{Piece}
 use Rattle.ft_orb.specs.Outputs.{table_says}
 use Rattle.ft_orb.specs.Sessions.{WireTook}
-use Rattle.ft_orb.specs.Wires.{Traffic}
+use Rattle.ft_orb.specs.Wires.{Follows, Traffic}
 use Rattle.ft_orb.proofs.Streams.{ends-closed, ends-memory, ends-peer, ends-read, ends-write, goes-one, none, on_err-is, on_ok-is, one, was_none, was_read}
 use Rattle.ft_orb.proofs.streaming.serve_piece.Goals as goal
 
@@ -54,7 +54,7 @@ returns-then-is_closed g c made past st going =
       one (record { moment = c.now-moment.result; octets = c.split_at.result.0.now }) (record { connection = c.args.connection; octets = w.0; note = Done }) w.0,
       (
         ends-closed g.S.Servant.meaning made past c.args.connection (g.W.Wire.traffic c.args.wire.now) (g.C.Clock.given c.args.clock.now) c.now-moment.result c.split_at.result.0.now w.0 (g.W.Wire.traffic c.read.new.self) (g.W.Wire.traffic c.write_all.new.wire) (g.C.Clock.given c.now-moment.new.self) c.feed.new.self read c.now-moment.ensures
-            w.2 w.3 (subst (λ (xs : List ℕ). (t : Traffic) → g.W.Wire.traffic c.read.new.self ≡ Some t → g.W.Wire.traffic c.write_all.new.wire ≡ Some (record t { written = t.written ++ xs })) is sent)
+            w.2 w.3 (subst (λ (xs : List ℕ). Follows (λ (t u : Traffic). u ≡ record t { written = t.written ++ xs }) (g.W.Wire.traffic c.read.new.self) (g.W.Wire.traffic c.write_all.new.wire)) is sent)
             c.is_closed.result (c.is_closed.ensures made (Piece c.args.connection c.now-moment.result c.split_at.result.0.now ∷ past) w.3) c.if-is_closed.true,
         omega arith,
       ),
@@ -70,7 +70,7 @@ returns g c made past st going =
       one (record { moment = c.now-moment.result; octets = c.split_at.result.0.now }) (record { connection = c.args.connection; octets = w.0; note = Done }) w.0,
       (
         goes-one g.S.Servant.meaning made past c.args.connection (g.W.Wire.traffic c.args.wire.now) (g.C.Clock.given c.args.clock.now) c.now-moment.result c.split_at.result.0.now w.0 (g.W.Wire.traffic c.read.new.self) (g.W.Wire.traffic c.write_all.new.wire) (g.C.Clock.given c.now-moment.new.self) c.feed.new.self read c.now-moment.ensures
-            w.2 w.3 (subst (λ (xs : List ℕ). (t : Traffic) → g.W.Wire.traffic c.read.new.self ≡ Some t → g.W.Wire.traffic c.write_all.new.wire ≡ Some (record t { written = t.written ++ xs })) is sent)
+            w.2 w.3 (subst (λ (xs : List ℕ). Follows (λ (t u : Traffic). u ≡ record t { written = t.written ++ xs }) (g.W.Wire.traffic c.read.new.self) (g.W.Wire.traffic c.write_all.new.wire)) is sent)
             c.is_closed.result (c.is_closed.ensures made (Piece c.args.connection c.now-moment.result c.split_at.result.0.now ∷ past) w.3) c.if-is_closed.false,
         refl,
       ),

@@ -1,22 +1,15 @@
 use Rattle.std.proofs.Common.{◌<◌, ◌+◌, ◌++◌, take, Some, ap, ◌∙◌, inl, inr, refl, arith}
 use Rattle.ft_orb.specs.Wires.{Traffic}
-use Rattle.ft_orb.proofs.Streams.{after_write-none, on_err-of, took_more}
+use Rattle.ft_orb.proofs.Streams.{after_write-none, follows-then, on_err-of, took_more}
 use Rattle.ft_orb.proofs.streaming.write_all.Goals as goal
 
 pub returns-in_err-n-clause-err : goal.returns-in_err-n-clause-err
 returns-in_err-n-clause-err g c =
-    on_err-of c.from_residual.result (
-      c.loop-taken.taken,
-      λ t is. let u = record t { written = t.written ++ take c.loop-taken.taken c.args.octets.now } in
-          (record u { failed_writes = u.failed_writes + 1 }, c.in_err-n.ensures.traffic u (c.loop-taken.invariant.wired t is), inr refl),
-    )
+    on_err-of c.from_residual.result (c.loop-taken.taken, follows-then _ _ _ _ _ _ c.loop-taken.invariant.wired c.in_err-n.ensures.traffic (λ t u v e f. inr (f ∙ ap (λ (w : Traffic). record w { failed_writes = w.failed_writes + 1 }) e)))
 
 pub returns-then-n-eq0-clause-err : goal.returns-then-n-eq0-clause-err
-returns-then-n-eq0-clause-err g c = (
-  c.loop-taken.taken,
-  λ t is. let u = record t { written = t.written ++ take c.loop-taken.taken c.args.octets.now } in
-      (record u { empty_writes = u.empty_writes + 1 }, c.in_ok-n.ensures.traffic u (c.loop-taken.invariant.wired t is) ∙ ap (λ (v : Traffic). Some v) (after_write-none u c.split_at.result.1.now c.in_ok-n.n c.if-n-eq0.true), inl refl),
-)
+returns-then-n-eq0-clause-err g c =
+    (c.loop-taken.taken, follows-then _ _ _ _ _ _ c.loop-taken.invariant.wired c.in_ok-n.ensures.traffic (λ t u v e f. inl (f ∙ after_write-none u c.split_at.result.1.now c.in_ok-n.n c.if-n-eq0.true ∙ ap (λ (w : Traffic). record w { empty_writes = w.empty_writes + 1 }) e)))
 
 pub loop-taken-preserved : goal.loop-taken-preserved
 loop-taken-preserved g c = record {
