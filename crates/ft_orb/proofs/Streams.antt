@@ -27,7 +27,7 @@ use Rattle.ft_orb.specs.Servants.{Meaning}
 use Rattle.ft_orb.specs.Sessions.{EndsEarly, GoesOn, HasEndedEarly, IsFarewell, WireTook, WireWent}
 use Rattle.ft_orb.specs.Standing.{IsFor, Stands, note_of, table_of}
 use Rattle.ft_orb.specs.Table.{AreAlike, table_after}
-use Rattle.ft_orb.specs.Wires.{AreNoted, ClockSays, Follows, HasEnded, IsEndedBy, IsFront, Session, Timed, Traffic, WireSays, after_read, after_write, answers_in, events_in, past_with, traffic_with}
+use Rattle.ft_orb.specs.Wires.{AreNoted, AreSmall, ClockSays, Follows, HasEnded, IsEndedBy, IsFront, Session, Timed, Traffic, WireSays, after_read, after_write, answers_in, events_in, past_with, traffic_with}
 
 -- Calls of a wire.
 
@@ -101,6 +101,10 @@ module _ (limits : Limits) (knows : List ℕ → Bool) (answers : List Event →
 plain-append : (ws vs : List Noted) → AreWithoutMemory ws → AreWithoutMemory vs → AreWithoutMemory (ws ++ vs)
 plain-append [] vs p q = q
 plain-append (w ∷ ws) vs p q = (p.0, plain-append ws vs p.1 q)
+
+small-append : (ps qs : List Timed) → AreSmall ps → AreSmall qs → AreSmall (ps ++ qs)
+small-append [] qs p q = q
+small-append (t ∷ ps) qs p q = (p.0, small-append ps qs p.1 q)
 
 -- Sessions.
 
@@ -180,6 +184,7 @@ module _ {State : Type 0} (meaning : Meaning State) (made : Made State) (past : 
   goes-none server st going = record {
     plays = tt;
     plain = tt;
+    small = tt;
     stands = st;
     going = going;
     sent = refl;
@@ -194,6 +199,7 @@ module _ {State : Type 0} (meaning : Meaning State) (made : Made State) (past : 
       record {
         plays = plays-joined s u x.plays y.plays;
         plain = plain-append s.entries u.entries x.plain y.plain;
+        small = small-append s.pieces u.pieces x.small y.small;
         stands = subst (λ (q : List Event). Stands meaning made later q) (sym same) y.stands;
         going = subst (λ (q : List Event). is_going made.limits (line q c) ≡ true) (sym same) y.going;
         sent = whole-on s u x.sent y.sent;
@@ -208,6 +214,7 @@ module _ {State : Type 0} (meaning : Meaning State) (made : Made State) (past : 
       record {
         plays = plays-joined s u x.plays y.plays;
         plain = noted-on end s.entries u.entries x.plain y.plain;
+        small = small-append s.pieces u.pieces x.small y.small;
         stands = subst (λ (q : List Event). Stands meaning made later q) (sym same) y.stands;
         ended = ended-on made.limits past c s u end x.sent same y.ended;
         wired = follows-then _ _ _ wire mid new x.wired y.wired (λ t v w a b. subst (λ (q : Traffic). IsEndedBy end q w) (ap (λ (q : Traffic). traffic_with q u) a ∙ sym (traffic-joined t s u)) b);
@@ -222,6 +229,7 @@ module _ {State : Type 0} (meaning : Meaning State) (made : Made State) (past : 
   ends-peer server new st did = record {
     plays = tt;
     plain = tt;
+    small = tt;
     stands = st;
     ended = refl;
     wired = follows-as _ _ wire new did (λ t u is. is ∙ ap (λ (v : Traffic). record v { empty_reads = v.empty_reads + 1 }) (traffic-none t));
@@ -234,6 +242,7 @@ module _ {State : Type 0} (meaning : Meaning State) (made : Made State) (past : 
   ends-read server new st did = record {
     plays = tt;
     plain = tt;
+    small = tt;
     stands = st;
     ended = refl;
     wired = follows-as _ _ wire new did (λ t u is. is ∙ ap (λ (v : Traffic). record v { failed_reads = v.failed_reads + 1 }) (traffic-none t));
@@ -242,7 +251,7 @@ module _ {State : Type 0} (meaning : Meaning State) (made : Made State) (past : 
 
   module _ (moment : ℕ) (piece written : List ℕ) (mid new : Option Traffic) (now : Option (List ℕ)) (server : Server State)
       (read : Follows (λ t u. u ≡ record t { pieces = t.pieces ++ piece ∷ [] }) wire mid)
-      (gave : Follows (λ before after. after ≡ before ++ moment ∷ []) clock now) where
+      (gave : Follows (λ before after. after ≡ before ++ moment ∷ []) clock now) (few : length piece ≤ 4096) where
     abbrev pub timed : Timed
     timed = record { moment = moment; octets = piece }
 
@@ -256,6 +265,7 @@ module _ {State : Type 0} (meaning : Meaning State) (made : Made State) (past : 
     ends-memory handled answered writes st = record {
       plays = (refl, writes, tt);
       plain = ([], entry (noting.Memory handled answered) ∷ [], refl, tt, omega arith);
+      small = (few, tt);
       stands = st;
       ended = (written ++ [], refl);
       wired = follows-as _ _ wire mid read (λ t u is. is ∙ (let went = sym (append-nil t.written) in λ i. record t { pieces = t.pieces ++ piece ∷ []; written = went i }));
@@ -268,6 +278,7 @@ module _ {State : Type 0} (meaning : Meaning State) (made : Made State) (past : 
       ends-write n took = record {
         plays = (refl, writes, tt);
         plain = (refl, tt);
+        small = (few, tt);
         stands = st;
         ended = (drop n written, append-nil written ∙ sym (take-append-drop n written));
         wired = follows-then _ _ _ wire mid new read took (λ t u v a b. subst (λ (q : Traffic). IsEndedBy WriteFault (record q { written = q.written ++ take n written }) v) a b);
@@ -280,6 +291,7 @@ module _ {State : Type 0} (meaning : Meaning State) (made : Made State) (past : 
         ends-closed closed is so = record {
           plays = (refl, writes, tt);
           plain = (refl, tt);
+          small = (few, tt);
           stands = st;
           ended = (sym (append-nil written), not-true (is_going made.limits (line (Piece c moment piece ∷ past) c)) (sym so ∙ is));
           wired = follows-then _ _ _ wire mid new read took (λ t u v a b. b ∙ ap (λ (q : Traffic). record q { written = q.written ++ written }) a);
@@ -295,6 +307,7 @@ module _ {State : Type 0} (meaning : Meaning State) (made : Made State) (past : 
         goes-one closed is so = record {
           plays = (refl, writes, tt);
           plain = (refl, tt);
+          small = (few, tt);
           stands = st;
           going = not-false (is_going made.limits (line (Piece c moment piece ∷ past) c)) (sym so ∙ is);
           sent = sym (append-nil written);
@@ -380,6 +393,7 @@ module _ {State : Type 0} (meaning : Meaning State) (made : Made State) (past : 
       × Plays made.limits meaning.knows (table_says meaning made) past (events_in c s) s.entries
       × AreNoted end s.entries
       × HasEnded made.limits past c reads s end
+      × AreSmall s.pieces
       × (length s.pieces ≤ reads)
       × Stands meaning made lost (Lost c ∷ past_with made.limits past c s)
       × WireSays end s wire new
@@ -387,7 +401,7 @@ module _ {State : Type 0} (meaning : Meaning State) (made : Made State) (past : 
 
   pub served-early : (s : Session) (server : Server State) → EndsEarly meaning made past c wire clock s end server new now → length s.pieces ≤ reads
       → ((p : List Event) → Stands meaning made server p → Stands meaning made lost (Lost c ∷ p)) → IsServed
-  served-early s server x few loses = (s, x.plays, x.plain, ended-late made.limits past c reads s end x.ended, few, loses (past_with made.limits past c s) x.stands, x.wired, x.clocked)
+  served-early s server x few loses = (s, x.plays, x.plain, ended-late made.limits past c reads s end x.ended, x.small, few, loses (past_with made.limits past c s) x.stands, x.wired, x.clocked)
 
   pub served-all : (s : Session) (server closed : Server State) (mid : Option Traffic) (sent : List ℕ) (note : Note) → GoesOn meaning made past c wire clock s server mid now → length s.pieces ≡ reads
       → IsFarewell end sent → WireTook end sent mid new → Stands meaning made closed (after made.limits (past_with made.limits past c s) (Close c) note)
@@ -397,6 +411,7 @@ module _ {State : Type 0} (meaning : Meaning State) (made : Made State) (past : 
     x.plays,
     noted-farewell end s.entries x.plain,
     ended-farewell made.limits past c reads s sent end x.sent all said,
+    x.small,
     omega (arith, all),
     lost-closed meaning made lost (past_with made.limits past c s) c note (loses (after made.limits (past_with made.limits past c s) (Close c) note) st),
     follows-then _ _ _ wire mid new x.wired took (λ t u v a b.

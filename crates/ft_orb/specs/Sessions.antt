@@ -11,7 +11,7 @@ use Rattle.ft_orb.specs.Laws.{AreWithoutMemory}
 use Rattle.ft_orb.specs.Outputs.{Made, Plays, after, is_going, table_says}
 use Rattle.ft_orb.specs.Servants.{Meaning}
 use Rattle.ft_orb.specs.Standing.{Stands}
-use Rattle.ft_orb.specs.Wires.{AreNoted, ClockSays, Follows, IsEndedBy, IsFront, Session, Traffic, WireSays, answers_in, events_in, past_with, traffic_with}
+use Rattle.ft_orb.specs.Wires.{AreNoted, AreSmall, ClockSays, Follows, IsEndedBy, IsFront, Session, Traffic, WireSays, answers_in, events_in, past_with, traffic_with}
 
 -- what an end before the last read says
 abbrev pub HasEndedEarly : Limits → List Event → ℕ → Session → StreamEnd → Type 0
@@ -35,6 +35,7 @@ module _ {State : Type 0} (meaning : Meaning State) (made : Made State) (past : 
   pub record GoesOn (server : Server State) (wire_now : Option Traffic) (clock_now : Option (List ℕ)) : Type 0 where
     pub plays : Plays made.limits meaning.knows (table_says meaning made) past (events_in c s) s.entries
     pub plain : AreWithoutMemory s.entries
+    pub small : AreSmall s.pieces
     pub stands : Stands meaning made server (past_with made.limits past c s)
     pub going : is_going made.limits (line (past_with made.limits past c s) c) ≡ true
     pub sent : s.sent ≡ answers_in s
@@ -45,6 +46,7 @@ module _ {State : Type 0} (meaning : Meaning State) (made : Made State) (past : 
   pub record EndsEarly (end : StreamEnd) (server : Server State) (wire_now : Option Traffic) (clock_now : Option (List ℕ)) : Type 0 where
     pub plays : Plays made.limits meaning.knows (table_says meaning made) past (events_in c s) s.entries
     pub plain : AreNoted end s.entries
+    pub small : AreSmall s.pieces
     pub stands : Stands meaning made server (past_with made.limits past c s)
     pub ended : HasEndedEarly made.limits past c s end
     pub wired : WireSays end s wire wire_now
