@@ -1,5 +1,5 @@
 -- Sessions over a wire: how they begin, go on and end.
-use Rattle.std.proofs.Common.{◌≡◌, ◌⊎◌, ℕ, zero, suc, ◌+◌, ◌<◌, ◌≤◌, ◌==◌, Bool, true, false, not, if◌then◌else◌, List, [], ◌∷◌, ◌++◌, drop, length, map, take, Option, Some, None, is_err, is_none, Result, Ok, Err, OnErr, OnOk, inl, inr, refl, sym, ap, subst, ◌∙◌, append_assoc, arith}
+use Rattle.std.proofs.Common.{◌≡◌, ℕ, zero, suc, ◌+◌, ◌<◌, ◌≤◌, ◌==◌, Bool, true, false, not, if◌then◌else◌, List, [], ◌∷◌, ◌++◌, drop, length, map, take, Option, Some, None, is_err, is_none, Result, Ok, Err, OnErr, OnOk, inl, inr, refl, sym, ap, subst, ◌∙◌, append_assoc, arith}
 use Rattle.std.specs.BTreeMap.{get}
 use Rattle.std.specs.List.{concat}
 use Rattle.std.specs.Ordering.{nat_cmp}
@@ -17,14 +17,13 @@ use Rattle.ft_orb.specs.declared.events.Note.TheVariants as noting
 use Rattle.ft_orb.specs.declared.server.Server.{Server}
 use Rattle.ft_orb.specs.declared.wire.StreamEnd.{StreamEnd}
 use Rattle.ft_orb.specs.declared.wire.StreamEnd.TheVariants.{LinkClosed, Memory, PeerEnded, ReadFault, ReadsUsed, WriteFault}
-use Rattle.ft_orb.specs.declared.wire.WireError.{WireError}
 use Rattle.ft_orb.specs.ExactlyOnce.{Arrival}
 use Rattle.ft_orb.specs.History.{Close, Event, Gone, Line, Lost, Piece, Up, Shut, arrivals, line, shut}
 use Rattle.ft_orb.specs.Laws.{AreWithoutMemory}
 use Rattle.ft_orb.specs.Outputs.{Made, Noted, Plays, Writes, after, close_at, close_on, is_going, past_after, table_says}
 use Rattle.ft_orb.specs.Requests.{Wanted, rules_of}
 use Rattle.ft_orb.specs.Servants.{Meaning}
-use Rattle.ft_orb.specs.Sessions.{EndsEarly, GoesOn, HasEndedEarly, IsFarewell, WireTook, WireWent}
+use Rattle.ft_orb.specs.Sessions.{EndsEarly, GoesOn, HasEndedEarly, IsFarewell, WireTook}
 use Rattle.ft_orb.specs.Standing.{IsFor, Stands, note_of, table_of}
 use Rattle.ft_orb.specs.Table.{AreAlike, table_after}
 use Rattle.ft_orb.specs.Wires.{AreNoted, AreSmall, ClockSays, Follows, HasEnded, IsEndedBy, IsFront, Session, Timed, Traffic, WireSays, after_read, after_write, answers_in, events_in, past_with, traffic_with}

@@ -1,8 +1,7 @@
-use Rattle.std.proofs.Common.{◌≡◌, ◌<◌, ◌≤◌, ◌++◌, List, ℕ, [], ◌∷◌, Some, length, take, ap, sym, subst, refl, ◌∙◌, arith}
+use Rattle.std.proofs.Common.{◌≡◌, ◌<◌, ◌≤◌, ◌++◌, List, ℕ, [], ◌∷◌, length, take, ap, sym, subst, refl, ◌∙◌, arith}
 use Rattle.ft_orb.specs.declared.events.Note.TheVariants.{Done, Memory}
 use Rattle.ft_orb.specs.declared.wire.StreamEnd.TheVariants.{WriteFault}
 use Rattle.ft_orb.specs.History.{Piece}
-use Rattle.ft_orb.specs.Outputs.{table_says}
 use Rattle.ft_orb.specs.Sessions.{WireTook}
 use Rattle.ft_orb.specs.Wires.{Follows, Traffic}
 use Rattle.ft_orb.proofs.Streams.{ends-closed, ends-memory, ends-peer, ends-read, ends-write, goes-one, none, on_err-is, on_ok-is, one, was_none, was_read}

@@ -1,4 +1,4 @@
-use Rattle.std.proofs.Common.{◌≡◌, ◌≤◌, ◌+◌, length, ◌∙◌, refl, arith, length-append}
+use Rattle.std.proofs.Common.{◌∙◌, refl, arith, length-append}
 use Rattle.ft_orb.specs.Wires.{past_with}
 use Rattle.ft_orb.proofs.Streams.{ends-on, goes-none, goes-on, joined, none}
 use Rattle.ft_orb.proofs.streaming.serve_pieces.Goals as goal

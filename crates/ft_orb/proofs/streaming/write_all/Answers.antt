@@ -1,4 +1,4 @@
-use Rattle.std.proofs.Common.{◌<◌, ◌+◌, ◌++◌, take, Some, ap, ◌∙◌, inl, inr, refl, arith}
+use Rattle.std.proofs.Common.{◌+◌, ap, ◌∙◌, inl, inr, arith}
 use Rattle.ft_orb.specs.Wires.{Traffic}
 use Rattle.ft_orb.proofs.Streams.{after_write-none, follows-then, on_err-of, took_more}
 use Rattle.ft_orb.proofs.streaming.write_all.Goals as goal
