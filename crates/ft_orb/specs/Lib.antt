@@ -4,7 +4,7 @@
 -- which requests are performed, and what each is answered, looking back over all. Table: the same by a log that forgets.
 -- Requests: what arrives, and what of it can be asked. Renderings: the octets of answers. History: what happens, and what of it
 -- counts. Outputs: what each event writes. Standing: what a server stands for. Shares: the clients of arrivals.
--- Laws: what holds of these definitions.
+-- Laws: what holds of these definitions. Wires: wires and clocks, and a connection that is served over them.
 pub mod Interfaces
 pub mod Replies
 pub mod Servants
@@ -17,7 +17,9 @@ pub mod Outputs
 pub mod Standing
 pub mod Shares
 pub mod Laws
+pub mod Wires
 -- a proof that a field of `Desk` cites
 pub mod Facts
 -- words of private functions: nothing public rests on them
 pub mod Private
+pub mod Sessions

@@ -18,6 +18,8 @@ mod servant;
 mod server;
 mod serving;
 mod signature;
+mod streaming;
+mod wire;
 
 // what an application implements
 pub use servant::Servant;
@@ -31,3 +33,7 @@ pub use server::Server;
 pub use error::PlayError;
 pub use events::{Event, Note, Written};
 pub use playing::play;
+
+// a connection over a wire
+pub use streaming::serve_stream;
+pub use wire::{Clock, StreamEnd, Wire, WireError};
