@@ -91,7 +91,7 @@ front_left A o octets p rest t =
 
 -- one part after another
 
-octets-last : (order : Order) (vs : Values) (v : Value) (o : ℕ) → octets_of_all order (with_last vs v) o ≡ octets_of_all order vs o ++ octets_of order v (o + length (octets_of_all order vs o))
+pub octets-last : (order : Order) (vs : Values) (v : Value) (o : ℕ) → octets_of_all order (with_last vs v) o ≡ octets_of_all order vs o ++ octets_of order v (o + length (octets_of_all order vs o))
 octets-last order value.no_values v o =
     let here : o + 0 ≡ o = omega arith in
     append-nil (octets_of order v o) ∙ ap (λ p. octets_of order v p) (sym here)

@@ -1,5 +1,5 @@
 -- The length of what is written, where it ends, and one part after another.
-use Rattle.std.proofs.Common.{MatchOption, ◌≡◌, ℕ, ℤ, ◌+◌, ◌-◌, ◌<◌, ◌≤◌, ◌^◌, List, ◌++◌, length, drop, get_or, replicate, Option, Some, None, refl, sym, ap, ◌∙◌, arith, length-append}
+use Rattle.std.proofs.Common.{◌≡◌, ℕ, ℤ, ◌+◌, ◌-◌, ◌<◌, ◌≤◌, List, ◌++◌, length, drop, get_or, replicate, refl, sym, ap, ◌∙◌, arith, length-append}
 use Rattle.std.proofs.lemmas.List.{length-replicate, drop_more}
 use Rattle.byteorder.specs.Numbers.{length-bytes_high_first, length-bytes_low_first}
 use Rattle.cdr_core.proofs.Appending.{appended}
@@ -11,7 +11,7 @@ use Rattle.cdr_core.specs.Form.{Number, size}
 use Rattle.cdr_core.specs.Value as value
 use Rattle.cdr_core.specs.Value.{Value, Values}
 use Rattle.cdr_core.specs.View.{value_of, values_of}
-use Rattle.cdr_core.specs.Writing.{EndsAt, number_octets, octets_of, octets_of_all}
+use Rattle.cdr_core.specs.Writing.{number_octets, octets_of, octets_of_all}
 
 pub digits_length : (order : Order) (n x : ℕ) → length (digits_of order n x) ≡ n
 digits_length Big n x = length-bytes_high_first n x
@@ -49,17 +49,3 @@ pub room_left : (order : Order) (at start : ℕ) (all : List Val) (i : ℕ) (v :
 room_left order at start all i v old new lt is le e =
     let w = ap length (left_over order at start all i v old new lt is le e) in
     omega (arith, w, length-append new (octets_of_all order (values_of (drop (i + 1) all)) (at + (length new - start))), length-append old (octets_of_all order (values_of (drop i all)) (at + (length old - start))))
-
--- the room for the next value
-pub room_first : (order : Order) (at start : ℕ) (all : List Val) (i : ℕ) (v : Val) (old : List ℕ) (room : ℕ) → i < length all → v ≡ get_or all i v
-    → length old + length (octets_of_all order (values_of (drop i all)) (at + (length old - start))) ≤ room → length old + length (octets_of order (value_of v) (at + (length old - start))) ≤ room
-room_first order at start all i v old room lt is le =
-    let o = at + (length old - start) in
-    let front = octets_of order (value_of v) o in
-    let w = ap (λ ws. length (octets_of_all order ws o)) (values_next all i v lt is) in
-    omega (arith, w, length-append front (octets_of_all order (values_of (drop (i + 1) all)) (o + length front)))
-
--- the room that was made by the place where octets will end
-pub room_made : (end : Option ℕ) (at n len cap more : ℕ) → EndsAt end (at + more) → MatchOption end (n ≡ 2 ^ 64 - 1) (λ e. at + n ≡ e) → len + n ≤ cap → cap < 2 ^ 63 → len + more ≤ cap
-room_made None at n len cap more ends is room small = absurd (omega (arith, is, room, small))
-room_made (Some e) at n len cap more ends is room small = omega (arith, ends, is, room)

@@ -7,6 +7,8 @@ pub mod Nul
 pub mod Views
 pub mod Loops
 pub mod Memory
+pub mod Here
+pub mod Following
 pub mod Taken
 pub mod Found
 pub mod Gets

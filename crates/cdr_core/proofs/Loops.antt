@@ -12,9 +12,9 @@ use Rattle.cdr_core.specs.Form.{Form, Forms, Cases}
 use Rattle.cdr_core.specs.Value as value
 use Rattle.cdr_core.specs.Value.{Value, Values}
 use Rattle.cdr_core.specs.View.{case_of, cases_of, form_of, forms_of}
-use Rattle.cdr_core.specs.Private.{Fails}
+use Rattle.cdr_core.specs.Private.{with_front, Fails}
 use Rattle.cdr_core.specs.Reading.{◌>>=◌, Read, chosen_at, each_at, length_at, members_at, value_at}
-use Rattle.cdr_core.proofs.Turns.{each_stops, front-then, joined-none, then, with_front, with_last}
+use Rattle.cdr_core.proofs.Turns.{each_stops, front-then, joined-none, then, with_last}
 
 -- a loop over a count ends
 

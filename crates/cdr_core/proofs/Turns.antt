@@ -1,7 +1,7 @@
 -- Loops that read a counted number of values one after another.
 use Rattle.std.proofs.Common.{◌≡◌, ℕ, suc, ◌+◌, ◌-◌, ◌<◌, ◌≤◌, List, [], ◌∷◌, ◌++◌, length, map, Ok, Err, refl, sym, ap, subst, ◌∙◌, arith}
 use Rattle.cdr_core.specs.declared.fault.Fault.{Fault}
-use Rattle.cdr_core.specs.Private.{passing}
+use Rattle.cdr_core.specs.Private.{joined, passing, with_front}
 use Rattle.cdr_core.specs.Value as value
 use Rattle.cdr_core.specs.Value.{Value, Values, count, values}
 use Rattle.cdr_core.specs.Reading.{◌>>=◌, Read, each_at}
@@ -18,16 +18,6 @@ values_push f (y ∷ ys) x = ap (value.value (f y)) (values_push f ys x)
 pub count_values : {A : Type 0} (f : A → Value) (xs : List A) → count (values (map f xs)) ≡ length xs
 count_values f [] = refl
 count_values f (x ∷ xs) = ap suc (count_values f xs)
-
--- values, and others after them
-abbrev pub joined : Values → Values → Values
-joined value.no_values ws = ws
-joined (value.value v vs) ws = value.value v (joined vs ws)
-
--- what was read before, in front of what is read
-abbrev pub with_front : Values → Read Values → Read Values
-with_front vs (Err f) = Err f
-with_front vs (Ok x) = Ok (joined vs x.0, x.1, x.2)
 
 pub joined-none : (vs : Values) → joined vs value.no_values ≡ vs
 joined-none value.no_values = refl

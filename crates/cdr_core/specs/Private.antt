@@ -1,17 +1,21 @@
 -- Words for contracts of private functions, in this crate and in those above it. No public contract, definition or law
 -- uses them: a reader who asks what is promised can leave this file out.
-use Rattle.std.specs.Prelude.{◌≡◌, ℕ, ℤ, List, ◌++◌, Result, Ok, Err, ⊤, ◌⊎◌}
+use Rattle.std.specs.Prelude.{◌≡◌, ◌≤◌, ◌+◌, ◌-◌, ℕ, ℤ, List, ◌++◌, length, Result, Ok, Err, ⊤, ◌⊎◌}
 use Rattle.cdr_core.specs.declared.fault.CdrError.{CdrError}
 use Rattle.cdr_core.specs.declared.fault.CdrError.TheVariants as errors
 use Rattle.cdr_core.specs.declared.order.Order.{Order}
+use Rattle.cdr_core.specs.declared.basic.Basic.{Basic}
+use Rattle.cdr_core.specs.declared.basic.Basic.TheVariants.{Boolean, Char, Octet, Short, UShort, Long, ULong, LongLong, ULongLong, Enum}
+use Rattle.cdr_core.specs.declared.values.Val.{Val}
 use Rattle.cdr_core.specs.Cursor.{Position}
 use Rattle.cdr_core.specs.Fitting.{AreCases, FitsChosen}
 use Rattle.cdr_core.specs.Form as form
 use Rattle.cdr_core.specs.Form.{Form}
-use Rattle.cdr_core.specs.Memory.{EndsAtPlace, StoresChosen}
-use Rattle.cdr_core.specs.Reading.{◌>>=◌, Read, chosen_at}
+use Rattle.cdr_core.specs.Memory.{EndsAtPlace, Stores, StoresChosen, StoresEach}
+use Rattle.cdr_core.specs.Reading.{◌>>=◌, Read, chosen_at, each_at, value_at}
 use Rattle.cdr_core.specs.Value as value
 use Rattle.cdr_core.specs.Value.{Value, Values, label}
+use Rattle.cdr_core.specs.View.{values_of}
 
 -- an output keeps what it held, and nothing is known of what was appended before an allocation failed
 pub record Keeps (old new : List ℕ) : Type 0 where
@@ -44,6 +48,50 @@ IsBasic form.boolean = ⊤
 IsBasic (form.number kind) = ⊤
 IsBasic (form.enumeration n) = ⊤
 IsBasic _ = ⊥
+
+-- values, and others after them
+abbrev pub joined : Values → Values → Values
+joined value.no_values ws = ws
+joined (value.value v vs) ws = value.value v (joined vs ws)
+
+-- what was read before, in front of what is read
+abbrev pub with_front : Values → Read Values → Read Values
+with_front vs (Err f) = Err f
+with_front vs (Ok x) = Ok (joined vs x.0, x.1, x.2)
+
+-- the type that a `Basic` stands for
+abbrev pub basic_form : Basic → Form
+basic_form Boolean = form.boolean
+basic_form Char = form.number form.char
+basic_form Octet = form.number form.octet
+basic_form Short = form.number form.short
+basic_form UShort = form.number form.ushort
+basic_form Long = form.number form.long
+basic_form ULong = form.number form.ulong
+basic_form LongLong = form.number form.longlong
+basic_form ULongLong = form.number form.ulonglong
+basic_form (Enum names) = form.enumeration names
+
+-- how many octets its values have
+abbrev pub basic_size : Basic → ℕ
+basic_size Boolean = 1
+basic_size Char = 1
+basic_size Octet = 1
+basic_size Short = 2
+basic_size UShort = 2
+basic_size Long = 4
+basic_size ULong = 4
+basic_size LongLong = 8
+basic_size ULongLong = 8
+basic_size (Enum names) = 4
+
+-- n values of a type are left to be read from place o on, after others. Some are read, and put after those: what is left of
+-- them, from place p on, gives the same whole, and stores no more.
+pub record ReadsOn (t : Form) (order : Order) (n : ℕ) (others : List Val) (o : ℕ) (octets : List ℕ) (all : List Val) (p : ℕ) (rest : List ℕ) : Type 0 where
+  pub more : length others ≤ length all
+  pub within : length all ≤ length others + n
+  pub whole : with_front (values_of all) (each_at (value_at t order) (n - (length all - length others)) p rest) ≡ with_front (values_of others) (each_at (value_at t order) n o octets)
+  pub stores : (q : ℕ) → StoresEach (value_at t order) (Stores t order) (n - (length all - length others)) p rest q → StoresEach (value_at t order) (Stores t order) n o octets q
 
 -- the cases of a union are valid; it holds of all other types
 abbrev pub HasCases : Form → Type 0

@@ -10,7 +10,7 @@ ghost use Rattle.cdr_core.specs.Reading.{is_nul, length_at, number_at, part_at, 
 ghost use Rattle.cdr_core.specs.Value as value;
 
 use crate::fault::{Fault, Kind};
-use crate::numbers::aligned;
+use crate::numbers::{aligned, gap};
 use crate::order::Order;
 use crate::parts::{split, text_of};
 use std::marker::Model;
@@ -41,7 +41,7 @@ impl<'a> Model for Cursor<'a> {
 
 impl<'a> Cursor<'a> {
     /// A cursor at the first of the octets, which stands at the place `at`.
-    #[inline]
+    #[inline(always)]
     pub fn new(octets: &'a [u8], order: Order, at: u64) -> Cursor<'a>
         requires { at < 2 ^ 32 }
         ensures { result ≡ record { order = order; place = at; rest = octets.now } }
@@ -55,6 +55,7 @@ impl<'a> Cursor<'a> {
 
     /// A cursor in an encapsulation, after its first octet, which names its byte order (CORBA 3.3 Part
     /// 2, 9.3.3).
+    #[inline]
     #[tactic(auto, unfolding(crate::specs::Encapsulation::order_at), using(crate::proofs::Enclosed::order_enclosed))]
     pub fn encapsulated(octets: &'a [u8]) -> Result<Cursor<'a>, Fault>
         ensures { MatchResult result (λ c. order_at octets.now ≡ Ok (c.order, c.place, c.rest)) (λ f. order_at octets.now ≡ Err f) }
@@ -65,7 +66,7 @@ impl<'a> Cursor<'a> {
     }
 
     /// The place of the next octet, or where it would stand.
-    #[inline]
+    #[inline(always)]
     pub fn place(&self) -> u64
         ensures { result ≡ self.now.place }
     {
@@ -73,7 +74,7 @@ impl<'a> Cursor<'a> {
     }
 
     /// The octets that are left.
-    #[inline]
+    #[inline(always)]
     pub fn rest(&self) -> &'a [u8]
         ensures { result.now ≡ self.now.rest }
     {
@@ -82,7 +83,7 @@ impl<'a> Cursor<'a> {
 
     /// Goes to the next place divisible by `size`, even if that lies past the end, where `rest` is
     /// empty.
-    #[inline]
+    #[inline(always)]
     pub fn align(&mut self, size: u64)
         requires { (size ≡ 1) ⊎ ((size ≡ 2) ⊎ ((size ≡ 4) ⊎ (size ≡ 8))) }
         ensures { let step = padding self.old.place size in GoesTo self.old self.new (self.old.place + step) (drop step self.old.rest) }
@@ -91,9 +92,19 @@ impl<'a> Cursor<'a> {
         self.go_to(place, rest);
     }
 
+    /// The order in which the octets of a number stand, the place of the next octet, and the octets that
+    /// are left.
+    #[inline(always)]
+    pub(crate) fn position(&self) -> (Order, u64, &'a [u8])
+        ensures is { (result.0 ≡ self.now.order) × (result.1 ≡ self.now.place) × (result.2.now ≡ self.now.rest) }
+        ensures bound { result.1 + length result.2.now ≤ 2 ^ 63 + 2 ^ 32 }
+    {
+        (self.order, self.place, self.rest)
+    }
+
     /// Goes to a place and the octets from there on.
-    #[inline]
-    fn go_to(&mut self, place: u64, rest: &'a [u8])
+    #[inline(always)]
+    pub(crate) fn go_to(&mut self, place: u64, rest: &'a [u8])
         requires { place + length rest.now ≤ 2 ^ 63 + 2 ^ 32 }
         ensures { GoesTo self.old self.new place rest.now }
     {
@@ -105,21 +116,28 @@ impl<'a> Cursor<'a> {
     }
 
     /// The octets of a number of that size, after its padding.
-    #[inline]
+    #[inline(always)]
     #[tactic(auto, unfolding(crate::specs::Reading::part_at))]
     fn part(&mut self, size: usize) -> Result<&'a [u8], Fault>
         requires { (size ≡ 1) ⊎ ((size ≡ 2) ⊎ ((size ≡ 4) ⊎ (size ≡ 8))) }
         ensures given { Gives (λ x. x.now) result (part_at size) self.old self.new }
         ensures long { IfOk result (λ x. length x.now ≡ size) }
     {
-        let (place, rest) = aligned(self.place, self.rest, size as u64);
-        let (octets, place, rest) = split(place, rest, size)?;
-        self.go_to(place, rest);
+        let skip = gap(self.place, size as u64) as usize;
+        let end = skip + size;
+        if self.rest.len() < end {
+            return Err(Fault {
+                kind: Kind::Short,
+                at: self.place + skip as u64,
+            });
+        }
+        let octets = &self.rest[skip..end];
+        self.go_to(self.place + end as u64, &self.rest[end..]);
         Ok(octets)
     }
 
     /// A number of one octet.
-    #[inline]
+    #[inline(always)]
     #[tactic(auto, unfolding(crate::specs::Reading::number_at))]
     fn one(&mut self) -> Result<u8, Fault>
         ensures { Gives (λ x. x) result (number_at self.old.order 1) self.old self.new }
@@ -129,7 +147,7 @@ impl<'a> Cursor<'a> {
     }
 
     /// A number of two octets, after its padding.
-    #[inline]
+    #[inline(always)]
     #[tactic(auto, unfolding(crate::specs::Reading::number_at))]
     fn two(&mut self) -> Result<u16, Fault>
         ensures { Gives (λ x. x) result (number_at self.old.order 2) self.old self.new }
@@ -140,7 +158,7 @@ impl<'a> Cursor<'a> {
     }
 
     /// A number of four octets, after its padding.
-    #[inline]
+    #[inline(always)]
     #[tactic(auto, unfolding(crate::specs::Reading::number_at))]
     fn four(&mut self) -> Result<u32, Fault>
         ensures { Gives (λ x. x) result (number_at self.old.order 4) self.old self.new }
@@ -151,7 +169,7 @@ impl<'a> Cursor<'a> {
     }
 
     /// A number of eight octets, after its padding.
-    #[inline]
+    #[inline(always)]
     #[tactic(auto, unfolding(crate::specs::Reading::number_at))]
     fn eight(&mut self) -> Result<u64, Fault>
         ensures { Gives (λ x. x) result (number_at self.old.order 8) self.old self.new }
@@ -162,7 +180,7 @@ impl<'a> Cursor<'a> {
     }
 
     /// The place where the next number of that size stands, after its padding.
-    #[inline]
+    #[inline(always)]
     fn place_of(&self, size: u64) -> u64
         requires { (size ≡ 1) ⊎ ((size ≡ 2) ⊎ ((size ≡ 4) ⊎ (size ≡ 8))) }
         ensures { result ≡ self.now.place + padding self.now.place size }
@@ -171,7 +189,7 @@ impl<'a> Cursor<'a> {
     }
 
     /// A second cursor at the same place, to look ahead with.
-    #[inline]
+    #[inline(always)]
     pub fn fork(&self) -> Cursor<'a>
         ensures { result ≡ self.now }
     {
@@ -183,7 +201,7 @@ impl<'a> Cursor<'a> {
     }
 
     /// The next octet.
-    #[inline]
+    #[inline(always)]
     #[tactic(auto, unfolding(crate::specs::Reading::value_at, crate::specs::Reading::whole_at))]
     pub fn octet(&mut self) -> Result<u8, Fault>
         ensures { Gives octet_value result (value_at octet self.old.order) self.old self.new }
@@ -192,7 +210,7 @@ impl<'a> Cursor<'a> {
     }
 
     /// A character, the next octet.
-    #[inline]
+    #[inline(always)]
     #[tactic(auto, unfolding(crate::specs::Reading::value_at, crate::specs::Reading::whole_at))]
     pub fn character(&mut self) -> Result<u8, Fault>
         ensures { Gives char_value result (value_at char self.old.order) self.old self.new }
@@ -202,7 +220,7 @@ impl<'a> Cursor<'a> {
     }
 
     /// A boolean, an octet that is 0 or 1.
-    #[inline]
+    #[inline(always)]
     #[tactic(auto, unfolding(crate::specs::Reading::value_at, crate::specs::Reading::boolean_at))]
     pub fn boolean(&mut self) -> Result<bool, Fault>
         ensures { Gives value.boolean result (value_at form.boolean self.old.order) self.old self.new }
@@ -220,7 +238,7 @@ impl<'a> Cursor<'a> {
     }
 
     /// A short, after its padding to a place divisible by 2.
-    #[inline]
+    #[inline(always)]
     #[tactic(auto, unfolding(crate::specs::Reading::value_at, crate::specs::Reading::whole_at))]
     pub fn short(&mut self) -> Result<i16, Fault>
         ensures { Gives short_value result (value_at short self.old.order) self.old self.new }
@@ -229,7 +247,7 @@ impl<'a> Cursor<'a> {
     }
 
     /// An unsigned short, after its padding to a place divisible by 2.
-    #[inline]
+    #[inline(always)]
     #[tactic(auto, unfolding(crate::specs::Reading::value_at, crate::specs::Reading::whole_at))]
     pub fn ushort(&mut self) -> Result<u16, Fault>
         ensures { Gives ushort_value result (value_at ushort self.old.order) self.old self.new }
@@ -238,7 +256,7 @@ impl<'a> Cursor<'a> {
     }
 
     /// A long, after its padding to a place divisible by 4.
-    #[inline]
+    #[inline(always)]
     #[tactic(auto, unfolding(crate::specs::Reading::value_at, crate::specs::Reading::whole_at))]
     pub fn long(&mut self) -> Result<i32, Fault>
         ensures { Gives long_value result (value_at long self.old.order) self.old self.new }
@@ -247,7 +265,7 @@ impl<'a> Cursor<'a> {
     }
 
     /// An unsigned long, after its padding to a place divisible by 4.
-    #[inline]
+    #[inline(always)]
     #[tactic(auto, unfolding(crate::specs::Reading::value_at, crate::specs::Reading::whole_at))]
     pub fn ulong(&mut self) -> Result<u32, Fault>
         ensures { Gives ulong_value result (value_at ulong self.old.order) self.old self.new }
@@ -256,7 +274,7 @@ impl<'a> Cursor<'a> {
     }
 
     /// A long long, after its padding to a place divisible by 8.
-    #[inline]
+    #[inline(always)]
     #[tactic(auto, unfolding(crate::specs::Reading::value_at, crate::specs::Reading::whole_at))]
     pub fn longlong(&mut self) -> Result<i64, Fault>
         ensures { Gives longlong_value result (value_at longlong self.old.order) self.old self.new }
@@ -265,7 +283,7 @@ impl<'a> Cursor<'a> {
     }
 
     /// An unsigned long long, after its padding to a place divisible by 8.
-    #[inline]
+    #[inline(always)]
     #[tactic(auto, unfolding(crate::specs::Reading::value_at, crate::specs::Reading::whole_at))]
     pub fn ulonglong(&mut self) -> Result<u64, Fault>
         ensures { Gives ulonglong_value result (value_at ulonglong self.old.order) self.old self.new }
@@ -274,7 +292,7 @@ impl<'a> Cursor<'a> {
     }
 
     /// The ordinal of an enumeration of `names` names, an unsigned long below that number.
-    #[inline]
+    #[inline(always)]
     #[tactic(auto, unfolding(crate::specs::Reading::value_at, crate::specs::Reading::ordinal_at))]
     pub fn ordinal(&mut self, names: u32) -> Result<u32, Fault>
         ensures { Gives enum_value result (value_at (form.enumeration names) self.old.order) self.old self.new }
@@ -292,7 +310,7 @@ impl<'a> Cursor<'a> {
     }
 
     /// A length, at most `bound` and the `extra` octets that don't count against the bound.
-    #[inline]
+    #[inline(always)]
     #[tactic(auto, unfolding(crate::specs::Reading::length_at))]
     pub(crate) fn length(&mut self, extra: u32, bound: u32) -> Result<u32, Fault>
         ensures { Gives (λ x. x) result (length_at self.old.order extra bound) self.old self.new }
@@ -310,7 +328,7 @@ impl<'a> Cursor<'a> {
     }
 
     /// The count of a sequence, an unsigned long. The elements follow it.
-    #[inline]
+    #[inline(always)]
     pub fn count(&mut self) -> Result<u32, Fault>
         ensures { Gives (λ x. x) result (length_at self.old.order 0 most) self.old self.new }
     {
@@ -318,7 +336,7 @@ impl<'a> Cursor<'a> {
     }
 
     /// A sequence of at most `bound` octets, which are lent.
-    #[inline]
+    #[inline(always)]
     #[tactic(auto, unfolding(crate::specs::Reading::value_at, crate::specs::Reading::octets_at))]
     pub(crate) fn octets_within(&mut self, bound: u32) -> Result<&'a [u8], Fault>
         ensures { Gives raw_value result (value_at (form.octets bound) self.old.order) self.old self.new }
@@ -331,7 +349,7 @@ impl<'a> Cursor<'a> {
     }
 
     /// A string of at most `bound` octets and its NUL, which is lent without the NUL.
-    #[inline]
+    #[inline(always)]
     #[tactic(auto, unfolding(crate::specs::Reading::value_at, crate::specs::Reading::string_at))]
     pub(crate) fn string_within(&mut self, bound: u32) -> Result<&'a [u8], Fault>
         ensures { Gives text_value result (value_at (form.string bound) self.old.order) self.old self.new }
@@ -344,7 +362,7 @@ impl<'a> Cursor<'a> {
     }
 
     /// A sequence of octets, which are lent: its length, an unsigned long, and then the octets.
-    #[inline]
+    #[inline(always)]
     pub fn octets(&mut self) -> Result<&'a [u8], Fault>
         ensures { Gives raw_value result (value_at raw self.old.order) self.old self.new }
     {
@@ -354,7 +372,7 @@ impl<'a> Cursor<'a> {
     /// A string, which is lent without its NUL: its length, an unsigned long that counts the NUL, its
     /// octets, and the NUL. An octet of 0 before the last is a fault. The length 0 is read as the empty
     /// string, a rule of this project's own.
-    #[inline]
+    #[inline(always)]
     pub fn string(&mut self) -> Result<&'a [u8], Fault>
         ensures { Gives text_value result (value_at text self.old.order) self.old self.new }
     {

@@ -6,6 +6,7 @@
 //! the message or encapsulation, on which alignment rests.
 #![tactic(auto)]
 
+mod basic;
 mod cursor;
 mod fault;
 mod fitting;
@@ -15,6 +16,7 @@ mod numbers;
 mod order;
 mod parts;
 mod reading;
+mod runs;
 mod types;
 mod validity;
 mod values;

@@ -1,6 +1,6 @@
 //! Where the octets of values end, before they are written.
 
-ghost use Rattle.std.specs.Prelude.{◌≡◌, ◌≤◌, ◌+◌, ◌-◌, ◌^◌, ◌⊎◌, length, IfSome, MatchOption};
+ghost use Rattle.std.specs.Prelude.{◌≡◌, ◌≤◌, ◌+◌, ◌⊎◌, length, IfSome};
 ghost use Rattle.cdr_core.specs.Numbers.{padding};
 ghost use Rattle.cdr_core.specs.View.{value_of, values_of};
 ghost use Rattle.cdr_core.specs.Writing.{octets_of, octets_of_all, EndsAt};
@@ -58,16 +58,4 @@ pub fn end_of_list(place: u64, values: &[Val]) -> Option<u64>
         end = end_of(end, value)?;
     }
     Some(end)
-}
-
-/// How many octets stand from a place up to an end; without an end more than any memory has.
-#[inline]
-pub(crate) fn needed(at: u64, end: Option<u64>) -> usize
-    requires { IfSome end (λ e. at ≤ e) }
-    ensures { MatchOption end (result ≡ 2 ^ 64 - 1) (λ e. at + result ≡ e) }
-{
-    match end {
-        Some(end) => (end - at) as usize,
-        None => usize::MAX,
-    }
 }

@@ -19,7 +19,7 @@ pub enum Order {
 
 impl Order {
     /// The unsigned long in the first four octets. Octets after them are ignored.
-    #[inline]
+    #[inline(always)]
     pub fn ulong_of(self, octets: &[u8]) -> u32
         requires { 4 ≤ length octets.now }
         ensures { result ≡ number_of self 4 octets.now }
@@ -31,7 +31,7 @@ impl Order {
     }
 
     /// Writes an unsigned long over the first four octets. Octets after them stay as they are.
-    #[inline]
+    #[inline(always)]
     pub fn put_ulong(self, number: u32, octets: &mut [u8])
         requires { 4 ≤ length octets.old }
         ensures { octets.new ≡ digits_of self 4 number ++ drop 4 octets.old }
@@ -42,8 +42,17 @@ impl Order {
         }
     }
 
+    /// The first octet, the same in either order.
+    #[inline(always)]
+    pub(crate) fn octet_of(self, octets: &[u8]) -> u8
+        requires { length octets.now ≡ 1 }
+        ensures { result ≡ number_of self 1 octets.now }
+    {
+        octets[0]
+    }
+
     /// The unsigned short in the first two octets.
-    #[inline]
+    #[inline(always)]
     pub(crate) fn ushort_of(self, octets: &[u8]) -> u16
         requires { 2 ≤ length octets.now }
         ensures { result ≡ number_of self 2 octets.now }
@@ -55,7 +64,7 @@ impl Order {
     }
 
     /// Writes an unsigned short over the first two octets.
-    #[inline]
+    #[inline(always)]
     pub(crate) fn put_ushort(self, number: u16, octets: &mut [u8])
         requires { 2 ≤ length octets.old }
         ensures { octets.new ≡ digits_of self 2 number ++ drop 2 octets.old }
@@ -67,7 +76,7 @@ impl Order {
     }
 
     /// The unsigned long long in the first eight octets.
-    #[inline]
+    #[inline(always)]
     pub(crate) fn ulonglong_of(self, octets: &[u8]) -> u64
         requires { 8 ≤ length octets.now }
         ensures { result ≡ number_of self 8 octets.now }
@@ -79,7 +88,7 @@ impl Order {
     }
 
     /// Writes an unsigned long long over the first eight octets.
-    #[inline]
+    #[inline(always)]
     pub(crate) fn put_ulonglong(self, number: u64, octets: &mut [u8])
         requires { 8 ≤ length octets.old }
         ensures { octets.new ≡ digits_of self 8 number ++ drop 8 octets.old }
@@ -91,7 +100,7 @@ impl Order {
     }
 
     /// The order that the first octet of an encapsulation names, a boolean: true for little-endian.
-    #[inline]
+    #[inline(always)]
     pub(crate) fn of_flag(little: bool) -> Order
         ensures { result ≡ order_of (value.boolean little) }
     {
@@ -99,7 +108,7 @@ impl Order {
     }
 
     /// The first octet of an encapsulation in this order.
-    #[inline]
+    #[inline(always)]
     pub(crate) fn flag(self) -> u8
         ensures { result ≡ byte_order self }
     {

@@ -12,10 +12,12 @@ ghost use Rattle.cdr_core.specs.Value.{label, Value, Values};
 ghost use Rattle.cdr_core.specs.Memory.{StoresEach, StoresMembers, Stores};
 ghost use Rattle.cdr_core.specs.View.{form_of, forms_of, held, value_of, values_of};
 
+use crate::basic::Basic;
 use crate::cursor::Cursor;
 use crate::fault::{CdrError, Fault};
 use crate::fitting::is_labelled;
 use crate::order::Order;
+use crate::runs::more;
 use crate::types::{Case, Ty};
 use crate::values::Val;
 use std::alloc::{AllocError, Global};
@@ -104,8 +106,11 @@ fn each(alloc: Global, ty: &Ty, count: u32, cursor: &mut Cursor) -> Result<Vec<V
     ensures { GivesUnlessMemory (λ v. values_of v.items) result (each_at (value_at (form_of ty.now) cursor.old.order) count) (StoresEach (value_at (form_of ty.now) cursor.old.order) (Stores (form_of ty.now) cursor.old.order) count) cursor.old cursor.new }
 {
     let mut all = Vec::new(alloc);
-    for _ in 0..count {
+    while all.len() < count as usize {
         all.push(value(alloc, ty, cursor)?)?;
+        if let Some(kind) = Basic::of(ty) {
+            all = more(kind, count as usize - all.len(), cursor, all)?;
+        }
     }
     Ok(all)
 }

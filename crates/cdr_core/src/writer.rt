@@ -9,12 +9,11 @@ ghost use Rattle.cdr_core.specs.Value as value;
 ghost use Rattle.cdr_core.specs.View.{values_of};
 ghost use Rattle.cdr_core.specs.Writing.{place_in, AreWritable, Puts, PutsAll};
 
-use crate::measuring::{end_of_list, needed};
 use crate::numbers::{gap, put_eight, put_four, put_two, put_zeros};
 use crate::order::Order;
 use crate::parts::{put_raw, put_string};
 use crate::values::Val;
-use crate::writing::put_all;
+use crate::writing::append_all;
 use std::alloc::AllocError;
 use std::marker::Model;
 
@@ -207,9 +206,11 @@ impl Writer {
         ensures ok { OnOk result (PutsAll self.now (values_of values.now) out.old.items out.new.items) }
         ensures err { OnErr result (out.new.items ≡ out.old.items) }
     {
-        let place = self.place(out);
-        out.reserve(needed(place, end_of_list(place, values)))?;
-        put_all(self.order, self.at, self.start, values, out);
-        Ok(())
+        let end = out.len();
+        let appended = append_all(self.order, self.at, self.start, false, values, out);
+        if appended.is_err() {
+            out.truncate(end);
+        }
+        appended
     }
 }

@@ -1,15 +1,16 @@
 //! Writing values, and which of them can be written.
 
 ghost use Rattle.std.specs.Prelude.{◌≡◌, ◌≤◌, ◌<◌, ◌+◌, ◌-◌, ◌^◌, ◌++◌, ◌↔◌, IsTrue, length, IsOk, OnErr, OnOk, vec_capacity};
+ghost use Rattle.cdr_core.specs.Private.{Keeps};
 ghost use Rattle.cdr_core.specs.Value as value;
 ghost use Rattle.cdr_core.specs.Value.{count};
 ghost use Rattle.cdr_core.specs.View.{value_of, values_of};
 ghost use Rattle.cdr_core.specs.Writing.{octets_of, octets_of_all, AreWritable, IsWritable};
 
-use crate::measuring::{end_of, end_of_list, needed};
-use crate::numbers::{put_eight, put_four, put_two};
+use crate::numbers::{add_eight, add_four, add_one, add_two};
 use crate::order::Order;
-use crate::parts::{has_no_nul, put_raw, put_string};
+use crate::parts::{add_raw, add_string, has_no_nul};
+use crate::runs::follow;
 use crate::values::Val;
 use std::alloc::AllocError;
 
@@ -51,79 +52,110 @@ pub fn are_writable(all: &[Val]) -> bool
     true
 }
 
-/// Appends a value, for which `out` has room. The octet of `out` at `start` stands at the place `at`.
+/// Appends a value. The octet of `out` at `start` stands at the place `at`. At an error `out` keeps what it
+/// held, and octets may have been appended.
 #[cycle(writing)]
 #[tactic(auto, using(crate::proofs::Views::count_values_of, crate::proofs::Lengths::number_length))]
-fn put(order: Order, at: u64, start: usize, value: &Val, out: &mut Vec<u8>)
+fn append(
+    order: Order,
+    at: u64,
+    start: usize,
+    value: &Val,
+    out: &mut Vec<u8>,
+) -> Result<(), AllocError>
     requires at { at < 2 ^ 32 }
     requires start { start ≤ length out.old.items }
     requires writable { IsWritable (value_of value.now) }
-    requires room { length out.old.items + length (octets_of order (value_of value.now) (at + (length out.old.items - start))) ≤ vec_capacity out.old }
-    ensures items { out.new.items ≡ out.old.items ++ octets_of order (value_of value.now) (at + (length out.old.items - start)) }
+    ensures ok { OnOk result (out.new.items ≡ out.old.items ++ octets_of order (value_of value.now) (at + (length out.old.items - start))) }
+    ensures err { OnErr result (Keeps out.old.items out.new.items) }
+    ensures succeeds { length out.old.items + length (octets_of order (value_of value.now) (at + (length out.old.items - start))) ≤ vec_capacity out.old → IsOk result }
     ensures capacity { vec_capacity out.old ≤ vec_capacity out.new }
 {
     let place = at + (out.len() - start) as u64;
     match value {
-        Val::Boolean(b) => out.push_reserved(u8::from(*b)),
-        Val::Char(c) => out.push_reserved(*c),
-        Val::Octet(n) => out.push_reserved(*n),
-        Val::Short(n) => put_two(order, place, n.cast_unsigned(), out),
-        Val::UShort(n) => put_two(order, place, *n, out),
-        Val::Long(n) => put_four(order, place, n.cast_unsigned(), out),
-        Val::ULong(n) => put_four(order, place, *n, out),
-        Val::LongLong(n) => put_eight(order, place, n.cast_unsigned(), out),
-        Val::ULongLong(n) => put_eight(order, place, *n, out),
-        Val::Str(text) => put_string(order, place, text, out),
-        Val::Octets(all) => put_raw(order, place, all, out),
-        Val::Seq(all) => put_sequence(order, at, start, all, out),
-        Val::Array(all) => put_all(order, at, start, all, out),
-        Val::Enum(n) => put_four(order, place, *n, out),
-        Val::Struct(all) => put_all(order, at, start, all, out),
+        Val::Boolean(b) => add_one(u8::from(*b), out),
+        Val::Char(c) => add_one(*c, out),
+        Val::Octet(n) => add_one(*n, out),
+        Val::Short(n) => add_two(order, place, n.cast_unsigned(), out),
+        Val::UShort(n) => add_two(order, place, *n, out),
+        Val::Long(n) => add_four(order, place, n.cast_unsigned(), out),
+        Val::ULong(n) => add_four(order, place, *n, out),
+        Val::LongLong(n) => add_eight(order, place, n.cast_unsigned(), out),
+        Val::ULongLong(n) => add_eight(order, place, *n, out),
+        Val::Str(text) => add_string(order, place, text, out),
+        Val::Octets(all) => add_raw(order, place, all, out),
+        Val::Seq(all) => append_sequence(order, at, start, all, out),
+        Val::Array(all) => append_all(order, at, start, true, all, out),
+        Val::Enum(n) => add_four(order, place, *n, out),
+        Val::Struct(all) => append_all(order, at, start, false, all, out),
         Val::Union(discriminator, member) => {
-            put(order, at, start, discriminator, out);
-            if let Some(member) = member {
-                put(order, at, start, member, out);
+            append(order, at, start, discriminator, out)?;
+            match member {
+                None => Ok(()),
+                Some(member) => append(order, at, start, member, out),
             }
         }
     }
 }
 
-/// Appends a sequence: its count and its elements, for which `out` has room.
+/// Appends a sequence: its count and its elements.
 #[cycle(writing)]
 #[tactic(auto, using(crate::proofs::Views::count_values_of, crate::proofs::Lengths::number_length, crate::proofs::Appending::place_behind))]
-fn put_sequence(order: Order, at: u64, start: usize, all: &[Val], out: &mut Vec<u8>)
+fn append_sequence(
+    order: Order,
+    at: u64,
+    start: usize,
+    all: &[Val],
+    out: &mut Vec<u8>,
+) -> Result<(), AllocError>
     requires at { at < 2 ^ 32 }
     requires start { start ≤ length out.old.items }
     requires count { count (values_of all.now) < 2 ^ 32 }
     requires writable { AreWritable (values_of all.now) }
-    requires room { length out.old.items + length (octets_of order (value.sequence (values_of all.now)) (at + (length out.old.items - start))) ≤ vec_capacity out.old }
-    ensures items { out.new.items ≡ out.old.items ++ octets_of order (value.sequence (values_of all.now)) (at + (length out.old.items - start)) }
+    ensures ok { OnOk result (out.new.items ≡ out.old.items ++ octets_of order (value.sequence (values_of all.now)) (at + (length out.old.items - start))) }
+    ensures err { OnErr result (Keeps out.old.items out.new.items) }
+    ensures succeeds { length out.old.items + length (octets_of order (value.sequence (values_of all.now)) (at + (length out.old.items - start))) ≤ vec_capacity out.old → IsOk result }
     ensures capacity { vec_capacity out.old ≤ vec_capacity out.new }
 {
     let place = at + (out.len() - start) as u64;
-    put_four(order, place, all.len() as u32, out);
-    put_all(order, at, start, all, out);
+    add_four(order, place, all.len() as u32, out)?;
+    append_all(order, at, start, true, all, out)
 }
 
-/// Appends values one after another, for which `out` has room.
+/// Appends values one after another, which may be of the `same` type.
 #[cycle(writing)]
-pub(crate) fn put_all(order: Order, at: u64, start: usize, all: &[Val], out: &mut Vec<u8>)
+pub(crate) fn append_all(
+    order: Order,
+    at: u64,
+    start: usize,
+    same: bool,
+    all: &[Val],
+    out: &mut Vec<u8>,
+) -> Result<(), AllocError>
     requires at { at < 2 ^ 32 }
     requires start { start ≤ length out.old.items }
     requires writable { AreWritable (values_of all.now) }
-    requires room { length out.old.items + length (octets_of_all order (values_of all.now) (at + (length out.old.items - start))) ≤ vec_capacity out.old }
-    ensures items { out.new.items ≡ out.old.items ++ octets_of_all order (values_of all.now) (at + (length out.old.items - start)) }
+    ensures ok { OnOk result (out.new.items ≡ out.old.items ++ octets_of_all order (values_of all.now) (at + (length out.old.items - start))) }
+    ensures err { OnErr result (Keeps out.old.items out.new.items) }
+    ensures succeeds { length out.old.items + length (octets_of_all order (values_of all.now) (at + (length out.old.items - start))) ≤ vec_capacity out.old → IsOk result }
     ensures capacity { vec_capacity out.old ≤ vec_capacity out.new }
 {
-    for value in all {
-        put(order, at, start, value, out);
+    let mut next = 0;
+    while next < all.len() {
+        let value = &all[next];
+        append(order, at, start, value, out)?;
+        next += 1;
+        if same {
+            let place = at + (out.len() - start) as u64;
+            next += follow(order, place, value, all.split_at(next).1, out);
+        }
     }
+    Ok(())
 }
 
 /// Appends a value at the place `at`: first its padding, which is written as zeros.
 ///
-/// There is one allocation at most, and none if `out` has room already. If it fails, `out` is as it
-/// was.
+/// If an allocation fails, `out` is as it was. The call succeeds if `out` has room already.
 pub fn write(order: Order, at: u64, value: &Val, out: &mut Vec<u8>) -> Result<(), AllocError>
     requires at { at < 2 ^ 32 }
     requires writable { IsWritable (value_of value.now) }
@@ -132,9 +164,12 @@ pub fn write(order: Order, at: u64, value: &Val, out: &mut Vec<u8>) -> Result<()
     ensures succeeds { length out.old.items + length (octets_of order (value_of value.now) at) ≤ vec_capacity out.old → IsOk result }
     ensures capacity { vec_capacity out.old ≤ vec_capacity out.new }
 {
-    out.reserve(needed(at, end_of(at, value)))?;
-    put(order, at, out.len(), value, out);
-    Ok(())
+    let start = out.len();
+    let appended = append(order, at, start, value, out);
+    if appended.is_err() {
+        out.truncate(start);
+    }
+    appended
 }
 
 /// Appends values one after another, the first at the place `at`. It allocates and fails as `write`
@@ -152,7 +187,10 @@ pub fn write_list(
     ensures succeeds { length out.old.items + length (octets_of_all order (values_of values.now) at) ≤ vec_capacity out.old → IsOk result }
     ensures capacity { vec_capacity out.old ≤ vec_capacity out.new }
 {
-    out.reserve(needed(at, end_of_list(at, values)))?;
-    put_all(order, at, out.len(), values, out);
-    Ok(())
+    let start = out.len();
+    let appended = append_all(order, at, start, false, values, out);
+    if appended.is_err() {
+        out.truncate(start);
+    }
+    appended
 }

@@ -1,39 +1,98 @@
-use Rattle.std.proofs.Common.{inl, inr, refl, sym, ap, ◌∙◌}
+use Rattle.std.proofs.Common.{◌≡◌, ◌-◌, ◌<◌, [], length, inl, inr, refl, sym, ap, ◌∙◌, arith}
 use Rattle.std.proofs.lemmas.Result.{err_from_is_err_and}
 use Rattle.cdr_core.specs.Memory.{Stores, StoresEach}
+use Rattle.cdr_core.specs.Private.{ReadsOn}
 use Rattle.cdr_core.specs.Reading.{length_at, value_at}
 use Rattle.cdr_core.specs.Value as value
 use Rattle.cdr_core.specs.Value.{label}
 use Rattle.cdr_core.specs.View.{form_of, value_of, values_of}
-use Rattle.cdr_core.proofs.Turns.{each_done, each_more}
-use Rattle.cdr_core.proofs.Loops.{each_ends, members_more, members_end, members_done, case_passed, case_chosen, case_fails, default_none, default_chosen, default_fails, sequence_reads, sequence_fails, array_reads, array_fails}
-use Rattle.cdr_core.proofs.Memory.{after_read, case_stores, cases_store, default_stores, if_memory, member_stores, members_store, stores_here, stores_later, union_ends}
+use Rattle.cdr_core.proofs.Here.{on_done, on_ends, on_fails, on_more, on_one, on_stores}
+use Rattle.cdr_core.proofs.Loops.{members_more, members_end, members_done, case_passed, case_chosen, case_fails, default_none, default_chosen, default_fails, sequence_reads, sequence_fails, array_reads, array_fails}
+use Rattle.cdr_core.proofs.Memory.{after_read, case_stores, cases_store, default_stores, if_memory, member_stores, members_store, union_ends}
 use Rattle.cdr_core.proofs.Views.{values_of-push, form_of-Array, value_of-Array, value_of-Seq}
 use Rattle.cdr_core.proofs.reading.+reading.Goals as goal
 
-pub each-loop-preserved : goal.each-loop-preserved
-each-loop-preserved t c =
-    let i = c.loop.invariant in
+pub each-loop-alloc-preserved : goal.each-loop-alloc-preserved
+each-loop-alloc-preserved t c =
+    let l = c.loop-alloc in
+    let i = l.invariant in
+    let a = c.args in
+    let old = a.cursor.now in
+    let new = c.value.new.cursor in
     let read = rw i.order at c.in_ok-value.ensures in
-    let cursor = c.value.new.cursor in
+    let lt : length l.all.items < a.count = omega (arith, c.loop-alloc-test.true, c.len.ensures, l.all.ok.0) in
     record {
       order = read.1;
-      stores = λ p h. i.stores p (stores_later (value_at (form_of c.args.ty.now) c.args.cursor.now.order) (Stores (form_of c.args.ty.now) c.args.cursor.now.order) c.args.count c.loop.counter c.loop.cursor.place c.loop.cursor.rest (value_of c.in_ok-value.field-0) cursor.place cursor.rest p c.loop-test.true read.0 (inr h));
-      whole = rw (c.in_ok-push.ensures.items, values_of-push)
-          (each_more (value_at (form_of c.args.ty.now) c.args.cursor.now.order) (values_of c.loop.all.items) c.args.count c.loop.counter c.loop.cursor.place c.loop.cursor.rest (value_of c.in_ok-value.field-0) cursor.place cursor.rest _ c.loop-test.true read.0 i.whole);
+      reads = rw c.in_ok-push.ensures.items (on_one (form_of a.ty.now) old.order a.count [] old.place old.rest l.all.items l.cursor.place l.cursor.rest c.in_ok-value.field-0 new.place new.rest i.reads (omega (arith, lt)) read.0);
+    }
+
+pub each-loop-alloc-preserved-in-Some : goal.each-loop-alloc-preserved-in-Some
+each-loop-alloc-preserved-in-Some t c =
+    let l = c.loop-alloc in
+    let i = l.invariant in
+    let a = c.args in
+    let old = a.cursor.now in
+    let new = c.value.new.cursor in
+    let last = c.more.new.cursor in
+    let ty = form_of a.ty.now in
+    let all = c.push.new.self in
+    let read = rw i.order at c.in_ok-value.ensures in
+    let lt : length l.all.items < a.count = omega (arith, c.loop-alloc-test.true, c.len.ensures, l.all.ok.0) in
+    let first : ReadsOn ty old.order a.count [] old.place old.rest all.items new.place new.rest =
+    rw c.in_ok-push.ensures.items (on_one ty old.order a.count [] old.place old.rest l.all.items l.cursor.place l.cursor.rest c.in_ok-value.field-0 new.place new.rest i.reads (omega (arith, lt)) read.0) in
+    let then = rw (← c.in-Some.ensures, read.1) at c.in_ok-all.ensures.reads in
+    let left : a.count - c.len-in-Some.result ≡ a.count - (length all.items - 0) = omega (arith, c.len-in-Some.ensures, all.ok.0) in
+    record {
+      order = c.more.ensures.order ∙ read.1;
+      reads = on_more ty old.order a.count (a.count - c.len-in-Some.result) [] old.place old.rest all.items new.place new.rest c.in_ok-all.all.items last.place last.rest first left then;
     }
 
 pub each-returns-in_err-value : goal.each-returns-in_err-value
 each-returns-in_err-value t c =
     let p = err_from_is_err_and c.from_residual.result c.from_residual.ensures.1 in
-    let i = c.loop.invariant in
+    let l = c.loop-alloc in
+    let i = l.invariant in
+    let a = c.args in
+    let old = a.cursor.now in
+    let e = c.in_err-value.field-0.0 in
     let read = rw i.order at c.in_err-value.ensures in
-    rw (p.1, p.2) (each_ends c.in_err-value.field-0.0 (value_at (form_of c.args.ty.now) c.args.cursor.now.order) (values_of c.loop.all.items) c.args.count c.loop.counter c.loop.cursor.place c.loop.cursor.rest _ c.loop-test.true read.0 i.whole, if_memory c.in_err-value.field-0.0 (λ h. i.stores c.value.new.cursor.place (stores_here (value_at (form_of c.args.ty.now) c.args.cursor.now.order) (Stores (form_of c.args.ty.now) c.args.cursor.now.order) c.args.count c.loop.counter c.loop.cursor.place c.loop.cursor.rest c.value.new.cursor.place c.loop-test.true h)) read.1)
+    let lt : length l.all.items < a.count = omega (arith, c.loop-alloc-test.true, c.len.ensures, l.all.ok.0) in
+    rw (p.1, p.2) (
+      on_fails (form_of a.ty.now) old.order a.count old.place old.rest l.all.items l.cursor.place l.cursor.rest i.reads e lt read.0,
+      if_memory e (on_stores (form_of a.ty.now) old.order a.count old.place old.rest l.all.items l.cursor.place l.cursor.rest i.reads c.value.new.cursor.place lt) read.1,
+    )
+
+pub each-returns-in_err-push : goal.each-returns-in_err-push
+each-returns-in_err-push t c =
+    let p = err_from_is_err_and c.from_residual-in_err-push.result c.from_residual-in_err-push.ensures.1 in
+    let l = c.loop-alloc in
+    let i = l.invariant in
+    let a = c.args in
+    let old = a.cursor.now in
+    let new = c.value.new.cursor in
+    let read = rw i.order at c.in_ok-value.ensures in
+    let lt : length l.all.items < a.count = omega (arith, c.loop-alloc-test.true, c.len.ensures, l.all.ok.0) in
+    rw (p.1, p.2) (tt, on_ends (form_of a.ty.now) old.order a.count old.place old.rest l.all.items l.cursor.place l.cursor.rest i.reads (value_of c.in_ok-value.field-0) new.place new.rest lt read.0)
+
+pub each-returns-in_err-all : goal.each-returns-in_err-all
+each-returns-in_err-all t c =
+    let p = err_from_is_err_and c.from_residual-in_err-all.result c.from_residual-in_err-all.ensures.1 in
+    let l = c.loop-alloc in
+    let i = l.invariant in
+    let a = c.args in
+    let old = a.cursor.now in
+    let new = c.value.new.cursor in
+    let read = rw i.order at c.in_ok-value.ensures in
+    let lt : length l.all.items < a.count = omega (arith, c.loop-alloc-test.true, c.len.ensures, l.all.ok.0) in
+    rw (p.1, p.2, c.in_err-all.ensures.err) (tt, on_ends (form_of a.ty.now) old.order a.count old.place old.rest l.all.items l.cursor.place l.cursor.rest i.reads (value_of c.in_ok-value.field-0) new.place new.rest lt read.0)
 
 pub each-returns : goal.each-returns
 each-returns t c =
-    let i = c.loop.invariant in
-    (each_done (value_at (form_of c.args.ty.now) c.args.cursor.now.order) (values_of c.loop.all.items) c.args.count c.loop.counter c.loop.cursor.place c.loop.cursor.rest _ c.loop-test.false i.whole, i.order)
+    let l = c.loop-alloc in
+    let i = l.invariant in
+    let a = c.args in
+    let old = a.cursor.now in
+    (on_done (form_of a.ty.now) old.order a.count old.place old.rest l.all.items l.cursor.place l.cursor.rest i.reads (omega (arith, c.loop-alloc-test.false, c.len.ensures, l.all.ok.0)), i.order)
 
 pub each_of-loop-ty-preserved : goal.each_of-loop-ty-preserved
 each_of-loop-ty-preserved t c =
@@ -144,14 +203,6 @@ value-returns-in_err-each-in-Array t c =
     let read = rw c.deref-in-Array.ensures at c.in_err-each-in-Array.ensures in
     rw (p.1, p.2, ap form_of a.is ∙ form_of-Array a.count a.member)
     (array_fails c.in_err-each-in-Array.field-0.0 a.count (form_of a.member.value) old.order old.place old.rest read.0, read.1)
-
-pub each-returns-in_err-push : goal.each-returns-in_err-push
-each-returns-in_err-push t c =
-    let p = err_from_is_err_and c.from_residual-in_err-push.result c.from_residual-in_err-push.ensures.1 in
-    let i = c.loop.invariant in
-    let read = rw i.order at c.in_ok-value.ensures in
-    let cursor = c.value.new.cursor in
-    rw (p.1, p.2) (tt, i.stores cursor.place (stores_later (value_at (form_of c.args.ty.now) c.args.cursor.now.order) (Stores (form_of c.args.ty.now) c.args.cursor.now.order) c.args.count c.loop.counter c.loop.cursor.place c.loop.cursor.rest (value_of c.in_ok-value.field-0) cursor.place cursor.rest cursor.place c.loop-test.true read.0 (inl refl)))
 
 pub each_of-returns-in_err-push_member : goal.each_of-returns-in_err-push_member
 each_of-returns-in_err-push_member t c =

@@ -1,21 +1,20 @@
-use Rattle.std.proofs.Common.{◌≡◌, ℕ, ◌-◌, drop}
-use Rattle.cdr_core.specs.Reading.{chosen_at, each_at, members_at, value_at}
+use Rattle.std.proofs.Common.{◌≡◌, ℕ, ◌-◌, [], drop, length}
+use Rattle.cdr_core.specs.Reading.{chosen_at, members_at}
 use Rattle.cdr_core.specs.Value.{label}
 use Rattle.cdr_core.specs.View.{cases_of, form_of, forms_of, value_of, values_of}
-use Rattle.cdr_core.specs.Memory.{Stores, StoresChosen, StoresEach, StoresMembers}
-use Rattle.cdr_core.specs.Private.{StoresUnion, union_at}
-use Rattle.cdr_core.proofs.Turns.{with_front}
+use Rattle.cdr_core.specs.Memory.{StoresChosen, StoresMembers}
+use Rattle.cdr_core.specs.Private.{union_at, with_front, ReadsOn, StoresUnion}
 use Rattle.cdr_core.proofs.reading.+reading.Given as goal
 
 -- what was read so far and what is left give the whole
-abbrev pub invariant-each-loop : goal.invariant-each-loop
-invariant-each-loop l = record {
+abbrev pub invariant-each-loop-alloc : goal.invariant-each-loop-alloc
+invariant-each-loop-alloc l = record {
   order : l.cursor.order ≡ l.fn.cursor.order;
-  stores : (p : ℕ) → StoresEach (value_at (form_of l.ty) l.fn.cursor.order) (Stores (form_of l.ty) l.fn.cursor.order) (l.count - l.counter) l.cursor.place l.cursor.rest p
-      → StoresEach (value_at (form_of l.ty) l.fn.cursor.order) (Stores (form_of l.ty) l.fn.cursor.order) l.count l.fn.cursor.place l.fn.cursor.rest p;
-  whole : with_front (values_of l.all.items) (each_at (value_at (form_of l.ty) l.fn.cursor.order) (l.count - l.counter) l.cursor.place l.cursor.rest)
-      ≡ each_at (value_at (form_of l.ty) l.fn.cursor.order) l.count l.fn.cursor.place l.fn.cursor.rest;
+  reads : ReadsOn (form_of l.ty) l.fn.cursor.order l.count [] l.fn.cursor.place l.fn.cursor.rest l.all.items l.cursor.place l.cursor.rest;
 }
+
+abbrev pub decreases-each-loop-alloc : goal.decreases-each-loop-alloc
+decreases-each-loop-alloc l = l.count - length l.all.items
 
 abbrev pub invariant-each_of-loop-ty : goal.invariant-each_of-loop-ty
 invariant-each_of-loop-ty l = record {
