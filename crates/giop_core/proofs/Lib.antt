@@ -17,3 +17,5 @@ pub mod ReadAgain
 pub mod Near
 pub mod Refused
 pub mod ReadFits
+pub mod Carried
+pub mod Sizes

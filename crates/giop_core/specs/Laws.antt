@@ -103,6 +103,26 @@ abbrev pub WrittenLocateReplyIsRead : Type 0
 WrittenLocateReplyIsRead = (version : Version) (order : Order) (id status : ℕ) (body : Values) → id < 2 ^ 32 → status < locate_statuses version
     → IsReadAs version LocateReply order (locate_reply_fields id status) body (content.locate_reply id status)
 
+-- How long messages are.
+
+-- In every version the body of a Reply without contexts stands at the place 24, after twelve octets of fields ..
+abbrev pub RepliesHaveOneSize : Type 0
+RepliesHaveOneSize = (version : Version) (order : Order) (id status : ℕ) (body : Values)
+    → (length (behind_header version Reply order (reply_fields version id status []) body) ≡ 12 + length (octets_of_all order body 24))
+    × (rest_after version Reply order (reply_fields version id status []) body ≡ record { order = order; place = 24; octets = octets_of_all order body 24 })
+
+-- .. the fields of a LocateReply take eight, those of a CancelRequest four ..
+abbrev pub LocateRepliesHaveOneSize : Type 0
+LocateRepliesHaveOneSize = (version : Version) (order : Order) (id status : ℕ) → length (behind_header version LocateReply order (locate_reply_fields id status) no_values) ≡ 8
+
+abbrev pub CancelsHaveOneSize : Type 0
+CancelsHaveOneSize = (version : Version) (order : Order) (id : ℕ) → length (behind_header version CancelRequest order (cancel_fields id) no_values) ≡ 4
+
+-- .. and a Request is as long under each id.
+abbrev pub RequestsHaveOneSize : Type 0
+RequestsHaveOneSize = (version : Version) (order : Order) (id other : ℕ) (wish : ReplyWish) (to : Addressed) (operation : List ℕ) (contexts : List (ℕ × List ℕ)) (body : Values)
+    → length (behind_header version Request order (request_fields version id wish to operation contexts) body) ≡ length (behind_header version Request order (request_fields version other wish to operation contexts) body)
+
 -- What the writer of its kind asks of a message. No writer of this crate has a Fragment; its id is an unsigned long.
 abbrev pub CanBeWritten : Version → Content → Type 0
 CanBeWritten version (content.request id wish to operation contexts body) = (id < 2 ^ 32) × CanAsk version wish × CanAddress version to × IsTarget to × IsClean operation × HaveTags contexts
@@ -144,6 +164,13 @@ abbrev pub WrittenFtIsPresent : Type 0
 WrittenFtIsPresent = (order : Order) (client_id : List ℕ) (retention_id : ℤ) (expiration : ℕ) (before more : List (ℕ × List ℕ))
     → IsClean client_id → FitsSigned w32 retention_id → expiration < 2 ^ 64 → length (ft_octets order client_id retention_id expiration) < 2 ^ 32 → HasNone 13 before
     → ft_in (before ++ (13, ft_octets order client_id retention_id expiration) ∷ more) ≡ present client_id retention_id expiration
+
+-- A Request that is written with an FT_REQUEST as its one context, and is not too long for its message size, carries it.
+abbrev pub WrittenRequestCarriesFt : Type 0
+WrittenRequestCarriesFt = (version : Version) (order : Order) (id : ℕ) (wish : ReplyWish) (to : Addressed) (operation : List ℕ) (client_id : List ℕ) (retention_id : ℤ) (expiration : ℕ) (body : Values)
+    → IsClean client_id → FitsSigned w32 retention_id → expiration < 2 ^ 64
+    → length (behind_header version Request order (request_fields version id wish to operation ((13, ft_octets order client_id retention_id expiration) ∷ [])) body) < 2 ^ 32
+    → ft_in ((13, ft_octets order client_id retention_id expiration) ∷ []) ≡ present client_id retention_id expiration
 
 -- FT_REQUEST is present exactly where the first context of its id is an encapsulation of its fields ..
 abbrev pub PresentFtIsSpelled : Type 0

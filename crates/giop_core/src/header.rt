@@ -207,6 +207,7 @@ impl Header {
     pub const LEN: usize = 12;
 
     /// Reads a header, or finds the first fault in it.
+    #[inline(always)]
     pub fn read(octets: &[u8; 12]) -> Result<Header, HeaderFault>
         ensures { result ≡ header_of octets.now }
     {

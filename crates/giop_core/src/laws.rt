@@ -1,6 +1,6 @@
 //! Laws over the definitions: each is what a function with an empty body ensures.
 
-ghost use Rattle.giop_core.specs.Laws.{AbsentFtIsNowhere, BodiesAreBacks, HeadersAreReadAgain, MessagesAreSpelled, PresentFtIsSpelled, ReadMessagesAreReadAgain, ReadMessagesCanBeWritten, RefusedMessagesStop, SpelledMessagesAreRead, StoppingMessagesAreRefused, UnknownTargetsStop, WrittenCancelIsRead, WrittenFtIsPresent, WrittenLocateReplyIsRead, WrittenLocateRequestIsRead, WrittenReplyIsRead, WrittenRequestIsRead};
+ghost use Rattle.giop_core.specs.Laws.{AbsentFtIsNowhere, BodiesAreBacks, CancelsHaveOneSize, HeadersAreReadAgain, LocateRepliesHaveOneSize, MessagesAreSpelled, PresentFtIsSpelled, ReadMessagesAreReadAgain, ReadMessagesCanBeWritten, RefusedMessagesStop, RepliesHaveOneSize, RequestsHaveOneSize, SpelledMessagesAreRead, StoppingMessagesAreRefused, UnknownTargetsStop, WrittenCancelIsRead, WrittenFtIsPresent, WrittenLocateReplyIsRead, WrittenLocateRequestIsRead, WrittenReplyIsRead, WrittenRequestCarriesFt, WrittenRequestIsRead};
 
 /// Reading gives the message that the grammar says the octets are, and gives it wherever there is
 /// one.
@@ -42,6 +42,15 @@ pub fn written_is_read()
     cdr_core::laws::written_is_spelled();
 }
 
+/// How many octets are written after the header: of a Reply without contexts, a LocateReply and a CancelRequest as
+/// many in each version, and of a Request as many under each id.
+pub fn written_sizes()
+    ensures reply { RepliesHaveOneSize }
+    ensures locate_reply { LocateRepliesHaveOneSize }
+    ensures cancel { CancelsHaveOneSize }
+    ensures request { RequestsHaveOneSize }
+{}
+
 /// A message that was read meets what its writer asks, and written again it is read as the same message.
 pub fn read_messages_can_be_written()
     ensures can { ReadMessagesCanBeWritten }
@@ -69,6 +78,13 @@ pub fn written_ft_is_present()
 {
     cdr_core::laws::spelled_is_read();
     cdr_core::laws::written_is_spelled();
+}
+
+/// A Request that is written with an FT_REQUEST as its one context carries that context, with its three fields.
+pub fn written_requests_carry_ft()
+    ensures { WrittenRequestCarriesFt }
+{
+    written_ft_is_present();
 }
 
 /// A possible header is read again from its octets.

@@ -1,10 +1,10 @@
 //! LocateRequest and LocateReply (CORBA 3.3 Part 2, 9.4.5 and 9.4.6).
 
-ghost use Rattle.std.specs.Prelude.{◌≡◌, ◌↔◌, Some, IsTrue, ◌≤◌, ◌<◌, length};
+ghost use Rattle.std.specs.Prelude.{◌≡◌, ◌↔◌, Some, IsTrue, IfOk, ◌≤◌, ◌<◌, length};
 ghost use Rattle.cdr_core.specs.Value.{no_values};
 ghost use Rattle.cdr_core.specs.View.{values_of};
 ghost use Rattle.cdr_core.specs.Writing.{AreWritable, IsWritable};
-ghost use Rattle.giop_core.specs.Lent.{locate_request_of, locate_reply_of, addressed_by, Shows};
+ghost use Rattle.giop_core.specs.Lent.{content_of, locate_reply_of, addressed_by, Shows};
 ghost use Rattle.giop_core.specs.Messages.{message_of};
 ghost use Rattle.giop_core.specs.Private.{Adds, PutsFields};
 ghost use Rattle.giop_core.specs.Statuses.{locate_status_number, locate_status_of};
@@ -15,7 +15,7 @@ ghost use Rattle.giop_core.specs.declared.header.Version.TheVariants.{V10, V12};
 
 use crate::error::{MessageFault, WriteError};
 use crate::header::{MessageKind, Version};
-use crate::message::{AFTER_HEADER, Body, body_at};
+use crate::message::{AFTER_HEADER, Body, Content, Message, body_at};
 use crate::target_address::{Target, check_target, put_target_in, read_target};
 use crate::writing::{begin, finish};
 use cdr_core::{Cursor, Order, Val, Writer};
@@ -118,27 +118,41 @@ impl Version {
 
 /// Reads a LocateRequest of 1.0 or 1.1.
 #[tactic(auto, unfolding(crate::specs::Messages::message_of, crate::specs::Rows::row, crate::specs::Content::content))]
-fn read_locate_request_10(order: Order, octets: &[u8]) -> Result<LocateRequest<'_>, MessageFault>
-    ensures { Shows locate_request_of result (message_of V10 kind.LocateRequest order octets.now) }
+fn read_locate_request_10(
+    version: Version,
+    order: Order,
+    octets: &[u8],
+) -> Result<Message<'_>, MessageFault>
+    ensures shows { Shows (λ m. content_of m.content) result (message_of V10 kind.LocateRequest order octets.now) }
+    ensures same { IfOk result (λ m. (m.version ≡ version) × (m.order ≡ order)) }
 {
     let mut cursor = Cursor::new(octets, order, AFTER_HEADER);
     let request_id = cursor.ulong()?;
     let key = cursor.octets()?;
-    Ok(LocateRequest {
-        request_id,
-        target: Target::Key(key),
+    Ok(Message {
+        version,
+        order,
+        content: Content::LocateRequest(LocateRequest {
+            request_id,
+            target: Target::Key(key),
+        }),
     })
 }
 
 /// Reads a LocateRequest of 1.2.
 #[tactic(auto, unfolding(crate::specs::Messages::message_of, crate::specs::Rows::row, crate::specs::Content::content), using(crate::proofs::Again::addressed_again))]
-fn read_locate_request_12(order: Order, octets: &[u8]) -> Result<LocateRequest<'_>, MessageFault>
-    ensures { Shows locate_request_of result (message_of V12 kind.LocateRequest order octets.now) }
+fn read_locate_request_12(order: Order, octets: &[u8]) -> Result<Message<'_>, MessageFault>
+    ensures shows { Shows (λ m. content_of m.content) result (message_of V12 kind.LocateRequest order octets.now) }
+    ensures same { IfOk result (λ m. (m.version ≡ V12) × (m.order ≡ order)) }
 {
     let mut cursor = Cursor::new(octets, order, AFTER_HEADER);
     let request_id = cursor.ulong()?;
     let target = read_target(&mut cursor)?;
-    Ok(LocateRequest { request_id, target })
+    Ok(Message {
+        version: Version::V12,
+        order,
+        content: Content::LocateRequest(LocateRequest { request_id, target }),
+    })
 }
 
 /// Reads a LocateRequest.
@@ -147,11 +161,12 @@ pub(crate) fn read_locate_request(
     version: Version,
     order: Order,
     octets: &[u8],
-) -> Result<LocateRequest<'_>, MessageFault>
-    ensures { Shows locate_request_of result (message_of version kind.LocateRequest order octets.now) }
+) -> Result<Message<'_>, MessageFault>
+    ensures shows { Shows (λ m. content_of m.content) result (message_of version kind.LocateRequest order octets.now) }
+    ensures same { IfOk result (λ m. (m.version ≡ version) × (m.order ≡ order)) }
 {
     match version {
-        Version::V10 | Version::V11 => read_locate_request_10(order, octets),
+        Version::V10 | Version::V11 => read_locate_request_10(version, order, octets),
         Version::V12 => read_locate_request_12(order, octets),
     }
 }

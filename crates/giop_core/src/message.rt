@@ -15,7 +15,7 @@ use crate::fragment::{Fragment, read_fragment};
 use crate::header::{Header, MessageKind, Version};
 use crate::locate::{LocateReply, LocateRequest, read_locate_reply, read_locate_request};
 use crate::reply::{Reply, read_reply};
-use crate::request::{Request, read_request};
+use crate::request::{Request, read_request, read_request_12};
 use cdr_core::{CdrError, Cursor, Order, Ty, Val};
 use std::alloc::Global;
 
@@ -49,6 +49,7 @@ impl<'m> Body<'m> {
 }
 
 /// The body that begins where a cursor is.
+#[inline(always)]
 pub(crate) fn body_at<'m>(cursor: &Cursor<'m>, order: Order) -> Body<'m>
     ensures { rest_of result ≡ record { order = order; place = cursor.now.place; octets = cursor.now.rest } }
 {
@@ -83,6 +84,7 @@ pub struct Message<'m> {
 }
 
 /// What the octets after a header of this kind, version and order say.
+#[inline(never)]
 #[tactic(auto, using(crate::proofs::Shared::cancel_any, crate::proofs::Shared::close_any, crate::proofs::Shared::error_any))]
 fn message_of_kind(
     kind: MessageKind,
@@ -97,9 +99,7 @@ fn message_of_kind(
         MessageKind::Request => return read_request(version, order, octets),
         MessageKind::Reply => return read_reply(version, order, octets),
         MessageKind::CancelRequest => Content::Cancel(read_cancel(order, octets)?),
-        MessageKind::LocateRequest => {
-            Content::LocateRequest(read_locate_request(version, order, octets)?)
-        }
+        MessageKind::LocateRequest => return read_locate_request(version, order, octets),
         MessageKind::LocateReply => Content::LocateReply(read_locate_reply(
             version, order, octets,
         )?),
@@ -121,10 +121,14 @@ fn message_of_kind(
 /// their number. Octets after the fields of a message that has no body are ignored (a rule of this
 /// project). Places in faults and bodies count from the beginning of the message, its header included;
 /// a body's is at most 7 past the message's end.
+#[inline(always)]
 pub fn read_message<'m>(header: &Header, octets: &'m [u8]) -> Result<Message<'m>, MessageFault>
     ensures shows { Shows (λ m. content_of m.content) result (message_of header.now.version header.now.kind header.now.order octets.now) }
     ensures same { IfOk result (λ m. (m.version ≡ header.now.version) × (m.order ≡ header.now.order)) }
     ensures near { IfOk result (λ m. OnBody (StandsNear octets.now) (content_of m.content)) }
 {
+    if let (MessageKind::Request, Version::V12) = (header.kind, header.version) {
+        return read_request_12(header.order, octets);
+    }
     message_of_kind(header.kind, header.version, header.order, octets)
 }

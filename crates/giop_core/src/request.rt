@@ -80,6 +80,7 @@ impl Version {
 }
 
 /// The wish in response_flags, whose two low bits alone count.
+#[inline(always)]
 fn wish_by(flags: u8) -> ReplyWish
     ensures { result ≡ wish_by flags }
 {
@@ -104,6 +105,7 @@ fn wish_if(expected: bool) -> ReplyWish
 }
 
 /// Reads three reserved octets, which may be any.
+#[inline(always)]
 #[tactic(auto, using(crate::proofs::Steps::three_reads, crate::proofs::Steps::three_stop_1, crate::proofs::Steps::three_stop_2, crate::proofs::Steps::three_stop_3))]
 fn read_reserved(cursor: &mut Cursor) -> Result<(u8, u8, u8), Fault>
     ensures { Reads three_value result reserved cursor.old cursor.new }
@@ -116,6 +118,7 @@ fn read_reserved(cursor: &mut Cursor) -> Result<(u8, u8, u8), Fault>
 
 /// Reads a Request of 1.0. Each reader of a Request or a Reply makes the whole message in its place,
 /// since to move one costs as much as to read it.
+#[inline(never)]
 #[tactic(auto, unfolding(crate::specs::Messages::message_of, crate::specs::Rows::row, crate::specs::Content::content), using(crate::proofs::Again::addressed_again, crate::proofs::Again::items_again))]
 fn read_request_10(order: Order, octets: &[u8]) -> Result<Message<'_>, MessageFault>
     ensures shows { Shows (λ m. content_of m.content) result (message_of V10 kind.Request order octets.now) }
@@ -143,6 +146,7 @@ fn read_request_10(order: Order, octets: &[u8]) -> Result<Message<'_>, MessageFa
 }
 
 /// Reads a Request of 1.1.
+#[inline(never)]
 #[tactic(auto, unfolding(crate::specs::Messages::message_of, crate::specs::Rows::row, crate::specs::Content::content), using(crate::proofs::Again::addressed_again, crate::proofs::Again::items_again))]
 fn read_request_11(order: Order, octets: &[u8]) -> Result<Message<'_>, MessageFault>
     ensures shows { Shows (λ m. content_of m.content) result (message_of V11 kind.Request order octets.now) }
@@ -171,8 +175,9 @@ fn read_request_11(order: Order, octets: &[u8]) -> Result<Message<'_>, MessageFa
 }
 
 /// Reads a Request of 1.2.
+#[inline(always)]
 #[tactic(auto, unfolding(crate::specs::Messages::message_of, crate::specs::Rows::row, crate::specs::Content::content), using(crate::proofs::Again::addressed_again, crate::proofs::Again::items_again))]
-fn read_request_12(order: Order, octets: &[u8]) -> Result<Message<'_>, MessageFault>
+pub(crate) fn read_request_12(order: Order, octets: &[u8]) -> Result<Message<'_>, MessageFault>
     ensures shows { Shows (λ m. content_of m.content) result (message_of V12 kind.Request order octets.now) }
     ensures same { IfOk result (λ m. (m.version ≡ V12) × (m.order ≡ order)) }
 {

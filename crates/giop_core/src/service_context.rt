@@ -26,6 +26,7 @@ pub struct Contexts<'m> {
 }
 
 /// Passes over so many contexts.
+#[inline(always)]
 fn pass(cursor: &mut Cursor, count: u32) -> Result<(), Fault>
     ensures { Gives (λ u. u) result (passing (each_at (value_at tagged cursor.old.order) count cursor.old.place cursor.old.rest)) cursor.old cursor.new }
 {
@@ -36,6 +37,7 @@ fn pass(cursor: &mut Cursor, count: u32) -> Result<(), Fault>
 }
 
 /// Reads a count and that many contexts, or profiles, which lie one after another in the octets.
+#[inline(always)]
 pub(crate) fn read_contexts<'m>(cursor: &mut Cursor<'m>) -> Result<Contexts<'m>, Fault>
     ensures reads { Reads contexts_value result contexts cursor.old cursor.new }
     ensures all { IfOk result (λ c. length (contexts_left c) ≡ c.left) }

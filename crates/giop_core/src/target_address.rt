@@ -56,18 +56,17 @@ fn read_selected<'m>(cursor: &mut Cursor<'m>) -> Result<(u32, IorView<'m>), Faul
     Ok((index, reference))
 }
 
-/// Reads the target of a message of 1.2.
+/// Reads the target of a message of 1.2, whichever it is. It is no part of its caller, so that the reader of a
+/// key, the usual target, stays small.
+#[inline(never)]
 #[tactic(auto, using(crate::proofs::Choices::choice_short, crate::proofs::Choices::choice_0, crate::proofs::Choices::choice_1, crate::proofs::Choices::choice_2, crate::proofs::Choices::choice_0_stops, crate::proofs::Choices::choice_1_stops, crate::proofs::Choices::choice_2_stops, crate::proofs::Choices::choice_unknown))]
-pub(crate) fn read_target<'m>(cursor: &mut Cursor<'m>) -> Result<Target<'m>, MessageFault>
+fn read_any_target<'m>(cursor: &mut Cursor<'m>) -> Result<Target<'m>, MessageFault>
     ensures { Gives target_value result (field_at target cursor.old.order cursor.old.place cursor.old.rest) cursor.old cursor.new }
 {
     let mut ahead = cursor.fork();
     ahead.align(2);
     let at = ahead.place();
     let discriminator = cursor.short()?;
-    if discriminator == 0 {
-        return Ok(Target::Key(cursor.octets()?));
-    }
     if discriminator == 1 {
         let (tag, octets) = read_tagged(cursor)?;
         return Ok(Target::Profile(tag, octets));
@@ -76,7 +75,26 @@ pub(crate) fn read_target<'m>(cursor: &mut Cursor<'m>) -> Result<Target<'m>, Mes
         let (index, reference) = read_selected(cursor)?;
         return Ok(Target::Reference(index, reference));
     }
-    Err(MessageFault::BadAddressing(at))
+    if discriminator != 0 {
+        return Err(MessageFault::BadAddressing(at));
+    }
+    Ok(Target::Key(cursor.octets()?))
+}
+
+/// Reads the target of a message of 1.2.
+#[inline(always)]
+#[tactic(auto, using(crate::proofs::Choices::choice_short, crate::proofs::Choices::choice_0, crate::proofs::Choices::choice_0_stops))]
+pub(crate) fn read_target<'m>(cursor: &mut Cursor<'m>) -> Result<Target<'m>, MessageFault>
+    ensures { Gives target_value result (field_at target cursor.old.order cursor.old.place cursor.old.rest) cursor.old cursor.new }
+{
+    let mut other = cursor.fork();
+    let discriminator = cursor.short()?;
+    if discriminator == 0 {
+        return Ok(Target::Key(cursor.octets()?));
+    }
+    let target = read_any_target(&mut other)?;
+    *cursor = other;
+    Ok(target)
 }
 
 impl Version {

@@ -78,3 +78,7 @@ needs-waits limits b n need = ap (sight limits) (sym (append-nil b)) ∙ need.wa
 -- all that were needed have come
 pub needs-exact : (limits : Limits) (b c : List ℕ) (n : ℕ) (s : Seen) → Needs limits b n → length c ≡ n → sight_at s (b ++ c) ≡ sight limits (b ++ c) → IsExact (b ++ c) (sight_at s (b ++ c))
 needs-exact limits b c n s need e is = subst (IsExact (b ++ c)) (sym is) (need.exact c e)
+
+-- the judgement of the first twelve octets
+pub judgement : (limits : Limits) (b head : List ℕ) (r : Result Header StreamFault) → head ≡ take 12 b → r ≡ judged_header limits (header_of head) → judged_header limits (header_of (take 12 b)) ≡ r
+judgement limits b head r same is = ap (λ (x : List ℕ). judged_header limits (header_of x)) (sym same) ∙ sym is

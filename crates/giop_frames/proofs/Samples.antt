@@ -1,6 +1,9 @@
 -- Samples: what the definitions give on streams written out in octets.
-use Rattle.std.proofs.Common.{◌≡◌, ℕ, ◌++◌, List, [], ◌∷◌, Some, None, refl, map, lit≤}
+use Rattle.std.proofs.Common.{◌≡◌, ℕ, ◌++◌, List, [], ◌∷◌, Some, None, refl, map, replicate, lit≤}
 use Rattle.cdr_core.specs.Reading.{value_at, each_at, boolean_at, string_at, text_at, whole_at, number_at, part_at, octets_at, length_at}
+use Rattle.cdr_core.specs.declared.order.Order.TheVariants.{Big}
+use Rattle.giop_core.specs.declared.header.MessageKind.TheVariants.{CancelRequest, Reply}
+use Rattle.giop_core.specs.declared.header.Version.TheVariants.{V12}
 use Rattle.giop_core.specs.Begun.{request_id_in}
 use Rattle.giop_core.specs.Headers.{header_of}
 use Rattle.giop_core.specs.Messages.{message_of}
@@ -9,6 +12,7 @@ use Rattle.giop_frames.specs.declared.fault.StreamFault.TheVariants.{StrayFragme
 use Rattle.giop_frames.specs.declared.limits.Limits.{Limits}
 use Rattle.giop_frames.specs.Frames.{sight, split}
 use Rattle.giop_frames.specs.Fragments.{judged_as, judged_by}
+use Rattle.giop_frames.specs.ReadAgain.{Sent, sent_fault, sent_from, sent_octets, sent_within}
 use Rattle.giop_frames.specs.Streams.{Completed, fault_of, messages_of, rest_of}
 
 limits : Limits
@@ -127,3 +131,35 @@ another_between = refl
 unaligned_in_1_1 : fault_of limits (71 ∷ 73 ∷ 79 ∷ 80 ∷ 1 ∷ 1 ∷ 2 ∷ 0 ∷ 0 ∷ 0 ∷ 0 ∷ 20 ∷ []) ≡ Some UnalignedFragment
 unfolding of seen limits opening ending cancel again other opening_11 middle_11 ending_11 cancel_11 messages_of fault_of rest_of split sight header_of judged_by judged_as message_of row request_id_in value_at each_at boolean_at string_at text_at whole_at number_at part_at octets_at length_at
 unaligned_in_1_1 = refl
+
+-- messages that are written: a CancelRequest of id 1, one that is over the limit, and the first again
+small : Sent
+small = record { version = V12; kind = CancelRequest; order = Big; body = 0 ∷ 0 ∷ 0 ∷ 1 ∷ [] }
+
+large : Sent
+large = record { version = V12; kind = Reply; order = Big; body = replicate 4085 0 }
+
+the_octets_of_a_cancel : sent_octets (small ∷ []) ≡ cancel
+unfolding small cancel
+the_octets_of_a_cancel = refl
+
+up_to_the_large : sent_within limits (small ∷ large ∷ small ∷ []) ≡ small ∷ []
+unfolding limits small large
+up_to_the_large = refl
+
+the_large_is_too_large : sent_fault limits (small ∷ large ∷ small ∷ []) ≡ Some TooLarge
+unfolding limits small large
+the_large_is_too_large = refl
+
+all_are_small : (sent_within limits (small ∷ small ∷ []) ≡ small ∷ small ∷ []) × (sent_fault limits (small ∷ small ∷ []) ≡ None)
+unfolding limits small
+all_are_small = (refl, refl)
+
+both_complete : of (sent_octets (small ∷ small ∷ [])) ≡ seen (sent_from 0 (small ∷ small ∷ []))
+unfolding of seen limits opening ending cancel again other small messages_of fault_of rest_of split sight header_of judged_by judged_as message_of row value_at whole_at number_at part_at octets_at length_at
+both_complete = refl
+
+-- the header of one that is over the limit is a fault
+at_its_header : fault_of limits (sent_octets (small ∷ []) ++ (71 ∷ 73 ∷ 79 ∷ 80 ∷ 1 ∷ 2 ∷ 0 ∷ 1 ∷ 0 ∷ 0 ∷ 15 ∷ 245 ∷ [])) ≡ Some TooLarge
+unfolding of seen limits opening ending cancel again other small messages_of fault_of rest_of split sight header_of judged_by judged_as message_of row value_at whole_at number_at part_at octets_at length_at
+at_its_header = refl

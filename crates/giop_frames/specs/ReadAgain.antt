@@ -1,5 +1,5 @@
 -- What is written is read again, whole or cut.
-use Rattle.std.specs.Prelude.{◌≡◌, ℕ, ◌+◌, ◌%◌, ◌^◌, ◌<◌, ◌≤◌, ◌&&◌, List, [], ◌∷◌, ◌++◌, length, take, drop, Bool, true, false, Option, None, Ok, IsOk, if◌then◌else◌}
+use Rattle.std.specs.Prelude.{◌≡◌, ℕ, ◌+◌, ◌%◌, ◌^◌, ◌<◌, ◌≤◌, nat_lt, ◌&&◌, List, [], ◌∷◌, ◌++◌, length, take, drop, Bool, true, false, Option, Some, None, Ok, IsOk, if◌then◌else◌}
 use Rattle.std.specs.List.{AllByRecursion, flat_map}
 use Rattle.cdr_core.specs.declared.order.Order.{Order}
 use Rattle.giop_core.specs.declared.header.Header.{Header}
@@ -9,6 +9,7 @@ use Rattle.giop_core.specs.declared.header.Version.{Version}
 use Rattle.giop_core.specs.Headers.{header_of}
 use Rattle.giop_core.specs.Messages.{message_of}
 use Rattle.giop_core.specs.Written.{header_for, message_octets}
+use Rattle.giop_frames.specs.declared.fault.StreamFault.{StreamFault}
 use Rattle.giop_frames.specs.declared.fault.StreamFault.TheVariants.{TooLarge}
 use Rattle.giop_frames.specs.declared.limits.Limits.{Limits}
 use Rattle.giop_frames.specs.declared.partial.Key.{Key}
@@ -111,3 +112,25 @@ NothingIsClear = (limits : Limits) → IsClear limits []
 abbrev pub SentAreReadAgain : Type 0
 SentAreReadAgain = (limits : Limits) (s : List ℕ) (ms : List Sent) → IsClear limits s → AllByRecursion (IsSendable limits) ms
     → (messages_of limits (s ++ sent_octets ms) ≡ messages_of limits s ++ sent_from (length s) ms) × IsClear limits (s ++ sent_octets ms)
+
+-- a message that reads, of any size that a header can say, and is no Fragment
+pub record IsReadable (m : Sent) : Type 0 where
+  pub kind : m.kind ≡ Fragment → ⊥
+  pub size : length m.body < 2 ^ 32
+  pub reads : IsOk (message_of m.version m.kind m.order m.body)
+
+-- the messages before the first that is over the limit ..
+abbrev pub sent_within : Limits → List Sent → List Sent
+sent_within limits [] = []
+sent_within limits (m ∷ ms) = if nat_lt limits.message (12 + length m.body) then [] else m ∷ sent_within limits ms
+
+-- .. and the fault of that one, if there is one
+abbrev pub sent_fault : Limits → List Sent → Option StreamFault
+sent_fault limits [] = None
+sent_fault limits (m ∷ ms) = if nat_lt limits.message (12 + length m.body) then Some TooLarge else sent_fault limits ms
+
+-- Of any list of messages that are written after a clear stream those before the first that is over the limit complete; that
+-- one is a fault, and nothing after it completes.
+abbrev pub SentAreReadUpToTheLimit : Type 0
+SentAreReadUpToTheLimit = (limits : Limits) (s : List ℕ) (ms : List Sent) → IsClear limits s → AllByRecursion IsReadable ms
+    → (messages_of limits (s ++ sent_octets ms) ≡ messages_of limits s ++ sent_from (length s) (sent_within limits ms)) × (fault_of limits (s ++ sent_octets ms) ≡ sent_fault limits ms)

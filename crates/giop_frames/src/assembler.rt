@@ -251,7 +251,11 @@ impl Assembler {
     {
         let header = self.complete?;
         let (_, octets) = self.frame.as_slice().split_at(Header::LEN);
-        read_message(&header, octets).ok()
+        // it reads, as `feed` found
+        match read_message(&header, octets) {
+            Ok(message) => Some(message),
+            Err(_) => unreachable!(),
+        }
     }
 
     /// How many octets are held: those of the frame that is not whole, or of the message that is lent, and

@@ -1,6 +1,6 @@
 //! Octets to frames: octets are buffered up to the next place where something can be judged.
 
-ghost use Rattle.std.specs.Prelude.{◌≡◌, ◌+◌, ◌<◌, ◌≤◌, ◌++◌, length, take, IfOk};
+ghost use Rattle.std.specs.Prelude.{◌≡◌, ◌+◌, ◌<◌, ◌≤◌, ◌++◌, length, take, IfOk, []};
 ghost use Rattle.giop_core.specs.Headers.{header_of};
 ghost use Rattle.giop_frames.specs.Frames.{admitted, cut_place, frame_size, is_unaligned, judged_header, sight};
 ghost use Rattle.giop_frames.specs.Private.{Needs, IsExact, NeedsAsSeen, sight_at};
@@ -65,6 +65,7 @@ fn admit(limits: &Limits, header: Header) -> Result<Header, StreamFault>
 }
 
 /// Judges the first twelve octets of a frame.
+#[inline(always)]
 fn judge(limits: &Limits, octets: &[u8; 12]) -> Result<Header, StreamFault>
     ensures { result ≡ judged_header limits.now (header_of octets.now) }
 {
@@ -73,6 +74,7 @@ fn judge(limits: &Limits, octets: &[u8; 12]) -> Result<Header, StreamFault>
 }
 
 /// What octets are that begin where a frame begins.
+#[inline(never)]
 fn look(limits: &Limits, octets: &[u8]) -> Seen
     ensures seen { sight_at result octets.now ≡ sight limits.now octets.now }
     ensures needed { NeedsAsSeen result limits.now octets.now }
@@ -91,6 +93,51 @@ fn look(limits: &Limits, octets: &[u8]) -> Seen
             }
         }
     }
+}
+
+/// Buffers the octets of a frame that begins where a piece begins: up to the frame's end, or to that of its
+/// header, where it is refused, or to the piece's. The header is judged in the piece, and the buffer grows
+/// once.
+#[inline(always)]
+fn gather_first(
+    limits: &Limits,
+    frame: &mut Vec<u8>,
+    head: &[u8; 12],
+    piece: &[u8],
+) -> Result<Gathered, AllocError>
+    requires empty { frame.old.items ≡ [] }
+    requires long { 12 ≤ length piece.now }
+    requires head { head.now ≡ take 12 piece.now }
+    ensures octets { IfOk result (λ g. frame.new.items ≡ take g.taken piece.now) }
+    ensures taken { IfOk result (λ g. (0 < g.taken) × (g.taken ≤ length piece.now)) }
+    ensures seen { IfOk result (λ g. sight_at g.seen frame.new.items ≡ sight limits.now frame.new.items) }
+    ensures exact { IfOk result (λ g. IsExact frame.new.items (sight_at g.seen frame.new.items)) }
+    ensures needed { IfOk result (λ g. NeedsAsSeen g.seen limits.now frame.new.items) }
+{
+    let header = match judge(limits, head) {
+        Ok(header) => header,
+        Err(fault) => {
+            frame.extend_from_slice(head)?;
+            return Ok(Gathered {
+                taken: Header::LEN,
+                seen: Seen::Refused(fault),
+            });
+        }
+    };
+    let size = frame_size(&header);
+    if piece.len() < size {
+        frame.extend_from_slice(piece)?;
+        return Ok(Gathered {
+            taken: piece.len(),
+            seen: Seen::Waiting(size - piece.len()),
+        });
+    }
+    let (front, _) = piece.split_at(size);
+    frame.extend_from_slice(front)?;
+    Ok(Gathered {
+        taken: size,
+        seen: Seen::Whole(header),
+    })
 }
 
 /// Buffers octets of a piece up to the next place where something can be judged, for which `needed` more
@@ -115,6 +162,11 @@ pub(crate) fn gather(
             taken: piece.len(),
             seen: Seen::Waiting(needed - piece.len()),
         });
+    }
+    if frame.is_empty() {
+        if let Some(head) = piece.first_chunk::<{ Header::LEN }>() {
+            return gather_first(limits, frame, head, piece);
+        }
     }
     let (front, _) = piece.split_at(needed);
     frame.extend_from_slice(front)?;

@@ -2,7 +2,7 @@
 
 ghost use Rattle.giop_core.specs.declared.header.Version.TheVariants.{V11, V12};
 ghost use Rattle.giop_frames.specs.Laws.{ByPositionIsPartial, FaultsAreRefusals, FaultsEnd, FaultsStay, MessagesAreWhole, MessagesGrow, PartialByPosition, PartialsAreCounted, PlacesRise, RefusalsAreFaults, RefusedAreTheOnes, RestsHaveNoFrame, SplitsAreTheOnes, StreamsAreRefused, StreamsSplit};
-ghost use Rattle.giop_frames.specs.ReadAgain.{CutIsReadAgain, NothingIsClear, SentAreReadAgain, WrittenIsReadAgain, WrittenTooLarge};
+ghost use Rattle.giop_frames.specs.ReadAgain.{CutIsReadAgain, NothingIsClear, SentAreReadAgain, SentAreReadUpToTheLimit, WrittenIsReadAgain, WrittenTooLarge};
 
 /// A stream is its frames and a rest, or, where a header is refused, its frames and octets that begin with
 /// that header, and no others.
@@ -55,10 +55,12 @@ pub fn written_messages_are_read_again()
     giop_core::laws::headers_are_read_again();
 }
 
-/// Messages that are written one after another are read again, each whole and in its place.
+/// Messages that are written one after another are read again, each whole and in its place, up to the first that
+/// is over the limit, if one is.
 pub fn lists_of_messages_are_read_again()
     ensures nothing { NothingIsClear }
     ensures again { SentAreReadAgain }
+    ensures front { SentAreReadUpToTheLimit }
 {
     giop_core::laws::headers_are_read_again();
 }

@@ -103,14 +103,14 @@ fn may_come(role: Role, version: Version) -> bool
 fn interrupts(role: Role, version: Version, parts: &[Part]) -> bool
     ensures { result ≡ (not (may_come role version) && is_some (part_in (entries parts.now) Of11)) }
 {
-    !may_come(role, version) && Part::is_among(parts, Key::Of11)
+    Part::is_among(parts, Key::Of11) && !may_come(role, version)
 }
 
 /// Whether a frame ends inside the request id that it must begin with.
 fn lacks_id(role: Role, version: Version, frame: &[u8]) -> bool
     ensures { result ≡ (has_id role version && nat_lt (length frame.now) 16) }
 {
-    has_id(role, version) && frame.len() < 16
+    frame.len() < 16 && has_id(role, version)
 }
 
 /// How many octets of a Fragment come before its payload.
@@ -156,6 +156,7 @@ pub enum TakenUp {
 }
 
 /// Judges a whole message by its content.
+#[inline(always)]
 fn whole(header: &Header, frame: &[u8]) -> Settled
     requires { 12 ≤ length frame.now }
     ensures { verdict_at result frame.now ≡ judged_whole (framed header.now frame.now) }
@@ -168,6 +169,7 @@ fn whole(header: &Header, frame: &[u8]) -> Settled
 }
 
 /// A first frame starts a partial message.
+#[inline(never)]
 fn open(
     limits: &Limits,
     alloc: Global,
@@ -233,6 +235,7 @@ fn take_up(
 }
 
 /// A Fragment with more to come continues its message, which stays partial.
+#[inline(never)]
 fn carry(
     limits: &Limits,
     header: &Header,
@@ -253,6 +256,7 @@ fn carry(
 }
 
 /// The last Fragment completes its message.
+#[inline(never)]
 fn end(
     limits: &Limits,
     header: &Header,
@@ -284,6 +288,7 @@ fn end(
 }
 
 /// A CancelRequest drops what has come of its message, in any version: a rule of this project.
+#[inline(never)]
 fn cancel(header: &Header, frame: &[u8], parts: &mut Vec<Part>) -> Settled
     requires { 16 ≤ length frame.now }
     ensures verdict { verdict_at result frame.now ≡ judged_whole (framed header.now frame.now) }
@@ -295,6 +300,7 @@ fn cancel(header: &Header, frame: &[u8], parts: &mut Vec<Part>) -> Settled
 }
 
 /// A whole message that could have been cut must not have the request id of a partial one.
+#[inline(always)]
 fn uncut(header: &Header, frame: &[u8], parts: &[Part]) -> Settled
     requires { 12 + id_length header.now.version ≤ length frame.now }
     ensures { verdict_at result frame.now ≡ judged_uncut (entries parts.now) (framed header.now frame.now) }

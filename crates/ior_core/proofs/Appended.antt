@@ -3,8 +3,7 @@ use Rattle.std.proofs.Common.{◌≡◌, ℕ, ◌+◌, ◌≤◌, List, [], ◌�
 use Rattle.cdr_core.specs.declared.order.Order.{Order}
 use Rattle.cdr_core.proofs.Appending.{appended, begins, keeps_all, keeps_both, puts_next, puts_none, Stands}
 use Rattle.cdr_core.proofs.Steps.{match_as}
-use Rattle.cdr_core.proofs.Turns.{joined}
-use Rattle.cdr_core.specs.Private.{Keeps}
+use Rattle.cdr_core.specs.Private.{joined, Keeps}
 use Rattle.cdr_core.specs.Writing.{Appends, PutsAll, octets_of, octets_of_all, place_in, Puts, Writing}
 use Rattle.cdr_core.specs.Encapsulation.{byte_order}
 use Rattle.cdr_core.specs.Value as value

@@ -4,12 +4,12 @@ use Rattle.cdr_core.specs.declared.fault.CdrError.{CdrError}
 use Rattle.cdr_core.specs.declared.fault.CdrError.TheVariants as errors
 use Rattle.cdr_core.specs.declared.fault.Fault.{Fault}
 use Rattle.cdr_core.specs.declared.order.Order.{Order}
-use Rattle.cdr_core.specs.Private.{Fails}
+use Rattle.cdr_core.specs.Private.{joined, with_front, Fails}
 use Rattle.cdr_core.proofs.Fields.{fields_at, structure_is}
 use Rattle.cdr_core.specs.Form as form
 use Rattle.cdr_core.specs.Form.{Form, Forms}
 use Rattle.cdr_core.specs.Reading.{◌>>=◌, Read, value_at}
-use Rattle.cdr_core.proofs.Turns.{joined, then, with_front}
+use Rattle.cdr_core.proofs.Turns.{then}
 use Rattle.cdr_core.specs.Value as value
 use Rattle.cdr_core.specs.Value.{Value, Values}
 

@@ -31,7 +31,7 @@ pub type Component = Tagged;
 /// them, and goes on after them. The octets are lent, and no memory is taken.
 ///
 /// At an error it is the first fault, and nothing is said of where the cursor then stands.
-#[inline]
+#[inline(always)]
 #[tactic(auto, using(crate::proofs::Steps::tagged_is))]
 pub fn read_tagged<'a>(cursor: &mut Cursor<'a>) -> Result<(u32, &'a [u8]), Fault>
     ensures { GivesOnce lent_value result (value_at tagged cursor.old.order) cursor.old cursor.new }

@@ -1,16 +1,7 @@
-use Rattle.std.proofs.Common.{◌≡◌, ℕ, List, take, Result, Ok, Err, sym, ap, ◌∙◌, arith}
-use Rattle.giop_core.specs.declared.header.Header.{Header}
-use Rattle.giop_core.specs.Headers.{header_of}
-use Rattle.giop_frames.specs.declared.fault.StreamFault.{StreamFault}
-use Rattle.giop_frames.specs.declared.limits.Limits.{Limits}
-use Rattle.giop_frames.specs.Frames.{judged_header}
-use Rattle.giop_frames.proofs.Needs.{needs-frame, needs-head, sight-all, sight-early, sight-refused}
+use Rattle.std.proofs.Common.{Ok, Err, sym, arith}
+use Rattle.giop_frames.proofs.Needs.{judgement, needs-frame, needs-head, sight-all, sight-early, sight-refused}
 use Rattle.giop_frames.proofs.Sights.{sight-short}
 use Rattle.giop_frames.proofs.deframer.look.Goals as goal
-
--- the judgement of the first twelve octets
-judgement : (limits : Limits) (b head : List ℕ) (r : Result Header StreamFault) → head ≡ take 12 b → r ≡ judged_header limits (header_of head) → judged_header limits (header_of (take 12 b)) ≡ r
-judgement limits b head r same is = ap (λ (x : List ℕ). judged_header limits (header_of x)) (sym same) ∙ sym is
 
 pub returns-in_default-clause-seen : goal.returns-in_default-clause-seen
 returns-in_default-clause-seen c = sym (sight-short c.args.limits.now c.args.octets.now c.in_default.ensures.cases)

@@ -2,7 +2,7 @@ use Rattle.std.proofs.lemmas.Result.{err_from_is_err_and}
 use Rattle.cdr_core.proofs.Appending.{enclosed_puts, keeps_all, keeps_as_kept, then_stands}
 use Rattle.cdr_core.specs.declared.order.Order.TheVariants.{Big}
 use Rattle.cdr_core.specs.Value.{values}
-use Rattle.cdr_core.proofs.Turns.{joined}
+use Rattle.cdr_core.specs.Private.{joined}
 use Rattle.ior_core.specs.Private.{head_values}
 use Rattle.ior_core.specs.Profiles.{components_of}
 use Rattle.ior_core.proofs.Appended.{enclosed_stands, puts_joined}

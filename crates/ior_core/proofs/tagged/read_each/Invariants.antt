@@ -1,6 +1,6 @@
 use Rattle.std.proofs.Common.{◌≡◌, ℕ, ◌-◌}
 use Rattle.cdr_core.specs.Reading.{each_at, value_at}
-use Rattle.cdr_core.proofs.Turns.{with_front}
+use Rattle.cdr_core.specs.Private.{with_front}
 use Rattle.ior_core.specs.Grammar.{tagged}
 use Rattle.ior_core.specs.Memory.{StoresItems}
 use Rattle.ior_core.specs.View.{tagged_values}
