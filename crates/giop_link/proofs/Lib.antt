@@ -1,5 +1,11 @@
 pub mod Courses
+pub mod Comings
 pub mod Turns
+pub mod ClientTurns
 pub mod Lending
-pub mod Firsts
 pub mod Messages
+pub mod Written
+pub mod Samples
+pub mod GoingOut
+pub mod Waiting
+pub mod Taking

@@ -36,10 +36,14 @@ pub data Ending : Type 0 where
   wrong_direction : Ending
   faulty : StreamFault → Ending
 
--- what a message is to a server: one that it hears, or the end of the stream
-pub data Meaning : Type 0 where
-  says : Incoming → Meaning
-  ends : Ending → Meaning
+-- what a message is to its reader: one that is heard, or the end of the stream
+pub data Sound (Heard : Type 0) : Type 0 where
+  says : Heard → Sound Heard
+  ends : Ending → Sound Heard
+
+-- what a message is to a server
+abbrev pub Meaning : Type 0
+Meaning = Sound Incoming
 
 -- the parts of a request
 abbrev pub question_in : Version → ℕ → ReplyWish → Addressed → List ℕ → List (ℕ × List ℕ) → Rest → Question
@@ -75,24 +79,32 @@ meaning_read version (Err e) = ends wrong_direction
 unfoldable pub meaning_of : Frame → Meaning
 meaning_of f = meaning_read f.header.version (content_of f.header f.octets)
 
+-- what is heard of a stream, whoever reads it
+
 -- the messages of a stream that are heard, and its end, if it has one
-pub record Course : Type 0 where
-  pub heard : List Incoming
+pub record Course (Heard : Type 0) : Type 0 where
+  pub heard : List Heard
   pub ending : Option Ending
 
 -- a message, and what comes after it: nothing that comes after the end counts
-abbrev pub before : Meaning → Course → Course
+abbrev pub before : {Heard : Type 0} → Sound Heard → Course Heard → Course Heard
 before (says m) later = record { heard = m ∷ later.heard; ending = later.ending }
 before (ends e) later = record { heard = []; ending = Some e }
 
--- messages, and the fault after them, if there is one
-abbrev pub course_from : Option StreamFault → List Completed → Course
-course_from last [] = record { heard = []; ending = option_map faulty last }
-course_from last (m ∷ ms) = before (meaning_of m.message) (course_from last ms)
+-- messages by what each is to the reader, and the fault after them, if there is one
+abbrev pub course_from : {Heard : Type 0} → (Frame → Sound Heard) → Option StreamFault → List Completed → Course Heard
+course_from sound last [] = record { heard = []; ending = option_map faulty last }
+course_from sound last (m ∷ ms) = before (sound m.message) (course_from sound last ms)
 
 -- the messages of a stream, and its fault
-abbrev pub course_of : Limits → List ℕ → Course
-course_of limits s = course_from (fault_of limits s) (messages_of limits s)
+abbrev pub course_by : {Heard : Type 0} → (Frame → Sound Heard) → Limits → List ℕ → Course Heard
+course_by sound limits s = course_from sound (fault_of limits s) (messages_of limits s)
+
+-- what a server hears of a stream
+
+-- its messages and its end
+abbrev pub course_of : Limits → List ℕ → Course Incoming
+course_of limits s = course_by meaning_of limits s
 
 -- the messages of a stream that a server hears: those before its end
 unfoldable pub heard : Limits → List ℕ → List Incoming

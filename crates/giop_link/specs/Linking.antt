@@ -12,7 +12,7 @@ use Rattle.giop_link.specs.declared.fault.LinkFault.{LinkFault}
 use Rattle.giop_link.specs.declared.fault.LinkFault.TheVariants.{Stream, WrongDirection}
 use Rattle.giop_link.specs.declared.inbound.Inbound.{Inbound}
 use Rattle.giop_link.specs.declared.inbound.Inbound.TheVariants as inbound
-use Rattle.giop_link.specs.Hearing.{Ending, Incoming, Meaning, cancels, ending, ends, faulty, heard, locates, meaning_in, peer_closed, peer_error, says, wrong_direction}
+use Rattle.giop_link.specs.Hearing.{Ending, Meaning, Sound, cancels, ending, ends, faulty, heard, locates, meaning_in, peer_closed, peer_error, says, wrong_direction}
 
 -- a link: its limits, whether it is closed, the octets of the frame that isn't whole, the partial messages, and what it
 -- lends
@@ -42,12 +42,12 @@ meaning_at inbound.PeerClosed = ends peer_closed
 meaning_at inbound.PeerError = ends peer_error
 
 -- the message that is heard, if there is one
-abbrev pub heard_in : Option Meaning → List Incoming
+abbrev pub heard_in : {Heard : Type 0} → Option (Sound Heard) → List Heard
 heard_in (Some (says m)) = m ∷ []
 heard_in _ = []
 
 -- the end of the stream, which the first stays
-abbrev pub ending_in : Option Ending → Option Meaning → Option Ending
+abbrev pub ending_in : {Heard : Type 0} → Option Ending → Option (Sound Heard) → Option Ending
 ending_in (Some e) m = Some e
 ending_in None (Some (ends e)) = Some e
 ending_in None _ = None

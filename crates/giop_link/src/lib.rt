@@ -1,15 +1,22 @@
-//! The server's end of a GIOP connection (CORBA 3.3 Part 2, 9.4): which messages it hears, and how the stream
-//! of its peer ends.
+//! Both ends of a GIOP connection (CORBA 3.3 Part 2, 9.4): which messages a server or a client hears, how the
+//! stream of its peer ends, and which ids a client gives and waits for.
 //!
-//! It stands on `giop_frames`, which makes messages of octets. It promises that what a link lends, and when it
-//! is closed, are two functions of the stream alone, wherever the stream is cut into pieces.
+//! It stands on `giop_frames`, which makes messages of octets. It promises that what a link hears, and when it
+//! has ended, are two functions of the stream alone, wherever the stream is cut into pieces.
 #![tactic(auto)]
 
+mod client;
+mod delivery;
 mod fault;
 mod inbound;
 pub mod laws;
 mod link;
+mod outstanding;
+mod send_error;
 
+pub use client::ClientLink;
+pub use delivery::Delivery;
 pub use fault::LinkFault;
 pub use inbound::Inbound;
 pub use link::ServerLink;
+pub use send_error::SendError;

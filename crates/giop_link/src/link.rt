@@ -17,15 +17,16 @@ use std::marker::Model;
 
 /// The message by which a peer ended its stream.
 #[derive(Clone, Copy, Debug)]
-enum PeerEnd {
+pub(crate) enum PeerEnd {
     Closed,
     Error,
 }
 
 /// Octets that were taken, and the end of the stream in them, if the peer made one.
-struct Heard {
-    taken: usize,
-    end: Option<PeerEnd>,
+#[derive(Drop)]
+pub(crate) struct Heard {
+    pub taken: usize,
+    pub end: Option<PeerEnd>,
 }
 
 /// What a message of a kind is to a server: one that it hears, or the end that the peer made. An error is that
@@ -73,7 +74,7 @@ fn hear(assembler: &mut Assembler, piece: &[u8]) -> Result<Heard, LinkFault>
 
 /// What a link does with what comes.
 #[derive(Debug, Drop)]
-enum State {
+pub(crate) enum State {
     /// It hears the messages that the assembler lends.
     Live(Assembler),
     /// The last call of `feed` took the message by which the peer ended the stream. It is lent until the next.

@@ -1,11 +1,10 @@
-use Rattle.std.proofs.Common.{◌≡◌, take, Option, None, subst, sym, ap, ◌∙◌}
-use Rattle.giop_frames.specs.Frames.{Frame}
+use Rattle.std.proofs.Common.{take, Option, sym, ap, ◌∙◌}
 use Rattle.giop_link.specs.declared.fault.LinkFault.TheVariants.{Stream}
 use Rattle.giop_link.specs.declared.link.PeerEnd.{PeerEnd}
 use Rattle.giop_link.specs.Linking.{IsFaultOf}
-use Rattle.giop_link.specs.Private.{IsHeard, spoken_by, told_with}
-use Rattle.giop_link.proofs.Firsts.{fewer-quiet}
-use Rattle.giop_link.proofs.Turns.{Comes, comes-by, brings-none, brings-some, err-by, fault-of, strays-by, told-header}
+use Rattle.giop_link.specs.Private.{spoken_by, told_with}
+use Rattle.giop_link.proofs.Comings.{err-by}
+use Rattle.giop_link.proofs.Turns.{comes-to, fault-of, fewer-quiet, hears-none, hears-some, strays-to, told-header}
 use Rattle.giop_link.proofs.link.hear.Goals as goal
 
 pub returns-in_err-taken-clause-fault : goal.returns-in_err-taken-clause-fault
@@ -19,19 +18,19 @@ returns-in_err-end-in-Some-clause-fault c = λ s st going.
     let limits = c.args.assembler.now.limits in
     let piece = c.args.piece.now in
     let f = c.in_ok-taken.ensures in
+    let g = c.streams_grow.ensures in
     let e = c.in_err-end-in-Some.field-0.0 in
-    let comes = comes-by limits s (take c.in_ok-taken.taken piece) c.feed.new.self going (f.messages s st) (f.stands s st) f.limits in
+    let comes = comes-to limits s (take c.in_ok-taken.taken piece) c.feed.new.self going (f.messages s st) (f.stands s st) f.limits in
     err-by c.from_residual-in_err-end-in-Some.result e (IsFaultOf limits s piece) c.from_residual-in_err-end-in-Some.ensures.1
-    (strays-by c.streams_are_heard.ensures.stays c.streams_are_heard.ensures.silent limits s piece c.in_ok-taken.taken c.feed.new.self.message c.in-Some.header e comes c.in-Some.ensures (sym c.turn_of.ensures ∙ c.in_err-end-in-Some.was))
+    (strays-to g.messages g.fault g.end limits s piece c.in_ok-taken.taken c.feed.new.self.message c.in-Some.header e going comes c.in-Some.ensures (sym c.turn_of.ensures ∙ c.in_err-end-in-Some.was))
 
 pub returns-in_ok-end-in-Some-clause-heard : goal.returns-in_ok-end-in-Some-clause-heard
 returns-in_ok-end-in-Some-clause-heard c = λ s st going.
     let limits = c.args.assembler.now.limits in
     let t = take c.in_ok-taken.taken c.args.piece.now in
     let f = c.in_ok-taken.ensures in
-    let comes = comes-by limits s t c.feed.new.self going (f.messages s st) (f.stands s st) f.limits in
-    let b = brings-some limits s t c.feed.new.self.message c.in-Some.header c.in_ok-end-in-Some.end comes c.in-Some.ensures (sym c.turn_of.ensures ∙ c.in_ok-end-in-Some.was) in
-    record { heard_is = b.heard_is; ending_is = b.ending_is; stands = f.stands s st }
+    let comes = comes-to limits s t c.feed.new.self going (f.messages s st) (f.stands s st) f.limits in
+    hears-some limits s t c.feed.new.self.message c.in-Some.header c.in_ok-end-in-Some.end c.feed.new.self comes c.in-Some.ensures (sym c.turn_of.ensures ∙ c.in_ok-end-in-Some.was) (f.stands s st)
 
 pub returns-in_ok-end-in-Some-clause-all : goal.returns-in_ok-end-in-Some-clause-all
 returns-in_ok-end-in-Some-clause-all c = λ none. absurd (told-header c.feed.new.self.message c.in-Some.header c.in_ok-end-in-Some.end c.in-Some.ensures (sym c.turn_of.ensures ∙ c.in_ok-end-in-Some.was) none)
@@ -41,17 +40,15 @@ returns-in-None-clause-heard c = λ s st going.
     let limits = c.args.assembler.now.limits in
     let t = take c.in_ok-taken.taken c.args.piece.now in
     let f = c.in_ok-taken.ensures in
-    let none : c.feed.new.self.message ≡ None = c.in-None.ensures in
-    let comes = subst (Comes limits s t) none (comes-by limits s t c.feed.new.self going (f.messages s st) (f.stands s st) f.limits) in
-    let b = brings-none limits s t comes in
-    subst (λ (m : Option Frame). IsHeard limits s t (spoken_by m) c.feed.new.self) (sym none) (record { heard_is = b.heard_is; ending_is = b.ending_is; stands = f.stands s st })
+    let comes = comes-to limits s t c.feed.new.self going (f.messages s st) (f.stands s st) f.limits in
+    hears-none limits s t c.feed.new.self.message c.feed.new.self c.in-None.ensures comes (f.stands s st)
 
 pub returns-in_ok-end-in-Some-clause-first : goal.returns-in_ok-end-in-Some-clause-first
 returns-in_ok-end-in-Some-clause-first c = λ s st going k less.
     let limits = c.args.assembler.now.limits in
     let t = take c.in_ok-taken.taken c.args.piece.now in
     let f = c.in_ok-taken.ensures in
-    let comes = comes-by limits s t c.feed.new.self going (f.messages s st) (f.stands s st) f.limits in
+    let comes = comes-to limits s t c.feed.new.self going (f.messages s st) (f.stands s st) f.limits in
     fewer-quiet c.streams_grow.ensures.messages c.streams_grow.ensures.fault c.messages_are_whole.ensures.places limits s c.args.piece.now c.in_ok-taken.taken k c.feed.new.self.message f.within less comes
 
 pub returns-in-None-clause-first : goal.returns-in-None-clause-first
@@ -59,7 +56,7 @@ returns-in-None-clause-first c = λ s st going k less.
     let limits = c.args.assembler.now.limits in
     let t = take c.in_ok-taken.taken c.args.piece.now in
     let f = c.in_ok-taken.ensures in
-    let comes = comes-by limits s t c.feed.new.self going (f.messages s st) (f.stands s st) f.limits in
+    let comes = comes-to limits s t c.feed.new.self going (f.messages s st) (f.stands s st) f.limits in
     fewer-quiet c.streams_grow.ensures.messages c.streams_grow.ensures.fault c.messages_are_whole.ensures.places limits s c.args.piece.now c.in_ok-taken.taken k c.feed.new.self.message f.within less comes
 
 pub returns-in_ok-end-in-Some-clause-lent : goal.returns-in_ok-end-in-Some-clause-lent
