@@ -1,2 +1,7 @@
 pub mod Listed
+pub mod Named
+pub mod Heaped
+pub mod Entries
+pub mod Dated
+pub mod Moved
 pub mod Ready

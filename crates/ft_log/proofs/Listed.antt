@@ -1,15 +1,15 @@
 -- Lists of keys and of kept outcomes: what is left after forgetting, and what one more adds.
-use Rattle.std.proofs.Common.{◌≡◌, ℕ, ◌+◌, ◌<◌, ◌≤◌, Bool, true, false, not, ◌||◌, cond, List, [], ◌∷◌, ◌++◌, length, filter, bytes_eq, nat_le, Some, None, Result, Ok, Err, IsErrAnd, refl, sym, ap, ◌∙◌, subst, arith}
+use Rattle.std.proofs.Common.{◌≡◌, ℕ, ◌+◌, ◌<◌, ◌≤◌, Bool, true, false, not, ◌||◌, cond, List, [], ◌∷◌, ◌++◌, length, bytes_eq, Some, None, Result, Ok, Err, IsErrAnd, refl, sym, ap, ◌∙◌, subst, arith}
 use Rattle.std.specs.List.{list_any}
 use Rattle.std.proofs.lemmas.Bool.{and_parts, and_from, or_parts, or_from, not_from_false, cond-true, cond-false}
 use Rattle.std.proofs.lemmas.Bool.Decides.{Decides-int_eq}
 use Rattle.std.specs.Ordering.{int_eq}
 use Rattle.std.proofs.lemmas.List.{map-append, length-map}
 use Rattle.std.proofs.lemmas.List.Folds.{list_any-append}
-use Rattle.std.proofs.lemmas.List.Sums.{sum_by-cons, sum_by_push}
+use Rattle.std.proofs.lemmas.List.Sums.{sum_by_push}
 use Rattle.std.proofs.lemmas.Slice.Eq.{bytes_eq-Decides}
 use Rattle.ft_log.specs.Keys.{RequestKey, are_distinct, held_of, same_key}
-use Rattle.ft_log.specs.Kept.{KeptOutcome, keys_of, kept_for, unexpired}
+use Rattle.ft_log.specs.Kept.{KeptOutcome, keys_of, kept_for}
 use Rattle.ft_log.specs.View.{entries_at, entry_in, key_of}
 use Rattle.ft_log.specs.declared.entry.Entry.{Entry}
 use Rattle.ft_log.specs.declared.error.LogError.{LogError}
@@ -25,42 +25,6 @@ none_kept key [] h = refl
 none_kept {O} key (e ∷ es) h =
     elim (same_key key e.key) as (λ b. cond b (Some e.outcome) (kept_for key es) ≡ None → (b || list_any (λ other. same_key key other) (keys_of es)) ≡ false)
     [ true ↦ λ k. cc | false ↦ λ k. none_kept key es k ] h
-
--- a test that no key passes is passed by none that is left
-pub list_any-unexpired : {O : Type 0} (p : RequestKey → Bool) (clock : ℕ) (es : List (KeptOutcome O)) → list_any p (keys_of es) ≡ false → list_any p (keys_of (unexpired clock es)) ≡ false
-list_any-unexpired p clock [] h = refl
-list_any-unexpired p clock (e ∷ es) h =
-    let parts = or_parts (p e.key) (list_any p (keys_of es)) h in
-    let later = list_any-unexpired p clock es parts.1 in
-    elim (nat_le clock e.expiration) as (λ b. list_any p (keys_of (cond b (e ∷ unexpired clock es) (unexpired clock es))) ≡ false)
-    [ true ↦ or_from (p e.key) (list_any p (keys_of (unexpired clock es))) parts.0 later | false ↦ later ]
-
-pub are_distinct-unexpired : {O : Type 0} (clock : ℕ) (es : List (KeptOutcome O)) → are_distinct (keys_of es) ≡ true → are_distinct (keys_of (unexpired clock es)) ≡ true
-are_distinct-unexpired clock [] h = refl
-are_distinct-unexpired clock (e ∷ es) h =
-    let p : RequestKey → Bool = λ later. same_key later e.key in
-    let parts = and_parts (not (list_any p (keys_of es))) (are_distinct (keys_of es)) h in
-    let later = are_distinct-unexpired clock es parts.1 in
-    let none = list_any-unexpired p clock es (false_from_not (list_any p (keys_of es)) parts.0) in
-    elim (nat_le clock e.expiration) as (λ b. are_distinct (keys_of (cond b (e ∷ unexpired clock es) (unexpired clock es))) ≡ true)
-    [ true ↦ and_from (not (list_any p (keys_of (unexpired clock es)))) (are_distinct (keys_of (unexpired clock es))) (not_from_false _ none) later | false ↦ later ]
-
-pub held_of-unexpired : {O : Type 0} (client : List ℕ) (clock : ℕ) (es : List (KeptOutcome O)) → held_of client (keys_of (unexpired clock es)) ≤ held_of client (keys_of es)
-held_of-unexpired client clock [] = omega arith
-held_of-unexpired client clock (e ∷ es) =
-    let f : RequestKey → ℕ = λ k. cond (bytes_eq k.client_id client) 1 0 in
-    let later = held_of-unexpired client clock es in
-    let all = sum_by-cons f e.key (keys_of es) in
-    let left = sum_by-cons f e.key (keys_of (unexpired clock es)) in
-    elim (nat_le clock e.expiration) as (λ b. held_of client (keys_of (cond b (e ∷ unexpired clock es) (unexpired clock es))) ≤ held_of client (keys_of (e ∷ es)))
-    [ true ↦ omega (arith, all, left, later) | false ↦ omega (arith, all, later) ]
-
-pub length-unexpired : {O : Type 0} (clock : ℕ) (es : List (KeptOutcome O)) → length (keys_of (unexpired clock es)) ≤ length (keys_of es)
-length-unexpired clock [] = omega arith
-length-unexpired clock (e ∷ es) =
-    let later = length-unexpired clock es in
-    elim (nat_le clock e.expiration) as (λ b. length (keys_of (cond b (e ∷ unexpired clock es) (unexpired clock es))) ≤ length (keys_of (e ∷ es)))
-    [ true ↦ omega (arith, later) | false ↦ omega (arith, later) ]
 
 -- one more key, which none of the others is
 pub are_distinct-push : (ks : List RequestKey) (k : RequestKey) → are_distinct ks ≡ true → list_any (λ other. same_key k other) ks ≡ false → are_distinct (ks ++ k ∷ []) ≡ true
@@ -89,13 +53,6 @@ within_share-push ks k share all room client =
 -- the keys of the entries of the code, with one more
 pub keys-push : (es : List Entry) (e : Entry) → keys_of (entries_at (es ++ e ∷ [])) ≡ keys_of (entries_at es) ++ key_of e.key ∷ []
 keys-push es e = ap keys_of (map-append entry_in es (e ∷ [])) ∙ map-append (λ x. x.key) (entries_at es) (entry_in e ∷ [])
-
-pub entries-filter : (clock : ℕ) (es : List Entry) → entries_at (filter (λ (e : Entry). nat_le clock e.expiration) es) ≡ unexpired clock (entries_at es)
-entries-filter clock [] = refl
-entries-filter clock (e ∷ es) =
-    let later = entries-filter clock es in
-    elim (nat_le clock e.expiration) as (λ b. entries_at (cond b (e ∷ filter (λ (x : Entry). nat_le clock x.expiration) es) (filter (λ (x : Entry). nat_le clock x.expiration) es)) ≡ cond b (entry_in e ∷ unexpired clock (entries_at es)) (unexpired clock (entries_at es)))
-    [ true ↦ ap (λ x. entry_in e ∷ x) later | false ↦ later ]
 
 -- an entry has one key
 pub length_keys : (es : List Entry) → length (keys_of (entries_at es)) ≡ length es

@@ -1,5 +1,6 @@
 -- Kept outcomes, in order of keeping.
-use Rattle.std.specs.Prelude.{ℕ, nat_le, if◌then◌else◌, List, [], ◌∷◌, map, filter, Option, Some, None}
+use Rattle.std.specs.Prelude.{ℕ, nat_le, min, if◌then◌else◌, List, [], ◌∷◌, map, filter, Option, Some, None}
+use Rattle.std.specs.Option.{option_map_or}
 use Rattle.ft_log.specs.Keys.{RequestKey, same_key}
 
 -- an outcome under a key, until its expiration
@@ -20,3 +21,8 @@ kept_for key (e ∷ es) = if same_key key e.key then Some e.outcome else kept_fo
 -- the entries whose expiration is at or after the clock
 abbrev pub unexpired : {Outcome : Type 0} → ℕ → List (KeptOutcome Outcome) → List (KeptOutcome Outcome)
 unexpired clock entries = filter (λ e. nat_le clock e.expiration) entries
+
+-- the least expiration of the entries
+abbrev pub least_expiration : {Outcome : Type 0} → List (KeptOutcome Outcome) → Option ℕ
+least_expiration [] = None
+least_expiration (e ∷ es) = Some (option_map_or (min e.expiration) (least_expiration es) e.expiration)

@@ -7,7 +7,7 @@
 --   View        what a `Key`, an `Outcome` and an entry of the code stand for
 --   Logged      what a `Log` stands for
 -- Laws          what the tests of keys say, and of repository ids
--- Private       words for the fields of a `Log`; no public contract, definition or law uses them
+-- Names, Shelf, Dues, Without, Tied      words for the fields of a `Log`; no public contract, definition or law uses them
 pub mod Exceptions
 pub mod Performed
 pub mod Keys
@@ -15,4 +15,8 @@ pub mod Kept
 pub mod View
 pub mod Logged
 pub mod Laws
-pub mod Private
+pub mod Names
+pub mod Shelf
+pub mod Dues
+pub mod Without
+pub mod Tied

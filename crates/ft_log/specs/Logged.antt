@@ -19,6 +19,6 @@ unfoldable pub logged : Log → Logged
 logged l = record {
   capacity = l.capacity;
   share = l.share;
-  entries = entries_at l.entries.items;
-  room = option_map key_of l.room;
+  entries = entries_at l.story.entries;
+  room = option_map (λ r. key_of r.key) l.room;
 }

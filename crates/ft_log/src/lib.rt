@@ -11,7 +11,13 @@ mod error;
 mod key;
 pub mod laws;
 mod log;
+mod name;
+mod order;
 mod outcome;
+mod room;
+mod shelf;
+mod slot;
+mod story;
 mod system_exception;
 
 // what performing a request gave

@@ -1,41 +1,57 @@
 //! The log: outcomes by their keys.
 
-ghost use Rattle.std.specs.Prelude.{◌≤◌, IsTrue, List, ℕ, option_map, vec_capacity, vec_len};
+ghost use Rattle.std.specs.Prelude.{◌≡◌, ◌≤◌, IsTrue, List, ℕ, length, option_map};
+ghost use Rattle.indexmap.specs.IndexMap.{spare};
+ghost use Rattle.ft_log.specs.Dues.{places};
 ghost use Rattle.ft_log.specs.Keys.{are_distinct, held_of};
 ghost use Rattle.ft_log.specs.Kept.{keys_of};
-ghost use Rattle.ft_log.specs.Private.{is_ready};
+ghost use Rattle.ft_log.specs.Shelf.{held_at};
+ghost use Rattle.ft_log.specs.Tied.{AreDues, AreOutcomes, AreOutcomes-prop, is_ready};
 ghost use Rattle.ft_log.specs.View.{entries_at, key_of};
 
-use crate::entry::{Entry, drop_expired, found, held_in};
+use crate::entry::Entry;
 use crate::error::LogError;
 use crate::key::Key;
+use crate::order::{Due, Order};
 use crate::outcome::Outcome;
+use crate::room::{Room, room_for};
+use crate::shelf::{Shelf, count_down, count_of, count_up, outcome_at, put, take};
+use crate::story::Story;
+use indexmap::IndexMap;
 use std::alloc::Global;
+use std::cmp::Reverse;
 use std::fmt;
 use std::hash::RandomState;
 
 /// The outcomes that a server keeps, in the order in which they were kept, each under a key of its own.
 ///
 /// A contract sees a log as `logged` of it: how many outcomes it may keep, how many of each client, the
-/// entries, and the key that room is made for, if there is one. `find`, `forget`, `keep`, `len` and
-/// `held_by` allocate nothing.
+/// entries, and the key that room is made for, if there is one. `find`, `forget`, `keep`, `len`,
+/// `held_by` and `next_expiry` allocate nothing.
+///
+/// `kept` has each outcome by its key, and how many each client has; `order` has the keys by their
+/// expirations. Only these two grow. `story` takes no memory.
 #[derive(Drop)]
 pub struct Log {
     capacity: u32,
     share: u32,
     alloc: Global,
-    entries: Vec<Entry>,
-    room: Option<Key>,
-    hasher: RandomState,
-    ghost within: { vec_len entries ≤ capacity },
-    ghost distinct: { IsTrue (are_distinct (keys_of (entries_at entries.items))) },
-    ghost shared: { (client : List ℕ) → held_of client (keys_of (entries_at entries.items)) ≤ share },
-    ghost ready: { IsTrue (is_ready (option_map key_of room) (keys_of (entries_at entries.items)) capacity share (vec_capacity entries)) },
+    kept: Shelf,
+    order: Order,
+    room: Option<Room>,
+    story: Story,
+    ghost within: { length story.entries ≤ capacity },
+    ghost distinct: { IsTrue (are_distinct (keys_of (entries_at story.entries))) },
+    ghost shared: { (client : List ℕ) → held_of client (keys_of (entries_at story.entries)) ≤ share },
+    ghost found: { AreOutcomes kept story.entries } by { AreOutcomes-prop kept story.entries },
+    ghost counted: { (client : List ℕ) → held_at kept client ≡ held_of client (keys_of (entries_at story.entries)) },
+    ghost dated: { AreDues order story.entries },
+    ghost ready: { IsTrue (is_ready (option_map (λ r. key_of r.key) room) (keys_of (entries_at story.entries)) capacity share (places order) (spare kept)) },
 }
 
 impl Log {
-    ghost use Rattle.std.specs.Prelude.{◌≡◌, ◌↔◌, ◌<◌, ◌++◌, [], ◌∷◌, None, Some, Err, OnOk, OnErr, length};
-    ghost use Rattle.ft_log.specs.Kept.{kept_for, unexpired};
+    ghost use Rattle.std.specs.Prelude.{◌≡◌, ◌↔◌, ◌<◌, ◌++◌, [], ◌∷◌, None, Some, Err, OnOk, OnErr, MatchOption, false, length};
+    ghost use Rattle.ft_log.specs.Kept.{kept_for, least_expiration, unexpired};
     ghost use Rattle.ft_log.specs.Logged.{logged};
     ghost use Rattle.ft_log.specs.View.{performed_in};
     ghost use Rattle.ft_log.specs.declared.error.LogError.TheVariants.{Full, ShareFull};
@@ -49,9 +65,10 @@ impl Log {
             capacity,
             share,
             alloc,
-            entries: Vec::new(alloc),
+            kept: IndexMap::with_hasher(alloc, hasher),
+            order: Order::new(alloc),
             room: None,
-            hasher,
+            story: Story::new(),
         }
     }
 
@@ -60,7 +77,7 @@ impl Log {
     pub fn find(&self, key: &Key) -> Option<&Outcome>
         ensures { option_map (λ o. performed_in o.now) result ≡ kept_for (key_of key.now) (logged self.now).entries }
     {
-        found(&self.entries, key)
+        outcome_at(&self.kept, key)
     }
 
     /// How many outcomes are kept.
@@ -69,7 +86,7 @@ impl Log {
         ensures length { result ≡ length (logged self.now).entries }
         ensures bound { result ≤ (logged self.now).capacity }
     {
-        self.entries.len()
+        self.order.len()
     }
 
     /// How many outcomes of a client are kept.
@@ -78,8 +95,16 @@ impl Log {
         ensures held { result ≡ held_of client_id.now (keys_of (logged self.now).entries) }
         ensures bound { result ≤ (logged self.now).share }
     {
-        let _share = self.share;
-        held_in(&self.entries, client_id) as u32
+        count_of(&self.kept, client_id)
+    }
+
+    /// The least expiration of what is kept.
+    #[tactic(auto, unfolding(crate::specs::Logged::logged))]
+    pub fn next_expiry(&self) -> Option<u64>
+        ensures least { result ≡ least_expiration (logged self.now).entries }
+        ensures stays { (now : ℕ) → MatchOption result (Unit {0}) (λ t. now ≤ t) → unexpired now (logged self.now).entries ≡ (logged self.now).entries }
+    {
+        self.order.least()
     }
 
     /// Drops exactly the entries whose expiration lies before a moment, given as the number of 100 ns
@@ -88,7 +113,26 @@ impl Log {
     pub fn forget(&mut self, now: u64)
         ensures { logged self.new ≡ record (logged self.old) { entries = unexpired now (logged self.old).entries } }
     {
-        drop_expired(&mut self.entries, now);
+        while self.forget_next(now) {}
+    }
+
+    /// Drops one entry whose expiration lies before a moment, and says whether there was one.
+    #[tactic(auto, unfolding(crate::specs::Logged::logged))]
+    fn forget_next(&mut self, now: u64) -> bool
+        ensures fewer { IsTrue result → length (logged self.new).entries < length (logged self.old).entries }
+        ensures none { result ≡ false → unexpired now (logged self.new).entries ≡ (logged self.new).entries }
+        ensures same { unexpired now (logged self.new).entries ≡ unexpired now (logged self.old).entries }
+        ensures others { logged self.new ≡ record (logged self.old) { entries = (logged self.new).entries } }
+    {
+        match self.order.pop_before(now) {
+            Some(due) => {
+                take(&mut self.kept, &due.key);
+                count_down(&mut self.kept, due.key.client_id.as_slice());
+                self.story = Story::without(&self.story, &due.key);
+                true
+            }
+            None => false,
+        }
     }
 
     /// Makes room for the outcome of a key that has none, and for no other. An error leaves room for no
@@ -111,9 +155,10 @@ impl Log {
         if self.held_by(&key.client_id) == self.share {
             return Err(LogError::ShareFull);
         }
-        let key = key.copy(self.alloc)?;
-        self.entries.reserve(1)?;
-        self.room = Some(key);
+        let room = room_for(self.alloc, key)?;
+        self.order.reserve()?;
+        self.kept.reserve(2)?;
+        self.room = Some(room);
         Ok(())
     }
 
@@ -127,13 +172,22 @@ impl Log {
           room = None;
         } }
     {
-        self.room = None;
+        let _share = self.share;
+        let Some(room) = self.room.take() else {
+            return;
+        };
         let entry = Entry {
             key,
             expiration,
             outcome,
         };
-        self.entries.push_reserved(entry);
+        self.story = Story::with(&self.story, &entry);
+        self.order.push(Due {
+            until: Reverse(expiration),
+            key: room.key,
+        });
+        count_up(&mut self.kept, room.client_id);
+        put(&mut self.kept, entry.key, entry.outcome);
     }
 
     /// No two entries have one key.

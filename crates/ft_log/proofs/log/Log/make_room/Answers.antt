@@ -1,67 +1,67 @@
-use Rattle.std.proofs.Common.{◌<◌, ◌≤◌, ◌≡◌, ◌∙◌, true, List, ℕ, ap, sym, subst, refl, Some, vec_len, vec_capacity, arith}
+use Rattle.std.proofs.Common.{◌<◌, ◌≡◌, ◌∙◌, true, List, ℕ, ap, sym, subst, Some, length, arith}
 use Rattle.std.proofs.lemmas.List.{length-map}
-use Rattle.ft_log.specs.Keys.{RequestKey, are_distinct, held_of}
-use Rattle.ft_log.specs.Kept.{keys_of}
+use Rattle.indexmap.specs.IndexMap.{spare}
+use Rattle.ft_log.specs.Dues.{places}
+use Rattle.ft_log.specs.Keys.{RequestKey, held_of}
 use Rattle.ft_log.specs.Logged.{logged}
-use Rattle.ft_log.specs.Private.{is_ready}
+use Rattle.ft_log.specs.Tied.{is_ready}
 use Rattle.ft_log.specs.View.{entries_at, entry_in, key_of}
+use Rattle.ft_log.specs.declared.entry.Entry.{Entry}
+use Rattle.ft_log.proofs.Dated.{as_many}
+use Rattle.ft_log.proofs.Entries.{keys_at}
 use Rattle.ft_log.proofs.Listed.{none_kept, length_keys, other_error}
 use Rattle.ft_log.proofs.Ready.{IsReady, ready_from}
+use Rattle.ft_log.proofs.Moved.{counted_in, dated_in, found_in}
 use Rattle.ft_log.proofs.log.Log.make_room.Goals as goal
 
-pub returns-in_err-key-clause-share_full : goal.returns-in_err-key-clause-share_full
+pub returns-in_err-room-clause-share_full : goal.returns-in_err-room-clause-share_full
 unfolding logged
-returns-in_err-key-clause-share_full c =
-    let held = c.held_by.ensures.held ∙ ap (λ x. held_of x (keys_of (entries_at c.args.self.now.entries.items))) c.deref.ensures.value in
+returns-in_err-room-clause-share_full c =
+    let held = c.held_by.ensures.held ∙ ap (λ x. held_of x (keys_at c.args.self.now.story.entries)) c.deref.ensures.value in
     (other_error c.from_residual.result c.from_residual.ensures.1, λ h. absurd (c.if-held_by-self.false (held ∙ h.1)))
 
 pub returns-in_err-reserve-clause-share_full : goal.returns-in_err-reserve-clause-share_full
 unfolding logged
 returns-in_err-reserve-clause-share_full c =
-    let held = c.held_by.ensures.held ∙ ap (λ x. held_of x (keys_of (entries_at c.args.self.now.entries.items))) c.deref.ensures.value in
+    let held = c.held_by.ensures.held ∙ ap (λ x. held_of x (keys_at c.args.self.now.story.entries)) c.deref.ensures.value in
     (other_error c.from_residual-in_err-reserve.result c.from_residual-in_err-reserve.ensures.1, λ h. absurd (c.if-held_by-self.false (held ∙ h.1)))
+
+pub returns-in_err-reserve-2-clause-share_full : goal.returns-in_err-reserve-2-clause-share_full
+unfolding logged
+returns-in_err-reserve-2-clause-share_full c =
+    let held = c.held_by.ensures.held ∙ ap (λ x. held_of x (keys_at c.args.self.now.story.entries)) c.deref.ensures.value in
+    (other_error c.from_residual-in_err-reserve-2.result c.from_residual-in_err-reserve-2.ensures.1, λ h. absurd (c.if-held_by-self.false (held ∙ h.1)))
 
 pub returns-clause-share_full : goal.returns-clause-share_full
 unfolding logged
 returns-clause-share_full c =
-    let held = c.held_by.ensures.held ∙ ap (λ x. held_of x (keys_of (entries_at c.args.self.now.entries.items))) c.deref.ensures.value in
+    let held = c.held_by.ensures.held ∙ ap (λ x. held_of x (keys_at c.args.self.now.story.entries)) c.deref.ensures.value in
     (λ e. cc, λ h. absurd (c.if-held_by-self.false (held ∙ h.1)))
-
-pub invariant_of-self-in-Break-branch-2 : goal.invariant_of-self-in-Break-branch-2
-invariant_of-self-in-Break-branch-2 c =
-    let s = c.args.self.now in
-    let same = sym c.reserve.ensures.items in
-    let w : vec_len c.reserve.new.self ≤ s.capacity = omega (arith, c.reserve.ensures.len, s.within) in
-    record {
-      within = w;
-      distinct = subst (λ es. are_distinct (keys_of (entries_at es)) ≡ true) same s.distinct;
-      shared = subst (λ es. (client : List ℕ) → held_of client (keys_of (entries_at es)) ≤ s.share) same s.shared;
-      ready = refl;
-    }
 
 pub invariant_of-self-2 : goal.invariant_of-self-2
 unfolding logged
 invariant_of-self-2 c =
     let s = c.args.self.now in
-    let made = c.in_ok-reserve.ensures in
-    let same = sym made.items in
     let key : RequestKey = key_of c.args.key.now in
     let client : List ℕ = key.client_id in
-    let old : List RequestKey = keys_of (entries_at s.entries.items) in
-    let reserved : ℕ = vec_capacity c.reserve.new.self in
-    let held = c.held_by.ensures.held ∙ ap (λ x. held_of x (keys_of (entries_at c.args.self.now.entries.items))) c.deref.ensures.value in
-    let fewer : vec_len s.entries < s.capacity = omega (arith, c.if-len-self.false, c.len.ensures.length, length-map s.entries.items entry_in, s.entries.ok.0, s.within) in
-    let place : IsReady key old s.capacity s.share reserved = record {
-      new = none_kept key (entries_at s.entries.items) c.requires;
-      within = omega (arith, length_keys s.entries.items, s.entries.ok.0, fewer);
+    let es : List Entry = s.story.entries in
+    let old : List RequestKey = keys_at es in
+    let held = c.held_by.ensures.held ∙ ap (λ x. held_of x (keys_at es)) c.deref.ensures.value in
+    let fewer : length es < s.capacity = omega (arith, c.if-len-self.false, c.len.ensures.length, length-map es entry_in, s.within) in
+    let place : IsReady key old s.capacity s.share (places c.reserve.new.self) (spare c.reserve-2.new.self) = record {
+      new = none_kept key (entries_at es) c.requires;
+      within = omega (arith, length_keys es, fewer);
       shared = omega (arith, held, s.shared client, c.if-held_by-self.false);
-      reserved_for = omega (arith, length_keys s.entries.items, s.entries.ok.0, made.len, made.ok);
+      place = omega (arith, length_keys es, as_many s.order es s.dated, ap (λ l. length l) c.reserve.ensures.same, c.in_ok-reserve.ensures.ok);
+      spares = omega (arith, c.in_ok-reserve-2.ensures.ok);
     } in
-    let at_old = subst (λ (k : RequestKey). is_ready (Some k) old s.capacity s.share reserved ≡ true) (sym c.in_ok-key.ensures) (ready_from key old s.capacity s.share reserved place) in
-    let w : vec_len c.reserve.new.self ≤ s.capacity = omega (arith, made.len, s.within) in
     record {
-      within = w;
-      distinct = subst (λ es. are_distinct (keys_of (entries_at es)) ≡ true) same s.distinct;
-      shared = subst (λ es. (client : List ℕ) → held_of client (keys_of (entries_at es)) ≤ s.share) same s.shared;
-      ready = subst (λ es. is_ready (Some (key_of c.in_ok-key.key)) (keys_of (entries_at es)) s.capacity s.share reserved ≡ true) same at_old;
+      within = s.within;
+      distinct = s.distinct;
+      shared = s.shared;
+      found = found_in s.kept c.reserve-2.new.self es c.reserve-2.ensures.entries s.found;
+      counted = counted_in s.kept c.reserve-2.new.self es c.reserve-2.ensures.entries s.counted;
+      dated = dated_in s.order c.reserve.new.self es c.reserve.ensures.same s.dated;
+      ready = subst (λ (k : RequestKey). is_ready (Some k) old s.capacity s.share (places c.reserve.new.self) (spare c.reserve-2.new.self) ≡ true) (sym c.in_ok-room.ensures)
+          (ready_from key old s.capacity s.share (places c.reserve.new.self) (spare c.reserve-2.new.self) place);
     }

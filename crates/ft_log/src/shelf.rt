@@ -1,0 +1,111 @@
+//! The map of a log: under each key its outcome, and under each client how many of them it has.
+
+ghost use Rattle.std.specs.Prelude.{◌≡◌, ◌+◌, ◌^◌, ◌<◌, ◌≤◌, if◌then◌else◌, List, ℕ, Some, None, bytes_eq};
+ghost use Rattle.std.specs.Option.{option_copied};
+ghost use Rattle.indexmap.specs.IndexMap.{spare};
+ghost use Rattle.ft_log.specs.Keys.{RequestKey, same_key};
+ghost use Rattle.ft_log.specs.Shelf.{held_at, kept_at};
+ghost use Rattle.ft_log.specs.View.{key_of};
+
+use crate::key::Key;
+use crate::name::{Lent, Name};
+use crate::outcome::Outcome;
+use crate::slot::Slot;
+use indexmap::IndexMap;
+use std::hash::RandomState;
+
+/// What is kept, by its name.
+pub(crate) type Shelf = IndexMap<Name, Slot, RandomState>;
+
+/// The outcome of a key.
+pub(crate) fn outcome_at<'s>(shelf: &'s Shelf, key: &Key) -> Option<&'s Outcome>
+    ensures { option_copied result ≡ kept_at shelf.now (key_of key.now) }
+{
+    let name = Lent {
+        client_id: key.client_id.as_slice(),
+        number: Some(key.retention_id),
+    };
+    match shelf.get(name) {
+        Some(Slot::Kept(outcome)) => Some(outcome),
+        Some(Slot::Held(_)) | None => None,
+    }
+}
+
+/// How many outcomes a client has.
+pub(crate) fn count_of(shelf: &Shelf, client_id: &[u8]) -> u32
+    ensures { result ≡ held_at shelf.now client_id.now }
+{
+    let name = Lent {
+        client_id,
+        number: None,
+    };
+    match shelf.get(name) {
+        Some(Slot::Held(count)) => *count,
+        Some(Slot::Kept(_)) | None => 0,
+    }
+}
+
+/// Puts an outcome under its key.
+pub(crate) fn put(shelf: &mut Shelf, key: Key, outcome: Outcome)
+    requires { 0 < spare shelf.old }
+    ensures kept { (other : RequestKey) → kept_at shelf.new other ≡ (if same_key other (key_of key) then Some outcome else kept_at shelf.old other) }
+    ensures held { (client : List ℕ) → held_at shelf.new client ≡ held_at shelf.old client }
+{
+    let Key {
+        client_id,
+        retention_id,
+    } = key;
+    let name = Name {
+        client_id,
+        number: Some(retention_id),
+    };
+    shelf.insert(name, Slot::Kept(outcome)).unwrap();
+}
+
+/// Takes the outcome of a key away.
+pub(crate) fn take(shelf: &mut Shelf, key: &Key)
+    ensures kept { (other : RequestKey) → kept_at shelf.new other ≡ (if same_key other (key_of key.now) then None else kept_at shelf.old other) }
+    ensures held { (client : List ℕ) → held_at shelf.new client ≡ held_at shelf.old client }
+    ensures room { spare shelf.old ≤ spare shelf.new }
+{
+    let name = Lent {
+        client_id: key.client_id.as_slice(),
+        number: Some(key.retention_id),
+    };
+    shelf.swap_remove(name);
+}
+
+/// Counts one more outcome of a client.
+pub(crate) fn count_up(shelf: &mut Shelf, client_id: Vec<u8>)
+    requires room { 0 < spare shelf.old }
+    requires fits { held_at shelf.old client_id.items + 1 < 2 ^ 32 }
+    ensures kept { (key : RequestKey) → kept_at shelf.new key ≡ kept_at shelf.old key }
+    ensures held { (client : List ℕ) → held_at shelf.new client ≡ held_at shelf.old client + (if bytes_eq client_id.items client then 1 else 0) }
+    ensures room { spare shelf.old ≤ spare shelf.new + 1 }
+{
+    let count = count_of(shelf, client_id.as_slice());
+    let name = Name {
+        client_id,
+        number: None,
+    };
+    shelf.insert(name, Slot::Held(count + 1)).unwrap();
+}
+
+/// Counts one outcome of a client less. A client that has none left is forgotten.
+pub(crate) fn count_down(shelf: &mut Shelf, client_id: &[u8])
+    requires { 0 < held_at shelf.old client_id.now }
+    ensures kept { (key : RequestKey) → kept_at shelf.new key ≡ kept_at shelf.old key }
+    ensures held { (client : List ℕ) → held_at shelf.new client + (if bytes_eq client_id.now client then 1 else 0) ≡ held_at shelf.old client }
+    ensures room { spare shelf.old ≤ spare shelf.new }
+{
+    let count = count_of(shelf, client_id);
+    let name = Lent {
+        client_id,
+        number: None,
+    };
+    if count == 1 {
+        shelf.swap_remove(name);
+    } else if let Some(slot) = shelf.get_mut(name) {
+        *slot = Slot::Held(count - 1);
+    }
+}

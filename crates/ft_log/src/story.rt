@@ -1,0 +1,46 @@
+//! The entries of a log in the order in which they were kept, which only proofs read.
+
+ghost use Rattle.std.specs.Prelude.{◌≡◌, List, [], ◌∷◌, ◌++◌};
+ghost use Rattle.std.specs.Borrow.{ftrue};
+ghost use Rattle.std.specs.Coded.{coded_list};
+ghost use Rattle.ft_log.specs.contracts.entry.Entry.{the_row};
+ghost use Rattle.ft_log.specs.View.{key_of};
+ghost use Rattle.ft_log.specs.Without.{without};
+ghost use Rattle.ft_log.specs.declared.entry.Entry.{Entry as KeptEntry};
+
+use crate::entry::Entry;
+use crate::key::Key;
+use std::marker::Model;
+
+/// The entries that are kept, in order. It takes no memory, and its calls do nothing when they run.
+#[derive(Drop)]
+pub(crate) struct Story {
+    pub(crate) ghost entries: { List KeptEntry } by { coded_list the_row.coded },
+}
+
+impl Model for Story {
+    ghost also_owns = { λ _. ftrue };
+}
+
+impl Story {
+    /// No entry.
+    pub(crate) fn new() -> Story
+        ensures { result.entries ≡ [] }
+    {
+        Story {}
+    }
+
+    /// The same with one more entry.
+    pub(crate) fn with(_before: &Story, _entry: &Entry) -> Story
+        ensures { result.entries ≡ _before.now.entries ++ _entry.now ∷ [] }
+    {
+        Story {}
+    }
+
+    /// The same without the entry of a key.
+    pub(crate) fn without(_before: &Story, _key: &Key) -> Story
+        ensures { result.entries ≡ without (key_of _key.now) _before.now.entries }
+    {
+        Story {}
+    }
+}
