@@ -1,5 +1,5 @@
 -- Sessions over a wire: how they begin, go on and end.
-use Rattle.std.proofs.Common.{◌≡◌, ℕ, zero, suc, ◌+◌, ◌<◌, ◌≤◌, ◌==◌, Bool, true, false, not, if◌then◌else◌, List, [], ◌∷◌, ◌++◌, drop, length, map, take, Option, Some, None, is_err, is_none, Result, Ok, Err, OnErr, OnOk, inl, inr, refl, sym, ap, subst, ◌∙◌, append_assoc, arith}
+use Rattle.std.proofs.Common.{◌≡◌, ℕ, zero, suc, ◌+◌, ◌<◌, ◌≤◌, ◌==◌, Bool, true, false, not, if◌then◌else◌, List, [], ◌∷◌, ◌++◌, drop, length, map, take, Option, Some, None, is_err, is_none, is_some, Result, Ok, Err, OnErr, OnOk, inl, inr, refl, sym, ap, subst, ◌∙◌, append_assoc, arith}
 use Rattle.std.specs.BTreeMap.{get}
 use Rattle.std.specs.List.{concat}
 use Rattle.std.specs.Ordering.{nat_cmp}
@@ -8,7 +8,7 @@ use Rattle.std.proofs.lemmas.List.{append-nil, map-append, take-append-drop}
 use Rattle.std.proofs.lemmas.List.Folds.{concat-append}
 use Rattle.giop_frames.specs.declared.limits.Limits.{Limits}
 use Rattle.giop_link.specs.Hearing.{Ending, ending}
-use Rattle.giop_link.specs.Linking.{close_connection}
+use Rattle.giop_link.specs.Linking.{Linked, close_connection}
 use Rattle.ft_log.specs.Performed.{Performed}
 use Rattle.ft_log.specs.declared.system_exception.SystemName.{SystemName}
 use Rattle.ft_orb.specs.declared.error.ServeError.{ServeError}
@@ -20,7 +20,7 @@ use Rattle.ft_orb.specs.declared.wire.StreamEnd.TheVariants.{LinkClosed, Memory,
 use Rattle.ft_orb.specs.ExactlyOnce.{Arrival}
 use Rattle.ft_orb.specs.History.{Close, Event, Gone, Line, Lost, Piece, Up, Shut, arrivals, line, shut}
 use Rattle.ft_orb.specs.Laws.{AreWithoutMemory}
-use Rattle.ft_orb.specs.Outputs.{Made, Noted, Plays, Writes, after, close_at, close_on, is_going, past_after, table_says}
+use Rattle.ft_orb.specs.Outputs.{Made, Noted, Plays, Writes, after, close_at, close_on, is_going, is_gone, past_after, table_says}
 use Rattle.ft_orb.specs.Requests.{Wanted, rules_of}
 use Rattle.ft_orb.specs.Servants.{Meaning}
 use Rattle.ft_orb.specs.Sessions.{EndsEarly, GoesOn, HasEndedEarly, IsFarewell, WireTook}
@@ -51,6 +51,27 @@ on_err-is (Err e) is p = p
 pub on_ok-is : {A E P : Type 0} (r : Result A E) → is_err r ≡ false → OnOk r P → P
 on_ok-is (Ok x) is p = p
 on_ok-is (Err e) is p = absurd cc
+
+-- a link is closed exactly where what comes on its connection has no meaning
+some-is : {A : Type 0} (o : Option A) → is_some o ≡ not (is_none o)
+some-is None = refl
+some-is (Some x) = refl
+
+pub closed-is : (limits : Limits) (l : Line) (link : Linked) → IsFor limits (Some link) l → link.is_closed ≡ not (is_going limits l)
+closed-is limits Gone link x = absurd x
+closed-is limits Shut link x = x.1
+closed-is limits (Up s) link x = x.is_ended ∙ some-is (ending limits s)
+
+pub gone-is : (limits : Limits) (l : Line) → IsFor limits None l → true ≡ not (is_going limits l)
+gone-is limits Gone x = refl
+gone-is limits Shut x = absurd x
+gone-is limits (Up s) x = absurd x
+
+-- what comes on a connection that is up is not refused
+pub refused-gone : (limits : Limits) (l : Line) → is_going limits l ≡ true → noting.Refused ≡ (if is_gone l then noting.Refused else noting.Done) → ⊥
+refused-gone limits Gone going refused = cc
+refused-gone limits Shut going refused = cc
+refused-gone limits (Up s) going refused = cc
 
 after_read-some : (t : Traffic) (buffer : List ℕ) (n : ℕ) → 0 < n → after_read t buffer (Ok n) ≡ record t { pieces = t.pieces ++ take n buffer ∷ [] }
 after_read-some t buffer zero h = absurd (omega arith)

@@ -4,6 +4,7 @@ ghost use Rattle.std.specs.Prelude.{◌≡◌, ◌<◌, ◌≤◌, ◌^◌, ℕ}
 ghost use Rattle.giop_core.specs.Keys.{key_of_addressed};
 ghost use Rattle.giop_core.specs.Lent.{addressed_by};
 ghost use Rattle.giop_link.specs.Linking.{IsNear, meaning_at};
+ghost use Rattle.ft_log.specs.Kept.{unexpired};
 ghost use Rattle.ft_log.specs.Logged.{logged};
 ghost use Rattle.ft_log.specs.View.{key_of};
 ghost use Rattle.ft_orb.specs.ExactlyOnce.{Absent, Present};
@@ -50,6 +51,18 @@ fn answered(put: Result<(), AllocError>) -> Step
     match put {
         Ok(()) => Step::Answered,
         Err(_) => Step::Unanswered,
+    }
+}
+
+/// Drops what a log keeps for requests that expired before a moment. Where there is none, the log is left alone.
+fn forget_expired(log: &mut Log, now: u64)
+    ensures { logged log.new ≡ record (logged log.old) { entries = unexpired now (logged log.old).entries } }
+{
+    let Some(least) = log.next_expiry() else {
+        return;
+    };
+    if least < now {
+        log.forget(now);
     }
 }
 
@@ -107,7 +120,7 @@ impl<S: Servant + Drop> Desk<S> {
         ensures share { share_of self.new ≡ share_of self.old }
     {
         let (id, wish) = (request.request_id, request.reply);
-        self.log.forget(self.clock);
+        forget_expired(&mut self.log, self.clock);
         if let Some(outcome) = self.log.find(&key) {
             return answered(put_outcome(version, id, wish, outcome, out));
         }

@@ -9,40 +9,40 @@ use Rattle.ft_orb.proofs.desk.Desk.keyed.Goals as goal
 
 pub put_outcome-requires : goal.put_outcome-requires
 put_outcome-requires g c =
-    let left = renderable-forgot c.args.self.now.clock (logged c.args.self.now.log) (logged c.forget.new.self) c.forget.ensures c.args.self.now.renderable in
-    renderable-found (key_of c.args.key) (logged c.forget.new.self).entries (performed_in c.in-Some.outcome.now) left (sym c.in-Some.ensures)
+    let left = renderable-forgot c.args.self.now.clock (logged c.args.self.now.log) (logged c.forget_expired.new.log) c.forget_expired.ensures c.args.self.now.renderable in
+    renderable-found (key_of c.args.key) (logged c.forget_expired.new.log).entries (performed_in c.in-Some.outcome.now) left (sym c.in-Some.ensures)
 
 pub invariant_of-self : goal.invariant_of-self
-invariant_of-self g c = record { renderable = renderable-forgot c.args.self.now.clock (logged c.args.self.now.log) (logged c.forget.new.self) c.forget.ensures c.args.self.now.renderable }
+invariant_of-self g c = record { renderable = renderable-forgot c.args.self.now.clock (logged c.args.self.now.log) (logged c.forget_expired.new.log) c.forget_expired.ensures c.args.self.now.renderable }
 
 pub invariant_of-self-in_default-object_key : goal.invariant_of-self-in_default-object_key
-invariant_of-self-in_default-object_key g c = record { renderable = renderable-forgot c.args.self.now.clock (logged c.args.self.now.log) (logged c.forget.new.self) c.forget.ensures c.args.self.now.renderable }
+invariant_of-self-in_default-object_key g c = record { renderable = renderable-forgot c.args.self.now.clock (logged c.args.self.now.log) (logged c.forget_expired.new.log) c.forget_expired.ensures c.args.self.now.renderable }
 
 pub invariant_of-self-in-Err-1 : goal.invariant_of-self-in-Err-1
-invariant_of-self-in-Err-1 g c = record { renderable = renderable-forgot c.args.self.now.clock (logged c.args.self.now.log) (logged c.forget.new.self) c.forget.ensures c.args.self.now.renderable }
+invariant_of-self-in-Err-1 g c = record { renderable = renderable-forgot c.args.self.now.clock (logged c.args.self.now.log) (logged c.forget_expired.new.log) c.forget_expired.ensures c.args.self.now.renderable }
 
 pub returns-in-Err-Memory-clause-did : goal.returns-in-Err-Memory-clause-did
-returns-in-Err-Memory-clause-did g c c' = (forgot-alike _ (table_of c.args.self.now) _ _ refl (ap (λ (l : Logged). l.entries) c.forget.ensures), refl)
+returns-in-Err-Memory-clause-did g c c' = (forgot-alike _ (table_of c.args.self.now) _ _ refl (ap (λ (l : Logged). l.entries) c.forget_expired.ensures), refl)
 
 pub invariant_of-self-in-Err-make_room : goal.invariant_of-self-in-Err-make_room
 invariant_of-self-in-Err-make_room g c =
-    let same = same-entries c.make_room.result (logged c.forget.new.self) (logged c.make_room.new.self) (Some (key_of c.args.key)) c.make_room.ensures.ok c.make_room.ensures.err in
-    record { renderable = subst AreRenderable (sym same) (renderable-forgot c.args.self.now.clock (logged c.args.self.now.log) (logged c.forget.new.self) c.forget.ensures c.args.self.now.renderable) }
+    let same = same-entries c.make_room.result (logged c.forget_expired.new.log) (logged c.make_room.new.self) (Some (key_of c.args.key)) c.make_room.ensures.ok c.make_room.ensures.err in
+    record { renderable = subst AreRenderable (sym same) (renderable-forgot c.args.self.now.clock (logged c.args.self.now.log) (logged c.forget_expired.new.log) c.forget_expired.ensures c.args.self.now.renderable) }
 
 pub returns-in-Err-Memory-make_room-clause-did : goal.returns-in-Err-Memory-make_room-clause-did
 returns-in-Err-Memory-make_room-clause-did g c c' =
-    let same = same-entries c.make_room.result (logged c.forget.new.self) (logged c.make_room.new.self) (Some (key_of c.args.key)) c.make_room.ensures.ok c.make_room.ensures.err in
-    (forgot-alike _ (table_of c.args.self.now) _ _ refl (same ∙ ap (λ (l : Logged). l.entries) c.forget.ensures), refl)
+    let same = same-entries c.make_room.result (logged c.forget_expired.new.log) (logged c.make_room.new.self) (Some (key_of c.args.key)) c.make_room.ensures.ok c.make_room.ensures.err in
+    (forgot-alike _ (table_of c.args.self.now) _ _ refl (same ∙ ap (λ (l : Logged). l.entries) c.forget_expired.ensures), refl)
 
 pub invariant_of-self-in-Err : goal.invariant_of-self-in-Err
 invariant_of-self-in-Err g c =
-    let same = same-entries c.make_room.result (logged c.forget.new.self) (logged c.make_room.new.self) (Some (key_of c.args.key)) c.make_room.ensures.ok c.make_room.ensures.err in
-    record { renderable = subst AreRenderable (sym same) (renderable-forgot c.args.self.now.clock (logged c.args.self.now.log) (logged c.forget.new.self) c.forget.ensures c.args.self.now.renderable) }
+    let same = same-entries c.make_room.result (logged c.forget_expired.new.log) (logged c.make_room.new.self) (Some (key_of c.args.key)) c.make_room.ensures.ok c.make_room.ensures.err in
+    record { renderable = subst AreRenderable (sym same) (renderable-forgot c.args.self.now.clock (logged c.args.self.now.log) (logged c.forget_expired.new.log) c.forget_expired.ensures c.args.self.now.renderable) }
 
 pub returns-in-Err-clause-did : goal.returns-in-Err-clause-did
 returns-in-Err-clause-did g c c' =
-    let same = same-entries c.make_room.result (logged c.forget.new.self) (logged c.make_room.new.self) (Some (key_of c.args.key)) c.make_room.ensures.ok c.make_room.ensures.err in
-    (forgot-alike _ (table_of c.args.self.now) _ _ c.in-Err.ensures.err (same ∙ ap (λ (l : Logged). l.entries) c.forget.ensures), refl)
+    let same = same-entries c.make_room.result (logged c.forget_expired.new.log) (logged c.make_room.new.self) (Some (key_of c.args.key)) c.make_room.ensures.ok c.make_room.ensures.err in
+    (forgot-alike _ (table_of c.args.self.now) _ _ c.in-Err.ensures.err (same ∙ ap (λ (l : Logged). l.entries) c.forget_expired.ensures), refl)
 
 pub put_outcome-requires-2 : goal.put_outcome-requires-2
 put_outcome-requires-2 g c =
@@ -51,8 +51,8 @@ put_outcome-requires-2 g c =
 
 pub invariant_of-self-2 : goal.invariant_of-self-2
 invariant_of-self-2 g c =
-    let same = same-entries c.make_room.result (logged c.forget.new.self) (logged c.make_room.new.self) (Some (key_of c.args.key)) c.make_room.ensures.ok c.make_room.ensures.err in
-    let left : AreRenderable (logged c.make_room.new.self).entries = subst AreRenderable (sym same) (renderable-forgot c.args.self.now.clock (logged c.args.self.now.log) (logged c.forget.new.self) c.forget.ensures c.args.self.now.renderable) in
+    let same = same-entries c.make_room.result (logged c.forget_expired.new.log) (logged c.make_room.new.self) (Some (key_of c.args.key)) c.make_room.ensures.ok c.make_room.ensures.err in
+    let left : AreRenderable (logged c.make_room.new.self).entries = subst AreRenderable (sym same) (renderable-forgot c.args.self.now.clock (logged c.args.self.now.log) (logged c.forget_expired.new.log) c.forget_expired.ensures c.args.self.now.renderable) in
     let gave = rw c.deref.ensures.value at c.in-Ok-perform.ensures.ok in
     let given = renderable-performed g.S.Servant.meaning c.args.self.now.servant c.perform.new.self c.in-Some-object_key.object_key.now c.args.request.now.operation.now (values_of c.in-Ok.arguments.items) (performed_in c.in-Ok-perform.outcome) g.S.Servant.promises c.known.ensures c.in-Ok.ensures.fit gave in
     record { renderable = renderable-kept (logged c.make_room.new.self) (logged c.keep.new.self) (record { key = key_of c.args.key; expiration = c.args.expiration; outcome = performed_in c.in-Ok-perform.outcome }) (ap (λ (l : Logged). l.entries) c.keep.ensures) left given }
