@@ -1,5 +1,9 @@
+pub mod Decoding
+pub mod DigitValues
 pub mod Lines
 pub mod Endings
 pub mod Printing
 pub mod Counting
 pub mod Scripts
+pub mod Visits
+pub mod Addresses

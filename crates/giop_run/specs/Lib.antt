@@ -13,6 +13,10 @@ pub mod Settings
 pub mod Script
 pub mod Counter
 pub mod Plays
+-- `giop serve`: the counter's reference, moments, and connections that are served one after another
+pub mod Addresses
+pub mod Moments
+pub mod Visits
 -- a proof that an `impl` cites
 pub mod CounterFacts
 -- vocabulary of private functions, which no promise of the crate needs

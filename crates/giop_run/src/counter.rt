@@ -1,11 +1,12 @@
 //! The counter: the object that the program serves.
 
-ghost use Rattle.std.specs.Prelude.{◌≡◌, [], ◌∷◌, IfOk, OnErr};
+ghost use Rattle.std.specs.Prelude.{◌≡◌, IfOk, OnErr};
 ghost use Rattle.cdr_core.specs.View.{values_of};
 ghost use Rattle.giop_run.specs.Counter.{add_types, get_types, long_in, sum_of, tells};
 ghost use Rattle.ft_orb.specs.Interfaces.{types_of};
 ghost use Rattle.ft_log.specs.View.{performed_in};
 
+use crate::vector::one;
 use cdr_core::{Ty, Val};
 use ft_log::{Completion, Outcome, SystemName};
 use ft_orb::{Lookup, Servant, Signature};
@@ -37,15 +38,6 @@ impl Model for Counter {
     ghost view = { λ c. c.total };
 
     ghost invariant = { λ c. (types_of c.add ≡ add_types) × (types_of c.get ≡ get_types) };
-}
-
-/// A vector of one item.
-fn one<T: Drop>(alloc: Global, item: T) -> Result<Vec<T>, AllocError>
-    ensures { IfOk result (λ v. v.items ≡ item ∷ []) }
-{
-    let mut items = Vec::with_capacity(alloc, 1)?;
-    items.push(item)?;
-    Ok(items)
 }
 
 /// The types of `add`.

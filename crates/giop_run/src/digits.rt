@@ -1,11 +1,13 @@
 //! The octets that a text of hexadecimal digits gives.
 
-ghost use Rattle.std.specs.Prelude.{◌≡◌, ◌⊎◌, filter, not, Ok, Err, IfErr, IfOk};
+ghost use Rattle.std.specs.Prelude.{◌≡◌, ◌⊎◌, ◌≤◌, ◌<◌, ◌*◌, ◌/◌, length, vec_capacity, drop, slice_index, unwrap_or, false, Ok, Err, IfErr, IfOk};
+ghost use Rattle.std.specs.Vec.{vec_len};
+ghost use Rattle.hex.specs.Hex.{hex_digit_value};
 ghost use Rattle.giop_run.specs.declared.digits.DigitError.TheVariants as digit;
 ghost use Rattle.giop_run.specs.Digits.{octets_in};
 ghost use Rattle.giop_run.specs.Digits as digits;
+ghost use Rattle.giop_run.specs.Private.{after, given, odd_or_bad, without_blanks};
 
-use hex::FromHexError;
 use std::alloc::{AllocError, Global};
 
 /// Why digits are no octets.
@@ -30,21 +32,6 @@ impl From<AllocError> for DigitError {
     }
 }
 
-impl From<FromHexError> for DigitError {
-    ghost use Rattle.std.specs.Prelude.{◌≡◌};
-    ghost use Rattle.giop_run.specs.Digits.{error_of};
-
-    ghost from_gives = { λ h e. e ≡ error_of h };
-
-    fn from(error: FromHexError) -> DigitError {
-        match error {
-            FromHexError::OddLength => DigitError::Odd,
-            FromHexError::InvalidHexCharacter { .. } => DigitError::Bad,
-            _ => DigitError::Memory,
-        }
-    }
-}
-
 /// Whether an octet may stand between digits and means nothing: a space, a tab, a CR or an LF.
 fn is_blank(octet: u8) -> bool
     ensures { result ≡ digits.is_blank octet }
@@ -52,17 +39,89 @@ fn is_blank(octet: u8) -> bool
     matches!(octet, b' ' | b'\t' | b'\r' | b'\n')
 }
 
-/// A text without its blanks.
-fn without_blanks(alloc: Global, text: &[u8]) -> Result<Vec<u8>, AllocError>
-    ensures { IfOk result (λ kept. kept.items ≡ filter (λ octet. not (digits.is_blank octet)) text.now) }
+/// What stands in `VALUES` for an octet that is no digit.
+const NO: u8 = 255;
+
+/// The value of each hexadecimal digit, of either case, at its octet.
+const VALUES: [u8; 256] = [
+    NO, NO, NO, NO, NO, NO, NO, NO, NO, NO, NO, NO, NO, NO, NO, NO, NO, NO, NO, NO, NO, NO, NO, NO,
+    NO, NO, NO, NO, NO, NO, NO, NO, NO, NO, NO, NO, NO, NO, NO, NO, NO, NO, NO, NO, NO, NO, NO, NO,
+    0, 1, 2, 3, 4, 5, 6, 7, 8, 9, NO, NO, NO, NO, NO, NO, NO, 10, 11, 12, 13, 14, 15, NO, NO, NO,
+    NO, NO, NO, NO, NO, NO, NO, NO, NO, NO, NO, NO, NO, NO, NO, NO, NO, NO, NO, NO, NO, NO, NO, 10,
+    11, 12, 13, 14, 15, NO, NO, NO, NO, NO, NO, NO, NO, NO, NO, NO, NO, NO, NO, NO, NO, NO, NO, NO,
+    NO, NO, NO, NO, NO, NO, NO, NO, NO, NO, NO, NO, NO, NO, NO, NO, NO, NO, NO, NO, NO, NO, NO, NO,
+    NO, NO, NO, NO, NO, NO, NO, NO, NO, NO, NO, NO, NO, NO, NO, NO, NO, NO, NO, NO, NO, NO, NO, NO,
+    NO, NO, NO, NO, NO, NO, NO, NO, NO, NO, NO, NO, NO, NO, NO, NO, NO, NO, NO, NO, NO, NO, NO, NO,
+    NO, NO, NO, NO, NO, NO, NO, NO, NO, NO, NO, NO, NO, NO, NO, NO, NO, NO, NO, NO, NO, NO, NO, NO,
+    NO, NO, NO, NO, NO, NO, NO, NO, NO, NO, NO, NO, NO, NO, NO, NO, NO, NO, NO, NO, NO, NO, NO, NO,
+    NO, NO, NO, NO, NO, NO, NO, NO, NO, NO, NO, NO, NO, NO,
+];
+
+/// The value of a digit of either case, or `NO`.
+#[inline(always)]
+fn value_of(octet: u8) -> u8
+    ensures { result ≡ unwrap_or (hex_digit_value octet) 255 }
 {
-    let mut kept = Vec::new(alloc);
+    VALUES[octet as usize]
+}
+
+/// The place from which on the next octet stands that is no blank, or the text's end.
+#[inline(always)]
+fn after_blanks(text: &[u8], from: usize) -> usize
+    requires { from ≤ length text.now }
+    ensures from { from ≤ result }
+    ensures within { result ≤ length text.now }
+    ensures stands { result < length text.now → digits.is_blank (slice_index text.now result) ≡ false }
+    ensures passed { without_blanks (drop from text.now) ≡ without_blanks (drop result text.now) }
+{
+    let mut at = from;
+    while at < text.len() && is_blank(text[at]) {
+        at += 1;
+    }
+    at
+}
+
+/// Reads pairs of digits that stand together, from a place on, and appends their octets, for which there is room.
+/// Returns the place after them.
+#[inline(always)]
+fn read_pairs(text: &[u8], from: usize, octets: &mut Vec<u8>) -> usize
+    requires from { from ≤ length text.now }
+    requires few { 2 * vec_len octets.old ≤ from }
+    requires room { length text.now / 2 ≤ vec_capacity octets.old }
+    ensures from { from ≤ result }
+    ensures within { result ≤ length text.now }
+    ensures few { 2 * vec_len octets.new ≤ result }
+    ensures room { length text.now / 2 ≤ vec_capacity octets.new }
+    ensures read { after octets.old.items (given (without_blanks (drop from text.now))) ≡ after octets.new.items (given (without_blanks (drop result text.now))) }
+{
+    let mut at = from;
+    while at + 1 < text.len() {
+        let high = value_of(text[at]);
+        let low = value_of(text[at + 1]);
+        if high == NO || low == NO {
+            return at;
+        }
+        octets.push_reserved(high * 16 + low);
+        at += 2;
+    }
+    at
+}
+
+/// Why digits are no octets of which one is no digit: there is an odd number of them, or else that one.
+#[inline(never)]
+fn refusal(text: &[u8]) -> DigitError
+    ensures { result ≡ odd_or_bad (length (without_blanks text.now)) }
+{
+    let mut count = 0usize;
     for octet in text {
         if !is_blank(*octet) {
-            kept.push(*octet)?;
+            count += 1;
         }
     }
-    Ok(kept)
+    if count % 2 == 1 {
+        return DigitError::Odd;
+    }
+    DigitError::Bad
 }
 
 /// The octets that the digits of a text give, two digits of either case for each. Blanks may stand
@@ -71,6 +130,21 @@ pub fn octets_of(alloc: Global, text: &str) -> Result<Vec<u8>, DigitError>
     ensures read { IfOk result (λ octets. octets_in text.now ≡ Ok octets.items) }
     ensures refused { IfErr result (λ e. (e ≡ digit.Memory) ⊎ (octets_in text.now ≡ Err e)) }
 {
-    let digits = without_blanks(alloc, text.as_bytes())?;
-    Ok(hex::decode(alloc, digits.as_slice())?)
+    let text = text.as_bytes();
+    let mut octets = Vec::with_capacity(alloc, text.len() / 2)?;
+    let mut at = after_blanks(text, 0);
+    while at < text.len() {
+        let second = after_blanks(text, at + 1);
+        if second == text.len() {
+            return Err(DigitError::Odd);
+        }
+        let high = value_of(text[at]);
+        let low = value_of(text[second]);
+        if high == NO || low == NO {
+            return Err(refusal(&text[at..]));
+        }
+        octets.push_reserved(high * 16 + low);
+        at = after_blanks(text, read_pairs(text, second + 1, &mut octets));
+    }
+    Ok(octets)
 }

@@ -1,7 +1,7 @@
 //! The program over a reader and two writers.
 
 ghost use Rattle.std.specs.Prelude.{◌≡◌, ◌<◌, ◌≤◌, ◌⊎◌, IfOk, OnErr, unwrap_or};
-ghost use Rattle.giop_run.specs.Settings.{IsInRange};
+ghost use Rattle.giop_run.specs.Settings.{IsInRange, IsOverStreams};
 
 use crate::play::{Terms, play_events};
 use crate::reference::reference_lines;
@@ -134,7 +134,8 @@ fn perform<R: Read, W: Write>(
     input: &mut R,
     out: &mut W,
 ) -> Result<bool, Stop>
-    requires { IsInRange setting.now }
+    requires range { IsInRange setting.now }
+    requires streams { IsOverStreams setting.now }
 {
     match *setting {
         Setting::Play {
@@ -155,12 +156,13 @@ fn perform<R: Read, W: Write>(
         Setting::Ior(text) => print_reference(alloc, text, out)?,
         Setting::Show => return print_stream(alloc, input, Detail::Messages, out),
         Setting::Check => return print_stream(alloc, input, Detail::EndAlone, out),
+        Setting::Serve { .. } => unreachable!(),
     }
     Ok(true)
 }
 
 /// Prints why the program stops. Nothing is printed where the output can't be written.
-fn print_stop<E: Write>(stop: Stop, err: &mut E) -> io::Result<()> {
+pub(crate) fn print_stop<E: Write>(stop: Stop, err: &mut E) -> io::Result<()> {
     match stop {
         Stop::Memory => writeln!(err, "memory"),
         Stop::Unreadable => writeln!(err, "input: unreadable"),
@@ -169,14 +171,16 @@ fn print_stop<E: Write>(stop: Stop, err: &mut E) -> io::Result<()> {
         Stop::BadText(error) => writeln!(err, "ior: {error}"),
         Stop::OddDigits => writeln!(err, "input: odd digits"),
         Stop::BadDigit => writeln!(err, "input: bad digit"),
+        Stop::CannotListen => writeln!(err, "serve: cannot listen"),
+        Stop::CannotAccept => writeln!(err, "serve: cannot accept"),
         Stop::Unwritable => Ok(()),
     }
 }
 
-/// Does what a setting asks for, and returns the exit status: 0, or 1 where a stream doesn't end after
-/// a message, the input is refused, the output can't be written or an allocation fails. Why the input
-/// is refused, and that an allocation failed, is printed to `err`. The hasher is that of the log of a
-/// play.
+/// Does what a setting asks for, unless that is to serve, and returns the exit status: 0, or 1 where a
+/// stream doesn't end after a message, the input is refused, the output can't be written or an allocation
+/// fails. Why the input is refused, and that an allocation failed, is printed to `err`. The hasher is that
+/// of the log of a play.
 pub fn run<R: Read, W: Write, E: Write>(
     alloc: Global,
     setting: &Setting,
@@ -185,7 +189,8 @@ pub fn run<R: Read, W: Write, E: Write>(
     out: &mut W,
     err: &mut E,
 ) -> u8
-    requires { IsInRange setting.now }
+    requires range { IsInRange setting.now }
+    requires streams { IsOverStreams setting.now }
     ensures { result ≤ 1 }
 {
     match perform(alloc, setting, hasher, input, out) {

@@ -3,6 +3,18 @@
 ghost use Rattle.std.specs.Prelude.{◌↔◌, IsTrue};
 ghost use Rattle.giop_run.specs.Settings.{IsInRange};
 
+/// How many outcomes a server keeps at a time, where nothing else is asked for.
+pub const CAPACITY: u32 = 1_024;
+
+/// The counter's total at the beginning.
+pub const START: i64 = 0;
+
+/// How many octets a message may have.
+pub const LIMIT: u32 = 1_048_576;
+
+/// How many messages of a connection may be partial at a time.
+pub const PARTIALS: u8 = 8;
+
 /// What the program is to do.
 #[derive(Clone, Copy, Debug, PartialEq, Eq)]
 pub enum Setting<'a> {
@@ -25,6 +37,13 @@ pub enum Setting<'a> {
     Check,
     /// Show the reference that the text is.
     Ior(&'a str),
+    /// Serve the counter on 127.0.0.1.
+    Serve {
+        /// The TCP port: 1 to 65,535.
+        port: u16,
+        /// How many connections are served, one after another: 1 to 1,000.
+        connections: u32,
+    },
 }
 
 impl Setting<'_> {
@@ -45,6 +64,7 @@ impl Setting<'_> {
                     && matches!(limit, 4_096..=16_777_216)
                     && matches!(partials, 1..=16)
             }
+            Setting::Serve { port, connections } => port != 0 && matches!(connections, 1..=1_000),
             Setting::Show | Setting::Check | Setting::Ior(_) => true,
         }
     }

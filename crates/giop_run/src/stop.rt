@@ -27,6 +27,10 @@ pub(crate) enum Stop {
     BadDigit,
     /// The output can't be written.
     Unwritable,
+    /// The port can't be listened on.
+    CannotListen,
+    /// A connection can't be accepted.
+    CannotAccept,
 }
 
 impl From<AllocError> for Stop {

@@ -73,11 +73,14 @@ fn summary_at(messages: usize, fault: StreamFault) -> Result<Summary, Stop>
     }
 }
 
+/// For so many octets of a message's lines memory is taken at once.
+const USUAL: usize = 256;
+
 /// Prints the lines of a message.
 fn print_message<W: Write>(alloc: Global, message: Message, out: &mut W) -> Result<(), Stop>
     ensures { OnOk result (Appends (W.contents out.old) (W.contents out.new) (message_lines message.entry.version message.entry.order (content_of message.entry.content))) }
 {
-    let mut lines = String::new(alloc);
+    let mut lines = String::with_capacity(alloc, USUAL)?;
     put_message(alloc, message, &mut lines)?;
     out.write_all(lines.as_bytes())?;
     Ok(())

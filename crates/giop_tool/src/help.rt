@@ -5,7 +5,7 @@ pub(crate) const VERSION: &str = "0.1.0";
 
 /// What the help of `giop` begins with.
 pub(crate) const BASE: &str =
-    "Shows GIOP streams and object references, and plays scripts on a server of one counter.
+    "Shows GIOP streams and object references, and serves a counter: to scripts, and over TCP.
 Without a subcommand it plays a script";
 
 /// The help of the options of `giop play`.
@@ -23,6 +23,12 @@ pub(crate) const LIMIT: &str =
 
 pub(crate) const PARTIALS: &str =
     "How many messages may be partial at a time on a connection, 1 to 16 [default: 8]";
+
+/// The help of the options of `giop serve`.
+pub(crate) const PORT: &str = "The TCP port to listen on, 1 to 65535";
+
+pub(crate) const CONNECTIONS: &str =
+    "How many connections are served, one after another, 1 to 1000";
 
 /// What the help of `giop play` says after its options.
 pub(crate) const PLAY: &str =
@@ -68,3 +74,15 @@ pub(crate) const IOR: &str = "Example:
   profile 0 iiop 1.0 host h port 2809 key 63
 
 Exit status: 0 where TEXT is a reference, else 1";
+
+/// What the help of `giop serve` says after its options.
+pub(crate) const SERVE: &str =
+    "It listens on 127.0.0.1 once the reference is printed, serves each connection to its end, however that
+comes, and stops after the last one. The object is the counter of `giop play`, with a total of 0 at the
+beginning; the other options of `giop play` are as they are there when they are not given.
+
+Example:
+  $ giop serve --port 2809 --connections 1
+  IOR:000000000000001049444c3a436f756e7465723a312e3000000000010000000000000020000102000000000a3132372e302e302e31000af9000000016300000000000000
+
+Exit status: 0 where all connections were served, else 1";

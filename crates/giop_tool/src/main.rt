@@ -1,4 +1,4 @@
-//! The program `giop`: it does what its words ask for on its standard streams.
+//! The program `giop`: it does what its words ask for on its standard streams, or serves over TCP.
 #![tactic(auto)]
 
 mod help;
@@ -6,25 +6,23 @@ mod settings;
 
 ghost use Rattle.giop_run.specs.Settings.{IsInRange};
 
-use giop_run::{Setting, run};
+use giop_run::{Setting, run, serve};
 use settings::{SettingError, settings};
 use std::hash::RandomState;
 use std::process::ExitCode;
 use std::{env, io};
 
-/// Does what a setting asks for on the standard streams, and returns the exit status.
+/// Does what a setting asks for, and returns the exit status.
 fn run_setting(rt: &HostRuntime, setting: &Setting) -> io::Result<u8>
     requires { IsInRange setting.now }
 {
+    let alloc = rt.alloc();
     let hasher = RandomState::new(rt)?;
-    Ok(run(
-        rt.alloc(),
-        setting,
-        hasher,
-        &mut rt.stdin(),
-        &mut rt.stdout(),
-        &mut rt.stderr(),
-    ))
+    let (mut out, mut err) = (rt.stdout(), rt.stderr());
+    if let Setting::Serve { port, connections } = *setting {
+        return Ok(serve(alloc, rt, port, connections, hasher, &mut out, &mut err));
+    }
+    Ok(run(alloc, setting, hasher, &mut rt.stdin(), &mut out, &mut err))
 }
 
 /// Prints the answer to words without a setting, help among them, and returns the exit status.

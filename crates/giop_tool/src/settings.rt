@@ -8,20 +8,8 @@ use crate::help;
 use clap::builder::ValueParser;
 use clap::error::ErrorKind;
 use clap::{Arg, ArgAction, ArgMatches, Command};
-use giop_run::Setting;
+use giop_run::{CAPACITY, LIMIT, PARTIALS, START, Setting};
 use std::alloc::{AllocError, Global};
-
-/// How many outcomes a play keeps, where the words don't say it.
-const CAPACITY: u32 = 1_024;
-
-/// The counter's total at the beginning.
-const START: i64 = 0;
-
-/// How many octets a message may have.
-const LIMIT: u32 = 1_048_576;
-
-/// How many messages may be partial at a time.
-const PARTIALS: u8 = 8;
 
 /// Why the words were refused.
 #[derive(Debug, Drop)]
@@ -45,7 +33,7 @@ impl From<AllocError> for SettingError {
     }
 }
 
-/// An option of `giop play`, which takes a number.
+/// An option that takes a number.
 fn number_option<'a>(
     alloc: Global,
     name: &'a str,
@@ -114,6 +102,19 @@ fn ior_command<'a>(alloc: Global) -> Result<Command<'a>, AllocError> {
         .arg(text)
 }
 
+/// `giop serve`.
+fn serve_command<'a>(alloc: Global) -> Result<Command<'a>, AllocError> {
+    let ports = ValueParser::unsigned(1, u64::from(u16::MAX));
+    let counts = ValueParser::unsigned(1, 1_000);
+    let port = number_option(alloc, "port", help::PORT, ports).required(true);
+    let connections = number_option(alloc, "connections", help::CONNECTIONS, counts).required(true);
+    Command::new(alloc, "serve")
+        .about("Serves a counter on 127.0.0.1, and prints its object reference")
+        .after_help(help::SERVE)
+        .arg(port)?
+        .arg(connections)
+}
+
 /// `giop` without a subcommand.
 fn base_command<'a>(alloc: Global) -> Result<Command<'a>, AllocError> {
     Command::new(alloc, "giop")
@@ -133,7 +134,9 @@ fn with_streams<'a>(alloc: Global, command: Command<'a>) -> Result<Command<'a>, 
 /// The whole command line.
 fn command<'a>(alloc: Global) -> Result<Command<'a>, AllocError> {
     let command = base_command(alloc)?.subcommand(play_command(alloc)?)?;
-    with_streams(alloc, command)?.subcommand(ior_command(alloc)?)
+    with_streams(alloc, command)?
+        .subcommand(ior_command(alloc)?)?
+        .subcommand(serve_command(alloc)?)
 }
 
 /// A play whose numbers are those that the words don't say.
@@ -156,6 +159,14 @@ fn play_of<'a>(words: &ArgMatches<'a>) -> Setting<'a> {
     }
 }
 
+/// The service that the words of `giop serve` ask for. A number that is not there is out of its range.
+fn service_of<'a>(words: &ArgMatches<'a>) -> Setting<'a> {
+    Setting::Serve {
+        port: words.get_one::<u16>("port").unwrap_or(0),
+        connections: words.get_one::<u32>("connections").unwrap_or(0),
+    }
+}
+
 /// The setting that parsed words ask for.
 fn setting_of<'a>(matches: &ArgMatches<'a>) -> Setting<'a> {
     if matches.subcommand_matches("show").is_some() {
@@ -166,6 +177,9 @@ fn setting_of<'a>(matches: &ArgMatches<'a>) -> Setting<'a> {
     }
     if let Some(words) = matches.subcommand_matches("play") {
         return play_of(words);
+    }
+    if let Some(words) = matches.subcommand_matches("serve") {
+        return service_of(words);
     }
     match matches
         .subcommand_matches("ior")

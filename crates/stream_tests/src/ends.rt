@@ -1,0 +1,220 @@
+//! How a connection over a wire ends, and what was sent on it then.
+
+use crate::Terms;
+use crate::messages::{ADD, AGAIN, BROKEN, CLOSE, ERROR, EXPIRED, HERE, LOCATE, SEVEN};
+use crate::visits::{new_server, visit, visit_at};
+use ft_orb::StreamEnd;
+use std::alloc::{AllocError, Global};
+use std::hash::RandomState;
+use std::test::Fail;
+
+/// What a wire does, how many reads are made, and what comes of it.
+struct Row {
+    name: &'static str,
+    terms: Terms<'static>,
+    max_reads: u32,
+    end: StreamEnd,
+    /// The parts of what the wire takes.
+    taken: &'static [&'static [u8]],
+    /// The counter's total afterwards.
+    total: i64,
+}
+
+/// More octets than any write has.
+const ALL: usize = 1 << 20;
+
+static ROWS: [Row; 12] = [
+    Row {
+        name: "a write takes one octet",
+        terms: Terms {
+            sends: &[ADD],
+            takes: 1,
+            fails: 0,
+        },
+        max_reads: 9,
+        end: StreamEnd::PeerEnded,
+        taken: &[SEVEN],
+        total: 7,
+    },
+    Row {
+        name: "a write takes all",
+        terms: Terms {
+            sends: &[ADD],
+            takes: ALL,
+            fails: 0,
+        },
+        max_reads: 9,
+        end: StreamEnd::PeerEnded,
+        taken: &[SEVEN],
+        total: 7,
+    },
+    Row {
+        name: "one read is made",
+        terms: Terms {
+            sends: &[ADD, AGAIN],
+            takes: ALL,
+            fails: 0,
+        },
+        max_reads: 1,
+        end: StreamEnd::ReadsUsed,
+        taken: &[SEVEN, CLOSE],
+        total: 7,
+    },
+    Row {
+        name: "no read is made",
+        terms: Terms {
+            sends: &[ADD],
+            takes: ALL,
+            fails: 0,
+        },
+        max_reads: 0,
+        end: StreamEnd::ReadsUsed,
+        taken: &[CLOSE],
+        total: 0,
+    },
+    Row {
+        name: "the first read fails",
+        terms: Terms {
+            sends: &[ADD],
+            takes: ALL,
+            fails: 1,
+        },
+        max_reads: 9,
+        end: StreamEnd::ReadFault,
+        taken: &[],
+        total: 0,
+    },
+    Row {
+        name: "the second read fails",
+        terms: Terms {
+            sends: &[ADD],
+            takes: ALL,
+            fails: 3,
+        },
+        max_reads: 9,
+        end: StreamEnd::ReadFault,
+        taken: &[SEVEN],
+        total: 7,
+    },
+    Row {
+        name: "a write takes no octet",
+        terms: Terms {
+            sends: &[ADD],
+            takes: 0,
+            fails: 0,
+        },
+        max_reads: 9,
+        end: StreamEnd::WriteFault,
+        taken: &[],
+        total: 7,
+    },
+    Row {
+        name: "CloseConnection is not taken",
+        terms: Terms {
+            sends: &[ADD],
+            takes: ALL,
+            fails: 3,
+        },
+        max_reads: 1,
+        end: StreamEnd::WriteFault,
+        taken: &[SEVEN],
+        total: 7,
+    },
+    Row {
+        name: "the stream has a fault",
+        terms: Terms {
+            sends: &[LOCATE, BROKEN, ADD],
+            takes: 5,
+            fails: 0,
+        },
+        max_reads: 9,
+        end: StreamEnd::LinkClosed,
+        taken: &[HERE, ERROR],
+        total: 0,
+    },
+    Row {
+        name: "the peer closes the connection",
+        terms: Terms {
+            sends: &[LOCATE, CLOSE, ADD],
+            takes: ALL,
+            fails: 0,
+        },
+        max_reads: 9,
+        end: StreamEnd::LinkClosed,
+        taken: &[HERE],
+        total: 0,
+    },
+    Row {
+        name: "it does so at the last read",
+        terms: Terms {
+            sends: &[LOCATE, CLOSE],
+            takes: ALL,
+            fails: 0,
+        },
+        max_reads: 2,
+        end: StreamEnd::LinkClosed,
+        taken: &[HERE],
+        total: 0,
+    },
+    Row {
+        name: "the peer sends nothing",
+        terms: Terms {
+            sends: &[],
+            takes: ALL,
+            fails: 0,
+        },
+        max_reads: 9,
+        end: StreamEnd::PeerEnded,
+        taken: &[],
+        total: 0,
+    },
+];
+
+/// Parts, one after another.
+fn joined(alloc: Global, parts: &[&[u8]]) -> Result<Vec<u8>, AllocError> {
+    let mut all = Vec::new(alloc);
+    for part in parts {
+        all.extend_from_slice(part)?;
+    }
+    Ok(all)
+}
+
+#[test]
+fn each_end_has_its_cause(rt: HostRuntime) -> Result<(), Fail> {
+    for row in &ROWS {
+        let mut server = new_server(rt.alloc(), RandomState::new(&rt)?)?;
+        let came = visit(rt.alloc(), &mut server, 1, row.terms, row.max_reads)?;
+        assert_eq!(rt; came.end, row.end, "{}", row.name);
+        assert!(rt;
+            came.taken == joined(rt.alloc(), row.taken)?,
+            "{}",
+            row.name
+        );
+        assert_eq!(rt; came.total, row.total, "{}", row.name);
+        assert!(rt; server.is_closed(1), "{}", row.name);
+    }
+    Ok(())
+}
+
+/// The expiration of `ADD` is 100. The third moment goes back, and counts as the second.
+#[test]
+fn the_clock_is_asked_for_each_piece(rt: HostRuntime) -> Result<(), Fail> {
+    let terms = Terms {
+        sends: &[LOCATE, LOCATE, ADD],
+        takes: ALL,
+        fails: 0,
+    };
+    let mut server = new_server(rt.alloc(), RandomState::new(&rt)?)?;
+    let came = visit_at(
+        rt.alloc(),
+        &mut server,
+        1,
+        terms,
+        9,
+        [50, 120, 60].as_slice(),
+    )?;
+    assert_eq!(rt; came.end, StreamEnd::PeerEnded);
+    assert!(rt; came.taken == joined(rt.alloc(), [HERE, HERE, EXPIRED].as_slice())?);
+    assert_eq!(rt; came.total, 0);
+    Ok(())
+}

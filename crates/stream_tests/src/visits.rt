@@ -1,0 +1,69 @@
+//! A connection that is served over a wire in memory.
+
+use crate::{MemoryClock, MemoryWire, Terms};
+use ft_orb::{Server, StreamEnd, serve_stream};
+use giop_frames::Limits;
+use giop_run::{CAPACITY, Counter};
+use std::alloc::{AllocError, Global};
+use std::hash::RandomState;
+use std::test::Fail;
+
+/// A server of a counter from 0.
+pub(crate) fn new_server(
+    alloc: Global,
+    hasher: RandomState,
+) -> Result<Server<Counter>, AllocError> {
+    let counter = Counter::new(alloc, 0)?;
+    let limits = Limits::default();
+    Ok(Server::new(alloc, counter, limits, CAPACITY, CAPACITY, hasher))
+}
+
+/// What came of a connection.
+#[derive(Drop)]
+pub(crate) struct Course {
+    pub(crate) end: StreamEnd,
+    /// What the wire took.
+    pub(crate) taken: Vec<u8>,
+    /// The counter's total afterwards.
+    pub(crate) total: i64,
+}
+
+/// Serves a new connection over a wire, with these moments.
+pub(crate) fn visit_at(
+    alloc: Global,
+    server: &mut Server<Counter>,
+    connection: u64,
+    terms: Terms,
+    max_reads: u32,
+    moments: &[u64],
+) -> Result<Course, Fail> {
+    server.connect(connection)?;
+    let mut wire = MemoryWire::new(alloc, terms);
+    let mut clock = MemoryClock::new(moments);
+    let end = serve_stream(alloc, server, connection, &mut wire, &mut clock, max_reads);
+    let taken = wire.written().unwrap_or(b"unknown".as_slice());
+    Ok(Course {
+        end,
+        taken: Vec::from_slice(alloc, taken)?,
+        total: server.servant().total(),
+    })
+}
+
+/// Serves a new connection over a wire, with moments that rise from 50.
+pub(crate) fn visit(
+    alloc: Global,
+    server: &mut Server<Counter>,
+    connection: u64,
+    terms: Terms,
+    max_reads: u32,
+) -> Result<Course, Fail> {
+    let moments = [50, 60, 70, 80];
+    visit_at(
+        alloc,
+        server,
+        connection,
+        terms,
+        max_reads,
+        moments.as_slice(),
+    )
+}
