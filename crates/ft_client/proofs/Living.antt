@@ -1,0 +1,377 @@
+-- A client with all that ever was: each call is pending or was completed once.
+use Rattle.std.proofs.Common.{◌≡◌, ℕ, zero, suc, ◌+◌, ◌<◌, ◌≤◌, ◌==◌, ◌&&◌, nat_le, nat_lt, ℤ, pos, true, false, cond, List, [], ◌∷◌, ◌++◌, drop, length, take, Option, Some, None, refl, sym, ap, ◌∙◌, subst, arith, length-append}
+use Rattle.std.specs.List.{AllByRecursion, slice_get}
+use Rattle.std.specs.Ordering.{int_eq}
+use Rattle.std.proofs.lemmas.Bool.{and_parts, eq-eqb, eqb-true, leb-true}
+use Rattle.std.proofs.lemmas.Bool.Decides.{nat_tests}
+use Rattle.std.proofs.lemmas.List.{append-nil, take-append-drop}
+use Rattle.std.proofs.lemmas.Option.{none-some, same_Some}
+use Rattle.giop_core.specs.declared.header.Version.{Version}
+use Rattle.giop_frames.specs.declared.limits.Limits.{Limits}
+use Rattle.giop_link.specs.Hearing.{Ending}
+use Rattle.ft_client.specs.Clients.{Called, Cancelled, Client, Ended, Expired, Fed, Happening, Joined, Linked, Parted, Pending, Recalled, Taken, Ticked, after, completed, completed_if, ended_by, ending_of, fed_on, find_pending, gives, ids_after, is_sent_as, is_taken, late, made, on_time, parted, parted_at, placed, recalled, resent, says, says_again, says_placed, says_recalled, settled, settled_all, told_of, transmission, unsent, waiting, withdrawn, without}
+use Rattle.ft_client.specs.Directions.{Hearing, news}
+use Rattle.ft_client.specs.Laws.{CallsCompleteOnce}
+use Rattle.ft_client.specs.Lives.{AreRising, IsAlive, IsLife, IsOfCall, Life, call_at, ended_count, goes_on, lived, moment_of, new_life, one_if, pending_count, sent_at}
+use Rattle.ft_client.specs.Messages.{Answer, Asked, Call, Transmission, located, replied}
+
+-- Lists.
+
+-- what holds of each of two lists holds of both together
+pub each-append : {X : Type 0} (P : X → Type 0) (xs ys : List X) → AllByRecursion P xs → AllByRecursion P ys → AllByRecursion P (xs ++ ys)
+each-append P [] ys h k = k
+each-append P (x ∷ xs) ys h k = (h.0, each-append P xs ys h.1 k)
+
+pub each-weaker : {X : Type 0} (P Q : X → Type 0) → ((x : X) → P x → Q x) → (xs : List X) → AllByRecursion P xs → AllByRecursion Q xs
+each-weaker P Q f [] h = tt
+each-weaker P Q f (x ∷ xs) h = (f x h.0, each-weaker P Q f xs h.1)
+
+-- The calls of numbers.
+
+pub slice_get-append : {X : Type 0} (xs more : List X) (n : ℕ) (x : X) → slice_get xs n ≡ Some x → slice_get (xs ++ more) n ≡ Some x
+slice_get-append [] more n x h = absurd (none-some x h)
+slice_get-append (y ∷ xs) more zero x h = h
+slice_get-append (y ∷ xs) more (suc n) x h = slice_get-append xs more n x h
+
+pub slice_get-push : {X : Type 0} (xs : List X) (x : X) → slice_get (xs ++ x ∷ []) (length xs) ≡ Some x
+slice_get-push [] x = refl
+slice_get-push (y ∷ xs) x = slice_get-push xs x
+
+-- a call keeps its number
+pub call_at-append : (calls more : List Call) (r : ℕ) (c : Call) → call_at calls r ≡ Some c → call_at (calls ++ more) r ≡ Some c
+call_at-append calls more zero c h = h
+call_at-append calls more (suc n) c h = slice_get-append calls more n c h
+
+-- the next call has the next number
+pub call_at-push : (calls : List Call) (c : Call) (last : ℕ) → length calls ≡ last → call_at (calls ++ c ∷ []) (suc last) ≡ Some c
+call_at-push calls c last is = ap (λ n. slice_get (calls ++ c ∷ []) n) (sym is) ∙ slice_get-push calls c
+
+-- Counts.
+
+pub pending-append : (r : ℕ) (ps qs : List Pending) → pending_count r (ps ++ qs) ≡ pending_count r ps + pending_count r qs
+pending-append r [] qs = omega arith
+pending-append r (p ∷ ps) qs = let rest = pending-append r ps qs in omega (arith, rest)
+
+pub ended-append : (r : ℕ) (xs ys : List (ℕ × Ended)) → ended_count r (xs ++ ys) ≡ ended_count r xs + ended_count r ys
+ended-append r [] ys = omega arith
+ended-append r (x ∷ xs) ys = let rest = ended-append r xs ys in omega (arith, rest)
+
+-- of a number that is pending, one less is pending without it, and of the others as many
+pub without-count : (r id : ℕ) (ps : List Pending) → 0 < pending_count id ps → pending_count r ps ≡ one_if (id == r) + pending_count r (without id ps)
+without-count r id [] h = absurd (omega arith)
+without-count r id (p ∷ ps) h =
+    elim (p.id == id) as (λ b. (p.id == id) ≡ b → 0 < one_if b + pending_count id ps → one_if (p.id == r) + pending_count r ps ≡ one_if (id == r) + pending_count r (cond b ps (p ∷ without id ps))) [
+      | true ↦ λ is some. ap (λ n. one_if (n == r) + pending_count r ps) (eqb-true p.id id is)
+      | false ↦ λ is some. let rest = without-count r id ps (omega arith) in omega (arith, rest)
+    ] refl h
+
+-- what is past its expiration, and what isn't, are all
+pub on_time-count : (r now : ℕ) (ps : List Pending) → pending_count r ps ≡ pending_count r (on_time now ps) + ended_count r (late now ps)
+on_time-count r now [] = refl
+on_time-count r now (p ∷ ps) =
+    let rest = on_time-count r now ps in
+    elim (nat_le now p.call.expiration) as (λ b. one_if (p.id == r) + pending_count r ps ≡ pending_count r (cond b (p ∷ on_time now ps) (on_time now ps)) + ended_count r (cond b (late now ps) ((p.id, Expired) ∷ late now ps)))
+    [ true ↦ omega (arith, rest) | false ↦ omega (arith, rest) ]
+
+-- the numbers up to the next one
+next-once : (r last : ℕ) → one_if (nat_lt 0 r && nat_le r last) + one_if (suc last == r) ≡ one_if (nat_lt 0 r && nat_le r (suc last))
+next-once r last = grind (arith, nat_tests)
+
+none-once : (r : ℕ) → 0 ≡ one_if (nat_lt 0 r && nat_le r 0)
+none-once r = grind (arith, nat_tests)
+
+-- What is left of pending calls.
+
+-- the same calls under the same numbers, sent or not
+abbrev pub AreAlike : List Pending → List Pending → Type 0
+AreAlike [] [] = Unit {0}
+AreAlike [] (q ∷ qs) = ⊥
+AreAlike (p ∷ ps) [] = ⊥
+AreAlike (p ∷ ps) (q ∷ qs) = (p.id ≡ q.id) × (p.call ≡ q.call) × AreAlike ps qs
+
+pub alike-unsent : (ps : List Pending) → AreAlike ps (unsent ps)
+alike-unsent [] = tt
+alike-unsent (p ∷ ps) = (refl, refl, alike-unsent ps)
+
+pub alike-resent : (now n : ℕ) (ps : List Pending) → AreAlike ps (resent now n ps)
+alike-resent now n [] = tt
+alike-resent now n (p ∷ ps) =
+    elim (nat_le now p.call.expiration) as (λ b. AreAlike (p ∷ ps) (cond b (record p { sent = Some (suc n) } ∷ resent now (suc n) ps) (record p { sent = None } ∷ resent now n ps)))
+    [ true ↦ (refl, refl, alike-resent now (suc n) ps) | false ↦ (refl, refl, alike-resent now n ps) ]
+
+pub alike-count : (r : ℕ) (ps qs : List Pending) → AreAlike ps qs → pending_count r ps ≡ pending_count r qs
+alike-count r [] [] h = refl
+alike-count r [] (q ∷ qs) h = absurd h
+alike-count r (p ∷ ps) [] h = absurd h
+alike-count r (p ∷ ps) (q ∷ qs) h = λ i. one_if (h.0 i == r) + alike-count r ps qs h.2 i
+
+pub alike-each : (P : ℕ → Call → Type 0) (ps qs : List Pending) → AreAlike ps qs → AllByRecursion (λ p. P p.id p.call) ps → AllByRecursion (λ p. P p.id p.call) qs
+alike-each P [] [] h k = tt
+alike-each P [] (q ∷ qs) h k = absurd h
+alike-each P (p ∷ ps) [] h k = absurd h
+alike-each P (p ∷ ps) (q ∷ qs) h k = (subst (λ (c : Call). P q.id c) h.1 (subst (λ (n : ℕ). P n p.call) h.0 k.0), alike-each P ps qs h.2 k.1)
+
+pub alike-rising : (last : ℕ) (ps qs : List Pending) → AreAlike ps qs → AreRising last ps → AreRising last qs
+alike-rising last [] [] h k = tt
+alike-rising last [] (q ∷ qs) h k = absurd h
+alike-rising last (p ∷ ps) [] h k = absurd h
+alike-rising last (p ∷ ps) (q ∷ qs) h k = (
+  subst (λ (n : ℕ). n ≤ last) h.0 k.0,
+  alike-each (λ n c. q.id < n) ps qs h.2 (subst (λ (n : ℕ). AllByRecursion (λ q. n < q.id) ps) h.0 k.1),
+  alike-rising last ps qs h.2 k.2,
+)
+
+pub without-each : (P : Pending → Type 0) (id : ℕ) (ps : List Pending) → AllByRecursion P ps → AllByRecursion P (without id ps)
+without-each P id [] h = tt
+without-each P id (p ∷ ps) h = elim (p.id == id) as (λ b. AllByRecursion P (cond b ps (p ∷ without id ps))) [ true ↦ h.1 | false ↦ (h.0, without-each P id ps h.1) ]
+
+pub without-rising : (last id : ℕ) (ps : List Pending) → AreRising last ps → AreRising last (without id ps)
+without-rising last id [] h = tt
+without-rising last id (p ∷ ps) h =
+    elim (p.id == id) as (λ b. AreRising last (cond b ps (p ∷ without id ps)))
+    [ true ↦ h.2 | false ↦ (h.0, without-each (λ q. p.id < q.id) id ps h.1, without-rising last id ps h.2) ]
+
+pub on_time-each : (P : Pending → Type 0) (now : ℕ) (ps : List Pending) → AllByRecursion P ps → AllByRecursion P (on_time now ps)
+on_time-each P now [] h = tt
+on_time-each P now (p ∷ ps) h =
+    elim (nat_le now p.call.expiration) as (λ b. AllByRecursion P (cond b (p ∷ on_time now ps) (on_time now ps)))
+    [ true ↦ (h.0, on_time-each P now ps h.1) | false ↦ on_time-each P now ps h.1 ]
+
+pub on_time-rising : (last now : ℕ) (ps : List Pending) → AreRising last ps → AreRising last (on_time now ps)
+on_time-rising last now [] h = tt
+on_time-rising last now (p ∷ ps) h =
+    elim (nat_le now p.call.expiration) as (λ b. AreRising last (cond b (p ∷ on_time now ps) (on_time now ps)))
+    [ true ↦ (h.0, on_time-each (λ q. p.id < q.id) now ps h.1, on_time-rising last now ps h.2) | false ↦ on_time-rising last now ps h.2 ]
+
+-- numbers up to the last one are less than the next
+rising-each : (last : ℕ) (ps : List Pending) → AreRising last ps → AllByRecursion (λ q. q.id ≤ last) ps
+rising-each last [] h = tt
+rising-each last (p ∷ ps) h = (h.0, rising-each last ps h.2)
+
+pub rising-push : (last : ℕ) (ps : List Pending) (q : Pending) → q.id ≡ suc last → AreRising last ps → AreRising (suc last) (ps ++ q ∷ [])
+rising-push last [] q is h = (omega (arith, is), tt, tt)
+rising-push last (p ∷ ps) q is h =
+    let low = h.0 in
+    (omega (arith, low), each-append (λ x. p.id < x.id) ps (q ∷ []) h.1 (omega (arith, is, low), tt), rising-push last ps q is h.2)
+
+-- What is found is pending.
+
+self-count : (n : ℕ) → one_if (n == n) ≡ 1
+self-count n = ap one_if (eq-eqb n n refl)
+
+waiting-there : (i id : ℕ) (ps : List Pending) → waiting i ps ≡ Some id → 0 < pending_count id ps
+waiting-there i id [] h = absurd (none-some id h)
+waiting-there i id (p ∷ ps) h =
+    elim (is_sent_as i p.sent) as (λ b. cond b (Some p.id) (waiting i ps) ≡ Some id → 0 < one_if (p.id == id) + pending_count id ps) [
+      | true ↦ λ is. let one : one_if (p.id == id) ≡ 1 = ap (λ (n : ℕ). one_if (n == id)) (same_Some p.id id is) ∙ self-count id in omega (arith, one)
+      | false ↦ λ is. let rest = waiting-there i id ps is in omega (arith, rest)
+    ] h
+
+found-there : (id : ℤ) (p : Pending) (ps : List Pending) → find_pending id ps ≡ Some p → 0 < pending_count p.id ps
+found-there id p [] h = absurd (none-some p h)
+found-there id p (q ∷ ps) h =
+    elim (int_eq (pos q.id) id) as (λ b. cond b (Some q) (find_pending id ps) ≡ Some p → 0 < one_if (q.id == p.id) + pending_count p.id ps) [
+      | true ↦ λ is. let one : one_if (q.id == p.id) ≡ 1 = ap (λ (x : Pending). one_if (x.id == p.id)) (same_Some q p is) ∙ self-count p.id in omega (arith, one)
+      | false ↦ λ is. let rest = found-there id p ps is in omega (arith, rest)
+    ] h
+
+-- A client that is alive, and what happens to it.
+
+module _ (client_id : List ℕ) (version : Version) where
+  module _ (calls : List Call) (taken : List (ℕ × Ended)) where
+    -- another link, and the same calls sent or not
+    alive-alike : (m : Client) (qs : List Pending) (l : Option Linked) → AreAlike m.pending qs → IsAlive client_id version calls taken m → IsAlive client_id version calls taken (record m { pending = qs; link = l })
+    alive-alike m qs l same h = record {
+      client = h.client;
+      writes = h.writes;
+      count = h.count;
+      once = λ r. ap (λ n. n + (ended_count r taken + ended_count r m.completions)) (sym (alike-count r m.pending qs same)) ∙ h.once r;
+      pending = alike-each (λ id c. call_at calls id ≡ Some c) m.pending qs same h.pending;
+      rising = alike-rising m.last m.pending qs same h.rising;
+    }
+
+    alive-parted : (m : Client) → IsAlive client_id version calls taken m → IsAlive client_id version calls taken (parted m)
+    alive-parted m h = alive-alike m (unsent m.pending) None (alike-unsent m.pending) h
+
+    alive-linked : (m : Client) (l : Option Linked) → IsAlive client_id version calls taken m → IsAlive client_id version calls taken (record m { link = l })
+    alive-linked m l h = record { client = h.client; writes = h.writes; count = h.count; once = h.once; pending = h.pending; rising = h.rising }
+
+    alive-completed : (id : ℕ) (ended : Ended) (m : Client) → 0 < pending_count id m.pending → IsAlive client_id version calls taken m → IsAlive client_id version calls taken (completed id ended m)
+    alive-completed id ended m there h = record {
+      client = h.client;
+      writes = h.writes;
+      count = h.count;
+      once = λ r.
+          let left = without-count r id m.pending there in
+          let more = ended-append r m.completions ((id, ended) ∷ []) in
+          let was = h.once r in
+          omega (arith, left, more, was);
+      pending = without-each (λ p. call_at calls p.id ≡ Some p.call) id m.pending h.pending;
+      rising = without-rising m.last id m.pending h.rising;
+    }
+
+    alive-if : (o : Option ℕ) (i : ℕ) (ended : Ended) (m : Client) → waiting i m.pending ≡ o → IsAlive client_id version calls taken m → IsAlive client_id version calls taken (completed_if o ended m)
+    alive-if None i ended m is h = h
+    alive-if (Some id) i ended m is h = alive-completed id ended m (waiting-there i id m.pending is) h
+
+    alive-settled : (a : Answer) (m : Client) → IsAlive client_id version calls taken m → IsAlive client_id version calls taken (settled a m)
+    alive-settled (replied i shown) m h = alive-if (waiting i m.pending) i (ended_by shown) m refl h
+    alive-settled (located i shown) m h = h
+
+    alive-settled_all : (answers : List Answer) (m : Client) → IsAlive client_id version calls taken m → IsAlive client_id version calls taken (settled_all answers m)
+    alive-settled_all [] m h = h
+    alive-settled_all (a ∷ answers) m h = alive-settled_all answers (settled a m) (alive-settled a m h)
+
+    alive-told : (down : Hearing Answer) (octets : List ℕ) (m : Client) (l : Option Linked) → IsAlive client_id version calls taken m → IsAlive client_id version calls taken (told_of down octets m l)
+    alive-told down octets m None h = h
+    alive-told down octets m (Some l) h =
+        alive-settled_all (news down l.received octets) (record m { link = Some (record l { received = l.received ++ octets }) }) (alive-linked m (Some (record l { received = l.received ++ octets })) h)
+
+    alive-parted_at : (e : Option Ending) (m : Client) → IsAlive client_id version calls taken m → IsAlive client_id version calls taken (parted_at e m)
+    alive-parted_at None m h = h
+    alive-parted_at (Some e) m h = alive-parted m h
+
+    alive-recalled : (id : ℤ) (o : Option Pending) (m : Client) → find_pending id m.pending ≡ o → IsAlive client_id version calls taken m → IsAlive client_id version calls taken (recalled o m)
+    alive-recalled id None m is h = h
+    alive-recalled id (Some p) m is h = alive-completed p.id Cancelled m (found-there id p m.pending is) h
+
+    alive-ticked : (now : ℕ) (m : Client) → IsAlive client_id version calls taken m → IsAlive client_id version calls taken (record m { pending = on_time now m.pending; completions = m.completions ++ late now m.pending })
+    alive-ticked now m h = record {
+      client = h.client;
+      writes = h.writes;
+      count = h.count;
+      once = λ r.
+          let left = on_time-count r now m.pending in
+          let more = ended-append r m.completions (late now m.pending) in
+          let was = h.once r in
+          omega (arith, left, more, was);
+      pending = on_time-each (λ p. call_at calls p.id ≡ Some p.call) now m.pending h.pending;
+      rising = on_time-rising m.last now m.pending h.rising;
+    }
+
+    alive-taken : (m : Client) → IsAlive client_id version calls taken m → IsAlive client_id version calls (taken ++ take 1 m.completions) (record m { completions = drop 1 m.completions })
+    alive-taken m h = record {
+      client = h.client;
+      writes = h.writes;
+      count = h.count;
+      once = λ r.
+          let all = ap (ended_count r) (sym (take-append-drop 1 m.completions)) ∙ ended-append r (take 1 m.completions) (drop 1 m.completions) in
+          let more = ended-append r taken (take 1 m.completions) in
+          let was = h.once r in
+          omega (arith, all, more, was);
+      pending = h.pending;
+      rising = h.rising;
+    }
+
+    -- a call more, sent or not
+    alive-called : (call : Call) (sent : Option ℕ) (l : Option Linked) (m : Client) → IsAlive client_id version calls taken m
+        → IsAlive client_id version (calls ++ call ∷ []) taken (record m { last = suc m.last; pending = m.pending ++ record { id = suc m.last; call = call; sent = sent } ∷ []; link = l })
+    alive-called call sent l m h =
+        let p : Pending = record { id = suc m.last; call = call; sent = sent } in
+        record {
+          client = h.client;
+          writes = h.writes;
+          count = let long = length-append calls (call ∷ []) in let was = h.count in omega (arith, long, was);
+          once = λ r.
+              let more = pending-append r m.pending (p ∷ []) in
+              let was = h.once r in
+              let next = next-once r m.last in
+              omega (arith, more, was, next);
+          pending =
+              each-append (λ q. call_at (calls ++ call ∷ []) q.id ≡ Some q.call) m.pending (p ∷ [])
+              (each-weaker (λ q. call_at calls q.id ≡ Some q.call) (λ q. call_at (calls ++ call ∷ []) q.id ≡ Some q.call) (λ q is. call_at-append calls (call ∷ []) q.id q.call is) m.pending h.pending)
+              (call_at-push calls call m.last h.count, tt);
+          rising = rising-push m.last m.pending p refl h.rising;
+        }
+
+    alive-placed : (call : Call) (m : Client) (l : Option Linked) → IsAlive client_id version calls taken m → IsAlive client_id version (calls ++ call ∷ []) taken (placed call m l)
+    alive-placed call m None h = alive-called call None None m h
+    alive-placed call m (Some l) h = alive-called call (Some (suc l.given)) (Some (record l { given = suc l.given })) m h
+
+    -- where no call is made and no completion is taken
+    alive-plain : (m : Client) → IsAlive client_id version calls taken m → IsAlive client_id version (calls ++ []) (taken ++ []) m
+    alive-plain m h =
+        subst (λ (xs : List (ℕ × Ended)). IsAlive client_id version (calls ++ []) xs m) (sym (append-nil taken))
+        (subst (λ (cs : List Call). IsAlive client_id version cs taken m) (sym (append-nil calls)) h)
+
+    alive-after : (down : Hearing Answer) (h : Happening) (m : Client) → IsAlive client_id version calls taken m → IsAlive client_id version (calls ++ made h m) (taken ++ gives h m) (after down h m)
+    alive-after down (Called now call) m a =
+        subst (λ (xs : List (ℕ × Ended)). IsAlive client_id version (calls ++ made (Called now call) m) xs (after down (Called now call) m)) (sym (append-nil taken))
+        (elim (is_taken now call m) as (λ b. IsAlive client_id version (calls ++ cond b (call ∷ []) []) taken (cond b (placed call m m.link) m)) [
+          | true ↦ alive-placed call m m.link a
+          | false ↦ subst (λ (cs : List Call). IsAlive client_id version cs taken m) (sym (append-nil calls)) a
+        ])
+    alive-after down (Joined now) m a =
+        alive-plain (after down (Joined now) m) (alive-alike m (resent now 0 m.pending) (Some (record { given = ids_after now 0 m.pending; received = [] })) (alike-resent now 0 m.pending) a)
+    alive-after down (Fed octets) m a = alive-plain (fed_on down octets m) (alive-parted_at (ending_of down octets m.link) (told_of down octets m m.link) (alive-told down octets m m.link a))
+    alive-after down Parted m a = alive-plain (parted m) (alive-parted m a)
+    alive-after down (Recalled id) m a = alive-plain (recalled (find_pending id m.pending) m) (alive-recalled id (find_pending id m.pending) m refl a)
+    alive-after down (Ticked now) m a = alive-plain (after down (Ticked now) m) (alive-ticked now m a)
+    alive-after down Taken m a = subst (λ (cs : List Call). IsAlive client_id version cs (taken ++ take 1 m.completions) (after down Taken m)) (sym (append-nil calls)) (alive-taken m a)
+
+  -- Transmissions.
+
+  -- each of these carries a call's content, in time
+  abbrev AreOfCalls : List Call → List (ℕ × Transmission) → Type 0
+  AreOfCalls calls xs = AllByRecursion (λ x. IsOfCall client_id version calls x) xs
+
+  of_call-later : (calls more : List Call) (x : ℕ × Transmission) → IsOfCall client_id version calls x → IsOfCall client_id version (calls ++ more) x
+  of_call-later calls more x h = record { client = h.client; written = h.written; call = call_at-append calls more x.1.retention_id x.1.call h.call; in_time = h.in_time }
+
+  again-sent : (calls more : List Call) (v : Version) (id : List ℕ) (now n : ℕ) (ps : List Pending) → v ≡ version → id ≡ client_id → AllByRecursion (λ p. call_at calls p.id ≡ Some p.call) ps → AreOfCalls (calls ++ more) (sent_at now (says_again v id now n ps))
+  again-sent calls more v id now n [] wrote is h = tt
+  again-sent calls more v id now n (p ∷ ps) wrote is h =
+      elim (nat_le now p.call.expiration) as (λ b. nat_le now p.call.expiration ≡ b
+      → AreOfCalls (calls ++ more) (sent_at now (cond b (Asked (transmission v id p.id (suc n) p.call) ∷ says_again v id now (suc n) ps) (says_again v id now n ps)))) [
+        | true ↦ λ in_time. (record { client = is; written = wrote; call = call_at-append calls more p.id p.call h.0; in_time = leb-true now p.call.expiration in_time }, again-sent calls more v id now (suc n) ps wrote is h.1)
+        | false ↦ λ late. again-sent calls more v id now n ps wrote is h.1
+      ] refl
+
+  placed-sent : (calls : List Call) (taken : List (ℕ × Ended)) (now : ℕ) (call : Call) (m : Client) (l : Option Linked) → now ≤ call.expiration → IsAlive client_id version calls taken m → AreOfCalls (calls ++ call ∷ []) (sent_at now (says_placed call m l))
+  placed-sent calls taken now call m None in_time h = tt
+  placed-sent calls taken now call m (Some l) in_time h = (record { client = h.client; written = h.writes; call = call_at-push calls call m.last h.count; in_time = in_time }, tt)
+
+  recalled-sent : (calls : List Call) (v : Version) (o : Option Pending) → AreOfCalls calls (sent_at 0 (says_recalled v o))
+  recalled-sent calls v None = tt
+  recalled-sent calls v (Some p) = withdrawn-sent p.sent
+    where
+      withdrawn-sent : (sent : Option ℕ) → AreOfCalls calls (sent_at 0 (withdrawn v sent))
+      withdrawn-sent None = tt
+      withdrawn-sent (Some i) = tt
+
+  sent-after : (calls : List Call) (taken : List (ℕ × Ended)) (h : Happening) (m : Client) → IsAlive client_id version calls taken m → AreOfCalls (calls ++ made h m) (sent_at (moment_of h) (says h m))
+  sent-after calls taken (Called now call) m a =
+      elim (is_taken now call m) as (λ b. is_taken now call m ≡ b → AreOfCalls (calls ++ cond b (call ∷ []) []) (sent_at now (cond b (says_placed call m m.link) []))) [
+        | true ↦ λ is. placed-sent calls taken now call m m.link (leb-true now call.expiration (and_parts (nat_le now call.expiration) _ is).0) a
+        | false ↦ λ is. tt
+      ] refl
+  sent-after calls taken (Joined now) m a = again-sent calls [] m.version m.client_id now 0 m.pending a.writes a.client a.pending
+  sent-after calls taken (Fed octets) m a = tt
+  sent-after calls taken Parted m a = tt
+  sent-after calls taken (Recalled id) m a = recalled-sent (calls ++ []) m.version (find_pending id m.pending)
+  sent-after calls taken (Ticked now) m a = tt
+  sent-after calls taken Taken m a = tt
+
+  -- Lives.
+
+  pub life-goes_on : (down : Hearing Answer) (h : Happening) (l : Life) → IsLife client_id version l → IsLife client_id version (goes_on down h l)
+  life-goes_on down h l is = record {
+    alive = alive-after l.calls l.taken down h l.client is.alive;
+    sent =
+        each-append (λ x. IsOfCall client_id version (l.calls ++ made h l.client) x) l.sent (sent_at (moment_of h) (says h l.client))
+        (each-weaker (λ x. IsOfCall client_id version l.calls x) (λ x. IsOfCall client_id version (l.calls ++ made h l.client) x) (λ x of. of_call-later l.calls (made h l.client) x of) l.sent is.sent)
+        (sent-after l.calls l.taken h l.client is.alive);
+  }
+
+  pub life-lived : (down : Hearing Answer) (hs : List Happening) (l : Life) → IsLife client_id version l → IsLife client_id version (lived down hs l)
+  life-lived down [] l is = is
+  life-lived down (h ∷ hs) l is = life-lived down hs (goes_on down h l) (life-goes_on down h l is)
+
+  pub life-new : (limits : Limits) → IsLife client_id version (new_life client_id version limits)
+  life-new limits = record {
+    alive = record { client = refl; writes = refl; count = refl; once = λ r. none-once r; pending = tt; rising = tt };
+    sent = tt;
+  }
+
+pub calls-complete-once : CallsCompleteOnce
+calls-complete-once client_id version limits down happenings = life-lived client_id version down happenings (new_life client_id version limits) (life-new client_id version limits)

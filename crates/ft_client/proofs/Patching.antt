@@ -1,0 +1,169 @@
+-- Where the request id stands in a Request: the octets before it and after it are the same under each id.
+use Rattle.std.proofs.Common.{◌≡◌, ℕ, ◌+◌, ◌≤◌, pos, List, [], ◌∷◌, ◌++◌, length, take, drop, replicate, refl, sym, take_at, ap, ◌∙◌, arith, length-append, append_assoc}
+use Rattle.std.proofs.lemmas.List.{length-replicate, drop_at}
+use Rattle.cdr_core.proofs.Lengths.{digits_length, number_length}
+use Rattle.cdr_core.specs.Numbers.{padding, digits_of}
+use Rattle.cdr_core.specs.Value.{Values, no_values, value, values}
+use Rattle.cdr_core.specs.Writing.{and_then, number_octets, octets_of, octets_of_all}
+use Rattle.cdr_core.specs.declared.order.Order.TheVariants.{Big}
+use Rattle.giop_core.specs.Items.{list_value}
+use Rattle.giop_core.specs.Written.{behind_header, body_octets, ft_octets, header_for}
+use Rattle.giop_core.specs.Headers.{header_octets}
+use Rattle.giop_core.specs.declared.header.MessageKind.TheVariants.{Request}
+use Rattle.giop_core.specs.declared.header.Version.{Version}
+use Rattle.giop_core.specs.declared.header.Version.TheVariants.{V10, V11, V12}
+use Rattle.ft_client.specs.Clients.{transmission}
+use Rattle.ft_client.specs.Keeping.{id_place}
+use Rattle.ft_client.specs.Messages.{Call, Transmission, fields_of, request_behind, request_octets}
+
+-- the four octets of an id
+abbrev pub id_octets : ℕ → List ℕ
+id_octets i = digits_of Big 4 i
+
+-- what stands before the id, after the header, and after the id
+pub record Parts (version : Version) (client_id : List ℕ) (n : ℕ) (call : Call) : Type 0 where
+  pub front : List ℕ
+  pub back : List ℕ
+  pub is : (i : ℕ) → request_behind (transmission version client_id n i call) ≡ front ++ (id_octets i ++ back)
+  pub place : 12 + length front ≡ id_place version (ft_octets Big client_id (pos n) call.expiration)
+
+-- octets, then what follows at the place after them, twice
+two_parts : (o n : ℕ) (N : List ℕ) (R B : ℕ → List ℕ) → length N ≡ n → and_then o (and_then o N R) B ≡ N ++ (R (o + n) ++ B (o + (n + length (R (o + n)))))
+two_parts o n N R B e =
+    let l : length (N ++ R (o + length N)) ≡ n + length (R (o + n)) = rw e (length-append N (R (o + n)) ∙ ap (λ k. k + length (R (o + n))) e) in
+    rw l (rw e (append_assoc N (R (o + n)) (B (o + (n + length (R (o + n)))))))
+
+-- the one context of a Request takes twelve octets and its own
+list_length : (ft : List ℕ) → length (octets_of Big (list_value ((13, ft) ∷ [])) 12) ≡ 12 + length ft
+list_length ft =
+    let a = number_length Big 4 12 1 in
+    let b = number_length Big 4 16 13 in
+    let c = number_length Big 4 20 (length ft) in
+    simp length-append (omega (arith, c))
+
+parts_12 : (client_id : List ℕ) (n : ℕ) (call : Call) → Parts V12 client_id n call
+unfolding behind_header
+parts_12 client_id n call =
+    let vs : Values = elim (values (fields_of (transmission V12 client_id n 0 call))) [ no_values ↦ no_values | value v vs ↦ vs ] in
+    let R : ℕ → List ℕ = octets_of_all Big vs in
+    let B : ℕ → List ℕ = body_octets V12 Request Big call.arguments in
+    record { front = []; back = R 16 ++ B (12 + (4 + length (R 16))); is = λ i. two_parts 12 4 (digits_of Big 4 i) R B (digits_length Big 4 i); place = refl }
+
+three_parts : (o n : ℕ) (L N : List ℕ) (R B : ℕ → List ℕ) → length N ≡ n → and_then o (and_then o L (λ p. and_then p N R)) B ≡ L ++ (N ++ (R ((o + length L) + n) ++ B ((o + length L) + (n + length (R ((o + length L) + n))))))
+three_parts o n L N R B e =
+    let p = o + length L in
+    let P = and_then p N R in
+    let l : o + length (L ++ P) ≡ p + length P = omega (arith, length-append L P) in
+    append_assoc L P (B (o + length (L ++ P))) ∙ ap (λ k. L ++ (P ++ B k)) l ∙ ap (λ (x : List ℕ). L ++ x) (two_parts p n N R B e)
+
+-- values without the first
+abbrev later : Values → Values
+later no_values = no_values
+later (value v vs) = vs
+
+-- the parts of a message of 1.0 or 1.1, whose context stands before the id
+place_after : (n : ℕ) (L : List ℕ) (c : ℕ) → length L ≡ 12 + c → 12 + length (L ++ replicate n 0) ≡ (24 + c) + n
+place_after n L c e = omega (arith, length-append L (replicate n 0), length-replicate {A = ℕ} n 0)
+
+abbrev pub after_context : List ℕ → ℕ
+after_context ft = padding (24 + length ft) 4
+
+parts_of : (L back : List ℕ) (D N : ℕ → List ℕ) (ft : List ℕ) (behind : ℕ → List ℕ)
+    → ((i : ℕ) → N i ≡ replicate (after_context ft) 0 ++ D i) → ((i : ℕ) → behind i ≡ L ++ (N i ++ back)) → (i : ℕ) → behind i ≡ (L ++ replicate (after_context ft) 0) ++ (D i ++ back)
+parts_of L back D N ft behind n is i =
+    let Z = replicate (after_context ft) 0 in
+    is i ∙ ap (λ (x : List ℕ). L ++ (x ++ back)) (n i) ∙ ap (λ (x : List ℕ). L ++ x) (append_assoc Z (D i) back) ∙ sym (append_assoc L Z (D i ++ back))
+
+parts_10 : (client_id : List ℕ) (n : ℕ) (call : Call) → Parts V10 client_id n call
+unfolding behind_header
+parts_10 client_id n call =
+    let ft = ft_octets Big client_id (pos n) call.expiration in
+    let L = octets_of Big (list_value ((13, ft) ∷ [])) 12 in
+    let R : ℕ → List ℕ = octets_of_all Big (later (later (values (fields_of (transmission V10 client_id n 0 call))))) in
+    let B : ℕ → List ℕ = body_octets V10 Request Big call.arguments in
+    let p = 12 + length L in
+    let s = padding p 4 + 4 in
+    let at : p ≡ 24 + length ft = omega (arith, list_length ft) in
+    record {
+      front = L ++ replicate (after_context ft) 0;
+      back = R (p + s) ++ B (p + (s + length (R (p + s))));
+      is = parts_of L (R (p + s) ++ B (p + (s + length (R (p + s))))) (digits_of Big 4) (number_octets Big 4 p) ft (λ i. request_behind (transmission V10 client_id n i call))
+          (λ i. ap (λ (k : ℕ). replicate (padding k 4) 0 ++ digits_of Big 4 i) at)
+          (λ i. three_parts 12 s L (number_octets Big 4 p i) R B (number_length Big 4 p i));
+      place = place_after (after_context ft) L (length ft) (list_length ft);
+    }
+
+parts_11 : (client_id : List ℕ) (n : ℕ) (call : Call) → Parts V11 client_id n call
+unfolding behind_header
+parts_11 client_id n call =
+    let ft = ft_octets Big client_id (pos n) call.expiration in
+    let L = octets_of Big (list_value ((13, ft) ∷ [])) 12 in
+    let R : ℕ → List ℕ = octets_of_all Big (later (later (values (fields_of (transmission V11 client_id n 0 call))))) in
+    let B : ℕ → List ℕ = body_octets V11 Request Big call.arguments in
+    let p = 12 + length L in
+    let s = padding p 4 + 4 in
+    let at : p ≡ 24 + length ft = omega (arith, list_length ft) in
+    record {
+      front = L ++ replicate (after_context ft) 0;
+      back = R (p + s) ++ B (p + (s + length (R (p + s))));
+      is = parts_of L (R (p + s) ++ B (p + (s + length (R (p + s))))) (digits_of Big 4) (number_octets Big 4 p) ft (λ i. request_behind (transmission V11 client_id n i call))
+          (λ i. ap (λ (k : ℕ). replicate (padding k 4) 0 ++ digits_of Big 4 i) at)
+          (λ i. three_parts 12 s L (number_octets Big 4 p i) R B (number_length Big 4 p i));
+      place = place_after (after_context ft) L (length ft) (list_length ft);
+    }
+
+pub parts : (version : Version) (client_id : List ℕ) (n : ℕ) (call : Call) → Parts version client_id n call
+parts V10 client_id n call = parts_10 client_id n call
+parts V11 client_id n call = parts_11 client_id n call
+parts V12 client_id n call = parts_12 client_id n call
+
+-- a request is as long under each id
+pub same_length : (version : Version) (client_id : List ℕ) (n i j : ℕ) (call : Call) → length (request_behind (transmission version client_id n i call)) ≡ length (request_behind (transmission version client_id n j call))
+same_length version client_id n i j call =
+    let p = parts version client_id n call in
+    let a : (k : ℕ) → length (request_behind (transmission version client_id n k call)) ≡ length p.front + (4 + length p.back) = λ k. ap length (p.is k) ∙ length-append p.front (id_octets k ++ p.back) ∙ ap (λ m. length p.front + m) (length-append (id_octets k) p.back ∙ ap (λ m. m + length p.back) (digits_length Big 4 k)) in
+    a i ∙ sym (a j)
+
+-- four octets between two lists
+cut_front : (P D Q : List ℕ) (at : ℕ) → length P ≡ at → take at (P ++ (D ++ Q)) ≡ P
+cut_front P D Q at e = take_at P (D ++ Q) at e
+
+cut_back : (P D Q : List ℕ) (at : ℕ) → length P ≡ at → length D ≡ 4 → drop (at + 4) (P ++ (D ++ Q)) ≡ Q
+cut_back P D Q at e d =
+    let l : length (P ++ D) ≡ at + 4 = omega (arith, length-append P D) in
+    ap (λ (x : List ℕ). drop (at + 4) x) (sym (append_assoc P D Q)) ∙ drop_at (P ++ D) Q (at + 4) l
+
+-- under another id a request is the same but for the id
+pub record IsPatched (version : Version) (client_id : List ℕ) (n : ℕ) (call : Call) (at : ℕ) : Type 0 where
+  pub whole : at + 4 ≤ length (request_octets (transmission version client_id n 1 call))
+  pub is : (i : ℕ) → request_octets (transmission version client_id n i call) ≡ take at (request_octets (transmission version client_id n 1 call)) ++ (digits_of Big 4 i ++ drop (at + 4) (request_octets (transmission version client_id n 1 call)))
+
+abbrev head : Version → ℕ → List ℕ
+head version size = header_octets (header_for version Request Big size)
+
+head_length : (version : Version) (size : ℕ) → length (head version size) ≡ 12
+head_length version size = omega (arith, digits_length Big 4 size)
+
+whole_by : (at all front back : ℕ) → front ≡ at → all ≡ front + (4 + back) → at + 4 ≤ all
+whole_by at all front back e f = omega arith
+
+pub patched : (version : Version) (client_id : List ℕ) (n : ℕ) (call : Call) → IsPatched version client_id n call (id_place version (ft_octets Big client_id (pos n) call.expiration))
+patched version client_id n call =
+    let p = parts version client_id n call in
+    let at = id_place version (ft_octets Big client_id (pos n) call.expiration) in
+    let t : ℕ → Transmission = λ i. transmission version client_id n i call in
+    let size = length (request_behind (t 1)) in
+    let P = head version size ++ p.front in
+    let m : (i : ℕ) → request_octets (t i) ≡ P ++ (digits_of Big 4 i ++ p.back) = λ i.
+    ap (λ (k : ℕ). head version k ++ request_behind (t i)) (same_length version client_id n i 1 call)
+    ∙ ap (λ (x : List ℕ). head version size ++ x) (p.is i)
+    ∙ sym (append_assoc (head version size) p.front (digits_of Big 4 i ++ p.back)) in
+    let l : length P ≡ at = omega (arith, length-append (head version size) p.front, head_length version size, p.place) in
+    let a = digits_length Big 4 1 in
+    record {
+      whole = whole_by at (length (request_octets (t 1))) (length P) (length p.back) l (ap length (m 1) ∙ length-append P (digits_of Big 4 1 ++ p.back) ∙ ap (λ k. length P + k) (length-append (digits_of Big 4 1) p.back ∙ ap (λ k. k + length p.back) a));
+      is = λ i.
+          let f = ap (λ (x : List ℕ). take at x) (m 1) ∙ cut_front P (digits_of Big 4 1) p.back at l in
+          let b = ap (λ (x : List ℕ). drop (at + 4) x) (m 1) ∙ cut_back P (digits_of Big 4 1) p.back at l a in
+          m i ∙ ap (λ (x : List ℕ). x ++ (digits_of Big 4 i ++ p.back)) (sym f) ∙ ap (λ (x : List ℕ). take at (request_octets (t 1)) ++ (digits_of Big 4 i ++ x)) (sym b);
+    }

@@ -1,0 +1,127 @@
+-- Samples: what the definitions give on short lists of what happens, which are written out.
+use Rattle.std.proofs.Common.{◌≡◌, ℕ, pos, ◌==◌, if◌then◌else◌, List, [], ◌∷◌, ◌++◌, Option, Some, None, refl, lit≤, true}
+use Rattle.cdr_core.specs.Value.{no_values}
+use Rattle.cdr_core.specs.declared.order.Order.TheVariants.{Big}
+use Rattle.giop_core.specs.Content.{Rest}
+use Rattle.giop_core.specs.Written.{behind_header}
+use Rattle.giop_core.specs.declared.header.Version.TheVariants.{V12}
+use Rattle.giop_core.specs.declared.reply.ReplyStatus.TheVariants.{NoException}
+use Rattle.giop_frames.specs.declared.limits.Limits.{Limits}
+use Rattle.giop_link.specs.Hearing.{Ending, peer_closed}
+use Rattle.ft_client.specs.Clients.{Called, Cancelled, Expired, Fed, Happening, Joined, Parted, Recalled, Taken, Ticked, Told, fits, new_client, says, transmission}
+use Rattle.ft_client.specs.Directions.{Hearing}
+use Rattle.ft_client.specs.Lives.{Life, lived, new_life}
+use Rattle.ft_client.specs.Messages.{Answer, Call, Transmission, Withdrawn, located, replied}
+
+abbrev limits : Limits
+limits = record { message = 4096; partials = 1; message_in_range = (lit≤ tt, lit≤ tt); partials_in_range = (lit≤ tt, lit≤ tt) }
+
+-- a peer whose messages are one octet each: 0 closes, n is a reply to request n, and 100 + n one to a locate of that id
+
+abbrev body : Rest
+body = record { order = Big; place = 24; octets = 7 ∷ [] }
+
+abbrev answered : ℕ → Answer
+answered n = if n == 101 then located 1 (record { status = 1; body = body }) else replied n (record { status = 0; body = body })
+
+abbrev toy_heard : List ℕ → List Answer
+toy_heard [] = []
+toy_heard (n ∷ ns) = if n == 0 then [] else answered n ∷ toy_heard ns
+
+abbrev toy_ending : List ℕ → Option Ending
+toy_ending [] = None
+toy_ending (n ∷ ns) = if n == 0 then Some peer_closed else toy_ending ns
+
+abbrev down : Hearing Answer
+down = record { heard = toy_heard; ending = toy_ending }
+
+-- `add` of the object `c`, until the moment 100
+abbrev add : Call
+add = record { object_key = 99 ∷ []; operation = 97 ∷ 100 ∷ 100 ∷ []; arguments = no_values; expiration = 100 }
+
+abbrev life : List Happening → Life
+life hs = lived down hs (new_life (65 ∷ []) V12 limits)
+
+-- call r, sent as request i
+abbrev sent_as : ℕ → ℕ → Transmission
+sent_as r i = transmission V12 (65 ∷ []) r i add
+
+-- it is short enough
+short : fits (new_client (65 ∷ []) V12 limits) add ≡ true
+unfolding behind_header
+short = refl
+
+-- it is sent when it is made, and again on the next connection; past its expiration it isn't sent any more, and the next moment
+-- ends it
+again : (life (Joined 50 ∷ Called 50 add ∷ Parted ∷ Joined 60 ∷ Parted ∷ Joined 101 ∷ [])).sent ≡ (50, sent_as 1 1) ∷ (60, sent_as 1 1) ∷ []
+unfolding behind_header
+again = refl
+
+ends : (life (Joined 50 ∷ Called 50 add ∷ Parted ∷ Joined 60 ∷ Parted ∷ Joined 101 ∷ Ticked 101 ∷ Taken ∷ [])).taken ≡ (1, Expired) ∷ []
+unfolding behind_header
+ends = refl
+
+-- at its expiration it is still sent, and no moment before the next ends it
+in_time : (life (Called 100 add ∷ Joined 100 ∷ Ticked 100 ∷ Taken ∷ [])).sent ≡ (100, sent_as 1 1) ∷ []
+unfolding behind_header
+in_time = refl
+
+pending_yet : (life (Called 100 add ∷ Joined 100 ∷ Ticked 100 ∷ Taken ∷ [])).taken ≡ []
+unfolding behind_header
+pending_yet = refl
+
+-- a call that is made past its expiration is not taken
+refused : (life (Joined 101 ∷ Called 101 add ∷ [])).calls ≡ []
+unfolding behind_header
+refused = refl
+
+-- a reply completes the call, and the same octets again complete nothing
+once : (life (Joined 50 ∷ Called 50 add ∷ Fed (1 ∷ 1 ∷ []) ∷ Fed (1 ∷ []) ∷ Taken ∷ Taken ∷ [])).taken ≡ (1, Told NoException body) ∷ []
+unfolding behind_header
+once = refl
+
+-- two calls are sent again in order of their numbers, and replies complete them in any order
+
+abbrev both_again : List Happening
+both_again = Called 50 add ∷ Joined 50 ∷ Called 50 add ∷ Parted ∷ Joined 60 ∷ []
+
+in_order : (life both_again).sent ≡ (50, sent_as 1 1) ∷ (50, sent_as 2 2) ∷ (60, sent_as 1 1) ∷ (60, sent_as 2 2) ∷ []
+unfolding behind_header
+in_order = refl
+
+crossed : (life (both_again ++ Fed (2 ∷ 1 ∷ []) ∷ Taken ∷ Taken ∷ [])).taken ≡ (2, Told NoException body) ∷ (1, Told NoException body) ∷ []
+unfolding behind_header
+crossed = refl
+
+-- a call that is cancelled is withdrawn; a reply after that gives nothing, nor does it a second time
+withdraws : says (Recalled (pos 1)) (life (Joined 50 ∷ Called 50 add ∷ [])).client ≡ Withdrawn V12 1 ∷ []
+unfolding behind_header
+withdraws = refl
+
+cancelled : (life (Joined 50 ∷ Called 50 add ∷ Recalled (pos 1) ∷ Fed (1 ∷ []) ∷ Recalled (pos 1) ∷ Taken ∷ Taken ∷ [])).taken ≡ (1, Cancelled) ∷ []
+unfolding behind_header
+cancelled = refl
+
+-- it isn't withdrawn where it wasn't sent on the present link
+silent : says (Recalled (pos 1)) (life (Joined 50 ∷ Called 50 add ∷ Parted ∷ Joined 101 ∷ [])).client ≡ []
+unfolding behind_header
+silent = refl
+
+-- the reply to a locate completes no call, and a late reply no call that has expired
+of_a_locate : (life (Joined 50 ∷ Called 50 add ∷ Fed (101 ∷ []) ∷ Ticked 101 ∷ Fed (1 ∷ []) ∷ Taken ∷ Taken ∷ [])).taken ≡ (1, Expired) ∷ []
+unfolding behind_header
+of_a_locate = refl
+
+-- after the peer's end nothing is heard, the client is unconnected, and the call is sent again
+closed : (life (Joined 50 ∷ Called 50 add ∷ Fed (0 ∷ 1 ∷ []) ∷ Taken ∷ Joined 60 ∷ [])).sent ≡ (50, sent_as 1 1) ∷ (60, sent_as 1 1) ∷ []
+unfolding behind_header
+closed = refl
+
+unheard : (life (Joined 50 ∷ Called 50 add ∷ Fed (0 ∷ 1 ∷ []) ∷ Fed (1 ∷ []) ∷ Taken ∷ [])).taken ≡ []
+unfolding behind_header
+unheard = refl
+
+-- the reply to the id that the call had on an earlier connection completes nothing: there it was request 2, here it is 1
+earlier : (life (Called 50 add ∷ Called 50 add ∷ Joined 50 ∷ Recalled (pos 1) ∷ Parted ∷ Joined 60 ∷ Fed (2 ∷ []) ∷ Taken ∷ Taken ∷ [])).taken ≡ (1, Cancelled) ∷ []
+unfolding behind_header
+earlier = refl

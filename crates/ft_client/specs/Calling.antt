@@ -1,0 +1,46 @@
+-- What a call asks, and why it is not taken.
+use Rattle.std.specs.Prelude.{◌≡◌, ℕ, ◌<◌, ◌≤◌, ◌^◌, List, length, false}
+use Rattle.cdr_core.specs.View.{values_of}
+use Rattle.cdr_core.specs.declared.values.Val.{Val}
+use Rattle.giop_core.specs.declared.header.Version.{Version}
+use Rattle.ft_client.specs.declared.asked.Asked.{Asked}
+use Rattle.ft_client.specs.declared.error.CallError.{CallError}
+use Rattle.ft_client.specs.declared.error.CallError.TheVariants.{Expired, IdsUsed, Memory, TooLong, TooManyCalls}
+use Rattle.ft_client.specs.Clients.{Client, fits, transmission}
+use Rattle.ft_client.specs.Messages.{Call, Transmission, request_behind}
+
+-- what the code's words ask
+abbrev pub call_asked : Asked → Call
+call_asked a = record {
+  object_key = a.object_key.now;
+  operation = a.operation.now;
+  arguments = values_of a.arguments.now;
+  expiration = a.expiration;
+}
+
+abbrev pub first_transmission : Version → List ℕ → ℕ → Call → Transmission
+first_transmission version client_id n call = transmission version client_id n 1 call
+
+-- GIOP 9.4.1: its octets after the header can be counted by a message size, or can't
+abbrev pub IsShort : Transmission → Type 0
+IsShort t = length (request_behind t) < 2 ^ 32
+
+abbrev pub IsLong : Transmission → Type 0
+IsLong t = 2 ^ 32 ≤ length (request_behind t)
+
+-- Why a call is not taken at a moment: the first that holds. Memory is asked for only where none of the first three does.
+abbrev pub IsCallError : ℕ → Call → Client → CallError → Type 0
+IsCallError now call m Expired = call.expiration < now
+IsCallError now call m IdsUsed = (now ≤ call.expiration) × (2147483647 ≤ m.last)
+IsCallError now call m TooManyCalls = (now ≤ call.expiration) × (m.last < 2147483647) × (64 ≤ length m.pending)
+IsCallError now call m TooLong = (now ≤ call.expiration) × (m.last < 2147483647) × (length m.pending < 64) × (fits m call ≡ false)
+IsCallError now call m Memory = (now ≤ call.expiration) × (m.last < 2147483647) × (length m.pending < 64)
+
+-- what is called
+abbrev pub call_of : List ℕ → List ℕ → List Val → ℕ → Call
+call_of object_key operation arguments expiration = record {
+  object_key = object_key;
+  operation = operation;
+  arguments = values_of arguments;
+  expiration = expiration;
+}

@@ -1,0 +1,239 @@
+-- A client: its pending calls, its link and its completions; what can happen to it, and what it is and writes after that.
+use Rattle.std.specs.Prelude.{ℕ, suc, ◌==◌, ◌&&◌, nat_le, nat_lt, ℤ, pos, Bool, false, if◌then◌else◌, List, [], ◌∷◌, ◌++◌, drop, length, take, Option, Some, None}
+use Rattle.std.specs.Ordering.{int_eq}
+use Rattle.giop_core.specs.Content.{Rest}
+use Rattle.giop_core.specs.Statuses.{reply_status_of}
+use Rattle.giop_core.specs.declared.header.Version.{Version}
+use Rattle.giop_core.specs.declared.reply.ReplyStatus.{ReplyStatus}
+use Rattle.giop_core.specs.declared.reply.ReplyStatus.TheVariants.{LocationForward, LocationForwardPerm, NeedsAddressingMode, NoException, SystemException, UserException}
+use Rattle.giop_frames.specs.declared.limits.Limits.{Limits}
+use Rattle.giop_link.specs.Hearing.{Ending}
+use Rattle.ft_client.specs.Directions.{Hearing, news}
+use Rattle.ft_client.specs.Messages.{Answer, Asked, Call, Said, Shown, Transmission, Withdrawn, located, replied, request_behind}
+
+-- How a call ends: by a reply with its body, by one that needs another addressing, by its expiration, or by its caller.
+pub data Ended : Type 0 where
+  Told : ReplyStatus → Rest → Ended
+  NeedsAddressing : Ended
+  Expired : Ended
+  Cancelled : Ended
+
+-- GIOP 9.4.3: by the status of its reply. LOCATION_FORWARD_PERM ends a call as LOCATION_FORWARD does, and
+-- NEEDS_ADDRESSING_MODE without a body. Each reply that is heard has a status.
+abbrev pub ended_as : Option ReplyStatus → Rest → Ended
+ended_as (Some NoException) body = Told NoException body
+ended_as (Some UserException) body = Told UserException body
+ended_as (Some LocationForward) body = Told LocationForward body
+ended_as (Some LocationForwardPerm) body = Told LocationForward body
+ended_as (Some NeedsAddressingMode) body = NeedsAddressing
+ended_as _ body = Told SystemException body
+
+abbrev pub ended_by : Shown → Ended
+ended_by shown = ended_as (reply_status_of shown.status) shown.body
+
+-- a call that has not ended, its number, and the request id of its transmission on the present link, if it was sent there
+pub record Pending : Type 0 where
+  pub id : ℕ
+  pub call : Call
+  pub sent : Option ℕ
+
+-- a link: how many request ids it has given, and all octets that came on it
+pub record Linked : Type 0 where
+  pub given : ℕ
+  pub received : List ℕ
+
+-- a client: its id, the version of its messages, the limits of its links, the last number that it gave a call, its pending
+-- calls, its link, if it is connected, and the completions that were not taken yet, by the calls' numbers
+pub record Client : Type 0 where
+  pub client_id : List ℕ
+  pub version : Version
+  pub limits : Limits
+  pub last : ℕ
+  pub pending : List Pending
+  pub link : Option Linked
+  pub completions : List (ℕ × Ended)
+
+-- one that has made no call
+abbrev pub new_client : List ℕ → Version → Limits → Client
+new_client client_id version limits = record {
+  client_id = client_id;
+  version = version;
+  limits = limits;
+  last = 0;
+  pending = [];
+  link = None;
+  completions = [];
+}
+
+-- what can happen to a client: a call at a moment, a connection at a moment, octets that come, the loss of the connection, a
+-- call's number that is cancelled, a moment, and that the next completion is taken
+pub data Happening : Type 0 where
+  Called : (now : ℕ) → Call → Happening
+  Joined : (now : ℕ) → Happening
+  Fed : List ℕ → Happening
+  Parted : Happening
+  Recalled : (id : ℤ) → Happening
+  Ticked : (now : ℕ) → Happening
+  Taken : Happening
+
+-- a call
+
+-- as it is sent
+abbrev pub transmission : Version → List ℕ → ℕ → ℕ → Call → Transmission
+transmission version client_id id request_id call = record {
+  version = version;
+  client_id = client_id;
+  retention_id = id;
+  request_id = request_id;
+  call = call;
+}
+
+-- GIOP 9.4.1: its Request is not too long for a message size. It is as long under each request id.
+abbrev pub fits : Client → Call → Bool
+fits m call = nat_lt (length (request_behind (transmission m.version m.client_id (suc m.last) 1 call))) 4294967296
+
+-- A call is taken where it isn't past its expiration, there are numbers left (FT 23.2.7: a long), fewer than 64 calls are
+-- pending (own rule), and it fits.
+abbrev pub is_taken : ℕ → Call → Client → Bool
+is_taken now call m = nat_le now call.expiration && (nat_lt m.last 2147483647 && (nat_lt (length m.pending) 64 && fits m call))
+
+-- with the next number, and sent where there is a link
+abbrev pub placed : Call → Client → Option Linked → Client
+placed call m None = record m { last = suc m.last; pending = m.pending ++ record { id = suc m.last; call = call; sent = None } ∷ []; link = None }
+placed call m (Some l) = record m { last = suc m.last; pending = m.pending ++ record { id = suc m.last; call = call; sent = Some (suc l.given) } ∷ []; link = Some (record l { given = suc l.given }) }
+
+abbrev pub says_placed : Call → Client → Option Linked → List Said
+says_placed call m None = []
+says_placed call m (Some l) = Asked (transmission m.version m.client_id (suc m.last) (suc l.given) call) ∷ []
+
+-- a connection
+
+-- the pending calls on a link that has given n ids: each that isn't past its expiration is sent, in order
+abbrev pub resent : ℕ → ℕ → List Pending → List Pending
+resent now n [] = []
+resent now n (p ∷ ps) = if nat_le now p.call.expiration then record p { sent = Some (suc n) } ∷ resent now (suc n) ps else record p { sent = None } ∷ resent now n ps
+
+-- how many ids the link has given then
+abbrev pub ids_after : ℕ → ℕ → List Pending → ℕ
+ids_after now n [] = n
+ids_after now n (p ∷ ps) = if nat_le now p.call.expiration then ids_after now (suc n) ps else ids_after now n ps
+
+abbrev pub says_again : Version → List ℕ → ℕ → ℕ → List Pending → List Said
+says_again version client_id now n [] = []
+says_again version client_id now n (p ∷ ps) =
+    if nat_le now p.call.expiration then Asked (transmission version client_id p.id (suc n) p.call) ∷ says_again version client_id now (suc n) ps else says_again version client_id now n ps
+
+-- how calls end
+
+-- the pending calls without the first of a number
+abbrev pub without : ℕ → List Pending → List Pending
+without id [] = []
+without id (p ∷ ps) = if p.id == id then ps else p ∷ without id ps
+
+abbrev pub completed : ℕ → Ended → Client → Client
+completed id ended m = record m { pending = without id m.pending; completions = m.completions ++ (id, ended) ∷ [] }
+
+abbrev pub is_sent_as : ℕ → Option ℕ → Bool
+is_sent_as request_id None = false
+is_sent_as request_id (Some i) = i == request_id
+
+-- the number of the pending call that was sent with a request id
+abbrev pub waiting : ℕ → List Pending → Option ℕ
+waiting request_id [] = None
+waiting request_id (p ∷ ps) = if is_sent_as request_id p.sent then Some p.id else waiting request_id ps
+
+abbrev pub completed_if : Option ℕ → Ended → Client → Client
+completed_if None ended m = m
+completed_if (Some id) ended m = completed id ended m
+
+-- a reply completes the call that waits for it; the reply to a locate completes none
+abbrev pub settled : Answer → Client → Client
+settled (replied request_id shown) m = completed_if (waiting request_id m.pending) (ended_by shown) m
+settled (located request_id shown) m = m
+
+abbrev pub settled_all : List Answer → Client → Client
+settled_all [] m = m
+settled_all (a ∷ later) m = settled_all later (settled a m)
+
+abbrev pub unsent : List Pending → List Pending
+unsent [] = []
+unsent (p ∷ ps) = record p { sent = None } ∷ unsent ps
+
+-- the client without its link: what is pending stays so
+abbrev pub parted : Client → Client
+parted m = record m { pending = unsent m.pending; link = None }
+
+abbrev pub parted_at : Option Ending → Client → Client
+parted_at None m = m
+parted_at (Some e) m = parted m
+
+-- octets that come on its link: their replies, in order; where they end the stream, the link is left
+abbrev pub told_of : Hearing Answer → List ℕ → Client → Option Linked → Client
+told_of down octets m None = m
+told_of down octets m (Some l) = settled_all (news down l.received octets) (record m { link = Some (record l { received = l.received ++ octets }) })
+
+abbrev pub ending_of : Hearing Answer → List ℕ → Option Linked → Option Ending
+ending_of down octets None = None
+ending_of down octets (Some l) = down.ending (l.received ++ octets)
+
+abbrev pub fed_on : Hearing Answer → List ℕ → Client → Client
+fed_on down octets m = parted_at (ending_of down octets m.link) (told_of down octets m m.link)
+
+-- the pending calls that are past their expiration at a moment, and those that aren't
+abbrev pub late : ℕ → List Pending → List (ℕ × Ended)
+late now [] = []
+late now (p ∷ ps) = if nat_le now p.call.expiration then late now ps else (p.id, Expired) ∷ late now ps
+
+abbrev pub on_time : ℕ → List Pending → List Pending
+on_time now [] = []
+on_time now (p ∷ ps) = if nat_le now p.call.expiration then p ∷ on_time now ps else on_time now ps
+
+-- the pending call of a number, if it is one
+abbrev pub find_pending : ℤ → List Pending → Option Pending
+find_pending id [] = None
+find_pending id (p ∷ ps) = if int_eq (pos p.id) id then Some p else find_pending id ps
+
+-- a pending call is cancelled; its request is withdrawn, if it was sent on the present link
+abbrev pub recalled : Option Pending → Client → Client
+recalled None m = m
+recalled (Some p) m = completed p.id Cancelled m
+
+abbrev pub withdrawn : Version → Option ℕ → List Said
+withdrawn version None = []
+withdrawn version (Some request_id) = Withdrawn version request_id ∷ []
+
+abbrev pub says_recalled : Version → Option Pending → List Said
+says_recalled version None = []
+says_recalled version (Some p) = withdrawn version p.sent
+
+-- a client after what happens
+
+-- what it is, where `down` says what it hears of its server
+abbrev pub after : Hearing Answer → Happening → Client → Client
+after down (Called now call) m = if is_taken now call m then placed call m m.link else m
+after down (Joined now) m = record m { pending = resent now 0 m.pending; link = Some (record { given = ids_after now 0 m.pending; received = [] }) }
+after down (Fed octets) m = fed_on down octets m
+after down Parted m = parted m
+after down (Recalled id) m = recalled (find_pending id m.pending) m
+after down (Ticked now) m = record m { pending = on_time now m.pending; completions = m.completions ++ late now m.pending }
+after down Taken m = record m { completions = drop 1 m.completions }
+
+-- what it writes
+abbrev pub says : Happening → Client → List Said
+says (Called now call) m = if is_taken now call m then says_placed call m m.link else []
+says (Joined now) m = says_again m.version m.client_id now 0 m.pending
+says (Fed octets) m = []
+says Parted m = []
+says (Recalled id) m = says_recalled m.version (find_pending id m.pending)
+says (Ticked now) m = []
+says Taken m = []
+
+-- the calls that it takes
+abbrev pub made : Happening → Client → List Call
+made (Called now call) m = if is_taken now call m then call ∷ [] else []
+made _ m = []
+
+-- the completions that are taken from it
+abbrev pub gives : Happening → Client → List (ℕ × Ended)
+gives Taken m = take 1 m.completions
+gives _ m = []

@@ -1,0 +1,9 @@
+-- Errors of a call, by those of its writer.
+use Rattle.giop_core.specs.declared.error.WriteError.{WriteError}
+use Rattle.giop_core.specs.declared.error.WriteError.TheVariants as write
+use Rattle.ft_client.specs.declared.error.CallError.{CallError}
+use Rattle.ft_client.specs.declared.error.CallError.TheVariants.{Memory, TooLong}
+
+abbrev pub call_error_of : WriteError → CallError
+call_error_of write.TooLong = TooLong
+call_error_of write.Memory = Memory

@@ -1,0 +1,78 @@
+-- What a client keeps of a pending call: the octets of its Request, and where in them the request id stands.
+use Rattle.std.specs.Prelude.{ℕ, zero, suc, ◌+◌, nat_le, if◌then◌else◌, ◌++◌, ℤ, pos, List, [], ◌∷◌, length, take, drop, Option, Some, None}
+use Rattle.std.specs.List.{filter_map}
+use Rattle.cdr_core.specs.Numbers.{padding, digits_of}
+use Rattle.cdr_core.specs.declared.order.Order.TheVariants.{Big}
+use Rattle.giop_core.specs.Written.{ft_octets}
+use Rattle.giop_core.specs.declared.header.Version.{Version}
+use Rattle.giop_core.specs.declared.header.Version.TheVariants.{V12}
+use Rattle.ft_client.specs.declared.pending.Pending.{Pending as CodePending}
+use Rattle.ft_client.specs.Clients.{Pending, transmission}
+use Rattle.ft_client.specs.Messages.{request_octets}
+
+-- GIOP 9.4.2: the place of the request id in a Request with this one context: after the header in 1.2, and after the context
+-- before
+abbrev pub id_place : Version → List ℕ → ℕ
+id_place V12 context = 12
+id_place _ context = (24 + length context) + padding (24 + length context) 4
+
+-- a pending call as it is kept: its octets as it would be sent under the request id 1
+pub record Kept : Type 0 where
+  pub id : ℤ
+  pub expiration : ℕ
+  pub message : List ℕ
+  pub id_at : ℕ
+  pub sent : Option ℕ
+
+abbrev pub kept_of : Version → List ℕ → Pending → Kept
+kept_of version client_id p = record {
+  id = pos p.id;
+  expiration = p.call.expiration;
+  message = request_octets (transmission version client_id p.id 1 p.call);
+  id_at = id_place version (ft_octets Big client_id (pos p.id) p.call.expiration);
+  sent = p.sent;
+}
+
+-- a pending call of the code
+abbrev pub kept_by : CodePending → Kept
+kept_by p = record {
+  id = p.id;
+  expiration = p.expiration;
+  message = p.message.items;
+  id_at = p.id_at;
+  sent = p.sent;
+}
+
+-- its octets under another request id
+abbrev pub under : ℕ → Kept → List ℕ
+under i k = take k.id_at k.message ++ (digits_of Big 4 i ++ drop (k.id_at + 4) k.message)
+
+-- with the call at a place noted as sent under a request id, or as not sent
+abbrev pub marked : ℕ → Option ℕ → List Kept → List Kept
+marked i sent [] = []
+marked zero sent (k ∷ ks) = record k { sent = sent } ∷ ks
+marked (suc i) sent (k ∷ ks) = k ∷ marked i sent ks
+
+-- no call is noted as sent
+abbrev pub unmarked : List Kept → List Kept
+unmarked [] = []
+unmarked (k ∷ ks) = record k { sent = None } ∷ unmarked ks
+
+-- the kept calls on a link that has given n ids: each that isn't past its expiration is sent, in order
+abbrev pub sent_again : ℕ → ℕ → List Kept → List Kept
+sent_again now n [] = []
+sent_again now n (k ∷ ks) = if nat_le now k.expiration then record k { sent = Some (suc n) } ∷ sent_again now (suc n) ks else record k { sent = None } ∷ sent_again now n ks
+
+-- how many ids the link has given then
+abbrev pub ids_after_sending : ℕ → ℕ → List Kept → ℕ
+ids_after_sending now n [] = n
+ids_after_sending now n (k ∷ ks) = if nat_le now k.expiration then ids_after_sending now (suc n) ks else ids_after_sending now n ks
+
+-- and the octets that are written
+abbrev pub octets_again : ℕ → ℕ → List Kept → List ℕ
+octets_again now n [] = []
+octets_again now n (k ∷ ks) = if nat_le now k.expiration then under (suc n) k ++ octets_again now (suc n) ks else octets_again now n ks
+
+-- the request ids under which they are sent
+abbrev pub ids_sent : List Kept → List ℕ
+ids_sent ks = filter_map (λ k. k.sent) ks

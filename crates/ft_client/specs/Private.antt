@@ -1,0 +1,65 @@
+-- Words of private functions: no public contract cites them.
+use Rattle.std.specs.Prelude.{◌≡◌, ℕ, ℤ, Bool, true, false, List, [], ◌∷◌, ◌++◌, map, Option, Some, None}
+use Rattle.std.specs.Option.{IsSome}
+use Rattle.giop_core.specs.Content.{Rest}
+use Rattle.giop_core.specs.Statuses.{reply_status_of}
+use Rattle.giop_core.specs.declared.reply.ReplyStatus.{ReplyStatus}
+use Rattle.giop_core.specs.declared.reply.ReplyStatus.TheVariants.{LocationForward, NoException, SystemException, UserException}
+use Rattle.giop_link.specs.Answering.{client_ending, replied}
+use Rattle.giop_link.specs.ClientLinking.{ClientLinked, Delivered, forward, needs_addressing, whole}
+use Rattle.giop_link.specs.Hearing.{Sound, says}
+use Rattle.ft_client.specs.declared.ended.Ended.{Ended as CodeEnded}
+use Rattle.ft_client.specs.declared.pending.Pending.{Pending as CodePending}
+use Rattle.ft_client.specs.Clients.{Client, Ended, Linked, NeedsAddressing, Told, completed_if, told_of, waiting}
+use Rattle.ft_client.specs.Ends.{completion_of, ended_of, numbered}
+use Rattle.ft_client.specs.Keeping.{Kept, ids_after_sending, ids_sent, kept_by, kept_of, octets_again, sent_again}
+use Rattle.ft_client.specs.Lives.{AreRising}
+use Rattle.ft_client.specs.Standing.{IsLinked, down, waiting_ids}
+
+-- a kept call was sent on a link, or is past its expiration: what is left to be sent follows
+pub record IsSentOn (now : ℕ) (k : Kept) (old new : ClientLinked) (sent : Option ℕ) (before after : List ℕ) : Type 0 where
+  pub again : (rest : List Kept) → sent_again now old.ids.given (k ∷ rest) ≡ record k { sent = sent } ∷ sent_again now new.ids.given rest
+  pub given : (rest : List Kept) → ids_after_sending now old.ids.given (k ∷ rest) ≡ ids_after_sending now new.ids.given rest
+  pub octets : (rest : List Kept) → before ++ octets_again now old.ids.given (k ∷ rest) ≡ after ++ octets_again now new.ids.given rest
+  pub link : new ≡ record old { ids = new.ids }
+  pub waits : (is : List ℕ) → old.ids ≡ waiting_ids old.ids.given is → new.ids ≡ waiting_ids new.ids.given (is ++ ids_sent (record k { sent = sent } ∷ []))
+  pub more : List ℕ
+  pub written : after ≡ before ++ more
+
+-- GIOP 9.4.3: how a reply that neither forwards nor asks for another addressing ends its call
+abbrev pub plain_end : Option ReplyStatus → Rest → Ended
+plain_end (Some NoException) body = Told NoException body
+plain_end (Some UserException) body = Told UserException body
+plain_end _ body = Told SystemException body
+
+-- the request id that a delivery answers, and how the call ends by it, if it is a reply
+abbrev pub reply_in : Sound Delivered → Option (ℕ × Ended)
+reply_in (says (whole (replied id shown))) = Some (id, plain_end (reply_status_of shown.status) shown.body)
+reply_in (says (forward id body)) = Some (id, Told LocationForward body)
+reply_in (says (needs_addressing id)) = Some (id, NeedsAddressing)
+reply_in _ = None
+
+abbrev pub reply_lent : Option (Sound Delivered) → Option (ℕ × Ended)
+reply_lent None = None
+reply_lent (Some d) = reply_in d
+
+-- the same in the code's words
+abbrev pub reply_as : ℕ × CodeEnded → ℕ × Ended
+reply_as x = (x.0, ended_of x.1)
+
+-- a client after it
+abbrev pub answered_by : Option (ℕ × Ended) → Client → Client
+answered_by None m = m
+answered_by (Some x) m = completed_if (waiting x.0 m.pending) x.1 m
+
+-- pending calls and completions stand for those of a client
+pub record CallsStand (pending : List CodePending) (completions : List (ℤ × CodeEnded)) (m : Client) : Type 0 where
+  pub pending_are : map kept_by pending ≡ map (kept_of m.version m.client_id) m.pending
+  pub completions_are : map completion_of completions ≡ map numbered m.completions
+  pub rising : AreRising m.last m.pending
+
+-- what a client is after octets came on its link: it has ended, or it goes on
+abbrev pub IsFedTo : Client → Linked → List ℕ → Bool → List CodePending → List (ℤ × CodeEnded) → ClientLinked → Type 0
+IsFedTo m l octets true pending completions link = CallsStand pending completions (told_of (down m.limits) octets m (Some l)) × IsSome (client_ending m.limits (l.received ++ octets))
+IsFedTo m l octets false pending completions link =
+    CallsStand pending completions (told_of (down m.limits) octets m (Some l)) × IsLinked link (told_of (down m.limits) octets m (Some l)) (record l { received = l.received ++ octets })

@@ -1,0 +1,71 @@
+-- What a client of the code stands for.
+use Rattle.std.specs.Prelude.{◌≡◌, ℕ, ◌<◌, ◌≤◌, List, [], ◌∷◌, ◌++◌, length, map, take, Option, Some, None}
+use Rattle.std.specs.List.{AllByRecursion, filter_map}
+use Rattle.giop_core.specs.declared.request.ReplyWish.TheVariants.{Full}
+use Rattle.giop_frames.specs.declared.limits.Limits.{Limits}
+use Rattle.giop_link.specs.Answering.{client_ending, client_heard}
+use Rattle.giop_link.specs.ClientLinking.{ClientLinked, ClientStands, Exchange, Terms}
+use Rattle.giop_link.specs.Ids.{Ids, entered, wanted_by}
+use Rattle.ft_client.specs.declared.client.FtClient.{FtClient}
+use Rattle.ft_client.specs.Clients.{Client, Linked, Pending, parted, told_of}
+use Rattle.ft_client.specs.Directions.{Hearing}
+use Rattle.ft_client.specs.Ends.{completion_of, numbered}
+use Rattle.ft_client.specs.Keeping.{kept_by, kept_of}
+use Rattle.ft_client.specs.Lives.{AreRising}
+use Rattle.ft_client.specs.Messages.{Answer}
+
+-- what a client hears of its server
+abbrev pub down : Limits → Hearing Answer
+down limits = record { heard = client_heard limits; ending = client_ending limits }
+
+-- the request ids under which pending calls were sent on the present link
+abbrev pub sent_ids : List Pending → List ℕ
+sent_ids ps = filter_map (λ p. p.sent) ps
+
+-- the numbers grow, and are at most this
+abbrev pub AreAscending : ℕ → List ℕ → Type 0
+AreAscending most [] = Unit {0}
+AreAscending most (i ∷ is) = (i ≤ most) × AllByRecursion (λ j. i < j) is × AreAscending most is
+
+-- the ids of a link that has given so many, where these requests wait for replies
+abbrev pub waiting_ids : ℕ → List ℕ → Ids
+waiting_ids given [] = record { given = given; outstanding = [] }
+waiting_ids given (i ∷ is) = record { given = given; outstanding = entered (wanted_by Full) i [] ++ (waiting_ids given is).outstanding }
+
+abbrev pub exchange_of : Linked → List Pending → Exchange
+exchange_of l ps = record { ids = waiting_ids l.given (sent_ids ps); received = l.received }
+
+-- what a client's links are made with; at most 64 calls are pending
+abbrev pub terms_of : Client → Terms
+terms_of m = record { limits = m.limits; version = m.version; most = 64 }
+
+-- a link that goes on and stands for the client's
+pub record IsLinked (link : ClientLinked) (m : Client) (l : Linked) : Type 0 where
+  pub stands : ClientStands (terms_of m) link (exchange_of l m.pending)
+  pub going : client_ending m.limits l.received ≡ None
+  pub ascending : AreAscending l.given (sent_ids m.pending)
+
+-- what a client holds as its link: where there is none, no call is sent
+abbrev pub LinkFor : Option ClientLinked → Client → Option Linked → Type 0
+LinkFor None m None = sent_ids m.pending ≡ []
+LinkFor (Some link) m (Some l) = IsLinked link m l
+LinkFor _ m _ = ⊥
+
+-- what the fields of a client stand for, but for the link
+pub record FieldsStand (c : FtClient) (m : Client) : Type 0 where
+  pub client_id : c.client_id.items ≡ m.client_id
+  pub version : c.version ≡ m.version
+  pub limits : c.limits ≡ m.limits
+  pub last : c.last ≡ m.last
+  pub pending : map kept_by c.pending.items ≡ map (kept_of m.version m.client_id) m.pending
+  pub completions : map completion_of c.completions.items ≡ map numbered m.completions
+  pub rising : AreRising m.last m.pending
+
+-- a client stands for this one
+pub record FtStands (c : FtClient) (m : Client) : Type 0 where
+  pub fields : FieldsStand c m
+  pub link : LinkFor c.link m m.link
+
+-- an allocation failed: the replies in a front of these octets, not in all of them, were taken, and the connection is lost
+abbrev pub IsFedShort : List ℕ → Client → FtClient → Type 0
+IsFedShort octets m c = (n : ℕ) × (n < length octets) × FtStands c (parted (told_of (down m.limits) (take n octets) m m.link))

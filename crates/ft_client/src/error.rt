@@ -1,0 +1,51 @@
+//! Why a call was not taken.
+
+ghost use Rattle.std.specs.Prelude.{◌≡◌};
+ghost use Rattle.ft_client.specs.declared.error.CallError.TheVariants.{Memory};
+ghost use Rattle.ft_client.specs.Errors.{call_error_of};
+
+use giop_core::WriteError;
+use std::alloc::AllocError;
+use thiserror::Error;
+
+/// Why a call was not taken: the first of these that holds, or `Memory` in place of `TooLong`. The client and
+/// the output are as they were.
+#[derive(Clone, Copy, Debug, PartialEq, Eq, Error)]
+pub enum CallError {
+    /// The moment is past the call's expiration.
+    #[error("expired")]
+    Expired,
+    /// All numbers of calls were given, 2,147,483,647.
+    #[error("ids used")]
+    IdsUsed,
+    /// As many calls are pending as a client keeps, 64.
+    #[error("too many calls")]
+    TooManyCalls,
+    /// More octets would stand after the header than a message size can count, 4,294,967,295.
+    #[error("too long")]
+    TooLong,
+    /// An allocation failed.
+    #[error("memory")]
+    Memory,
+}
+
+/// An allocation failed.
+impl From<AllocError> for CallError {
+    ghost from_gives = { λ e f. f ≡ Memory };
+
+    fn from(_error: AllocError) -> CallError {
+        CallError::Memory
+    }
+}
+
+/// The message is too long, or an allocation failed.
+impl From<WriteError> for CallError {
+    ghost from_gives = { λ e f. f ≡ call_error_of e };
+
+    fn from(error: WriteError) -> CallError {
+        match error {
+            WriteError::TooLong => CallError::TooLong,
+            WriteError::Memory => CallError::Memory,
+        }
+    }
+}

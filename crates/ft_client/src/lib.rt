@@ -1,0 +1,21 @@
+//! A client of CORBA requests that sends a call again until it is answered, and completes it once (CORBA 3.3 Part 2,
+//! chapter 9; Fault Tolerant CORBA 23.2.7).
+#![tactic(auto)]
+
+mod asked;
+mod client;
+mod ended;
+mod ending;
+mod error;
+mod expiring;
+mod feeding;
+pub mod laws;
+mod marks;
+mod pending;
+mod requests;
+mod sending;
+mod settling;
+
+pub use client::FtClient;
+pub use ended::{Ended, ReplyBody};
+pub use error::CallError;

@@ -1,0 +1,86 @@
+//! How replies complete calls.
+
+ghost use Rattle.std.specs.Prelude.{◌≡◌, ◌≤◌, ◌+◌, IfOk, position, vec_len};
+ghost use Rattle.std.specs.Option.{option_map};
+ghost use Rattle.std.specs.VecDeque.{deque_capacity, deque_len};
+ghost use Rattle.giop_core.specs.Lent.{rest_of};
+ghost use Rattle.giop_core.specs.Statuses.{reply_status_of};
+ghost use Rattle.giop_frames.specs.Standing.{HasPlace};
+ghost use Rattle.giop_link.specs.ClientLinking.{IsNearBody, delivered_at};
+ghost use Rattle.ft_client.specs.Clients.{Client, completed_if, is_sent_as, waiting};
+ghost use Rattle.ft_client.specs.Ends.{body_of, ended_of};
+ghost use Rattle.ft_client.specs.Private.{CallsStand, plain_end, reply_as, reply_in};
+
+use crate::ended::{Ended, ReplyBody};
+use crate::ending::complete;
+use crate::pending::Pending;
+use giop_core::{Body, ReplyStatus};
+use giop_link::Delivery;
+use std::alloc::{AllocError, Global};
+use std::collections::VecDeque;
+
+/// The place of the call that was sent under a request id.
+fn place_sent(pending: &[Pending], request_id: u32) -> Option<usize>
+    ensures { result ≡ position (λ p. is_sent_as request_id p.sent) pending.now }
+{
+    pending.iter().position(|one| one.sent == Some(request_id))
+}
+
+/// A copy of a body that a link lends.
+fn copied(alloc: Global, body: &Body<'_>) -> Result<ReplyBody, AllocError>
+    requires { HasPlace (rest_of body.now) }
+    ensures { IfOk result (λ b. body_of b ≡ rest_of body.now) }
+{
+    Ok(ReplyBody {
+        order: body.order,
+        at: body.at,
+        octets: Vec::from_slice(alloc, body.octets)?,
+    })
+}
+
+/// How a reply that neither forwards nor asks for another addressing ends its call: by its status (CORBA 3.3 Part 2,
+/// 9.4.3).
+fn plain_end(status: u32, body: ReplyBody) -> Ended
+    ensures { ended_of result ≡ plain_end (reply_status_of status) (body_of body) }
+{
+    match ReplyStatus::from_number(status) {
+        Some(ReplyStatus::NoException) => Ended::Returned(body),
+        Some(ReplyStatus::UserException) => Ended::Raised(body),
+        _ => Ended::System(body),
+    }
+}
+
+/// The request id that a delivery answers, and how it ends its call: None where it is no reply to a request. Its body
+/// is copied.
+pub(crate) fn reply_in(
+    alloc: Global,
+    delivery: &Delivery<'_>,
+) -> Result<Option<(u32, Ended)>, AllocError>
+    requires { IsNearBody delivery.now }
+    ensures { IfOk result (λ r. option_map reply_as r ≡ reply_in (delivered_at delivery.now)) }
+{
+    Ok(match delivery {
+        Delivery::Reply(id, status, body) => Some((*id, plain_end(*status, copied(alloc, body)?))),
+        Delivery::Forward(id, body) => Some((*id, Ended::Forwarded(copied(alloc, body)?))),
+        Delivery::NeedsAddressing(id) => Some((*id, Ended::NeedsAddressing)),
+        Delivery::Located(_, _, _) | Delivery::Closed | Delivery::PeerError => None,
+    })
+}
+
+/// The call that was sent under a request id has ended so. Where there is none nothing changes. There is room for its
+/// completion.
+pub(crate) fn settle(
+    pending: &mut Vec<Pending>,
+    completions: &mut VecDeque<(i32, Ended)>,
+    request_id: u32,
+    ended: Ended,
+)
+    requires { deque_len completions.old + vec_len pending.old ≤ deque_capacity completions.old }
+    ensures stands { (m : Client) → CallsStand pending.old.items completions.old.items m → CallsStand pending.new.items completions.new.items (completed_if (waiting request_id m.pending) (ended_of ended) m) }
+    ensures room { deque_len completions.new + vec_len pending.new ≤ deque_capacity completions.new }
+    ensures few { vec_len pending.new ≤ vec_len pending.old }
+{
+    if let Some(place) = place_sent(pending.as_slice(), request_id) {
+        complete(pending, completions, place, ended);
+    }
+}
