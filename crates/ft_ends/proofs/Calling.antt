@@ -1,0 +1,108 @@
+-- A client's own steps.
+use Rattle.std.proofs.Common.{◌≡◌, ℕ, suc, ◌≤◌, ◌&&◌, nat_le, nat_lt, ℤ, pos, true, false, cond, List, [], ◌∷◌, ◌++◌, length, Option, Some, None, is_some, Result, Ok, Err, refl, sym, ap, ◌∙◌, subst, arith}
+use Rattle.std.specs.List.{cons_option}
+use Rattle.std.specs.Ordering.{int_eq}
+use Rattle.std.specs.Result.{IfErr, OnErr, OnOk}
+use Rattle.std.proofs.lemmas.Bool.{and_right, false≢true, lt-leb}
+use Rattle.std.proofs.lemmas.List.{append-nil}
+use Rattle.giop_core.specs.declared.header.Version.{Version}
+use Rattle.giop_link.specs.ClientLinking.{ClientLinked}
+use Rattle.ft_client.specs.declared.client.FtClient.{FtClient}
+use Rattle.ft_client.specs.declared.error.CallError.{CallError}
+use Rattle.ft_client.specs.declared.error.CallError.TheVariants as refused
+use Rattle.ft_client.specs.Calling.{IsCallError}
+use Rattle.ft_client.specs.Clients.{Called, Client, Linked, Pending, Recalled, after, find_pending, fits, is_taken, placed, says, says_placed, says_recalled, withdrawn}
+use Rattle.ft_client.specs.Directions.{stream}
+use Rattle.ft_client.specs.Messages.{Call, Said, octets_said}
+use Rattle.ft_client.specs.Standing.{FtStands, LinkFor, down, sent_ids}
+use Rattle.ft_ends.specs.declared.wire.Wire.{Wire as CodeWire}
+use Rattle.ft_ends.specs.Private.{IsRefusal, IsWireFor}
+use Rattle.ft_ends.specs.Tellings.{Telling}
+use Rattle.ft_ends.specs.World.{Wire, extended}
+use Rattle.ft_ends.proofs.Ways.{wire-said}
+
+-- A client without a link says nothing.
+
+pub no-link : (l : Option Linked) (o : Option Wire) → is_some l ≡ is_some o → o ≡ None → l ≡ None
+no-link None o same none = refl
+no-link (Some l) None same none = absurd (false≢true (sym same))
+no-link (Some l) (Some x) same none = absurd cc
+
+called-silent : (now : ℕ) (call : Call) (c : Client) (l : Option Linked) → l ≡ None → cond (is_taken now call c) (says_placed call c l) [] ≡ []
+called-silent now call c None none = elim (is_taken now call c) as (λ b. cond b (says_placed call c None) [] ≡ []) [ true ↦ refl | false ↦ refl ]
+called-silent now call c (Some l) none = absurd cc
+
+unsent-one : (version : Version) (o : Option ℕ) (rest : List ℕ) → cons_option o rest ≡ [] → withdrawn version o ≡ []
+unsent-one version None rest h = refl
+unsent-one version (Some i) rest h = absurd cc
+
+unsent-rest : (o : Option ℕ) (rest : List ℕ) → cons_option o rest ≡ [] → rest ≡ []
+unsent-rest None rest h = h
+unsent-rest (Some i) rest h = absurd cc
+
+recalled-silent : (version : Version) (id : ℤ) (ps : List Pending) → sent_ids ps ≡ [] → says_recalled version (find_pending id ps) ≡ []
+recalled-silent version id [] h = refl
+recalled-silent version id (p ∷ ps) h =
+    elim (int_eq (pos p.id) id) as (λ b. says_recalled version (cond b (Some p) (find_pending id ps)) ≡ [])
+    [ true ↦ unsent-one version p.sent (sent_ids ps) h | false ↦ recalled-silent version id ps (unsent-rest p.sent (sent_ids ps) h) ]
+
+none-sent : (link : Option ClientLinked) (c : Client) (l : Option Linked) → l ≡ None → LinkFor link c l → sent_ids c.pending ≡ []
+none-sent None c None none h = h
+none-sent (Some link) c None none h = absurd h
+none-sent link c (Some l) none h = absurd cc
+
+-- A call that is refused is not taken.
+
+refused-is : (now : ℕ) (call : Call) (c : Client) (e : CallError) → IsRefusal e → IsCallError now call c e → is_taken now call c ≡ false
+refused-is now call c refused.Expired h is = ap (λ b. b && (nat_lt c.last 2147483647 && (nat_lt (length c.pending) 64 && fits c call))) (lt-leb now call.expiration is)
+refused-is now call c refused.IdsUsed h is =
+    and_right (nat_le now call.expiration) (nat_lt c.last 2147483647 && (nat_lt (length c.pending) 64 && fits c call)) (ap (λ b. b && (nat_lt (length c.pending) 64 && fits c call)) (not-below c.last 2147483647 is.1))
+  where
+    not-below : (a b : ℕ) → b ≤ a → nat_lt a b ≡ false
+    not-below a b h = lt-leb (suc a) b (omega arith)
+refused-is now call c refused.TooManyCalls h is =
+    and_right (nat_le now call.expiration) (nat_lt c.last 2147483647 && (nat_lt (length c.pending) 64 && fits c call))
+    (and_right (nat_lt c.last 2147483647) (nat_lt (length c.pending) 64 && fits c call) (ap (λ b. b && fits c call) (not-below (length c.pending) 64 is.2)))
+  where
+    not-below : (a b : ℕ) → b ≤ a → nat_lt a b ≡ false
+    not-below a b h = lt-leb (suc a) b (omega arith)
+refused-is now call c refused.TooLong h is =
+    and_right (nat_le now call.expiration) (nat_lt c.last 2147483647 && (nat_lt (length c.pending) 64 && fits c call))
+    (and_right (nat_lt c.last 2147483647) (nat_lt (length c.pending) 64 && fits c call) (and_right (nat_lt (length c.pending) 64) (fits c call) is.3))
+refused-is now call c refused.Memory h is = absurd h
+
+-- The steps.
+
+module _ (tells : ℕ → List Telling) (old new : FtClient) (was is : CodeWire) (c : Client) (o : Option Wire) (stands : FtStands old c) (linked : is_some c.link ≡ is_some o) (held : IsWireFor tells was o)
+    (number : is.number ≡ was.number) (at : is.up.delivered ≡ was.up.delivered) (same_down : is.down ≡ was.down) where
+  called-by : (now : ℕ) (call : Call) (r : Result ℤ CallError)
+      → OnOk r ((m : Client) → FtStands old m → FtStands new (after (down m.limits) (Called now call) m))
+      → OnOk r ((m : Client) → FtStands old m → is.up.octets.items ≡ was.up.octets.items ++ stream octets_said (says (Called now call) m))
+      → IfErr r (λ e. (m : Client) → FtStands old m → IsCallError now call m e) → OnErr r ((m : Client) → FtStands old m → FtStands new m) → OnErr r (is.up.octets.items ≡ was.up.octets.items)
+      → IfErr r IsRefusal
+      → FtStands new (after (down c.limits) (Called now call) c) × IsWireFor tells is (extended (says (Called now call) c) o)
+  called-by now call (Ok id) stood out err same unwritten refusal =
+      (stood c stands, wire-said tells was is o (says (Called now call) c) number at same_down (out c stands) (λ none. called-silent now call c c.link (no-link c.link o linked none)) held)
+  called-by now call (Err e) stood out err same unwritten refusal =
+      let no = refused-is now call c e refusal (err c stands) in
+      let silent : says (Called now call) c ≡ [] = ap (λ b. cond b (says_placed call c c.link) []) no in (
+        subst (λ (d : Client). FtStands new d) (sym (ap (λ b. cond b (placed call c c.link) c) no)) (same c stands),
+        wire-said tells was is o (says (Called now call) c) number at same_down (unwritten ∙ sym (append-none was.up.octets.items (says (Called now call) c) silent)) (λ none. silent) held,
+      )
+    where
+      append-none : (octets : List ℕ) (said : List Said) → said ≡ [] → octets ++ stream octets_said said ≡ octets
+      append-none octets said none = ap (λ (s : List Said). octets ++ stream octets_said s) none ∙ append-nil octets
+
+  pub called-is : (now : ℕ) (call asked : Call) (r : Result ℤ CallError) → call ≡ asked
+      → OnOk r ((m : Client) → FtStands old m → FtStands new (after (down m.limits) (Called now call) m))
+      → OnOk r ((m : Client) → FtStands old m → is.up.octets.items ≡ was.up.octets.items ++ stream octets_said (says (Called now call) m))
+      → IfErr r (λ e. (m : Client) → FtStands old m → IsCallError now call m e) → OnErr r ((m : Client) → FtStands old m → FtStands new m) → OnErr r (is.up.octets.items ≡ was.up.octets.items)
+      → IfErr r IsRefusal
+      → FtStands new (after (down c.limits) (Called now asked) c) × IsWireFor tells is (extended (says (Called now asked) c) o)
+  called-is now call asked r same stood out err kept unwritten refusal =
+      subst (λ (k : Call). FtStands new (after (down c.limits) (Called now k) c) × IsWireFor tells is (extended (says (Called now k) c) o)) same (called-by now call r stood out err kept unwritten refusal)
+
+  pub recalled-is : (id asked : ℤ) → id ≡ asked → FtStands new (after (down c.limits) (Recalled id) c) → is.up.octets.items ≡ was.up.octets.items ++ stream octets_said (says (Recalled id) c)
+      → FtStands new (after (down c.limits) (Recalled asked) c) × IsWireFor tells is (extended (says (Recalled asked) c) o)
+  recalled-is id asked same stood out = subst (λ (k : ℤ). FtStands new (after (down c.limits) (Recalled k) c) × IsWireFor tells is (extended (says (Recalled k) c) o)) same
+      (stood, wire-said tells was is o (says (Recalled id) c) number at same_down out (λ none. recalled-silent c.version id c.pending (none-sent old.link c c.link (no-link c.link o linked none) stands.link)) held)

@@ -1,0 +1,123 @@
+-- A servant that keeps its promises gives short answers.
+use Rattle.std.proofs.Common.{◌≡◌, ℕ, ◌≤◌, Bool, true, false, cond, nat_lt, List, [], ◌∷◌, ◌++◌, length, take, Option, Some, None, Result, Ok, Err, IsTrue, refl, sym, ap, ◌∙◌, subst, take_at, lit≤}
+use Rattle.std.specs.Option.{unwrap_or}
+use Rattle.std.proofs.lemmas.Option.{none-some, same_Some}
+use Rattle.cdr_core.specs.Laws.{ReadFits, ReadIsSpelled, SpelledIsRead}
+use Rattle.cdr_core.specs.Spelling.{SpellsMembers}
+use Rattle.cdr_core.specs.Writing.{octets_of_all}
+use Rattle.cdr_core.specs.declared.order.Order.TheVariants.{Big}
+use Rattle.giop_core.specs.Keys.{key_of_addressed}
+use Rattle.ft_log.specs.Keys.{RequestKey}
+use Rattle.ft_log.specs.Performed.{Performed}
+use Rattle.ft_log.specs.declared.system_exception.SystemName.{SystemName}
+use Rattle.ft_log.specs.declared.system_exception.SystemName.TheVariants as name
+use Rattle.ft_client.proofs.Living.{each-append}
+use Rattle.ft_orb.specs.ExactlyOnce.{Absent, Arrival, Bad, Field, Present, acts, answer_by_field, has_key, live_keys, new_answer, outcome_kept, outcome_of, performed_after, performed_of, state_after, state_after_call}
+use Rattle.ft_orb.specs.Interfaces.{AreArgumentsOf}
+use Rattle.ft_orb.specs.Outputs.{Made}
+use Rattle.ft_orb.specs.Replies.{answered_as, body_of}
+use Rattle.ft_orb.specs.Requests.{Call, Wanted, asked_of, asking, locating, rules_of}
+use Rattle.ft_orb.specs.Servants.{IsServant, Meaning}
+use Rattle.ft_orb.proofs.Asking.{calls-are-asked}
+use Rattle.ft_orb.proofs.Calls.{args-fit}
+use Rattle.ft_orb.proofs.Law.{grown}
+use Rattle.ft_ends.specs.Laws.{AnswersAreShort, ArePlain, IsPlain}
+
+-- the body of an outcome is short
+abbrev IsShort : Performed → Type 0
+IsShort p = length (octets_of_all Big (body_of p) 24) ≤ 1048576
+
+-- .. and that of a refusal
+refusal-short : (n : SystemName) → IsShort (answered_as (Err n))
+refusal-short name.Marshal = lit≤ tt
+refusal-short name.BadContext = lit≤ tt
+refusal-short name.NoResources = lit≤ tt
+refusal-short name.BadOperation = lit≤ tt
+refusal-short name.ObjectNotExist = lit≤ tt
+refusal-short name.Unknown = lit≤ tt
+refusal-short name.BadParam = lit≤ tt
+refusal-short name.NoPermission = lit≤ tt
+refusal-short name.ImpLimit = lit≤ tt
+refusal-short name.Internal = lit≤ tt
+refusal-short name.Transient = lit≤ tt
+
+module _ {State : Type 0} (meaning : Meaning State) (made : Made State) (spells : ReadIsSpelled) (reads : SpelledIsRead) (fits : ReadFits) (promises : IsServant meaning) where
+  -- what is asked has arguments of its operation
+  asked-fit : (w : Wanted) (call : Call) → IsPlain w → asked_of meaning.interface w ≡ Ok call → AreArgumentsOf (meaning.interface call.object_key call.operation) call.arguments
+  asked-fit (asking c q) call plain is =
+      let asked = (calls-are-asked spells reads meaning.interface q (key_of_addressed q.target) call).0 is in
+      let front : take (length asked.front) q.body.octets ≡ asked.front = ap (take (length asked.front)) asked.octets_are ∙ take_at asked.front asked.rest (length asked.front) refl in
+      subst (λ (operation : List ℕ). AreArgumentsOf (meaning.interface call.object_key operation) call.arguments) asked.operation_is
+      (args-fit reads fits (meaning.interface call.object_key q.operation) asked.types (sym asked.known) (promises.valid call.object_key q.operation) q.body.order q.body.place q.body.octets call.arguments (length asked.front) plain
+      (subst (λ (octets : List ℕ). SpellsMembers asked.types.arguments q.body.order call.arguments q.body.place octets) (sym front) asked.spelled))
+  asked-fit (locating c version id to) call plain is = absurd cc
+
+  call-state : (state : State) (r : Result Call SystemName) → IsTrue (meaning.is_state state) → ((call : Call) → r ≡ Ok call → AreArgumentsOf (meaning.interface call.object_key call.operation) call.arguments)
+      → IsTrue (meaning.is_state (state_after_call (rules_of meaning made.capacity made.share).apply state r))
+  call-state state (Ok call) known fit = promises.stays state call.object_key call.operation call.arguments known (fit call refl)
+  call-state state (Err refusal) known fit = known
+
+  after-state : (state : State) (p : Arrival Wanted) → IsTrue (meaning.is_state state) → IsPlain p.content → IsTrue (meaning.is_state (state_after_call (rules_of meaning made.capacity made.share).apply state (asked_of meaning.interface p.content)))
+  after-state state p known plain = call-state state (asked_of meaning.interface p.content) known (λ call is. asked-fit p.content call plain is)
+
+  all-state : (state : State) (ps : List (Arrival Wanted)) → IsTrue (meaning.is_state state) → ArePlain ps → IsTrue (meaning.is_state (state_after (rules_of meaning made.capacity made.share) state ps))
+  all-state state [] known plain = known
+  all-state state (p ∷ ps) known plain = all-state (state_after_call (rules_of meaning made.capacity made.share).apply state (asked_of meaning.interface p.content)) ps (after-state state p known plain.0) plain.1
+
+  -- an outcome is short
+  outcome-short : (state : State) (r : Result Call SystemName) → IsTrue (meaning.is_state state) → ((call : Call) → r ≡ Ok call → AreArgumentsOf (meaning.interface call.object_key call.operation) call.arguments)
+      → IsShort (answered_as (outcome_of (rules_of meaning made.capacity made.share).apply state r))
+  outcome-short state (Ok call) known fit = (promises.renderable state call.object_key call.operation call.arguments known (fit call refl)).1
+  outcome-short state (Err refusal) known fit = refusal-short refusal
+
+  own-short : (state : State) (p : Arrival Wanted) → IsTrue (meaning.is_state state) → IsPlain p.content → IsShort (answered_as (outcome_of (rules_of meaning made.capacity made.share).apply state (asked_of meaning.interface p.content)))
+  own-short state p known plain = outcome-short state (asked_of meaning.interface p.content) known (λ call is. asked-fit p.content call plain is)
+
+  new-short : (state : State) (room : Bool) (r : Result Call SystemName) → IsTrue (meaning.is_state state) → ((call : Call) → r ≡ Ok call → AreArgumentsOf (meaning.interface call.object_key call.operation) call.arguments)
+      → IsShort (answered_as (new_answer (rules_of meaning made.capacity made.share) state room r))
+  new-short state true (Ok call) known fit = (promises.renderable state call.object_key call.operation call.arguments known (fit call refl)).1
+  new-short state false (Ok call) known fit = refusal-short name.NoResources
+  new-short state true (Err refusal) known fit = refusal-short refusal
+  new-short state false (Err refusal) known fit = refusal-short refusal
+
+  kept-short : (key : RequestKey) (state : State) (ps : List (Arrival Wanted)) (x : Result Performed SystemName) → IsTrue (meaning.is_state state) → ArePlain ps → outcome_kept (rules_of meaning made.capacity made.share) state key ps ≡ Some x → IsShort (answered_as x)
+  kept-short key state [] x known plain is = absurd (none-some x is)
+  kept-short key state (p ∷ ps) x known plain is =
+      let rules = rules_of meaning made.capacity made.share in
+      let own = outcome_of rules.apply state (asked_of meaning.interface p.content) in
+      let next = state_after_call rules.apply state (asked_of meaning.interface p.content) in
+      elim (has_key key p.field) as (λ b. cond b (Some own) (outcome_kept rules next key ps) ≡ Some x → IsShort (answered_as x)) [
+        | true ↦ λ same. subst (λ (y : Result Performed SystemName). IsShort (answered_as y)) (same_Some own x same) (own-short state p known plain.0)
+        | false ↦ λ same. kept-short key next ps x (after-state state p known plain.0) plain.1 same
+      ] is
+
+  found-short : (o : Option (Result Performed SystemName)) (new : Result Performed SystemName) → ((x : Result Performed SystemName) → o ≡ Some x → IsShort (answered_as x)) → IsShort (answered_as new) → IsShort (answered_as (unwrap_or o new))
+  found-short None new kept fresh = fresh
+  found-short (Some x) new kept fresh = kept x refl
+
+  performed-plain : (performed xs : List (Arrival Wanted)) → ArePlain performed → ArePlain xs → ArePlain (performed_after (rules_of meaning made.capacity made.share) performed xs)
+  performed-plain performed [] h k = h
+  performed-plain performed (a ∷ xs) h k =
+      let rules = rules_of meaning made.capacity made.share in
+      performed-plain (grown rules performed a) xs
+      (elim (acts rules performed a) as (λ b. ArePlain (cond b (performed ++ a ∷ []) performed)) [ true ↦ each-append (λ b. IsPlain b.content) performed (a ∷ []) h (k.0, tt) | false ↦ h ]) k.1
+
+  field-short : (performed : List (Arrival Wanted)) (a : Arrival Wanted) (f : Field) → IsTrue (meaning.is_state made.opening) → ArePlain performed → IsPlain a.content
+      → IsShort (answered_as (answer_by_field (rules_of meaning made.capacity made.share) made.opening performed a.clock (asked_of meaning.interface a.content) f))
+  field-short performed a Bad known h plain = refusal-short name.Marshal
+  field-short performed a Absent known h plain = own-short (state_after (rules_of meaning made.capacity made.share) made.opening performed) a (all-state made.opening performed known h) plain
+  field-short performed a (Present key expiration) known h plain =
+      let rules = rules_of meaning made.capacity made.share in
+      let state = state_after rules made.opening performed in
+      let new = new_answer rules state (rules.has_room key (live_keys a.clock performed)) (asked_of meaning.interface a.content) in
+      let kept = outcome_kept rules made.opening key performed in
+      elim (nat_lt expiration a.clock) as (λ b. IsShort (answered_as (cond b (Err name.BadContext) (unwrap_or kept new)))) [
+        | true ↦ refusal-short name.BadContext
+        | false ↦ found-short kept new (λ x is. kept-short key made.opening performed x known h is)
+            (new-short state (rules.has_room key (live_keys a.clock performed)) (asked_of meaning.interface a.content) (all-state made.opening performed known h) (λ call is. asked-fit a.content call plain is))
+      ]
+
+pub answers-are-short : {State : Type 0} (meaning : Meaning State) → ReadIsSpelled → SpelledIsRead → ReadFits → IsServant meaning → AnswersAreShort meaning
+answers-are-short meaning spells reads fits promises made known before a plain own =
+    let rules = rules_of meaning made.capacity made.share in
+    field-short meaning made spells reads fits promises (performed_of rules before) a a.field known (performed-plain meaning made spells reads fits promises [] before tt plain) own

@@ -1,0 +1,154 @@
+-- What a client has pending can be written, and is little.
+use Rattle.std.proofs.Common.{◌≡◌, ℕ, suc, ◌<◌, ◌≤◌, ◌==◌, ◌&&◌, nat_le, nat_lt, ℤ, pos, true, false, cond, List, [], ◌∷◌, ◌++◌, length, Option, Some, None, refl, ap, subst, arith, length-append}
+use Rattle.std.specs.List.{AllByRecursion}
+use Rattle.std.specs.Ordering.{int_eq}
+use Rattle.std.proofs.lemmas.Bool.{and_parts, ltb-true}
+use Rattle.std.proofs.lemmas.Option.{none-some, same_Some}
+use Rattle.giop_link.specs.Hearing.{Ending}
+use Rattle.ft_client.specs.Clients.{Called, Cancelled, Client, Ended, Fed, Happening, Joined, Linked, Parted, Pending, Recalled, Taken, Ticked, after, completed, completed_if, ended_by, ending_of, find_pending, fits, ids_after, is_taken, on_time, parted, parted_at, placed, recalled, resent, settled, settled_all, told_of, unsent, waiting, without}
+use Rattle.ft_client.specs.Directions.{Hearing, news}
+use Rattle.ft_client.specs.Messages.{Answer, Call, located, replied}
+use Rattle.ft_client.proofs.Living.{AreAlike, alike-each, alike-resent, alike-unsent, each-append, on_time-each, without-each}
+use Rattle.ft_ends.specs.Fine.{IsFineCall}
+use Rattle.ft_ends.proofs.Spoken.{IsFinePending}
+
+-- what it has pending can be written, and at most 64 calls are; its last number is a long
+pub record IsSmall (m : Client) : Type 0 where
+  pub waits : AllByRecursion (λ p. IsFinePending m.version m.client_id p.id p.call) m.pending
+  pub few : length m.pending ≤ 64
+  pub low : m.last ≤ 2147483647
+
+alike-length : (ps qs : List Pending) → AreAlike ps qs → length ps ≡ length qs
+alike-length [] [] h = refl
+alike-length [] (q ∷ qs) h = absurd h
+alike-length (p ∷ ps) [] h = absurd h
+alike-length (p ∷ ps) (q ∷ qs) h = ap suc (alike-length ps qs h.2)
+
+without-length : (id : ℕ) (ps : List Pending) → length (without id ps) ≤ length ps
+without-length id [] = omega arith
+without-length id (p ∷ ps) =
+    let rest = without-length id ps in elim (p.id == id) as (λ b. length (cond b ps (p ∷ without id ps)) ≤ length (p ∷ ps)) [ true ↦ omega arith | false ↦ omega (arith, rest) ]
+
+on_time-length : (now : ℕ) (ps : List Pending) → length (on_time now ps) ≤ length ps
+on_time-length now [] = omega arith
+on_time-length now (p ∷ ps) =
+    let rest = on_time-length now ps in
+    elim (nat_le now p.call.expiration) as (λ b. length (cond b (p ∷ on_time now ps) (on_time now ps)) ≤ length (p ∷ ps)) [ true ↦ omega (arith, rest) | false ↦ omega (arith, rest) ]
+
+-- What holds of each pending call holds of those that are left.
+
+pub completed_if-each : (P : Pending → Type 0) (o : Option ℕ) (e : Ended) (m : Client) → AllByRecursion P m.pending → AllByRecursion P (completed_if o e m).pending
+completed_if-each P None e m h = h
+completed_if-each P (Some id) e m h = without-each P id m.pending h
+
+pub settled-each : (P : Pending → Type 0) (a : Answer) (m : Client) → AllByRecursion P m.pending → AllByRecursion P (settled a m).pending
+settled-each P (replied i shown) m h = completed_if-each P (waiting i m.pending) (ended_by shown) m h
+settled-each P (located i shown) m h = h
+
+pub settled_all-each : (P : Pending → Type 0) (xs : List Answer) (m : Client) → AllByRecursion P m.pending → AllByRecursion P (settled_all xs m).pending
+settled_all-each P [] m h = h
+settled_all-each P (x ∷ xs) m h = settled_all-each P xs (settled x m) (settled-each P x m h)
+
+pub found-each : (P : Pending → Type 0) (id : ℤ) (p : Pending) (ps : List Pending) → find_pending id ps ≡ Some p → AllByRecursion P ps → P p
+found-each P id p [] is h = absurd (none-some p is)
+found-each P id p (q ∷ ps) is h =
+    elim (int_eq (pos q.id) id) as (λ b. cond b (Some q) (find_pending id ps) ≡ Some p → P p)
+    [ true ↦ λ same. subst P (same_Some q p same) h.0 | false ↦ λ same. found-each P id p ps same h.1 ] is
+
+-- What happens to a client.
+
+small-alike : (m : Client) (qs : List Pending) (l : Option Linked) → AreAlike m.pending qs → IsSmall m → IsSmall (record m { pending = qs; link = l })
+small-alike m qs l same h = record {
+  waits = alike-each (λ id call. IsFinePending m.version m.client_id id call) m.pending qs same h.waits;
+  few = let few = h.few in let long = alike-length m.pending qs same in omega (arith, few, long);
+  low = h.low;
+}
+
+small-linked : (m : Client) (l : Option Linked) → IsSmall m → IsSmall (record m { link = l })
+small-linked m l h = record { waits = h.waits; few = h.few; low = h.low }
+
+small-completed : (id : ℕ) (e : Ended) (m : Client) → IsSmall m → IsSmall (completed id e m)
+small-completed id e m h = record {
+  waits = without-each (λ p. IsFinePending m.version m.client_id p.id p.call) id m.pending h.waits;
+  few = let few = h.few in let less = without-length id m.pending in omega (arith, few, less);
+  low = h.low;
+}
+
+small-if : (o : Option ℕ) (e : Ended) (m : Client) → IsSmall m → IsSmall (completed_if o e m)
+small-if None e m h = h
+small-if (Some id) e m h = small-completed id e m h
+
+small-settled : (a : Answer) (m : Client) → IsSmall m → IsSmall (settled a m)
+small-settled (replied i shown) m h = small-if (waiting i m.pending) (ended_by shown) m h
+small-settled (located i shown) m h = h
+
+small-settled_all : (xs : List Answer) (m : Client) → IsSmall m → IsSmall (settled_all xs m)
+small-settled_all [] m h = h
+small-settled_all (x ∷ xs) m h = small-settled_all xs (settled x m) (small-settled x m h)
+
+small-told : (down : Hearing Answer) (octets : List ℕ) (m : Client) (l : Option Linked) → IsSmall m → IsSmall (told_of down octets m l)
+small-told down octets m None h = h
+small-told down octets m (Some l) h =
+    small-settled_all (news down l.received octets) (record m { link = Some (record l { received = l.received ++ octets }) }) (small-linked m (Some (record l { received = l.received ++ octets })) h)
+
+small-parted : (m : Client) → IsSmall m → IsSmall (parted m)
+small-parted m h = small-alike m (unsent m.pending) None (alike-unsent m.pending) h
+
+small-parted_at : (e : Option Ending) (m : Client) → IsSmall m → IsSmall (parted_at e m)
+small-parted_at None m h = h
+small-parted_at (Some e) m h = small-parted m h
+
+small-recalled : (o : Option Pending) (m : Client) → IsSmall m → IsSmall (recalled o m)
+small-recalled None m h = h
+small-recalled (Some p) m h = small-completed p.id Cancelled m h
+
+-- what is known of a call that is taken
+pub record IsTaken (m : Client) (call : Call) : Type 0 where
+  pub low : suc m.last ≤ 2147483647
+  pub few : length m.pending < 64
+  pub fine : IsFinePending m.version m.client_id (suc m.last) call
+
+pub taken-is : (now : ℕ) (call : Call) (m : Client) → IsFineCall call → is_taken now call m ≡ true → IsTaken m call
+taken-is now call m fine is =
+    let a = (and_parts (nat_le now call.expiration) (nat_lt m.last 2147483647 && (nat_lt (length m.pending) 64 && fits m call)) is).1 in
+    let b = and_parts (nat_lt m.last 2147483647) (nat_lt (length m.pending) 64 && fits m call) a in
+    let c = and_parts (nat_lt (length m.pending) 64) (fits m call) b.1 in
+    let low = ltb-true m.last 2147483647 b.0 in
+    record {
+      low = low;
+      few = ltb-true (length m.pending) 64 c.0;
+      fine = record { fine = fine; number = omega (arith, low); size = ltb-true _ 4294967296 c.1 };
+    }
+
+small-called : (call : Call) (sent : Option ℕ) (l : Option Linked) (m : Client) → IsTaken m call → IsSmall m → IsSmall (record m { last = suc m.last; pending = m.pending ++ record { id = suc m.last; call = call; sent = sent } ∷ []; link = l })
+small-called call sent l m is h =
+    let p : Pending = record { id = suc m.last; call = call; sent = sent } in
+    record {
+      waits = each-append (λ q. IsFinePending m.version m.client_id q.id q.call) m.pending (p ∷ []) h.waits (is.fine, tt);
+      few = let few = is.few in let long = length-append m.pending (p ∷ []) in omega (arith, few, long);
+      low = is.low;
+    }
+
+small-placed : (call : Call) (m : Client) (l : Option Linked) → IsTaken m call → IsSmall m → IsSmall (placed call m l)
+small-placed call m None is h = small-called call None None m is h
+small-placed call m (Some l) is h = small-called call (Some (suc l.given)) (Some (record l { given = suc l.given })) m is h
+
+-- the call of a happening, if it is one, can be written
+abbrev pub IsFineHappening : Happening → Type 0
+IsFineHappening (Called now call) = IsFineCall call
+IsFineHappening h = Unit {0}
+
+pub small-after : (down : Hearing Answer) (h : Happening) (m : Client) → IsFineHappening h → IsSmall m → IsSmall (after down h m)
+small-after down (Called now call) m fine s =
+    elim (is_taken now call m) as (λ b. is_taken now call m ≡ b → IsSmall (cond b (placed call m m.link) m))
+    [ true ↦ λ is. small-placed call m m.link (taken-is now call m fine is) s | false ↦ λ is. s ] refl
+small-after down (Joined now) m fine s = small-alike m (resent now 0 m.pending) (Some (record { given = ids_after now 0 m.pending; received = [] })) (alike-resent now 0 m.pending) s
+small-after down (Fed octets) m fine s = small-parted_at (ending_of down octets m.link) (told_of down octets m m.link) (small-told down octets m m.link s)
+small-after down Parted m fine s = small-parted m s
+small-after down (Recalled id) m fine s = small-recalled (find_pending id m.pending) m s
+small-after down (Ticked now) m fine s = record {
+  waits = on_time-each (λ p. IsFinePending m.version m.client_id p.id p.call) now m.pending s.waits;
+  few = let few = s.few in let less = on_time-length now m.pending in omega (arith, few, less);
+  low = s.low;
+}
+small-after down Taken m fine s = record { waits = s.waits; few = s.few; low = s.low }

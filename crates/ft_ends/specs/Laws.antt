@@ -1,0 +1,64 @@
+-- The laws, each over the definitions alone.
+use Rattle.std.specs.Prelude.{◌≡◌, ◌≤◌, List, length, IsTrue}
+use Rattle.std.specs.List.{AllByRecursion}
+use Rattle.cdr_core.specs.Numbers.{AreOctets}
+use Rattle.cdr_core.specs.Spelling.{IsClean}
+use Rattle.cdr_core.specs.Writing.{octets_of_all}
+use Rattle.cdr_core.specs.declared.order.Order.TheVariants.{Big}
+use Rattle.giop_frames.specs.declared.limits.Limits.{Limits}
+use Rattle.ft_client.specs.Directions.{Hearing, stream}
+use Rattle.ft_client.specs.Messages.{Answer, octets_said}
+use Rattle.ft_client.specs.Standing.{down}
+use Rattle.ft_orb.specs.ExactlyOnce.{Arrival, answer_of}
+use Rattle.ft_orb.specs.History.{Event}
+use Rattle.ft_orb.specs.Outputs.{Made, law_says, output}
+use Rattle.ft_orb.specs.Replies.{answered_as, body_of}
+use Rattle.ft_orb.specs.Requests.{Wanted, asking, locating, rules_of}
+use Rattle.ft_orb.specs.Servants.{Meaning}
+use Rattle.ft_ends.specs.Both.{ActsOnce, AreDistinct}
+use Rattle.ft_ends.specs.Fine.{AreFaithful, IsFineCall}
+use Rattle.ft_ends.specs.Tellings.{octets_told, told}
+use Rattle.ft_ends.specs.World.{CallNow, Newcomer, Sides, Step, world}
+
+-- What an event makes a server write are the octets of these messages, one after another.
+abbrev pub TellingsAreWritten : {State : Type 0} → Meaning State → Type 0
+TellingsAreWritten {State} meaning = (made : Made State) (past : List Event) (e : Event) → stream octets_told (told meaning made past e) ≡ output made.limits meaning.knows (law_says meaning made) past e
+
+-- the directions of a server, to clients that hear so
+abbrev pub sides_of : {State : Type 0} → Meaning State → Made State → (Limits → Hearing Answer) → Sides
+sides_of meaning made hears = record { said = octets_said; telling = octets_told; hears = hears; says = told meaning made }
+
+-- the call of a step, if it has one, can be written
+abbrev pub IsFineStep : Step → Type 0
+IsFineStep (CallNow k now call) = IsFineCall call
+IsFineStep s = Unit {0}
+
+-- the body of what arrived is octets
+abbrev pub IsPlain : Wanted → Type 0
+IsPlain (asking c q) = AreOctets q.body.octets
+IsPlain (locating c version id to) = Unit {0}
+
+abbrev pub ArePlain : List (Arrival Wanted) → Type 0
+ArePlain arrivals = AllByRecursion (λ a. IsPlain a.content) arrivals
+
+-- the body of each answer of a server takes at most 1,048,576 octets, in big order at the place 24
+abbrev pub AreShort : {State : Type 0} → Meaning State → Made State → Type 0
+AreShort meaning made =
+    (before : List (Arrival Wanted)) (a : Arrival Wanted) → ArePlain before → IsPlain a.content
+    → length (octets_of_all Big (body_of (answered_as (answer_of (rules_of meaning made.capacity made.share) made.opening before a))) 24) ≤ 1048576
+
+-- A servant that keeps its promises, from one of its states on, gives such answers.
+abbrev pub AnswersAreShort : {State : Type 0} → Meaning State → Type 0
+AnswersAreShort {State} meaning = (made : Made State) → IsTrue (meaning.is_state made.opening) → AreShort meaning made
+
+-- Nothing is heard on either direction but what was said.
+abbrev pub DirectionsAreFaithful : Type 0
+DirectionsAreFaithful = (limits : Limits) → AreFaithful limits down
+
+-- Over every schedule both ends act as one, where the servant begins in one of its states, the clients' ids differ and have no
+-- NUL, and what is called can be written.
+abbrev pub BothEndsActOnce : {State : Type 0} → Meaning State → Type 0
+BothEndsActOnce {State} meaning =
+    (made : Made State) (newcomers : List Newcomer) (steps : List Step) → IsTrue (meaning.is_state made.opening)
+    → AreDistinct newcomers → AllByRecursion (λ n. IsClean n.client_id) newcomers → AllByRecursion IsFineStep steps
+    → ActsOnce meaning made newcomers (world (sides_of meaning made down) newcomers steps)

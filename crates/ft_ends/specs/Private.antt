@@ -1,0 +1,112 @@
+-- Words of private functions: no public contract cites them.
+use Rattle.std.specs.Prelude.{◌≡◌, ℕ, zero, suc, ◌+◌, ℤ, List, [], ◌∷◌, ◌++◌, length, map, Option, Some, None, is_some, slice_get, IsTrue}
+use Rattle.std.specs.List.{AllByRecursion}
+use Rattle.cdr_core.specs.Spelling.{IsClean}
+use Rattle.ft_client.specs.declared.client.FtClient.{FtClient}
+use Rattle.ft_client.specs.declared.ended.Ended.{Ended as CodeEnded}
+use Rattle.ft_client.specs.declared.error.CallError.{CallError}
+use Rattle.ft_client.specs.declared.error.CallError.TheVariants.{Expired, IdsUsed, Memory, TooLong, TooManyCalls}
+use Rattle.ft_client.specs.Clients.{Ended}
+use Rattle.ft_client.specs.Directions.{stream}
+use Rattle.ft_client.specs.Messages.{octets_said}
+use Rattle.ft_client.specs.Standing.{FtStands, down}
+use Rattle.ft_orb.specs.declared.server.Server.{Server}
+use Rattle.ft_orb.specs.ExactlyOnce.{OneExpiration}
+use Rattle.ft_orb.specs.History.{Event, arrivals}
+use Rattle.ft_orb.specs.Outputs.{Made}
+use Rattle.ft_orb.specs.Servants.{Meaning}
+use Rattle.ft_orb.specs.Standing.{Stands}
+use Rattle.ft_ends.specs.declared.way.Way.{Way}
+use Rattle.ft_ends.specs.declared.wire.Wire.{Wire as CodeWire}
+use Rattle.ft_ends.specs.Both.{AreDistinct}
+use Rattle.ft_ends.specs.Laws.{sides_of}
+use Rattle.ft_ends.specs.Playing.{given_of, numbered}
+use Rattle.ft_ends.specs.Tellings.{Telling, octets_told, tellings, told}
+use Rattle.ft_ends.specs.World.{Member, Moved, Newcomer, Step, Wire, World, client_of, member_of, moved, step}
+
+-- an error that is no failed allocation
+abbrev pub IsRefusal : CallError → Type 0
+IsRefusal Expired = Unit {0}
+IsRefusal IdsUsed = Unit {0}
+IsRefusal TooManyCalls = Unit {0}
+IsRefusal TooLong = Unit {0}
+IsRefusal Memory = ⊥
+
+-- of all octets that were written one way, so many were delivered: it holds the last of them
+abbrev pub IsWay : Way → List ℕ → ℕ → Type 0
+IsWay way all went = (gone : List ℕ) × (all ≡ gone ++ way.octets.items) × (went ≡ length gone + way.delivered)
+
+-- it holds none
+pub record IsIdle (way : Way) : Type 0 where
+  pub octets : way.octets.items ≡ []
+  pub delivered : way.delivered ≡ 0
+
+-- no connection
+pub record IsUnused (wire : CodeWire) : Type 0 where
+  pub number : wire.number ≡ None
+  pub up : IsIdle wire.up
+  pub down : IsIdle wire.down
+
+-- a connection, where these are all that the server said on each
+pub record IsWire (tells : ℕ → List Telling) (wire : CodeWire) (x : Wire) : Type 0 where
+  pub number : wire.number ≡ Some x.number
+  pub up : IsWay wire.up (stream octets_said x.said) x.went
+  pub down : IsWay wire.down (stream octets_told (tells x.number)) x.came
+
+abbrev pub IsWireFor : (ℕ → List Telling) → CodeWire → Option Wire → Type 0
+IsWireFor tells wire None = IsUnused wire
+IsWireFor tells wire (Some x) = IsWire tells wire x
+
+-- wires of no connection, so many
+abbrev pub AreUnused : ℕ → List CodeWire → Type 0
+AreUnused zero [] = Unit {0}
+AreUnused (suc n) (u ∷ us) = IsUnused u × AreUnused n us
+AreUnused zero (u ∷ us) = ⊥
+AreUnused (suc n) [] = ⊥
+
+-- clients and their wires stand for members
+abbrev pub AreHeld : (ℕ → List Telling) → List Member → List FtClient → List CodeWire → Type 0
+AreHeld tells [] [] [] = Unit {0}
+AreHeld tells (m ∷ ms) (c ∷ cs) (u ∷ us) = (FtStands c m.life.client × IsWireFor tells u m.wire) × AreHeld tells ms cs us
+AreHeld tells [] [] (u ∷ us) = ⊥
+AreHeld tells [] (c ∷ cs) us = ⊥
+AreHeld tells (m ∷ ms) [] us = ⊥
+AreHeld tells (m ∷ ms) (c ∷ cs) [] = ⊥
+
+module _ {State : Type 0} (meaning : Meaning State) (made : Made State) where
+  -- what the server says on each connection
+  abbrev pub tells : List Event → ℕ → List Telling
+  tells past c = tellings (told meaning made) past c
+
+  -- the server, a client and its wire, after a step of that client
+  pub record Holds (server : Server State) (client : FtClient) (wire : CodeWire) (v : Moved) : Type 0 where
+    pub server_is : Stands meaning made server v.past
+    pub client_is : FtStands client v.member.life.client
+    pub wire_is : IsWireFor (tells v.past) wire v.member.wire
+
+  -- a client may take a step: it has a link where it has a connection, nothing was said on the next one, and requests with one
+  -- key carry one expiration after the step
+  pub record IsSettled (past : List Event) (opened : ℕ) (m : Member) (s : Step) : Type 0 where
+    pub linked : is_some m.life.client.link ≡ is_some m.wire
+    pub fresh : tells past (suc opened) ≡ []
+    pub once : OneExpiration (arrivals made.limits (moved (sides_of meaning made down) past opened s m).past)
+
+  -- all of it stands for a world, where these were the completions before its first step
+  pub record Runs (server : Server State) (opened : ℕ) (clients : List FtClient) (wires : List CodeWire) (before : List (ℕ × ℤ × Ended)) (out : List (ℕ × ℤ × CodeEnded)) (w : World) : Type 0 where
+    pub server_is : Stands meaning made server w.past
+    pub opened_is : opened ≡ w.opened
+    pub held : AreHeld (tells w.past) w.members clients wires
+    pub given : map given_of out ≡ before ++ map numbered w.completions
+
+  -- a step may be taken in a world: its client may take it, and it says nothing on the connections of others
+  pub record IsReady (w : World) (s : Step) : Type 0 where
+    pub settled : (m : Member) → slice_get w.members (client_of s) ≡ Some m → IsSettled w.past w.opened m s
+    pub others : (k : ℕ) (m : Member) (x : Wire) → slice_get w.members k ≡ Some m → m.wire ≡ Some x → (k ≡ client_of s → ⊥) → tells (step (sides_of meaning made down) w s).past x.number ≡ tells w.past x.number
+
+  -- a new server, new clients with clean ids that differ, and wires without connections
+  pub record AreSet (newcomers : List Newcomer) (server : Server State) (clients : List FtClient) (wires : List CodeWire) : Type 0 where
+    pub stands : Stands meaning made server []
+    pub state : IsTrue (meaning.is_state made.opening)
+    pub held : AreHeld (tells []) (map member_of newcomers) clients wires
+    pub distinct : AreDistinct newcomers
+    pub clean : AllByRecursion (λ n. IsClean n.client_id) newcomers

@@ -1,0 +1,40 @@
+//! Which outcomes of the two sides' calls end a schedule: failed allocations alone. What is refused does nothing.
+
+ghost use Rattle.std.specs.Prelude.{◌≡◌, IfErr, OnOk, false};
+ghost use Rattle.ft_orb.specs.Laws.{is_memory};
+ghost use Rattle.ft_orb.specs.Standing.{note_of, note_of_opening};
+ghost use Rattle.ft_ends.specs.Private.{IsRefusal};
+
+use ft_client::CallError;
+use ft_orb::{ConnectError, ServeError};
+use std::alloc::AllocError;
+
+/// A call.
+pub(crate) fn after_call(outcome: Result<i32, CallError>) -> Result<(), AllocError>
+    ensures { OnOk result (IfErr outcome IsRefusal) }
+{
+    match outcome {
+        Err(CallError::Memory) => Err(AllocError),
+        _ => Ok(()),
+    }
+}
+
+/// The opening of a connection.
+pub(crate) fn after_opening(outcome: Result<(), ConnectError>) -> Result<(), AllocError>
+    ensures { OnOk result (is_memory (note_of_opening outcome) ≡ false) }
+{
+    match outcome {
+        Err(ConnectError::Memory) => Err(AllocError),
+        Ok(()) | Err(ConnectError::NotNew) => Ok(()),
+    }
+}
+
+/// A piece or a close.
+pub(crate) fn after_serving(outcome: Result<(), ServeError>) -> Result<(), AllocError>
+    ensures { OnOk result (is_memory (note_of outcome) ≡ false) }
+{
+    match outcome {
+        Err(ServeError::Memory { .. }) => Err(AllocError),
+        Ok(()) | Err(ServeError::NoConnection) => Ok(()),
+    }
+}
