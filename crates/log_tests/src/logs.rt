@@ -1,41 +1,9 @@
 //! Logs: what is kept, found, forgotten and refused.
 
-use ft_log::{Completion, Key, Log, LogError, Outcome, SystemName};
-use std::alloc::{AllocError, Global};
+use crate::minors::{keep_minor, minor_of};
+use ft_log::{Log, LogError};
+use std::alloc::Global;
 use std::hash::RandomState;
-
-/// Keeps a system exception of this minor code for a request, unless its outcome is kept.
-fn keep_minor(
-    alloc: Global,
-    log: &mut Log,
-    client_id: &[u8],
-    retention_id: i32,
-    expiration: u64,
-    minor: u32,
-) -> Result<(), LogError> {
-    let key = Key::new(alloc, client_id, retention_id)?;
-    if log.find(&key).is_some() {
-        return Ok(());
-    }
-    log.make_room(&key)?;
-    let outcome = Outcome::System(SystemName::Transient, minor, Completion::Maybe);
-    log.keep(key, expiration, outcome);
-    Ok(())
-}
-
-/// The minor code of the system exception that is kept for a request.
-fn minor_of(
-    alloc: Global,
-    log: &Log,
-    client_id: &[u8],
-    retention_id: i32,
-) -> Result<Option<u32>, AllocError> {
-    let key = Key::new(alloc, client_id, retention_id)?;
-    match log.find(&key) {
-        Some(Outcome::System(_, minor, _)) => Ok(Some(*minor)),
-        _ => Ok(None),
-    }
-}
 
 /// Whether exactly what is expired is forgotten.
 fn are_expired_forgotten(alloc: Global, hasher: RandomState) -> Result<bool, LogError> {

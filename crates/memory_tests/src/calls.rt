@@ -2,6 +2,8 @@
 //! `suites`.
 
 use crate::asking::Asking;
+use crate::attending::Attending;
+use crate::calling::{Act, Calling, Completing};
 use crate::clients::ClientWriting;
 use crate::closing::Closing;
 use crate::copying::Copying;
@@ -17,6 +19,7 @@ use crate::profiles::{ProfileReading, ProfileWriting};
 use crate::reading::{ListReading, Reading};
 use crate::references::{Parsing, Printing, ReferenceReading, ReferenceWriting};
 use crate::samples::Sample;
+use crate::sending::{Sending, Sent};
 use crate::servers::{Idling, ServerClosing};
 use crate::trial::{Ending, Miss, Trial, tried};
 use crate::writing::{ListWriting, Writing};
@@ -62,6 +65,10 @@ pub enum Call {
     Hear(usize),
     /// `ServerLink::close` into a vector with such room.
     CloseLink(Room),
+    /// A call by which a client's link sends, into a vector with such room.
+    Send(Sent, Room),
+    /// A client's link that is fed in pieces of as many octets.
+    Attend(usize),
     /// `Key::new`.
     NewKey,
     /// `Key::copy`.
@@ -78,6 +85,10 @@ pub enum Call {
     CloseServer(Room),
     /// `Server::feed` of pieces for which it takes no memory.
     Idle,
+    /// A call of `FtClient`, into a vector with such room.
+    Act(Act, Room),
+    /// A client that calls, and is fed in pieces of as many octets.
+    Complete(usize),
 }
 
 /// Makes a call on these inputs, and once more where an allocation of it was refused.
@@ -118,6 +129,8 @@ impl Call {
             Call::Cut(room) => ended(alloc, Cutting::new(alloc, sample, room)),
             Call::Hear(size) => ended(alloc, Ok(Hearing::new(alloc, sample, size))),
             Call::CloseLink(room) => ended(alloc, Closing::new(alloc, sample, room)),
+            Call::Send(sent, room) => ended(alloc, Sending::new(alloc, sample, sent, room)),
+            Call::Attend(size) => ended(alloc, Ok(Attending::new(alloc, sample, size))),
             Call::NewKey => ended(alloc, Ok(KeyMaking { sample })),
             Call::CopyKey => ended(alloc, KeyCopying::new(alloc, sample)),
             Call::CopyOutcome(performed) => {
@@ -130,6 +143,8 @@ impl Call {
                 ended(alloc, ServerClosing::new(alloc, hasher, sample, room))
             }
             Call::Idle => ended(alloc, Idling::new(alloc, hasher, sample)),
+            Call::Act(act, room) => ended(alloc, Calling::new(alloc, sample, act, room)),
+            Call::Complete(size) => ended(alloc, Completing::new(alloc, sample, size)),
         }
     }
 }

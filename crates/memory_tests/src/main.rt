@@ -1,10 +1,10 @@
 //! The program `memory_tests`: calls of `cdr_core`, `ior_core`, `giop_core`, `giop_frames`, `giop_link`,
-//! `ft_log` and `ft_orb` that take memory, each made by name.
+//! `ft_log`, `ft_orb` and `ft_client` that take memory, each made by name.
 //!
 //! A case is one call on fixed inputs. Where an allocation of it is refused, the program checks that
 //! nothing changed, and makes the same call again. What the calls give is compared with octets and
-//! texts written out in `samples`, `message_samples`, `stream_samples`, `link_samples`, `log_samples` and
-//! `server_samples`.
+//! texts written out in `samples`, `message_samples`, `stream_samples`, `link_samples`, `log_samples`,
+//! `server_samples` and `call_samples`.
 //! tests/refused_allocations.py runs it under a `malloc` that refuses one allocation.
 //!
 //! By the word `lines` the calls are those that the lines of standard input ask for, on octets that stand
@@ -12,6 +12,9 @@
 #![tactic(auto)]
 
 mod asking;
+mod attending;
+mod call_samples;
+mod calling;
 mod calls;
 mod cases;
 mod clients;
@@ -34,6 +37,7 @@ mod reading;
 mod references;
 mod run;
 mod samples;
+mod sending;
 mod server_samples;
 mod servers;
 mod shapes;

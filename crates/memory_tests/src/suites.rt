@@ -1,7 +1,9 @@
 //! The samples on which each call is made.
 
+use crate::call_samples::{CALLED, CALLED_TWICE, COMPLETED, UNSENT};
+use crate::calling::Act;
 use crate::calls::Call;
-use crate::link_samples::HEARD;
+use crate::link_samples::{ANSWERED, HEARD, SENT_CANCELS, SENT_LOCATES, SENT_REQUESTS};
 use crate::log_samples::{KEYS, RAISED, RETURNED};
 use crate::message_samples::{
     CANCELS, CLIENTS, CLOSINGS, ERRORS, EXCEPTIONS, LOCATE_REPLIES, LOCATE_REQUESTS, REPLIES,
@@ -13,6 +15,7 @@ use crate::samples::{
     FAULTS, LISTS, PROFILE_FAULTS, PROFILES, REFERENCE_FAULTS, REFERENCES, Sample, TEXT_FAULTS,
     TEXTS, VALUES,
 };
+use crate::sending::Sent;
 use crate::server_samples::ASKED;
 use crate::stream_samples::{CUT, CUTTABLE, STREAMS, UNCUT};
 
@@ -65,6 +68,14 @@ pub enum Set {
     Cuttable,
     /// Streams in which a request is heard.
     Heard,
+    /// What a client's request is written as.
+    SentRequests,
+    /// What its locate is written as.
+    SentLocates,
+    /// What its cancel is written as.
+    SentCancels,
+    /// Streams in which a client hears a reply.
+    Answered,
     /// Clients, and the keys of requests of theirs.
     Keys,
     /// Structs, and their members as results.
@@ -73,6 +84,14 @@ pub enum Set {
     Raised,
     /// Requests that a server is asked.
     Asked,
+    /// What a client writes for a call.
+    Called,
+    /// What it writes for two.
+    CalledTwice,
+    /// What it writes for a call without a connection.
+    Unsent,
+    /// Streams that complete a call.
+    Completed,
 }
 
 impl Set {
@@ -102,10 +121,18 @@ impl Set {
             Set::Cut => &CUT,
             Set::Cuttable => &CUTTABLE,
             Set::Heard => &HEARD,
+            Set::SentRequests => &SENT_REQUESTS,
+            Set::SentLocates => &SENT_LOCATES,
+            Set::SentCancels => &SENT_CANCELS,
+            Set::Answered => &ANSWERED,
             Set::Keys => &KEYS,
             Set::Returned => &RETURNED,
             Set::Raised => &RAISED,
             Set::Asked => &ASKED,
+            Set::Called => &CALLED,
+            Set::CalledTwice => &CALLED_TWICE,
+            Set::Unsent => &UNSENT,
+            Set::Completed => &COMPLETED,
         }
     }
 }
@@ -122,8 +149,8 @@ const HALF: usize = 26;
 const WHOLE: usize = 4096;
 
 /// The calls of `cdr_core` and `ior_core`, those of the writers of `giop_core`, and those of `giop_frames`,
-/// `giop_link`, `ft_log` and `ft_orb`.
-pub static SUITES: [Suite; 79] = [
+/// `giop_link`, `ft_log`, `ft_orb` and `ft_client`.
+pub static SUITES: [Suite; 102] = [
     Suite("read", Call::Read, Set::Values),
     Suite("read_faulty", Call::Read, Set::Faults),
     Suite("read_list", Call::ReadList, Set::Lists),
@@ -355,6 +382,48 @@ pub static SUITES: [Suite; 79] = [
         Call::CloseLink(Room::Ample),
         Set::Closings,
     ),
+    Suite(
+        "send_request_empty",
+        Call::Send(Sent::Request, Room::Empty),
+        Set::SentRequests,
+    ),
+    Suite(
+        "send_request_full",
+        Call::Send(Sent::Request, Room::Full),
+        Set::SentRequests,
+    ),
+    Suite(
+        "send_request_ample",
+        Call::Send(Sent::Request, Room::Ample),
+        Set::SentRequests,
+    ),
+    Suite(
+        "send_locate_empty",
+        Call::Send(Sent::Locate, Room::Empty),
+        Set::SentLocates,
+    ),
+    Suite(
+        "send_locate_full",
+        Call::Send(Sent::Locate, Room::Full),
+        Set::SentLocates,
+    ),
+    Suite(
+        "send_cancel_empty",
+        Call::Send(Sent::Cancel, Room::Empty),
+        Set::SentCancels,
+    ),
+    Suite(
+        "send_cancel_full",
+        Call::Send(Sent::Cancel, Room::Full),
+        Set::SentCancels,
+    ),
+    Suite(
+        "send_cancel_without_allocation",
+        Call::Send(Sent::Cancel, Room::Ample),
+        Set::SentCancels,
+    ),
+    Suite("attend_whole", Call::Attend(WHOLE), Set::Answered),
+    Suite("attend_in_two", Call::Attend(HALF), Set::Answered),
     Suite("new_key", Call::NewKey, Set::Keys),
     Suite("copy_key", Call::CopyKey, Set::Keys),
     Suite(
@@ -369,6 +438,7 @@ pub static SUITES: [Suite; 79] = [
     ),
     Suite("keep_first", Call::Keep(0), Set::Keys),
     Suite("keep_fifth", Call::Keep(4), Set::Keys),
+    Suite("keep_sixth", Call::Keep(5), Set::Keys),
     Suite("ask_server", Call::Ask, Set::Asked),
     Suite("ask_server_again", Call::AskAgain, Set::Asked),
     Suite(
@@ -387,4 +457,56 @@ pub static SUITES: [Suite; 79] = [
         Set::Closings,
     ),
     Suite("feed_server_without_allocation", Call::Idle, Set::Asked),
+    Suite(
+        "client_call_unconnected",
+        Call::Act(Act::CallUnconnected, Room::Full),
+        Set::Unsent,
+    ),
+    Suite(
+        "client_call_empty",
+        Call::Act(Act::Call, Room::Empty),
+        Set::Called,
+    ),
+    Suite(
+        "client_call_full",
+        Call::Act(Act::Call, Room::Full),
+        Set::Called,
+    ),
+    Suite(
+        "client_connect_empty",
+        Call::Act(Act::Connect, Room::Empty),
+        Set::CalledTwice,
+    ),
+    Suite(
+        "client_connect_full",
+        Call::Act(Act::Connect, Room::Full),
+        Set::CalledTwice,
+    ),
+    Suite(
+        "client_cancel_empty",
+        Call::Act(Act::Cancel, Room::Empty),
+        Set::SentCancels,
+    ),
+    Suite(
+        "client_cancel_full",
+        Call::Act(Act::Cancel, Room::Full),
+        Set::SentCancels,
+    ),
+    Suite(
+        "client_cancel_without_allocation",
+        Call::Act(Act::Cancel, Room::Ample),
+        Set::SentCancels,
+    ),
+    Suite(
+        "client_rest_without_allocation",
+        Call::Act(Act::Rest, Room::Full),
+        Set::Unsent,
+    ),
+    Suite("client_feed_whole", Call::Complete(WHOLE), Set::Completed),
+    Suite(
+        "client_feed_by_thirteen",
+        Call::Complete(13),
+        Set::Completed,
+    ),
+    Suite("client_feed_by_one", Call::Complete(1), Set::Completed),
 ];

@@ -3,10 +3,11 @@
 ghost use Rattle.std.specs.Prelude.{OnOk};
 
 use cdr_core::CdrError;
+use ft_client::CallError;
 use ft_log::LogError;
 use ft_orb::{ConnectError, ServeError};
 use giop_core::WriteError;
-use giop_link::LinkFault;
+use giop_link::{LinkFault, SendError};
 use ior_core::IorError;
 use std::alloc::{AllocError, AllocFailed, Global};
 use thiserror::Error;
@@ -110,6 +111,19 @@ impl From<LinkFault> for Miss {
     }
 }
 
+/// Out of memory, or a link that does not send where it is to.
+impl From<SendError> for Miss {
+    fn from(error: SendError) -> Miss {
+        match error {
+            SendError::Memory => Miss::Memory,
+            SendError::LinkClosed
+            | SendError::TooManyOutstanding
+            | SendError::IdsUsed
+            | SendError::TooLong => Miss::Wrong(Wrong::Fault),
+        }
+    }
+}
+
 /// Out of memory, or a log that is full where none is to be.
 impl From<LogError> for Miss {
     fn from(error: LogError) -> Miss {
@@ -136,6 +150,19 @@ impl From<ServeError> for Miss {
         match error {
             ServeError::NoConnection => Miss::Wrong(Wrong::Inputs),
             ServeError::Memory { .. } => Miss::Memory,
+        }
+    }
+}
+
+/// Out of memory, or a call that is not taken where it is to be.
+impl From<CallError> for Miss {
+    fn from(error: CallError) -> Miss {
+        match error {
+            CallError::Expired
+            | CallError::IdsUsed
+            | CallError::TooManyCalls
+            | CallError::TooLong => Miss::Wrong(Wrong::Fault),
+            CallError::Memory => Miss::Memory,
         }
     }
 }

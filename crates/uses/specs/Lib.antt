@@ -6,5 +6,6 @@ pub mod Invocation
 pub mod Keeping
 pub mod Tickets
 pub mod Serving
+pub mod Retrying
 -- a proof that `impl Servant for Tickets` cites
 pub mod TicketsFacts

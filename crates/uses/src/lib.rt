@@ -1,4 +1,4 @@
-//! Nine uses of the libraries, as a caller writes them: each is one file with one subject, proved, and
+//! Ten uses of the libraries, as a caller writes them: each is one file with one subject, proved, and
 //! run by a test on octets written out by hand from the standard's layouts (CORBA 3.3 Part 2, 9.3 and 9.4).
 //! docs/GUIDE.md and the pages of `giop_link` and `ft_log` quote them.
 #![tactic(auto)]
@@ -12,6 +12,7 @@ mod keeping;
 mod locating;
 #[cfg(test)]
 mod octets;
+mod retrying;
 mod serving;
 mod tickets;
 
@@ -22,5 +23,6 @@ pub use hearing::requests_heard;
 pub use invocation::{Retry, add_request, cut};
 pub use keeping::keep_once;
 pub use locating::answer_locate;
+pub use retrying::{RetryingError, next_ticket};
 pub use serving::{ServingError, serve_once};
 pub use tickets::Tickets;

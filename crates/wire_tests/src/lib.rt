@@ -5,6 +5,8 @@
 #[cfg(test)]
 mod cdr;
 #[cfg(test)]
+mod client_links;
+#[cfg(test)]
 mod frames;
 #[cfg(test)]
 mod ior;
