@@ -1,14 +1,14 @@
 #!/usr/bin/env python3
-"""Times the assembler of `giop_frames` against a plain one in Rust, on the same stream in one run.
+"""Times the lower crates and the program against a plain engine in Rust, on the same input in one run.
 
-usage: measure.py OURS PLAIN [--rounds 5] [--count 1000000] [--no-instructions]
+usage: measure.py OURS PLAIN GIOP [--rounds 5] [--only WORD] [--no-instructions]
 
-OURS is the program of crates/frames_bench, PLAIN that of bench/plain.rs. The stream has COUNT Requests
-of 84 octets with an FT_REQUEST context. Each time is user and system time, the best of so many rounds,
-in which the programs take turns. The time of making the stream is left out: it is that of the same
-program with pieces of 0 octets. `twice` is the plain engine with the same two calls (`feed` judges a
-message, `message` reads it again), `once` the plain engine whose one call reads each message once.
-Instructions are those that callgrind counts for a message.
+OURS is the program of crates/frames_bench, PLAIN that of bench/plain.rs, GIOP the program `giop`. Each row is a
+kind of work: what it does in one count, so many counts, and the octets of a piece. Times are user time, the best
+of so many rounds, in which the programs take turns; of `check` and `show`, which read their input, user and
+system time. The time of making the stream is left out: it is that of the same program with pieces of 0 octets.
+Instructions are those that callgrind counts, for one count; of `check` and `show` for one digit. Both programs
+have to print the same. The last columns are the octets of memory for each digit.
 """
 import argparse
 import os
@@ -17,78 +17,133 @@ import subprocess
 import sys
 import tempfile
 
-SIZES = [1, 84, 4096, 65536]
+# what is done, the word for it, octets of a piece, counts that are timed, and counts whose instructions are counted
+ROWS = [
+    ("a Request of 84 octets is read", "read", 84, 1_000_000, 10_000),
+    ("a Reply of 28", "reply", 84, 1_000_000, 10_000),
+    ("a LocateRequest of 25", "locate", 84, 1_000_000, 10_000),
+    ("a Request comes in pieces of 1", "request", 1, 300_000, 3_000),
+    ("in pieces of 84", "request", 84, 1_000_000, 10_000),
+    ("in pieces of 4,096", "request", 4096, 1_000_000, 10_000),
+    ("in pieces of 65,536", "request", 65536, 1_000_000, 10_000),
+    ("eight cut messages interleave", "cut", 4096, 5_000, 1_000),
+    ("a message of 1 MB is whole", "large", 4096, 100, 20),
+    ("it is cut", "large_cut", 4096, 100, 20),
+    ("a reference's text is parsed", "reference", 1, 200_000, 5_000),
+]
+# a Request of 84 octets in digits
+DIGITS = ("47494f50010200000000004800000005030000000000000000000001630000000000000461646400000000010000000d00000018"
+          "00000000000000024100000000000001000000000000006400000000000000" "07")
+# lines of digits whose time is taken, and whose instructions are counted
+LINES = {"time": 595_000, "instructions": 5_950}
 
 
-def run(words):
-    """User and system time of a run, and what it prints."""
+def run(words, source=None):
+    """User time of a run, or user and system time where it has a source, what it prints, and how much memory it takes."""
     readable, writable = os.pipe()
     child = os.fork()
     if child == 0:
         os.close(readable)
         os.dup2(writable, 1)
+        if source:
+            os.dup2(os.open(source, os.O_RDONLY), 0)
         os.execv(words[0], words)
     os.close(writable)
-    with os.fdopen(readable) as file:
+    with os.fdopen(readable, "rb") as file:
         printed = file.read()
     _, status, usage = os.wait4(child, 0)
     if status != 0:
         sys.exit(f"{words}: status {status}")
-    return usage.ru_utime + usage.ru_stime, printed
+    return usage.ru_utime + (usage.ru_stime if source else 0), printed, usage.ru_maxrss * 1024
 
 
-def instructions(words):
+def instructions(words, source=None):
     """The instructions of a run."""
-    with tempfile.TemporaryDirectory() as folder:
+    with tempfile.TemporaryDirectory() as folder, open(source or os.devnull, "rb") as file:
         counted = subprocess.run(["valgrind", "--tool=callgrind", f"--callgrind-out-file={folder}/out"] + words,
-                                 capture_output=True, text=True)
-    found = re.search(r"Collected : (\d+)", counted.stderr)
+                                 stdin=file, capture_output=True)
+    found = re.search(rb"Collected : (\d+)", counted.stderr)
     if counted.returncode or not found:
-        sys.exit(counted.stderr)
+        sys.exit(counted.stderr.decode())
     return int(found[1])
 
 
-def table(title, engines, cost):
-    """Prints what each engine costs for each size of a piece, and the ratios of ours to the others."""
-    ours, *others = engines
-    print(title)
-    print(f"{'piece':>6} " + " ".join(f"{name:>8}" for name in engines) + " " + " ".join(f"to {name:>5}" for name in others))
-    for size in SIZES:
-        costs = [cost[name, size] for name in engines]
-        ratios = [cost[ours, size] / cost[name, size] for name in others]
-        print(f"{size:>6} " + " ".join(f"{each:8.4g}" for each in costs) + " " + " ".join(f"{each:8.2f}" for each in ratios))
+def best_of(rounds, programs, words, source=None):
+    """The least time of each program, and the most memory; they take turns."""
+    time, memory = {}, {}
+    for _ in range(rounds):
+        printed = set()
+        for name in programs:
+            took, text, held = run([programs[name], *words], source)
+            time[name] = min(time.get(name, took), took)
+            memory[name] = max(memory.get(name, 0), held)
+            printed.add(text)
+        if len(printed) != 1:
+            sys.exit(f"{words}: the programs print differently, as {[text[:80] for text in printed]}")
+    return time, memory
+
+
+def net_times(rounds, programs, kind, piece, count):
+    """The times of a kind of work, without that of making its stream."""
+    whole, _ = best_of(rounds, programs, [str(count), str(piece), kind])
+    made, _ = best_of(rounds, programs, [str(count), "0", kind])
+    return {name: whole[name] - made[name] for name in programs}
+
+
+def net_instructions(programs, kind, piece, count):
+    """The instructions for one count, without those of making the stream."""
+    return {name: (instructions([programs[name], str(count), str(piece), kind]) - instructions([programs[name], str(count), "0", kind])) / count
+            for name in programs}
+
+
+def line(title, time, counted, memory=None):
+    """A row: nanoseconds and instructions by both programs, each with the ratio of ours to the plain one's."""
+    parts = [f"{title:<32}"]
+    for each, form in ((time, ".1f"), (counted, ".1f"), (memory, ".2f")):
+        if each:
+            ours, plain = each["ours"], each["plain"]
+            parts.append(f"{ours:>12,{form}} {plain:>12,{form}} {ours / plain:>6.2f}")
+    print(" ".join(parts), flush=True)
+
+
+def digits_row(given, programs, word):
+    """The row of `check` or `show`, for one digit."""
+    with tempfile.TemporaryDirectory() as folder:
+        sources = {}
+        for what, lines in LINES.items():
+            sources[what] = f"{folder}/{what}"
+            with open(sources[what], "w", encoding="ascii") as file:
+                file.write((DIGITS + "\n") * lines)
+        counts = {what: len(DIGITS) * lines for what, lines in LINES.items()}
+        time, memory = best_of(given.rounds, programs, [word], sources["time"])
+        counted = None
+        if not given.no_instructions:
+            counted = {name: instructions([programs[name], word], sources["instructions"]) / counts["instructions"] for name in programs}
+        line(f"`{word}`, a digit", {name: time[name] / counts["time"] * 1e9 for name in programs}, counted,
+             {name: memory[name] / counts["time"] for name in programs})
 
 
 def main():
     parser = argparse.ArgumentParser()
     parser.add_argument("ours")
     parser.add_argument("plain")
+    parser.add_argument("giop")
     parser.add_argument("--rounds", type=int, default=5)
-    parser.add_argument("--count", type=int, default=1_000_000)
+    parser.add_argument("--only", default="")
     parser.add_argument("--no-instructions", action="store_true")
     given = parser.parse_args()
-    engines = {"ours": ([given.ours], []), "twice": ([given.plain], []), "once": ([given.plain], ["once"])}
-
-    def words(name, count, size):
-        program, last = engines[name]
-        return program + [str(count), str(size)] + last
-
-    best, printed = {}, {}
-    for _ in range(given.rounds):
-        for size in [0] + SIZES:
-            for name in engines:
-                time, text = run(words(name, given.count, size))
-                best[name, size] = min(best.get((name, size), time), time)
-                if printed.setdefault(size, text) != text:
-                    sys.exit(f"{name} in pieces of {size} printed {text!r}, not {printed[size]!r}")
-    net = {(name, size): best[name, size] - best[name, 0] for name in engines for size in SIZES}
-    table(f"{given.count} messages, seconds, best of {given.rounds}", engines, net)
-    if given.no_instructions:
-        return
-    count = 10_000
-    counted = {(name, size): instructions(words(name, count, size)) for name in engines for size in [0] + SIZES}
-    net = {(name, size): (counted[name, size] - counted[name, 0]) / count for name in engines for size in SIZES}
-    table("instructions a message", engines, net)
+    print(f"{'':<32} {'nanoseconds':>12} {'plain':>12} {'ratio':>6} {'instructions':>12} {'plain':>12} {'ratio':>6}")
+    programs = {"ours": given.ours, "plain": given.plain}
+    for title, kind, piece, count, fewer in ROWS:
+        if given.only not in title:
+            continue
+        time = net_times(given.rounds, programs, kind, piece, count)
+        counted = None if given.no_instructions else net_instructions(programs, kind, piece, fewer)
+        line(title, {name: time[name] / count * 1e9 for name in programs}, counted)
+    programs["ours"] = given.giop
+    for word in ("check", "show"):
+        if given.only in word:
+            digits_row(given, programs, word)
 
 
 if __name__ == "__main__":

@@ -1,12 +1,14 @@
 //! A plain assembler of GIOP streams and a plain server, to measure against: no proofs, no crates.
 //!
-//! usage: plain N PIECE [once]        builds N Requests, feeds them in pieces, prints count and checksum
-//!        plain serve N PIECE KIND    serves N messages of a kind, `add`, `repeat` or `locate`, prints what was written
-//!        plain check [PIECE]         reads digits on standard input, prints how the stream ends
+//! usage: plain N PIECE [KIND]        does N times a kind of work, as `frames_bench` does, and prints a count and a checksum
+//!        plain serve N PIECE KIND [ENTRIES]    serves N messages of a kind, prints what was written
+//!        plain check | show          reads digits on standard input, prints how the stream ends, or its messages too
 
-use std::collections::{BTreeMap, HashMap, TryReserveError};
+use std::cmp::Reverse;
+use std::collections::{BTreeMap, BinaryHeap, HashMap, TryReserveError};
 use std::fmt;
-use std::io::Read;
+use std::io::{BufWriter, Read, Write};
+use std::rc::Rc;
 
 const HEADER: usize = 12;
 
@@ -120,6 +122,7 @@ pub struct Header {
 }
 
 impl Header {
+    #[inline(always)]
     pub fn read(h: &[u8; HEADER]) -> Result<Header, Fault> {
         if &h[..4] != b"GIOP" {
             return Err(Fault::BadMagic);
@@ -175,9 +178,9 @@ struct Reader<'a> {
 }
 
 impl<'a> Reader<'a> {
-    #[inline]
+    #[inline(always)]
     fn take(&mut self, n: usize) -> Result<&'a [u8], BodyFault> {
-        match self.octets.get(self.at..self.at + n) {
+        match self.octets.get(self.at..).and_then(|left| left.get(..n)) {
             Some(octets) => {
                 self.at += n;
                 Ok(octets)
@@ -186,17 +189,17 @@ impl<'a> Reader<'a> {
         }
     }
 
-    #[inline]
+    #[inline(always)]
     fn align(&mut self, n: usize) {
         self.at = (self.at + (n - 1)) & !(n - 1);
     }
 
-    #[inline]
+    #[inline(always)]
     fn octet(&mut self) -> Result<u8, BodyFault> {
         Ok(self.take(1)?[0])
     }
 
-    #[inline]
+    #[inline(always)]
     fn ushort(&mut self) -> Result<u16, BodyFault> {
         self.align(2);
         let octets = self.take(2)?.try_into().unwrap();
@@ -206,7 +209,7 @@ impl<'a> Reader<'a> {
         })
     }
 
-    #[inline]
+    #[inline(always)]
     fn ulong(&mut self) -> Result<u32, BodyFault> {
         self.align(4);
         let octets = self.take(4)?.try_into().unwrap();
@@ -216,7 +219,7 @@ impl<'a> Reader<'a> {
         })
     }
 
-    #[inline]
+    #[inline(always)]
     fn boolean(&mut self) -> Result<bool, BodyFault> {
         match self.octet()? {
             0 => Ok(false),
@@ -225,7 +228,7 @@ impl<'a> Reader<'a> {
         }
     }
 
-    #[inline]
+    #[inline(always)]
     fn ordinal(&mut self, names: u32) -> Result<u32, BodyFault> {
         let x = self.ulong()?;
         if x >= names {
@@ -234,13 +237,13 @@ impl<'a> Reader<'a> {
         Ok(x)
     }
 
-    #[inline]
+    #[inline(always)]
     fn sequence(&mut self) -> Result<&'a [u8], BodyFault> {
         let n = self.ulong()?;
         self.take(n as usize)
     }
 
-    #[inline]
+    #[inline(always)]
     fn string(&mut self) -> Result<&'a [u8], BodyFault> {
         let octets = self.sequence()?;
         let Some((last, text)) = octets.split_last() else {
@@ -256,13 +259,13 @@ impl<'a> Reader<'a> {
         Ok(text)
     }
 
-    #[inline]
+    #[inline(always)]
     fn tagged(&mut self) -> Result<(u32, &'a [u8]), BodyFault> {
         Ok((self.ulong()?, self.sequence()?))
     }
 
     /// Walks over tagged octets and lends them.
-    #[inline]
+    #[inline(always)]
     fn contexts(&mut self) -> Result<Contexts<'a>, BodyFault> {
         let left = self.ulong()?;
         let reader = *self;
@@ -272,8 +275,19 @@ impl<'a> Reader<'a> {
         Ok(Contexts { reader, left })
     }
 
-    #[inline]
+    #[inline(always)]
     fn target(&mut self) -> Result<Target<'a>, BodyFault> {
+        let mut other = *self;
+        if self.ushort()? == 0 {
+            return Ok(Target::Key(self.sequence()?));
+        }
+        let target = other.any_target()?;
+        *self = other;
+        Ok(target)
+    }
+
+    #[inline(never)]
+    fn any_target(&mut self) -> Result<Target<'a>, BodyFault> {
         match self.ushort()? {
             0 => Ok(Target::Key(self.sequence()?)),
             1 => {
@@ -290,7 +304,7 @@ impl<'a> Reader<'a> {
         }
     }
 
-    #[inline]
+    #[inline(always)]
     fn rest(&self) -> Body<'a> {
         Body {
             at: self.at,
@@ -358,26 +372,43 @@ pub enum Message<'a> {
     Error,
 }
 
+/// Reads a Request of 1.2, the usual message.
+#[inline(always)]
+fn read_request_12(order: Order, frame: &[u8]) -> Result<Request<'_>, BodyFault> {
+    let mut r = Reader { octets: frame, at: HEADER, order };
+    let id = r.ulong()?;
+    let flags = r.octet()?;
+    r.take(3)?;
+    let target = r.target()?;
+    let operation = r.string()?;
+    let contexts = r.contexts()?;
+    r.align(8);
+    let wish = match flags & 3 {
+        1 => Wish::Empty,
+        3 => Wish::Full,
+        _ => Wish::None,
+    };
+    Ok(Request { id, wish, target, operation, contexts, body: r.rest() })
+}
+
 /// Reads a whole message; the octets are those of the whole frame, its header among them.
+#[inline(always)]
 pub fn read_message<'a>(header: &Header, frame: &'a [u8]) -> Result<Message<'a>, BodyFault> {
+    if header.kind == Kind::Request && header.version == Version::V12 {
+        return match read_request_12(header.order, frame) {
+            Ok(request) => Ok(Message::Request(request)),
+            Err(fault) => Err(fault),
+        };
+    }
+    read_any(header, frame)
+}
+
+#[inline(never)]
+fn read_any<'a>(header: &Header, frame: &'a [u8]) -> Result<Message<'a>, BodyFault> {
     let mut r = Reader { octets: frame, at: HEADER, order: header.order };
     match header.kind {
         Kind::Request => Ok(Message::Request(if header.version == Version::V12 {
-            let id = r.ulong()?;
-            let flags = r.octet()?;
-            for _ in 0..3 {
-                r.octet()?;
-            }
-            let target = r.target()?;
-            let operation = r.string()?;
-            let contexts = r.contexts()?;
-            r.align(8);
-            let wish = match flags & 3 {
-                1 => Wish::Empty,
-                3 => Wish::Full,
-                _ => Wish::None,
-            };
-            Request { id, wish, target, operation, contexts, body: r.rest() }
+            read_request_12(header.order, frame)?
         } else {
             let contexts = r.contexts()?;
             let id = r.ulong()?;
@@ -463,29 +494,8 @@ impl Assembler {
         }
     }
 
-    /// Takes octets up to the end of the next message that completes, or all, and returns how many.
-    pub fn feed(&mut self, piece: &[u8]) -> Result<usize, Fault> {
-        let result = self.advance(piece).and_then(|(taken, complete)| {
-            if let Some(header) = complete {
-                read_message(&header, &self.frame)?;
-            }
-            Ok((taken, complete))
-        });
-        match result {
-            Ok((taken, complete)) => {
-                self.complete = complete;
-                Ok(taken)
-            }
-            Err(fault) => Err(self.fail(fault)),
-        }
-    }
-
-    /// The message that the last call of `feed` completed, if it did.
-    pub fn message(&self) -> Option<Message<'_>> {
-        read_message(self.complete.as_ref()?, &self.frame).ok()
-    }
-
-    /// `feed` and `message` in one call, which reads the message once.
+    /// Takes octets up to the end of the next message that completes, or all: how many, and the message, which is read
+    /// once.
     pub fn feed_once(&mut self, piece: &[u8]) -> Result<(usize, Option<Message<'_>>), Fault> {
         match self.advance(piece) {
             Ok((taken, None)) => {
@@ -535,6 +545,26 @@ impl Assembler {
         }
         let mut left = piece;
         while !left.is_empty() {
+            if self.frame.is_empty() {
+                if let Some(head) = left.first_chunk() {
+                    // the header is judged in the piece, and the frame grows once
+                    let header = self.judge(head)?;
+                    let size = HEADER + header.size as usize;
+                    let (front, others) = left.split_at(size.min(left.len()));
+                    self.frame.try_reserve(front.len())?;
+                    self.frame.extend_from_slice(front);
+                    left = others;
+                    if front.len() < size {
+                        self.wanted = size - front.len();
+                        self.header = Some(header);
+                        break;
+                    }
+                    if let Some(done) = self.settle(header)? {
+                        return Ok((piece.len() - left.len(), Some(done)));
+                    }
+                    continue;
+                }
+            }
             let n = self.wanted.min(left.len());
             let (front, others) = left.split_at(n);
             self.frame.try_reserve(n)?;
@@ -547,7 +577,7 @@ impl Assembler {
             let header = match self.header.take() {
                 Some(header) => header,
                 None => {
-                    let header = self.judge()?;
+                    let header = self.judge(self.frame.first_chunk().unwrap())?;
                     if header.size > 0 {
                         self.wanted = header.size as usize;
                         self.header = Some(header);
@@ -565,8 +595,8 @@ impl Assembler {
     }
 
     /// Judges a header by itself.
-    fn judge(&self) -> Result<Header, Fault> {
-        let header = Header::read(self.frame[..HEADER].try_into().unwrap())?;
+    fn judge(&self, head: &[u8; HEADER]) -> Result<Header, Fault> {
+        let header = Header::read(head)?;
         let size = HEADER as u64 + u64::from(header.size);
         if size > u64::from(self.limits.message) {
             return Err(Fault::TooLarge);
@@ -752,10 +782,33 @@ impl Servant for Counter {
     }
 }
 
-#[derive(PartialEq, Eq, Hash)]
+#[derive(Clone, PartialEq, Eq, Hash)]
 struct Key {
-    client_id: Vec<u8>,
+    client_id: Rc<[u8]>,
     retention_id: i32,
+}
+
+/// A key with its expiration, in order of the expiration alone.
+struct Due(u64, Key);
+
+impl PartialEq for Due {
+    fn eq(&self, other: &Due) -> bool {
+        self.0 == other.0
+    }
+}
+
+impl Eq for Due {}
+
+impl PartialOrd for Due {
+    fn partial_cmp(&self, other: &Due) -> Option<std::cmp::Ordering> {
+        Some(self.cmp(other))
+    }
+}
+
+impl Ord for Due {
+    fn cmp(&self, other: &Due) -> std::cmp::Ordering {
+        self.0.cmp(&other.0)
+    }
 }
 
 struct Kept {
@@ -909,8 +962,8 @@ struct Desk<S> {
     clock: u64,
     capacity: usize,
     log: HashMap<Key, Kept>,
-    /// No entry expires before this moment.
-    least: u64,
+    /// The keys of the log, the one that expires first at its top.
+    order: BinaryHeap<Reverse<Due>>,
 }
 
 impl<S: Servant> Desk<S> {
@@ -931,10 +984,10 @@ impl<S: Servant> Desk<S> {
     }
 
     fn forget(&mut self) {
-        let clock = self.clock;
-        if self.least < clock {
-            self.log.retain(|_, kept| kept.expiration >= clock);
-            self.least = self.log.values().map(|kept| kept.expiration).min().unwrap_or(u64::MAX);
+        while self.order.peek().map_or(false, |due| due.0.0 < self.clock) {
+            if let Some(Reverse(Due(_, key))) = self.order.pop() {
+                self.log.remove(&key);
+            }
         }
     }
 
@@ -952,10 +1005,7 @@ impl<S: Servant> Desk<S> {
             }
             Field::Present { client_id, retention_id, expiration } => {
                 self.forget();
-                let mut copy = Vec::new();
-                copy.try_reserve_exact(client_id.len())?;
-                copy.extend_from_slice(client_id);
-                let key = Key { client_id: copy, retention_id };
+                let key = Key { client_id: Rc::from(client_id), retention_id };
                 if let Some(kept) = self.log.get(&key) {
                     return put_reply(version, id, wish, &kept.outcome, out);
                 }
@@ -963,10 +1013,11 @@ impl<S: Servant> Desk<S> {
                     return put_reply(version, id, wish, &Outcome::System(NO_RESOURCES), out);
                 }
                 self.log.try_reserve(1)?;
+                self.order.try_reserve(1)?;
                 let (outcome, was_performed) = self.performed(&request, order)?;
                 let put = put_reply(version, id, wish, &outcome, out);
                 if was_performed {
-                    self.least = self.least.min(expiration);
+                    self.order.push(Reverse(Due(expiration, key.clone())));
                     self.log.insert(key, Kept { expiration, outcome });
                 }
                 put
@@ -1023,6 +1074,14 @@ const LOCATE: [u8; 25] = [
     0x47, 0x49, 0x4f, 0x50, 1, 2, 0, 3, 0, 0, 0, 0x0d, 0, 0, 0, 1, 0, 0, 0, 0, 0, 0, 0, 1, 0x63,
 ];
 
+/// A server of a counter that keeps so many outcomes, with connection 1.
+fn counting(entries: usize) -> Server<Counter> {
+    let desk = Desk { servant: Counter::new(0), clock: 0, capacity: entries, log: HashMap::new(), order: BinaryHeap::new() };
+    let mut server = Server { desk, links: BTreeMap::new() };
+    server.links.insert(1, Assembler::new(LIMITS));
+    server
+}
+
 /// Serves N messages of a kind in pieces, each piece's answers in one output, and says what came out.
 fn serve(kind: &str, count: usize, piece: usize) {
     let message: &[u8] = match kind {
@@ -1035,12 +1094,10 @@ fn serve(kind: &str, count: usize, piece: usize) {
         stream.extend_from_slice(message);
     }
     if piece == 0 {
-        println!("octets {}", std::hint::black_box(&stream).len());
+        println!("octets {} sum 0 total 0", std::hint::black_box(&stream).len());
         return;
     }
-    let desk = Desk { servant: Counter::new(0), clock: 0, capacity: 1024, log: HashMap::new(), least: u64::MAX };
-    let mut server = Server { desk, links: BTreeMap::new() };
-    server.links.insert(1, Assembler::new(LIMITS));
+    let mut server = counting(1024);
     let (mut out, mut written, mut sum) = (Vec::new(), 0, 0u64);
     for piece in stream.chunks(piece) {
         out.clear();
@@ -1050,6 +1107,32 @@ fn serve(kind: &str, count: usize, piece: usize) {
         }
         written += out.len();
         sum = sum.wrapping_mul(31).wrapping_add(u64::from(*out.last().unwrap_or(&0)));
+    }
+    println!("octets {written} sum {sum} total {}", server.desk.servant.total);
+}
+
+/// Serves N messages, each with a key of its own: the log is full, and one outcome expires with each message.
+fn serve_keyed(is_scattered: bool, count: u64, feeds: bool, entries: u64) {
+    let mut server = counting(entries as usize);
+    let (mut out, mut written, mut sum) = (Vec::new(), 0, 0u64);
+    let mut message = REQUEST;
+    for index in 0..count {
+        let place = index & (entries - 1);
+        let turn = if is_scattered { place.wrapping_mul(40_503).wrapping_add(97) & (entries - 1) } else { place };
+        message[64..68].copy_from_slice(&(index as u32 + 1).to_be_bytes());
+        message[68..76].copy_from_slice(&(999 + index - place + entries + turn).to_be_bytes());
+        let octets: &[u8] = if feeds {
+            out.clear();
+            if server.feed(1, 1000 + index, &message, &mut out).is_err() {
+                println!("fault");
+                return;
+            }
+            &out
+        } else {
+            std::hint::black_box(&message)
+        };
+        written += octets.len();
+        sum = sum.wrapping_mul(31).wrapping_add(u64::from(*octets.last().unwrap_or(&0)));
     }
     println!("octets {written} sum {sum} total {}", server.desk.servant.total);
 }
@@ -1073,95 +1156,334 @@ struct Tally {
 impl Tally {
     fn add(&mut self, message: &Message) {
         self.messages += 1;
-        if let Message::Request(request) = message {
-            for x in [u64::from(request.id), request.operation.len() as u64, request.body.octets.len() as u64] {
-                self.sum = self.sum.wrapping_mul(31).wrapping_add(x);
-            }
+        let numbers = match message {
+            Message::Request(request) => [request.id, request.operation.len() as u32, request.body.octets.len() as u32],
+            Message::Reply(reply) => [reply.id, reply.status, reply.body.octets.len() as u32],
+            Message::LocateRequest(id, Target::Key(key)) => [*id, key.len() as u32, 0],
+            _ => return,
+        };
+        for x in numbers {
+            self.sum = self.sum.wrapping_mul(31).wrapping_add(u64::from(x));
         }
     }
 }
 
-fn drive(stream: &[u8], piece: usize, once: bool) -> Result<Tally, Fault> {
+/// Feeds a stream in pieces.
+#[inline(never)]
+fn drive(stream: &[u8], size: usize) -> Result<Tally, Fault> {
     let mut assembler = Assembler::new(LIMITS);
     let mut tally = Tally::default();
-    for piece in stream.chunks(piece) {
+    for piece in stream.chunks(size) {
         let mut left = piece;
         while !left.is_empty() {
-            let taken = if once {
-                let (taken, message) = assembler.feed_once(left)?;
-                if let Some(message) = message {
-                    tally.add(&message);
-                }
-                taken
-            } else {
-                let taken = assembler.feed(left)?;
-                if let Some(message) = assembler.message() {
-                    tally.add(&message);
-                }
-                taken
-            };
+            let (taken, message) = assembler.feed_once(left)?;
+            if let Some(message) = message {
+                tally.add(&message);
+            }
             left = &left[taken..];
         }
     }
     Ok(tally)
 }
 
-/// How a stream of digits ends, for comparison with other readers.
-fn check(digits: &str, size: usize, once: bool) -> String {
-    let digits: Vec<u8> = digits.bytes().filter(|x| !x.is_ascii_whitespace()).collect();
-    let octets: Vec<u8> = digits
-        .chunks(2)
-        .map(|d| u8::from_str_radix(std::str::from_utf8(d).unwrap(), 16).unwrap())
-        .collect();
-    let mut assembler = Assembler::new(LIMITS);
-    let mut count = 0;
-    for piece in octets.chunks(size) {
-        let mut left = piece;
-        while !left.is_empty() {
-            let fed = if once {
-                assembler.feed_once(left).map(|(taken, message)| (taken, message.is_some()))
-            } else {
-                assembler.feed(left).map(|taken| (taken, assembler.message().is_some()))
-            };
-            match fed {
-                Ok((taken, completes)) => {
-                    count += u64::from(completes);
-                    left = &left[taken..];
+/// Reads each message of a stream by itself.
+#[inline(never)]
+fn read_each(stream: &[u8]) -> Result<Tally, Fault> {
+    let mut tally = Tally::default();
+    let mut left = stream;
+    while let Some(head) = left.first_chunk() {
+        let header = Header::read(head)?;
+        let (frame, others) = left.split_at(HEADER + header.size as usize);
+        tally.add(&read_message(&header, frame)?);
+        left = others;
+    }
+    Ok(tally)
+}
+
+/// A Reply of 1.2.
+const REPLY: [u8; 28] = [
+    0x47, 0x49, 0x4f, 0x50, 1, 2, 0, 1, 0, 0, 0, 0x10, 0, 0, 0, 5, 0, 0, 0, 0, 0, 0, 0, 0, 0, 0, 0, 7,
+];
+
+/// A reference of 1.2 with one profile and one component.
+const REFERENCE: &str = "IOR:000000000000001049444c3a436f756e7465723a312e300000000001000000000000002c000102000000000a3132372e302e302e31000af9000000000163000000000000010000000100000004\
+00000007";
+
+/// Appends a frame: its header, the request id, and octets after it, filled up with zeros to a size.
+fn put_frame(flags: u8, kind: u8, size: usize, id: u32, after: &[u8], out: &mut Vec<u8>) {
+    let start = out.len();
+    out.extend_from_slice(&[b'G', b'I', b'O', b'P', 1, 2, flags, kind]);
+    out.extend_from_slice(&((size - HEADER) as u32).to_be_bytes());
+    out.extend_from_slice(&id.to_be_bytes());
+    out.extend_from_slice(after);
+    out.resize(start + size, 0);
+}
+
+/// Appends one round of a kind of stream.
+#[inline(never)]
+fn put_round(kind: &str, out: &mut Vec<u8>) {
+    let fields = &REQUEST[16..80];
+    match kind {
+        "reply" => out.extend_from_slice(&REPLY),
+        "locate" => out.extend_from_slice(&LOCATE),
+        "cut" => {
+            for turn in 0..4 {
+                for id in 0..8 {
+                    match turn {
+                        0 => put_frame(2, 0, 256, id, fields, out),
+                        3 => put_frame(0, 7, 256, id, &[], out),
+                        _ => put_frame(2, 7, 256, id, &[], out),
+                    }
                 }
-                Err(fault) => return format!("fault after {count} messages: {fault}"),
+            }
+        }
+        "large" => put_frame(0, 0, 1 << 20, 5, fields, out),
+        "large_cut" => {
+            put_frame(2, 0, 4096, 5, fields, out);
+            for _ in 0..254 {
+                put_frame(2, 7, 4096, 5, &[], out);
+            }
+            put_frame(0, 7, 4096, 5, &[], out);
+        }
+        _ => out.extend_from_slice(&REQUEST),
+    }
+}
+
+/// An object reference: its type, and its profiles, each with its tag.
+struct Ior {
+    type_id: Vec<u8>,
+    profiles: Vec<(u32, Vec<u8>)>,
+}
+
+/// The reference in a text.
+fn parse_reference(text: &str) -> Option<Ior> {
+    let digits = text.get(..4).filter(|p| p.eq_ignore_ascii_case("ior:")).map(|_| &text.as_bytes()[4..])?;
+    let octets = decode(digits)?;
+    let order = match octets.first()? {
+        0 => Order::Big,
+        1 => Order::Little,
+        _ => return None,
+    };
+    let mut reader = Reader { octets: &octets, at: 1, order };
+    let type_id = reader.string().ok()?.to_vec();
+    let mut profiles = Vec::new();
+    for _ in 0..reader.ulong().ok()? {
+        let (tag, data) = reader.tagged().ok()?;
+        profiles.push((tag, data.to_vec()));
+    }
+    Some(Ior { type_id, profiles })
+}
+
+/// Reads a reference so many times.
+#[inline(never)]
+fn references(count: usize) -> Tally {
+    let mut tally = Tally::default();
+    for _ in 0..count {
+        if let Some(ior) = parse_reference(std::hint::black_box(REFERENCE)) {
+            tally.messages += 1;
+            for x in [ior.type_id.len(), ior.profiles.len(), ior.profiles.first().map_or(0, |p| p.1.len())] {
+                tally.sum = tally.sum.wrapping_mul(31).wrapping_add(x as u64);
             }
         }
     }
+    tally
+}
+
+const NO: u8 = 255;
+
+/// The value of each hexadecimal digit at its octet.
+const VALUES: [u8; 256] = {
+    let mut values = [NO; 256];
+    let mut i = 0;
+    while i < 16 {
+        values[b"0123456789abcdef"[i] as usize] = i as u8;
+        values[b"0123456789ABCDEF"[i] as usize] = i as u8;
+        i += 1;
+    }
+    values
+};
+
+fn is_blank(octet: u8) -> bool {
+    matches!(octet, b' ' | b'\t' | b'\r' | b'\n')
+}
+
+/// The octets that digits give, with blanks between them.
+fn decode(text: &[u8]) -> Option<Vec<u8>> {
+    let mut octets = Vec::with_capacity(text.len() / 2);
+    let mut left = text;
+    loop {
+        // pairs that stand together
+        let mut pairs = left.chunks_exact(2);
+        let mut done = 0;
+        for pair in &mut pairs {
+            let (high, low) = (VALUES[pair[0] as usize], VALUES[pair[1] as usize]);
+            if high | low == NO {
+                break;
+            }
+            octets.push(high << 4 | low);
+            done += 2;
+        }
+        left = &left[done..];
+        // and one that a blank begins or parts
+        let Some(first) = left.iter().position(|x| !is_blank(*x)) else {
+            return Some(octets);
+        };
+        if first == 0 {
+            let high = VALUES[left[0] as usize];
+            let second = 1 + left[1..].iter().position(|x| !is_blank(*x))?;
+            let low = VALUES[left[second] as usize];
+            if high | low == NO {
+                return None;
+            }
+            octets.push(high << 4 | low);
+            left = &left[second + 1..];
+        } else {
+            left = &left[first..];
+        }
+    }
+}
+
+fn put_digits(octets: &[u8], out: &mut Vec<u8>) {
+    if octets.is_empty() {
+        out.push(b'-');
+    }
+    for x in octets {
+        out.push(b"0123456789abcdef"[(x >> 4) as usize]);
+        out.push(b"0123456789abcdef"[(x & 15) as usize]);
+    }
+}
+
+fn put_text(octets: &[u8], out: &mut Vec<u8>) {
+    for x in octets {
+        if matches!(x, 0x20..=0x7e) && *x != b'\\' {
+            out.push(*x);
+        } else {
+            out.extend_from_slice(b"\\x");
+            put_digits(&[*x], out);
+        }
+    }
+}
+
+/// Appends the lines of a Request, the one kind that is shown here.
+fn put_lines(header: Header, request: Request, out: &mut Vec<u8>) -> std::io::Result<()> {
+    let version = match header.version {
+        Version::V10 => "1.0",
+        Version::V11 => "1.1",
+        Version::V12 => "1.2",
+    };
+    let order = if header.order == Order::Big { "big" } else { "little" };
+    let wish = match request.wish {
+        Wish::None => "none",
+        Wish::Empty => "empty",
+        Wish::Full => "full",
+    };
+    write!(out, "{version} {order} Request id {} reply {wish} ", request.id)?;
+    match request.target {
+        Target::Key(key) => {
+            out.extend_from_slice(b"key ");
+            put_digits(key, out);
+        }
+        Target::Profile(tag, data) => {
+            write!(out, "profile {tag} ")?;
+            put_digits(data, out);
+        }
+        Target::Reference { index, .. } => write!(out, "reference {index}")?,
+    }
+    out.extend_from_slice(b" operation ");
+    put_text(request.operation, out);
+    out.extend_from_slice(b" body ");
+    put_digits(request.body.octets, out);
+    out.push(b'\n');
+    let again = Contexts { reader: request.contexts.reader, left: request.contexts.left };
+    for (id, data) in request.contexts {
+        write!(out, "  context {id} ")?;
+        put_digits(data, out);
+        out.push(b'\n');
+    }
+    match field(again) {
+        Field::Absent => {}
+        Field::Bad => out.extend_from_slice(b"  ft bad\n"),
+        Field::Present { client_id, retention_id, expiration } => {
+            out.extend_from_slice(b"  ft client ");
+            put_text(client_id, out);
+            write!(out, " retention {retention_id} expiration {expiration}\n")?;
+        }
+    }
+    Ok(())
+}
+
+/// Prints how a stream of digits ends, and before it the messages, where they are asked for.
+fn show(text: &str, messages: bool) -> std::io::Result<()> {
+    let mut out = BufWriter::new(std::io::stdout().lock());
+    let Some(octets) = decode(text.as_bytes()) else {
+        return writeln!(out, "bad digits");
+    };
+    let mut assembler = Assembler::new(LIMITS);
+    let mut count = 0;
+    let mut left = &octets[..];
+    let mut lines = Vec::new();
+    while !left.is_empty() {
+        let taken = match assembler.feed_once(left) {
+            Ok((taken, None)) => taken,
+            Ok((taken, Some(message))) => {
+                count += 1;
+                if messages {
+                    if let Message::Request(request) = message {
+                        lines.clear();
+                        let header = Header { version: Version::V12, order: request.contexts.reader.order, more: false, kind: Kind::Request, size: 0 };
+                        put_lines(header, request, &mut lines)?;
+                        out.write_all(&lines)?;
+                    }
+                }
+                taken
+            }
+            Err(fault) => return writeln!(out, "fault after {count} messages: {fault}"),
+        };
+        left = &left[taken..];
+    }
     match (assembler.pending(), assembler.partial()) {
-        (0, 0) => format!("end {count} messages"),
-        (k, p) => format!("rest {k} octets, {p} partial"),
+        (0, 0) => writeln!(out, "end {count} messages"),
+        (k, p) => writeln!(out, "rest {k} octets, {p} partial"),
     }
 }
 
 fn main() {
     let words: Vec<String> = std::env::args().skip(1).collect();
-    let once = words.iter().any(|word| word == "once");
-    if words[0] == "check" {
+    if words[0] == "check" || words[0] == "show" {
         let mut text = String::new();
         std::io::stdin().read_to_string(&mut text).unwrap();
-        println!("{}", check(&text, words[1].parse().unwrap(), once));
+        show(&text, words[0] == "show").unwrap();
         return;
     }
     if words[0] == "serve" {
-        serve(&words[3], words[1].parse().unwrap(), words[2].parse().unwrap());
+        let (count, piece): (usize, usize) = (words[1].parse().unwrap(), words[2].parse().unwrap());
+        match words[3].as_str() {
+            kind @ ("rising" | "scattered") => {
+                serve_keyed(kind == "scattered", count as u64, piece > 0, words[4].parse().unwrap());
+            }
+            kind => serve(kind, count, piece),
+        }
         return;
     }
     let count: usize = words[0].parse().unwrap();
     let piece: usize = words[1].parse().unwrap();
-    let mut stream = Vec::with_capacity(count * REQUEST.len());
-    for _ in 0..count {
-        stream.extend_from_slice(&REQUEST);
+    let kind = words.get(2).map_or("request", |kind| kind);
+    let mut stream = Vec::new();
+    if kind != "reference" {
+        for _ in 0..count {
+            put_round(kind, &mut stream);
+        }
     }
     if piece == 0 {
         println!("octets {}", std::hint::black_box(&stream).len());
         return;
     }
-    match drive(&stream, piece, once) {
+    let tally = match kind {
+        "read" | "reply" | "locate" => read_each(&stream),
+        "reference" => Ok(references(count)),
+        _ => drive(&stream, piece),
+    };
+    match tally {
         Ok(tally) => println!("messages {} sum {}", tally.messages, tally.sum),
         Err(fault) => println!("fault {fault}"),
     }

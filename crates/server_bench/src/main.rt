@@ -3,6 +3,10 @@
 //! The words are how many messages the stream has, how many octets a piece has, and of what kind the messages
 //! are: `add` without FT_REQUEST, `repeat` with one key, or `locate`. It prints how many octets were written,
 //! a checksum of them, and the total. With pieces of 0 octets it only makes the stream.
+//!
+//! Of the kinds `rising` and `scattered` each message has a key of its own, is a piece of its own, and comes one
+//! moment after the message before it. The fourth word is how many outcomes the server keeps, a power of two: the
+//! log is full, and one outcome expires with each message, in the order in which they were kept, or in another.
 #![tactic(auto)]
 
 use ft_orb::Server;
@@ -48,6 +52,61 @@ fn added(tally: Tally, written: &[u8]) -> Tally {
     }
 }
 
+/// The moment of the first message with a key of its own.
+const FIRST: u64 = 1000;
+
+/// The last moment at which the outcome of a message is kept, where the server keeps `entries` of them: one expires
+/// with each message that comes after the first `entries`.
+fn expiration(index: u64, entries: u64, is_scattered: bool) -> u64 {
+    let mask = entries.wrapping_sub(1);
+    let place = index & mask;
+    let turn = if is_scattered {
+        place.wrapping_mul(40_503).wrapping_add(97) & mask
+    } else {
+        place
+    };
+    (FIRST - 1)
+        .wrapping_add(index.wrapping_sub(place))
+        .wrapping_add(entries)
+        .wrapping_add(turn)
+}
+
+/// Puts a key of its own and its expiration into a Request.
+fn put_key(message: &mut [u8; 84], index: u32, expiration: u64) {
+    message[64..68].copy_from_slice(&index.wrapping_add(1).to_be_bytes());
+    message[68..76].copy_from_slice(&expiration.to_be_bytes());
+}
+
+/// Feeds `count` messages, each with a key of its own, on connection 1; or only makes them.
+fn drive_keyed(
+    alloc: Global,
+    server: &mut Server<Counter>,
+    count: u32,
+    entries: u64,
+    is_scattered: bool,
+    feeds: bool,
+) -> Option<Tally> {
+    let mut tally = Tally { octets: 0, sum: 0 };
+    let mut out = Vec::new(alloc);
+    let mut message = REPEAT;
+    for index in 0..count {
+        let moment = FIRST.wrapping_add(u64::from(index));
+        put_key(
+            &mut message,
+            index,
+            expiration(u64::from(index), entries, is_scattered),
+        );
+        if feeds {
+            out.clear();
+            server.feed(1, moment, &message, &mut out).ok()?;
+            tally = added(tally, &out);
+        } else {
+            tally = added(tally, &message);
+        }
+    }
+    Some(tally)
+}
+
 /// A stream of `count` messages of a kind.
 fn stream_of(alloc: Global, count: u32, kind: &str) -> Result<Vec<u8>, AllocError> {
     let message = match kind {
@@ -88,29 +147,53 @@ fn number(words: &[String], at: usize) -> u32 {
     }
 }
 
+/// Feeds the messages that the words ask for to a server that keeps `entries` outcomes.
+fn driven(
+    alloc: Global,
+    words: &[String],
+    kind: &str,
+    entries: u64,
+    server: &mut Server<Counter>,
+) -> Result<Option<Tally>, AllocError> {
+    let (count, size) = (number(words, 1), number(words, 2));
+    if kind == "rising" || kind == "scattered" {
+        return Ok(drive_keyed(alloc, server, count, entries, kind == "scattered", size > 0));
+    }
+    let stream = stream_of(alloc, count, kind)?;
+    if size == 0 {
+        return Ok(Some(Tally {
+            octets: stream.len() as u64,
+            sum: 0,
+        }));
+    }
+    Ok(drive(alloc, server, stream.as_slice(), size as usize))
+}
+
 /// Does what the words ask for.
 fn answer(rt: &HostRuntime) -> io::Result<()> {
     let alloc = rt.alloc();
     let words: Vec<String> = env::args(rt)?.collect(alloc)?;
     let kind = words.get(3).map_or("add", |word| word.as_str());
-    let stream = stream_of(alloc, number(words.as_slice(), 1), kind)?;
-    let size = number(words.as_slice(), 2);
-    if size == 0 {
-        return println!(rt; "octets {}", stream.len());
-    }
+    let entries = number(words.as_slice(), 4).clamp(1024, 65_536);
     let counter = Counter::new(alloc, 0)?;
     let mut server = Server::new(
         alloc,
         counter,
         Limits::default(),
-        1024,
-        1024,
+        entries,
+        entries,
         RandomState::new(rt)?,
     );
     if server.connect(1).is_err() {
         return println!(rt; "memory");
     }
-    match drive(alloc, &mut server, stream.as_slice(), size as usize) {
+    match driven(
+        alloc,
+        words.as_slice(),
+        kind,
+        u64::from(entries),
+        &mut server,
+    )? {
         Some(tally) => println!(rt;
             "octets {} sum {} total {}",
             tally.octets,

@@ -1,0 +1,54 @@
+#!/usr/bin/env python3
+"""Times `giop serve` over loopback against a server that sends back what it gets.
+
+usage: measure_serve.py GIOP LOAD [--rounds 5] [--count 1000000]
+
+GIOP is the program, LOAD that of bench/load.rs. A client sends COUNT requests of 52 octets on one connection, `add`
+without FT_REQUEST, with at most 64 of them unanswered, and a tenth of them one at a time. Printed is how many were
+answered in a second, the best of so many rounds, in which the servers take turns.
+"""
+import argparse
+import socket
+import subprocess
+
+
+def free_port():
+    with socket.socket() as probe:
+        probe.bind(("127.0.0.1", 0))
+        return str(probe.getsockname()[1])
+
+
+def rate(server, load, count, window, reply):
+    """How many requests a server answers in a second."""
+    port = free_port()
+    words = [word.replace("PORT", port) for word in server]
+    with subprocess.Popen(words, stdout=subprocess.DEVNULL) as serving:
+        asked = subprocess.run([load, "ask", port, str(count), str(window), str(reply)], capture_output=True, text=True, check=True)
+        serving.wait(10)
+    return float(asked.stdout)
+
+
+def main():
+    parser = argparse.ArgumentParser()
+    parser.add_argument("giop")
+    parser.add_argument("load")
+    parser.add_argument("--rounds", type=int, default=5)
+    parser.add_argument("--count", type=int, default=1_000_000)
+    given = parser.parse_args()
+    servers = {
+        "giop serve": ([given.giop, "serve", "--port", "PORT", "--connections", "1"], 32),
+        "echo": ([given.load, "echo", "PORT"], 52),
+    }
+    windows = {"64 at a time": (given.count, 64), "one at a time": (given.count // 10, 1)}
+    best = {}
+    for _ in range(given.rounds):
+        for window, (count, size) in windows.items():
+            for name, (words, reply) in servers.items():
+                best[window, name] = max(best.get((window, name), 0), rate(words, given.load, count, size, reply))
+    print(f"requests a second, best of {given.rounds}")
+    for window in windows:
+        ours, echo = best[window, "giop serve"], best[window, "echo"]
+        print(f"{window:>13}: giop serve {ours:9,.0f}, echo {echo:9,.0f}, ratio {ours / echo:.2f}")
+
+
+main()
