@@ -8,6 +8,7 @@
   words names a definition of the file beside it.
 - Each block of Rust that README.md, docs/GUIDE.md and the pages of giop_link and ft_log show stands in a
   file of crates/uses/src.
+- The client that docs/INTEROP.md shows is examples/retry_client.py.
 - docs/ARCHITECTURE.md names each crate, with the libraries that it stands on, and each room of the crates
   whose rooms it lists.
 - Each relative link of a document, and each path such as `crates/NAME/..` that it gives between backquotes,
@@ -24,6 +25,8 @@ PROMISES = "docs/PROMISES.md"
 QUOTING = ["README.md", "docs/GUIDE.md", "crates/giop_link/README.md", "crates/ft_log/README.md"]
 USES = "crates/uses/src"
 ARCHITECTURE = "docs/ARCHITECTURE.md"
+INTEROP = "docs/INTEROP.md"
+CLIENT = "examples/retry_client.py"
 FOUR = "`cdr_core`, `ior_core`, `giop_core`, `giop_frames`"
 LAST_COLUMN = "Edits that the prover refuses"
 
@@ -127,6 +130,13 @@ def quotes():
             yield None if is_there else f"{name}: not in {USES}: {block.split(chr(10))[0]}"
 
 
+def client():
+    """A result for the client that INTEROP shows: whether it is the one that the tests run."""
+    shown = re.findall(r"^```python\n(.*?)^```$", text_of(INTEROP), re.M | re.S)
+    is_there = len(shown) == 1 and text_of(CLIENT).endswith("\n" + shown[0])
+    yield None if is_there else f"{INTEROP}: its one block of Python does not end {CLIENT}"
+
+
 def crates():
     """A result for each crate of crates.txt: whether its row names it, and each library or 'the four libraries'."""
     rows = re.findall(r"^\| `(\w+)` \|.*\| (.*?) \|$", text_of(ARCHITECTURE), re.M)
@@ -178,7 +188,7 @@ def links():
 
 def main():
     passed = failed = 0
-    for part in (edits, calls, clauses, quotes, crates, rooms, links):
+    for part in (edits, calls, clauses, quotes, client, crates, rooms, links):
         results = list(part())
         if not results:
             results = [f"nothing was checked of {part.__name__}"]

@@ -55,6 +55,7 @@ INPUTS = [
         f"open {c}\nbytes {c} 0 {LOCATE}\nbytes {c} 1 00\nclose {c}\n" for c in range(25)).encode()),
     ("a request that is sent twice", ["play", "--capacity", "1"], RETRY),
     ("a share that is none", ["play", "--share", "0"], b""),
+    ("a port that is none", ["serve", "--port", "0", "--connections", "1"], b""),
     ("a bad line", [], b"open 1\nclose\n"),
     ("input that is no text", [], b"open 1\n\xff\n"),
     ("a reference", words_of("ior/counter"), b""),
