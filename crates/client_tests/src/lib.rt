@@ -13,6 +13,4 @@ mod octets;
 #[cfg(test)]
 mod replies;
 #[cfg(test)]
-mod schedules;
-#[cfg(test)]
 mod sessions;
