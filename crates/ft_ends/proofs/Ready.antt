@@ -3,7 +3,11 @@ use Rattle.std.proofs.Common.{◌≡◌, ℕ, zero, suc, ◌<◌, ◌≤◌, ◌
 use Rattle.std.specs.List.{AllByRecursion, slice_get}
 use Rattle.std.proofs.lemmas.List.{map-append, take_more}
 use Rattle.std.proofs.lemmas.Option.{none-some, same_Some}
+use Rattle.cdr_core.proofs.WrittenOctets.{HoldAll, written_octets}
+use Rattle.cdr_core.specs.declared.order.Order.TheVariants.{Big}
 use Rattle.cdr_core.specs.Spelling.{IsClean}
+use Rattle.cdr_core.specs.Value.{structure}
+use Rattle.cdr_core.specs.View.{values_of}
 use Rattle.giop_link.specs.Laws.{HearingGrows}
 use Rattle.ft_client.specs.declared.client.FtClient.{FtClient}
 use Rattle.ft_client.specs.Clients.{Linked, Pending}
@@ -15,6 +19,7 @@ use Rattle.ft_orb.specs.History.{Event, arrivals}
 use Rattle.ft_orb.specs.Outputs.{Made}
 use Rattle.ft_orb.specs.Servants.{Meaning}
 use Rattle.ft_ends.specs.declared.wire.Wire.{Wire as CodeWire}
+use Rattle.ft_ends.specs.declared.steps.Call.{Call as CodeCall}
 use Rattle.ft_ends.specs.declared.steps.Step.{Step as CodeStep}
 use Rattle.ft_ends.specs.declared.steps.Step.TheVariants as code
 use Rattle.ft_ends.specs.Both.{AreDistinct}
@@ -84,20 +89,20 @@ module _ {State : Type 0} (meaning : Meaning State) (made : Made State) (newcome
 
 -- The steps of the code.
 
-pub callable-fine : (s : CodeStep) → IsCallable s → IsFineStep (step_as s)
-callable-fine (code.Call k now call) h = record { operation = h.0; arguments = h.2; expiration = call.near }
-callable-fine (code.Connect k now) h = tt
-callable-fine (code.Up k n now) h = tt
-callable-fine (code.Down k n) h = tt
-callable-fine (code.Cut k) h = tt
-callable-fine (code.Shut k) h = tt
-callable-fine (code.Cancel k id) h = tt
-callable-fine (code.Tick k now) h = tt
+pub call-fine : (s : CodeStep) (k now : ℕ) (call : CodeCall) → s ≡ code.Call k now call → IsCallable s → HoldAll (values_of call.arguments.items) → IsFineStep (step_as s)
+call-fine s k now call is callable held =
+    subst (λ (d : CodeStep). IsFineStep (step_as d)) (sym is)
+    (record { operation = (subst IsCallable is callable).0; arguments = λ place. written_octets Big (structure (values_of call.arguments.items)) held place; expiration = call.near })
 
-pub all-fine : (n : ℕ) (ss : List CodeStep) → AllByRecursion IsCallable ss → AllByRecursion IsFineStep (map step_as (take n ss))
-all-fine zero ss h = tt
-all-fine (suc n) [] h = tt
-all-fine (suc n) (s ∷ ss) h = (callable-fine s h.0, all-fine n ss h.1)
+pub first-fine : (n : ℕ) (ss : List CodeStep) → AllByRecursion IsFineStep (map step_as ss) → AllByRecursion IsFineStep (map step_as (take n ss))
+first-fine zero ss h = tt
+first-fine (suc n) [] h = tt
+first-fine (suc n) (s ∷ ss) h = (h.0, first-fine n ss h.1)
+
+pub fine-at : (ss : List CodeStep) (i : ℕ) (d : CodeStep) → i < length ss → AllByRecursion IsFineStep (map step_as ss) → IsFineStep (step_as (get_or ss i d))
+fine-at [] i d within h = absurd (omega arith)
+fine-at (s ∷ ss) zero d within h = h.0
+fine-at (s ∷ ss) (suc i) d within h = fine-at ss i d (omega arith) h.1
 
 pub callable-at : (ss : List CodeStep) (i : ℕ) (d : CodeStep) → i < length ss → AllByRecursion IsCallable ss → IsCallable (get_or ss i d)
 callable-at [] i d within h = absurd (omega arith)

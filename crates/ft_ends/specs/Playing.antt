@@ -1,10 +1,8 @@
 -- Schedules of the code, and what they begin with.
 use Rattle.std.specs.Prelude.{ℕ, ℤ, pos, List, [], ◌∷◌}
-use Rattle.cdr_core.specs.Numbers.{AreOctets}
 use Rattle.cdr_core.specs.Spelling.{IsClean}
 use Rattle.cdr_core.specs.View.{values_of}
-use Rattle.cdr_core.specs.Writing.{AreWritable, octets_of_all}
-use Rattle.cdr_core.specs.declared.order.Order.TheVariants.{Big}
+use Rattle.cdr_core.specs.Writing.{AreWritable}
 use Rattle.ft_client.specs.declared.client.FtClient.{FtClient}
 use Rattle.ft_client.specs.declared.ended.Ended.{Ended as CodeEnded}
 use Rattle.ft_client.specs.Calling.{call_of}
@@ -37,10 +35,9 @@ step_as (code.Shut k) = Shut k
 step_as (code.Cancel k id) = Cancel k id
 step_as (code.Tick k now) = Tick k now
 
--- the call of a step, if it has one: its operation has no NUL, and its arguments can be written, as octets
+-- the call of a step, if it has one: its operation has no NUL, and its arguments can be written
 abbrev pub IsCallable : CodeStep → Type 0
-IsCallable (code.Call k now call) =
-    IsClean call.operation.items × AreWritable (values_of call.arguments.items) × ((place : ℕ) → AreOctets (octets_of_all Big (values_of call.arguments.items) place))
+IsCallable (code.Call k now call) = IsClean call.operation.items × AreWritable (values_of call.arguments.items)
 IsCallable (code.Connect k now) = Unit {0}
 IsCallable (code.Up k n now) = Unit {0}
 IsCallable (code.Down k n) = Unit {0}

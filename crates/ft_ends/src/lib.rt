@@ -6,6 +6,7 @@
 #![tactic(auto)]
 
 pub mod laws;
+mod octets;
 mod outcomes;
 mod playing;
 mod steps;

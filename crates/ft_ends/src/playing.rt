@@ -9,12 +9,13 @@ ghost use Rattle.ft_orb.specs.History as history;
 ghost use Rattle.ft_orb.specs.Outputs.{Made};
 ghost use Rattle.ft_orb.specs.Standing.{Stands, events_played};
 ghost use Rattle.ft_ends.specs.Both.{ActsOnce};
-ghost use Rattle.ft_ends.specs.Laws.{sides_of};
+ghost use Rattle.ft_ends.specs.Laws.{IsFineStep, sides_of};
 ghost use Rattle.ft_ends.specs.Playing.{AreBeginning, IsCallable, given_of, numbered, step_as};
 ghost use Rattle.ft_ends.specs.Private.{AreSet, AreUnused, Holds, IsReady, IsSettled, Runs};
 ghost use Rattle.ft_ends.specs.World as world;
 ghost use Rattle.ft_ends.specs.World.{Member, Newcomer, World, moved, moved_to, with_client};
 
+use crate::octets::are_fine;
 use crate::steps::Step;
 use crate::wire::{Wire, called, cancelled, closed, come_down, come_up, connected, cut};
 use ft_client::{Ended, FtClient};
@@ -120,7 +121,8 @@ fn run<S: Servant + Drop>(
     steps: &[Step],
     out: &mut Vec<(u32, i32, Ended)>,
 ) -> Result<(), PlayError>
-    requires { AllByRecursion IsCallable steps.now }
+    requires callable { AllByRecursion IsCallable steps.now }
+    requires fine { AllByRecursion IsFineStep (map step_as steps.now) }
     ensures given { (made : Made S) (newcomers : List Newcomer) → AreSet S.meaning made newcomers server.old clients.old wires.old
         → map given_of out.new.items ≡ map given_of out.old.items ++ map numbered (world.world (sides_of S.meaning made down) newcomers (map step_as (take (events_played (length steps.now) result) steps.now))).completions }
     ensures stands { OnOk result ((made : Made S) (newcomers : List Newcomer) → AreSet S.meaning made newcomers server.old clients.old wires.old
@@ -165,6 +167,7 @@ pub fn both_ends<S: Servant + Drop>(
     ensures err { OnErr result (events_played (length steps.now) result < length steps.now) }
 {
     crate::laws::both_ends_act_once::<S>();
+    are_fine(steps);
     server.servant().known();
     if steps.is_empty() {
         return Ok(());

@@ -3,12 +3,12 @@ use Rattle.std.proofs.lemmas.List.{append-nil, take_all}
 use Rattle.ft_client.specs.Standing.{down}
 use Rattle.ft_orb.specs.Standing.{Stands}
 use Rattle.ft_ends.specs.declared.steps.Step.{Step as CodeStep}
-use Rattle.ft_ends.specs.Laws.{sides_of}
+use Rattle.ft_ends.specs.Laws.{IsFineStep, sides_of}
 use Rattle.ft_ends.specs.Playing.{IsCallable, given_of, numbered, step_as}
 use Rattle.ft_ends.specs.Private.{Runs}
 use Rattle.ft_ends.specs.World.{world}
 use Rattle.ft_ends.proofs.Moving.{err-then, ok-then}
-use Rattle.ft_ends.proofs.Ready.{all-fine, callable-at, callable-fine, ready-is, steps-more, world-is}
+use Rattle.ft_ends.proofs.Ready.{callable-at, fine-at, first-fine, ready-is, steps-more, world-is}
 use Rattle.ft_ends.proofs.Worlds.{world-push}
 use Rattle.ft_ends.proofs.playing.run.Goals as goal
 
@@ -22,7 +22,7 @@ pub step_among-requires-clause-few : goal.step_among-requires-clause-few
 step_among-requires-clause-few g c = let few = c.loop-i.invariant.few in omega (arith, few)
 
 pub step_among-requires-clause-callable : goal.step_among-requires-clause-callable
-step_among-requires-clause-callable g c = subst IsCallable (sym c.index-steps-i.is) (callable-at c.args.steps.now c.loop-i.i c.index-steps-i.result c.loop-i-test.true c.requires)
+step_among-requires-clause-callable g c = subst IsCallable (sym c.index-steps-i.is) (callable-at c.args.steps.now c.loop-i.i c.index-steps-i.result c.loop-i-test.true c.requires.callable)
 
 pub loop-i-preserved : goal.loop-i-preserved
 loop-i-preserved g c = record {
@@ -38,9 +38,9 @@ loop-i-preserved g c = record {
       let faithful = c.directions_are_faithful.ensures made.limits in
       let grow = c.streams_are_heard.ensures.grows in
       let short = c.answers_are_short.ensures made set.state in
-      let callable = subst IsCallable (sym c.index-steps-i.is) (callable-at steps i s c.loop-i-test.true c.requires) in
-      let is_world = world-is meaning made newcomers set.distinct faithful grow short set.clean front (all-fine i steps c.requires) in
-      let ready = ready-is meaning made newcomers set.distinct faithful grow short set.clean (world sides newcomers front) (step_as s) (callable-fine s callable) is_world in
+      let fine = subst (λ d. IsFineStep (step_as d)) (sym c.index-steps-i.is) (fine-at steps i s c.loop-i-test.true c.requires.fine) in
+      let is_world = world-is meaning made newcomers set.distinct faithful grow short set.clean front (first-fine i steps c.requires.fine) in
+      let ready = ready-is meaning made newcomers set.distinct faithful grow short set.clean (world sides newcomers front) (step_as s) fine is_world in
       let next = ok-then c.step_among.result (sym c.is_err.ensures.value ∙ c.if-is_err.false) c.step_among.ensures.stepped made (map given_of c.args.out.now.items) (world sides newcomers front) h ready in
       subst (λ ss. Runs meaning made c.step_among.new.server c.step_among.new.opened c.step_among.new.clients c.step_among.new.wires (map given_of c.args.out.now.items) c.step_among.new.out.items (world sides newcomers ss))
       (sym (steps-more steps i s c.loop-i-test.true c.index-steps-i.is))
