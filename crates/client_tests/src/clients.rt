@@ -68,7 +68,7 @@ fn is_body(body: &ReplyBody, order: Order, octets: &[u8]) -> bool {
 }
 
 /// Whether a call ended so.
-fn is_done(ended: &Ended, done: Done) -> bool {
+pub(crate) fn is_done(ended: &Ended, done: Done) -> bool {
     match (ended, done) {
         (Ended::Returned(body), Done::Returned(order, octets)) => is_body(body, order, octets),
         (Ended::Raised(body), Done::Raised(octets))
