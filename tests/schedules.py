@@ -7,7 +7,8 @@ A schedule is a server, two clients and sixty steps or more, by a fixed seed; cr
 its lines are. Each is played twice: as it is, and with what goes up and down cut into small pieces. What completes, in
 order, and the total must be what tests/ends_model.py says, and the same both times.
 
-The program is run once over all schedules. The last line is 'N passed, M failed', where each schedule counts.
+The program is run once over all schedules. The last line is 'N passed, M failed', where the run counts, and each
+schedule.
 """
 import random
 import subprocess
@@ -140,12 +141,28 @@ class Maker:
         for line in (f"connect {client} {self.now}", f"up {client} 100000 {self.now}", f"down {client} 5000"):
             self.add(line)
 
+    def lapse(self, client):
+        """A pending call expires before a connection: it isn't sent there, and cancelling it writes nothing."""
+        for pending in self.play.clients[client].pending:
+            if pending.call.expiration < self.now + 60:
+                self.now = max(self.now, pending.call.expiration + 1)
+                self.add(f"cut {client}")
+                self.add(f"connect {client} {self.now}")
+                self.add(f"cancel {client} {pending.number}")
+                self.add(f"call {client} {self.now} c get {self.now + 1000}")
+                self.add(f"up {client} {sum(size for size, _ in self.play.clients[client].wire.up)} {self.now}")
+                self.add(f"down {client} 5000")
+                return
+
     def made(self, steps):
         """All lines, with so many steps or some more."""
         for _ in range(steps):
             self.add(self.step())
-            if self.dice.random() < 0.02:
-                self.recover(self.dice.choice([0, 1]))
+            client, chance = self.dice.choice([0, 1]), self.dice.random()
+            if chance < 0.02:
+                self.recover(client)
+            elif chance < 0.04:
+                self.lapse(client)
         return [*self.lines, "end"]
 
 
@@ -193,18 +210,21 @@ def schedules():
 
 
 def printed_by(program, plays):
-    """What the program prints for each of these schedules."""
+    """What the program prints for each of these schedules, and what is wrong with its run, or None."""
     given = "".join(line + "\n" for lines in plays for line in lines)
     run = subprocess.run([program], input=given, capture_output=True, text=True, timeout=SECONDS)
-    if run.returncode != 0 or run.stderr:
-        print(f"FAILS the run: status {run.returncode} {run.stderr.strip()}")
     blocks, block = [], []
     for line in run.stdout.splitlines():
         block.append(line)
         if line == "end":
             blocks.append(block)
             block = []
-    return blocks + [[]] * (len(plays) - len(blocks))
+    fault = None
+    if run.returncode != 0 or run.stderr:
+        fault = f"it ended with status {run.returncode} {run.stderr.strip()}"
+    elif block or len(blocks) != len(plays):
+        fault = f"it printed {len(blocks)} schedules of {len(plays)}"
+    return blocks + [[]] * (len(plays) - len(blocks)), fault
 
 
 def fault_of(lines, pieces, whole, cut):
@@ -221,14 +241,16 @@ def fault_of(lines, pieces, whole, cut):
 def main():
     passed = failed = 0
     pairs = list(schedules())
-    printed = printed_by(sys.argv[1], [lines for pair in pairs for lines in pair])
+    printed, fault = printed_by(sys.argv[1], [lines for pair in pairs for lines in pair])
+    faults = [("the run", fault)]
     for number, pair in enumerate(pairs):
-        fault = fault_of(*pair, *printed[2 * number:2 * number + 2])
+        faults.append((f"schedule {number}", fault_of(*pair, *printed[2 * number:2 * number + 2])))
+    for name, fault in faults:
         if fault is None:
             passed += 1
         else:
             failed += 1
-            print(f"FAILS schedule {number}: {fault}")
+            print(f"FAILS {name}: {fault}")
     print(f"{passed} passed, {failed} failed")
     return 1 if failed else 0
 
