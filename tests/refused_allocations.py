@@ -3,6 +3,7 @@
 
 usage: refused_allocations.py PROGRAM            the program `giop`, on the inputs below
        refused_allocations.py --calls PROGRAM    the program `memory_tests`, on each call that it lists
+       refused_allocations.py --schedules PROGRAM    the program `ends_tests`, on the schedules below
 
 An allocation is a call of malloc or realloc. With one refused,
 
@@ -12,16 +13,20 @@ An allocation is a call of malloc or realloc. With one refused,
   nothing changed, and the same call then gave what it is to give; or it ends with `memory` as above,
   where the refused allocation came before the call. At least one run of each call must print `refused`,
   and of a call whose suite ends in `without_allocation` none may.
+- a run on a schedule must end as it does with ample memory, or with `memory` as above; or, where the refused
+  allocation was one of the play, print `memory after N steps` in place of the total, and before it what it prints for
+  the first N steps alone. At least one run of each schedule must do so.
 
 A pair is the calls X_once/SAMPLE and X_a_hundred_times/SAMPLE. Both must take the same number of
 allocations, since a call that is repeated keeps the memory that it took. A call whose suite has one of
 these endings must have its other.
 
-The last run, in which nothing is refused, must end as with ample memory. Each input, each call and each
-pair counts as one case. The last line is 'N passed, M failed'.
+The last run, in which nothing is refused, must end as with ample memory. Each input, each call, each
+pair and each schedule counts as one case. The last line is 'N passed, M failed'.
 """
 import itertools
 import os
+import re
 import struct
 import subprocess
 import sys
@@ -66,6 +71,26 @@ INPUTS = [
     ("an unknown word", ["swim"], b""),
     ("help", ["--help"], b""),
     ("the version", ["--version"], b""),
+]
+
+# schedules: a name, the lines of the server and the clients, and those of the steps
+ONE_CLIENT = ["server 4096 1 1024 1024 0", "client A 1.2 4096 1"]
+TWO_CLIENTS = ["server 4096 1 1 1 0", "client A 1.0 4096 1", "client B 1.1 4096 1"]
+SCHEDULES = [
+    ("a lost reply that is given again", ONE_CLIENT, [
+        "call 0 50 c add 100 7", "connect 0 50", "up 0 84 50", "cut 0", "connect 0 60", "up 0 84 60", "down 0 32"]),
+    ("a cancel and a call that comes too late", ONE_CLIENT, [
+        "connect 0 50", "call 0 50 c add 100 7", "call 0 50 c add 50 7", "cancel 0 1", "up 0 500 51", "down 0 500",
+        "cut 0", "connect 0 60", "tick 0 60"]),
+    ("a close between two calls", ONE_CLIENT, [
+        "connect 0 50", "call 0 50 c add 100 7", "up 0 500 50", "call 0 50 c get 100", "shut 0", "down 0 500",
+        "connect 0 60", "up 0 500 60", "down 0 500"]),
+    ("two clients and a log of one place", TWO_CLIENTS, [
+        "connect 0 50", "connect 1 50", "call 0 50 c add 100 7", "call 1 50 c add 100 7", "up 0 500 50", "up 1 500 50",
+        "down 1 500", "down 0 500", "call 0 101 c add 200 1", "up 0 500 101", "down 0 500"]),
+    ("pieces of messages", TWO_CLIENTS, [
+        "call 0 50 c add 100 7", "call 0 50 d add 100 7", "connect 0 50", "up 0 20 50", "up 0 80 50", "up 0 90 50",
+        "down 0 5", "down 0 40", "down 0 90"]),
 ]
 
 # how the names of the two suites of a pair end, and of a suite that takes no memory
@@ -157,6 +182,38 @@ def fault_of_call(program, name, taken):
     return None, f"{number - 1} allocations refused in turn, {refused} of them in the call"
 
 
+def steps_before(run):
+    """How many steps were taken before an allocation of the play failed, or None."""
+    found = re.search(rb"^memory after (\d+) steps$", run.end[1], re.M)
+    return int(found.group(1)) if found else None
+
+
+def printed_after(program, head, steps, count):
+    """What the program prints where memory runs out after so many steps."""
+    short = program.run(0, [], "\n".join([*head, *steps[:count], "end", ""]).encode())
+    return re.sub(rb"^total .*$", b"memory after %d steps" % count, short.end[1], flags=re.M)
+
+
+def fault_of_schedule(program, head, steps):
+    """What is wrong with the runs of one schedule, or None; and what was seen."""
+    given = "\n".join([*head, *steps, "end", ""]).encode()
+    ample = program.run(0, [], given)
+    if ample.end[0] != 0 or ample.end[2] or steps_before(ample) is not None:
+        return f"with nothing refused it ended with {ample.end!r}", ""
+    cut = 0
+    for number, run in program.runs([], given):
+        count = steps_before(run)
+        if run.is_refused and count is not None and count < len(steps):
+            cut += 1
+            if run.end != (0, printed_after(program, head, steps, count), b""):
+                return f"with allocation {number} refused it ended with {run.end!r}", ""
+        elif run.end != ample.end and not (run.is_refused and run.is_out_of_memory()):
+            return f"with allocation {number} refused it ended with {run.end!r}", ""
+    if not cut:
+        return "no allocation of the play was refused", ""
+    return None, f"{number - 1} allocations refused in turn, {cut} of them in the play"
+
+
 def fault_of_pair(_program, once, often, taken):
     """What is wrong with how many allocations the two calls of a pair take, or None; and what was seen."""
     if once not in taken or often not in taken:
@@ -193,6 +250,8 @@ def main():
             cases = [(name, fault_of_call, (name, taken)) for name in names]
             cases += [(f"the pair {pair}", fault_of_pair, (once, often, taken))
                       for pair, (once, often) in pairs_of(names).items()]
+        elif sys.argv[1:-1] == ["--schedules"]:
+            cases = [(name, fault_of_schedule, (head, steps)) for name, head, steps in SCHEDULES]
         else:
             cases = [(name, fault_of_input, (words, given)) for name, words, given in INPUTS]
         if not cases:

@@ -1,0 +1,63 @@
+//! A schedule, played, and what is printed of it.
+
+ghost use Rattle.std.specs.List.{AllByRecursion};
+ghost use Rattle.ft_ends.specs.Playing.{IsCallable};
+
+use crate::schedule::Schedule;
+use crate::stop::Stop;
+use cdr_core::Order;
+use ft_client::{Ended, ReplyBody};
+use ft_ends::both_ends;
+use ft_orb::PlayError;
+use std::alloc::Global;
+use std::io;
+use std::io::Write;
+
+/// Prints how a reply ended a call, with the order, the place and the octets of its body.
+fn print_reply<W: Write>(name: &str, body: &ReplyBody, out: &mut W) -> io::Result<()> {
+    let order = match body.order {
+        Order::Big => "big",
+        Order::Little => "little",
+    };
+    write!(out, "{name} {order} {} ", body.at)?;
+    for octet in &body.octets {
+        write!(out, "{octet:02x}")?;
+    }
+    writeln!(out)
+}
+
+/// Prints how a call ended.
+fn print_ended<W: Write>(ended: &Ended, out: &mut W) -> io::Result<()> {
+    match ended {
+        Ended::Returned(body) => print_reply("returned", body, out),
+        Ended::Raised(body) => print_reply("raised", body, out),
+        Ended::System(body) => print_reply("system", body, out),
+        Ended::Forwarded(body) => print_reply("forwarded", body, out),
+        Ended::NeedsAddressing => writeln!(out, "needs_addressing"),
+        Ended::Expired => writeln!(out, "expired"),
+        Ended::Cancelled => writeln!(out, "cancelled"),
+    }
+}
+
+/// Plays a schedule, and prints what completes, the total or after how many steps memory ran out, and `end`.
+pub(crate) fn play<W: Write>(alloc: Global, schedule: Schedule, out: &mut W) -> Result<(), Stop>
+    requires { AllByRecursion IsCallable schedule.steps.items }
+{
+    let Schedule {
+        mut server,
+        mut clients,
+        steps,
+    } = schedule;
+    let mut completions = Vec::new(alloc);
+    let played = both_ends(alloc, &mut server, &mut clients, &steps, &mut completions);
+    for (client, number, ended) in &completions {
+        write!(out, "{client} {number} ")?;
+        print_ended(ended, out)?;
+    }
+    match played {
+        Ok(()) => writeln!(out, "total {}", server.servant().total())?,
+        Err(PlayError::Memory { events }) => writeln!(out, "memory after {events} steps")?,
+    }
+    writeln!(out, "end")?;
+    Ok(())
+}

@@ -1,0 +1,110 @@
+//! Steps in words.
+
+ghost use Rattle.std.specs.Prelude.{IfOk};
+ghost use Rattle.cdr_core.specs.View.{values_of};
+ghost use Rattle.cdr_core.specs.Writing.{AreWritable};
+ghost use Rattle.ft_ends.specs.Playing.{IsCallable};
+
+use crate::stop::Stop;
+use crate::words::{long, moment, ulong};
+use cdr_core::{Val, has_no_nul};
+use ft_ends::{Call, Step};
+use std::alloc::Global;
+
+/// The arguments that words are: none, or a long.
+fn arguments_in(alloc: Global, words: &[&str]) -> Result<Vec<Val>, Stop>
+    ensures { IfOk result (λ vs. AreWritable (values_of vs.items)) }
+{
+    match words {
+        [] => Ok(Vec::new(alloc)),
+        [word] => Ok(vec![in alloc; Val::Long(long(word)?)]?),
+        _ => Err(Stop::BadLine),
+    }
+}
+
+/// The call in the words `K NOW KEY OPERATION EXPIRATION [LONG]`.
+fn call_in(alloc: Global, words: &[&str]) -> Result<Step, Stop>
+    ensures { IfOk result IsCallable }
+{
+    let [client, now, key, operation, expiration, arguments @ ..] = words else {
+        return Err(Stop::BadLine);
+    };
+    let operation = operation.as_bytes();
+    if !has_no_nul(operation) {
+        return Err(Stop::BadLine);
+    }
+    let call = Call {
+        object_key: Vec::from_slice(alloc, key.as_bytes())?,
+        operation: Vec::from_slice(alloc, operation)?,
+        arguments: arguments_in(alloc, arguments)?,
+        expiration: moment(expiration)?,
+    };
+    Ok(Step::Call {
+        client: ulong(client)?,
+        now: moment(now)?,
+        call,
+    })
+}
+
+/// What goes up, in the words `K COUNT NOW`.
+fn up_in(words: &[&str]) -> Result<Step, Stop>
+    ensures { IfOk result IsCallable }
+{
+    let [client, count, now] = words else {
+        return Err(Stop::BadLine);
+    };
+    Ok(Step::Up {
+        client: ulong(client)?,
+        count: ulong(count)?,
+        now: moment(now)?,
+    })
+}
+
+/// A step of a client and a number, by its name.
+fn numbered_step(name: &str, client: u32, number: &str) -> Result<Step, Stop>
+    ensures { IfOk result IsCallable }
+{
+    match name {
+        "connect" => Ok(Step::Connect {
+            client,
+            now: moment(number)?,
+        }),
+        "down" => Ok(Step::Down {
+            client,
+            count: ulong(number)?,
+        }),
+        "cancel" => Ok(Step::Cancel {
+            client,
+            id: long(number)?,
+        }),
+        "tick" => Ok(Step::Tick {
+            client,
+            now: moment(number)?,
+        }),
+        _ => Err(Stop::BadLine),
+    }
+}
+
+/// A step of a client alone, by its name.
+fn plain_step(name: &str, client: u32) -> Result<Step, Stop>
+    ensures { IfOk result IsCallable }
+{
+    match name {
+        "cut" => Ok(Step::Cut { client }),
+        "shut" => Ok(Step::Shut { client }),
+        _ => Err(Stop::BadLine),
+    }
+}
+
+/// The step that a line's first word and its other words are.
+pub(crate) fn step_in(alloc: Global, name: &str, words: &[&str]) -> Result<Step, Stop>
+    ensures { IfOk result IsCallable }
+{
+    match (name, words) {
+        ("call", _) => call_in(alloc, words),
+        ("up", _) => up_in(words),
+        (_, [client]) => plain_step(name, ulong(client)?),
+        (_, [client, number]) => numbered_step(name, ulong(client)?, number),
+        _ => Err(Stop::BadLine),
+    }
+}

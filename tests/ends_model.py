@@ -1,0 +1,334 @@
+"""A plain model of clients that call again, of a server of the counter, and of the octets between them.
+
+It follows crates/ft_ends/specs/World.antt, and for the two sides the specs of ft_client, ft_orb and giop_link. It
+remembers all that ever arrived, and no log. Of a message it knows how long it is and what it says; only how long it
+is needs the layout of GIOP (CORBA 3.3 Part 2, 9.4), which is written out here a second time.
+"""
+import struct
+
+HEADER = 12
+MOST_PENDING = 64
+LAST_TOTAL = (1 << 63) - 1
+CLOSE, ERROR = "close", "error"
+
+
+class Octets:
+    """Octets in big order, each value aligned by its place."""
+
+    def __init__(self, place=0):
+        self.begin = place
+        self.all = b""
+
+    def align(self, size):
+        self.all += bytes(-(self.begin + len(self.all)) % size)
+
+    def number(self, size, form, number):
+        self.align(size)
+        self.all += struct.pack(">" + form, number)
+
+    def ulong(self, number):
+        self.number(4, "I", number)
+
+    def octets(self, octets):
+        self.ulong(len(octets))
+        self.all += octets
+
+    def string(self, octets):
+        self.octets(octets + b"\0")
+
+
+def context_of(client_id, number, expiration):
+    """What the context FT_REQUEST holds."""
+    out = Octets()
+    out.all += b"\0"
+    out.string(client_id)
+    out.number(4, "i", number)
+    out.number(8, "Q", expiration)
+    return out.all
+
+
+def request_size(version, client_id, number, call):
+    """How many octets a Request has."""
+    out = Octets(HEADER)
+
+    def contexts():
+        out.ulong(1)
+        out.ulong(13)
+        out.octets(context_of(client_id, number, call.expiration))
+
+    if version == "1.2":
+        out.ulong(1)
+        out.all += b"\3\0\0\0"
+        out.number(2, "h", 0)
+        out.octets(call.key)
+        out.string(call.operation)
+        contexts()
+        if call.arguments:
+            out.align(8)
+    else:
+        contexts()
+        out.ulong(1)
+        out.all += b"\1" if version == "1.0" else b"\1\0\0\0"
+        out.octets(call.key)
+        out.string(call.operation)
+        out.octets(b"")
+    for argument in call.arguments:
+        out.number(4, "i", argument)
+    return HEADER + len(out.all)
+
+
+CANCEL_SIZE = HEADER + 4
+
+
+class Call:
+    """What a client asks, and until when."""
+
+    def __init__(self, key, operation, expiration, arguments):
+        self.key, self.operation = key.encode(), operation.encode()
+        self.expiration, self.arguments = expiration, arguments
+
+
+class Pending:
+    """A call that has not ended, its number, and the request id under which it was sent on this connection, if it was."""
+
+    def __init__(self, number, call):
+        self.number, self.call, self.sent = number, call, None
+
+
+class Wire:
+    """A connection: what was written on it either way, as sizes and what each message says, and how much was delivered."""
+
+    def __init__(self):
+        self.up, self.down = [], []
+        self.went = self.came = self.ids = 0
+        self.has_ended = self.is_shut = False
+
+
+def delivered(messages, before, after):
+    """What the messages say whose last octet is delivered between two places."""
+    place = 0
+    for size, said in messages:
+        place += size
+        if before < place <= after:
+            yield said
+
+
+def moved_on(messages, place, count):
+    """The place after the next octets, at most so many."""
+    return min(place + count, sum(size for size, _ in messages))
+
+
+class Client:
+    """A client with its connection, if it has one."""
+
+    def __init__(self, client_id, version):
+        self.client_id, self.version = client_id.encode(), version
+        self.last, self.pending, self.wire, self.completions = 0, [], None, []
+
+    def complete(self, pending, how):
+        self.pending.remove(pending)
+        self.completions.append((pending.number, how))
+
+    def send(self, pending):
+        self.wire.ids += 1
+        pending.sent = self.wire.ids
+        size = request_size(self.version, self.client_id, pending.number, pending.call)
+        self.wire.up.append((size, (pending.sent, (self.client_id, pending.number), pending.call)))
+
+    def call(self, now, call):
+        if call.expiration < now or len(self.pending) >= MOST_PENDING:
+            return
+        self.last += 1
+        self.pending.append(Pending(self.last, call))
+        if self.wire:
+            self.send(self.pending[-1])
+
+    def connect(self, now):
+        self.wire = Wire()
+        for pending in self.pending:
+            pending.sent = None
+            if now <= pending.call.expiration:
+                self.send(pending)
+
+    def part(self):
+        self.wire = None
+        for pending in self.pending:
+            pending.sent = None
+
+    def cancel(self, number):
+        for pending in self.pending:
+            if pending.number == number:
+                if pending.sent is not None:
+                    self.wire.up.append((CANCEL_SIZE, None))
+                self.complete(pending, "cancelled")
+                return
+
+    def tick(self, now):
+        for pending in [p for p in self.pending if p.call.expiration < now]:
+            self.complete(pending, "expired")
+
+    def settle(self, request_id, how):
+        for pending in self.pending:
+            if pending.sent == request_id:
+                self.complete(pending, how)
+                return
+
+    def down(self, count):
+        wire = self.wire
+        before, wire.came = wire.came, moved_on(wire.down, wire.came, count)
+        for said in delivered(wire.down, before, wire.came):
+            if said in (CLOSE, ERROR):
+                self.part()
+                return
+            self.settle(*said)
+
+
+def returned(total):
+    """The outcome that returns a total."""
+    return f"returned big 24 {struct.pack('>q', total).hex()}"
+
+
+def refused(name):
+    """A system exception of minor code 0 and COMPLETED_NO."""
+    out = Octets(24)
+    out.string(f"IDL:omg.org/CORBA/{name}:1.0".encode())
+    out.ulong(0)
+    out.ulong(1)
+    return f"system big 24 {out.all.hex()}"
+
+
+def overflow():
+    """The exception of an addition whose sum is no long long."""
+    out = Octets(24)
+    out.string(b"IDL:Counter/Overflow:1.0")
+    return f"raised big 24 {out.all.hex()}"
+
+
+def size_of(outcome):
+    """How many octets a Reply with it has."""
+    return 24 + len(outcome.split()[-1]) // 2
+
+
+class Server:
+    """The server of the counter: the requests that were performed, each with its key, its expiration and its outcome."""
+
+    def __init__(self, message, capacity, share, total):
+        self.message, self.capacity, self.share, self.total = message, capacity, share, total
+        self.clock, self.performed = 0, []
+
+    def refusal_of(self, call):
+        """Why a call can't be asked of the counter, or None."""
+        if call.key != b"c":
+            return refused("OBJECT_NOT_EXIST")
+        if call.operation not in (b"add", b"get"):
+            return refused("BAD_OPERATION")
+        if call.operation == b"add" and not call.arguments:
+            return refused("MARSHAL")
+        return None
+
+    def apply(self, call):
+        if call.operation == b"add":
+            total = self.total + call.arguments[0]
+            if not -LAST_TOTAL - 1 <= total <= LAST_TOTAL:
+                return overflow()
+            self.total = total
+        return returned(self.total)
+
+    def has_room(self, key):
+        live = [other for other, expiration, _ in self.performed if self.clock <= expiration]
+        return len(live) < self.capacity and sum(other[0] == key[0] for other in live) < self.share
+
+    def answer(self, key, call):
+        if call.expiration < self.clock:
+            return refused("BAD_CONTEXT")
+        for other, _, outcome in self.performed:
+            if other == key:
+                return outcome
+        refusal = self.refusal_of(call)
+        if refusal is not None:
+            return refusal
+        if not self.has_room(key):
+            return refused("NO_RESOURCES")
+        outcome = self.apply(call)
+        self.performed.append((key, call.expiration, outcome))
+        return outcome
+
+    def hear(self, wire, before):
+        """Answers what has come whole since a place; a message over the limit ends the stream by its header."""
+        place = 0
+        for size, said in wire.up:
+            if self.message < size:
+                if place + HEADER <= wire.went:
+                    wire.has_ended = True
+                    wire.down.append((HEADER, ERROR))
+                return
+            place += size
+            if before < place <= wire.went and said is not None:
+                request_id, key, call = said
+                outcome = self.answer(key, call)
+                wire.down.append((size_of(outcome), (request_id, outcome)))
+
+    def up(self, wire, count, now):
+        self.clock = max(self.clock, now)
+        before, wire.went = wire.went, moved_on(wire.up, wire.went, count)
+        if not wire.is_shut and not wire.has_ended:
+            self.hear(wire, before)
+
+    def shut(self, wire):
+        if not wire.is_shut and not wire.has_ended:
+            wire.down.append((HEADER, CLOSE))
+        wire.is_shut = True
+
+
+class Play:
+    """A schedule that is being played, line by line."""
+
+    def __init__(self):
+        self.server, self.clients, self.lines = None, [], []
+
+    def take(self, line):
+        name, *words = line.split(" ")
+        if name == "server":
+            self.server = Server(int(words[0]), int(words[2]), int(words[3]), int(words[4]))
+        elif name == "client":
+            self.clients.append(Client(words[0], words[1]))
+        elif int(words[0]) < len(self.clients):
+            client = self.clients[int(words[0])]
+            self.step(client, name, words[1:])
+            self.lines += [f"{words[0]} {number} {how}" for number, how in client.completions]
+            client.completions.clear()
+
+    def step(self, client, name, words):
+        """Takes a step of a client; `words` are those after the client's place."""
+        if name == "call":
+            now, key, operation, expiration, *arguments = words
+            client.call(int(now), Call(key, operation, int(expiration), [int(a) for a in arguments]))
+        elif name == "cancel":
+            client.cancel(int(words[0]))
+        elif name == "tick":
+            client.tick(int(words[0]))
+        elif name == "connect":
+            if client.wire is None:
+                client.connect(int(words[0]))
+        elif client.wire is not None:
+            self.on_wire(client, name, words)
+
+    def on_wire(self, client, name, words):
+        """Takes a step that only a connected client can take."""
+        if name == "up":
+            self.server.up(client.wire, int(words[0]), int(words[1]))
+        elif name == "down":
+            client.down(int(words[0]))
+        elif name == "cut":
+            client.part()
+        else:
+            assert name == "shut", name
+            self.server.shut(client.wire)
+
+
+def lines_of(schedule):
+    """What completes in a schedule, given as its lines, and the total: as the program `ends_tests` prints it."""
+    play = Play()
+    for line in schedule[:-1]:
+        play.take(line)
+    return [*play.lines, f"total {play.server.total}", "end"]

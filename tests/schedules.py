@@ -1,0 +1,259 @@
+#!/usr/bin/env python3
+"""Plays random schedules of clients and a server with the program `ends_tests`, and compares with a model.
+
+usage: schedules.py PROGRAM
+
+A schedule is a server, two clients and sixty steps or more, by a fixed seed; crates/ends_tests/src/lines.rt says what
+its lines are. Each is played twice: as it is, and with what goes up and down cut into small pieces. What completes, in
+order, and the total must be what tests/ends_model.py says, and the same both times.
+
+The program is run once over all schedules. The last line is 'N passed, M failed', where the run counts, and each
+schedule.
+"""
+import random
+import subprocess
+import sys
+
+from ends_model import HEADER, Call, Client, Play, Wire, lines_of, request_size
+
+SEED = 23
+COUNT = 600
+STEPS = 60
+SECONDS = 100
+FINE = 400
+LIMIT = 4096  # the least that a message may be allowed
+NAMES = ["A", "B", "AB", "client", "x" * 256]
+VERSIONS = ["1.0", "1.1", "1.2"]
+EDGES = [-(1 << 63), -(1 << 63), 500 - (1 << 63), (1 << 63) - 501, (1 << 63) - 1, (1 << 63) - 1]
+
+
+class Maker:
+    """Makes the lines of a schedule. It plays them with the model, so as to know where messages end and when calls do."""
+
+    def __init__(self, dice):
+        self.dice = dice
+        self.now = dice.randint(0, 100)
+        self.long = dice.choice([0, 0, 0, 0.1, 0.3])
+        self.calls = dice.choice([6, 10, 10, 30])
+        self.is_dense = dice.random() < 0.3
+        self.play = Play()
+        self.lines = []
+        self.head()
+
+    def add(self, line):
+        self.lines.append(line)
+        self.play.take(line)
+
+    def head(self):
+        """The lines of the server and the clients."""
+        dice = self.dice
+        capacity, share = dice.choice([(1024, 1024), (1024, 1024), (2, 2), (3, 1), (1, 1), (0, 0), (4, 1024)])
+        total = dice.choice([0, 0, 0, *EDGES])
+        server = LIMIT if self.long else dice.choice([LIMIT, 1048576])
+        self.add(f"server {server} {dice.randint(1, 16)} {capacity} {share} {total}")
+        for name in dice.sample(NAMES, 2):
+            limit = dice.choice([LIMIT, 16777216])
+            self.add(f"client {name} {dice.choice(VERSIONS)} {limit} {dice.randint(1, 16)}")
+
+    def at(self, client):
+        """The client at a place, or None where there is none."""
+        return self.play.clients[client] if client < len(self.play.clients) else None
+
+    def moment(self):
+        """A moment: mostly a little later, at times earlier, or about when a call expires."""
+        dice = self.dice
+        ends = [p.call.expiration for c in self.play.clients for p in c.pending if p.call.expiration < self.now + 60]
+        ends += [expiration for _, expiration, _ in self.play.server.performed if expiration < self.now + 60]
+        if ends and dice.random() < 0.3:
+            end = max(0, dice.choice(ends) + dice.choice([-1, 0, 0, 1]))
+            self.now = max(self.now, end)
+            return end
+        self.now += dice.choice([0, 0, 0, 1] if self.is_dense else [0, 0, 1, 3, 10])
+        return max(0, self.now - dice.choice([0, 0, 0, 0, 5, 40]))
+
+    def long_operation(self, client):
+        """A name with which a Request has about as many octets as the limit."""
+        most = LIMIT - request_size(client.version, client.client_id, 1, Call("c", "", 0, []))
+        return "x" * (most + self.dice.randint(-9, 5))
+
+    def call(self, client):
+        dice, now = self.dice, self.moment()
+        operation = dice.choice(["add"] * 8 + ["get", "get", "sub", ""])
+        if self.at(client) and dice.random() < self.long:
+            operation = self.long_operation(self.at(client))
+        key = dice.choice(["c"] * 12 + ["d", ""])
+        spans = [1, 1, 2, 3, 1000] if self.is_dense else [1000] * 6 + [50, 20, 5, 0, -1]
+        expiration = max(0, now + dice.choice(spans))
+        argument = dice.choice(["", *[f" {n}" for n in (0, 0, 1, 7, 7, 100, 500, -3, -500, 2147483647, -2147483648)]])
+        return f"call {client} {now} {key} {operation} {expiration}{argument}"
+
+    def count(self, messages, place):
+        """How many octets are delivered: none, a few, all, or up to a message's end or header, or one more or less."""
+        dice, ends, start = self.dice, [], 0
+        for size, _ in messages:
+            ends += [start + HEADER - place, start + size - place]
+            start += size
+        ends = [end for end in ends if 0 < end]
+        some = [0, dice.randint(1, 40), 5000, 5000, 100000]
+        if ends:
+            some += [dice.choice(ends) + dice.choice([-1, 0, 0, 0, 1]) for _ in range(4)]
+        return dice.choice(some)
+
+    def number(self, client):
+        """The number of a call: mostly of a pending one."""
+        pending = [p.number for p in self.at(client).pending] if self.at(client) else []
+        return self.dice.choice([*pending, *pending[:1] * 3, self.dice.randint(1, 20), 0, -1])
+
+    def step(self):
+        dice, client = self.dice, self.dice.choice([0, 0, 0, 0, 1, 1, 1, 1, 1, 2])
+        kinds = {"call": self.calls, "connect": 8, "up": 14, "down": 14, "cut": 2, "shut": 3, "cancel": 4, "tick": 2}
+        kind = dice.choices(list(kinds), kinds.values())[0]
+        wire = (self.at(client) or Client("", "1.2")).wire or Wire()
+        if kind == "call":
+            return self.call(client)
+        if kind == "up":
+            return f"up {client} {self.count(wire.up, wire.went)} {self.moment()}"
+        if kind == "down":
+            return f"down {client} {self.count(wire.down, wire.came)}"
+        if kind == "cancel":
+            return f"cancel {client} {self.number(client)}"
+        if kind in ("connect", "tick"):
+            return f"{kind} {client} {self.moment()}"
+        return f"{kind} {client}"
+
+    def to_header(self, wire):
+        """How many octets go up to the header of the first message that is over the limit, or some."""
+        start = 0
+        for size, _ in wire.up:
+            if self.play.server.message < size and wire.went < start + HEADER:
+                return start + HEADER - wire.went - self.dice.choice([0, 0, 1])
+            start += size
+        return self.count(wire.up, wire.went)
+
+    def recover(self, client):
+        """What comes of what the server heard: all goes down, what can't be heard is cancelled, and all is sent again."""
+        wire = self.play.clients[client].wire or Wire()
+        self.add(f"up {client} {self.to_header(wire)} {self.now}")
+        self.add(f"down {client} 5000")
+        for pending in self.play.clients[client].pending[:]:
+            if len(pending.call.operation) > 20:
+                self.add(f"cancel {client} {pending.number}")
+        for line in (f"connect {client} {self.now}", f"up {client} 100000 {self.now}", f"down {client} 5000"):
+            self.add(line)
+
+    def lapse(self, client):
+        """A pending call expires before a connection: it isn't sent there, and cancelling it writes nothing."""
+        for pending in self.play.clients[client].pending:
+            if pending.call.expiration < self.now + 60:
+                self.now = max(self.now, pending.call.expiration + 1)
+                self.add(f"cut {client}")
+                self.add(f"connect {client} {self.now}")
+                self.add(f"cancel {client} {pending.number}")
+                self.add(f"call {client} {self.now} c get {self.now + 1000}")
+                self.add(f"up {client} {sum(size for size, _ in self.play.clients[client].wire.up)} {self.now}")
+                self.add(f"down {client} 5000")
+                return
+
+    def made(self, steps):
+        """All lines, with so many steps or some more."""
+        for _ in range(steps):
+            self.add(self.step())
+            client, chance = self.dice.choice([0, 1]), self.dice.random()
+            if chance < 0.02:
+                self.recover(client)
+            elif chance < 0.04:
+                self.lapse(client)
+        return [*self.lines, "end"]
+
+
+def crowded(dice):
+    """A schedule in which a client calls more often than calls may be pending."""
+    maker = Maker(dice)
+    for _ in range(90):
+        maker.add(maker.call(0))
+    maker.made(STEPS)
+    for _ in range(10):
+        maker.add(maker.call(0))
+    return maker.made(STEPS)
+
+
+def parts_of(dice, count):
+    """Small numbers whose sum is this one; it alone, if it is 0."""
+    if count == 0:
+        return [0]
+    parts = []
+    while sum(parts) < count:
+        parts.append(min(dice.randint(1, 40), count - sum(parts)))
+    return parts
+
+
+def in_pieces(dice, lines):
+    """The schedule with what goes up and down in small pieces; of more than FINE octets the rest stays whole."""
+    for line in lines:
+        name, *words = line.split(" ")
+        if name not in ("up", "down"):
+            yield line
+            continue
+        client, count, *rest = words
+        for part in parts_of(dice, min(int(count), FINE)):
+            yield " ".join([name, client, str(part), *rest])
+        if FINE < int(count):
+            yield " ".join([name, client, str(int(count) - FINE), *rest])
+
+
+def schedules():
+    """All schedules, each as it is and in pieces."""
+    dice = random.Random(SEED)
+    for number in range(COUNT):
+        lines = crowded(dice) if number % 40 == 0 else Maker(dice).made(STEPS)
+        yield lines, list(in_pieces(dice, lines))
+
+
+def printed_by(program, plays):
+    """What the program prints for each of these schedules, and what is wrong with its run, or None."""
+    given = "".join(line + "\n" for lines in plays for line in lines)
+    run = subprocess.run([program], input=given, capture_output=True, text=True, timeout=SECONDS)
+    blocks, block = [], []
+    for line in run.stdout.splitlines():
+        block.append(line)
+        if line == "end":
+            blocks.append(block)
+            block = []
+    fault = None
+    if run.returncode != 0 or run.stderr:
+        fault = f"it ended with status {run.returncode} {run.stderr.strip()}"
+    elif block or len(blocks) != len(plays):
+        fault = f"it printed {len(blocks)} schedules of {len(plays)}"
+    return blocks + [[]] * (len(plays) - len(blocks)), fault
+
+
+def fault_of(lines, pieces, whole, cut):
+    """What is wrong with a schedule, or None."""
+    wanted = lines_of(lines)
+    if lines_of(pieces) != wanted:
+        return "the model says another thing of the pieces"
+    for given, got in (("whole", whole), ("in pieces", cut)):
+        if got != wanted:
+            return "\n".join([f"played {given}", *lines, "wanted", *wanted, "got", *got])
+    return None
+
+
+def main():
+    passed = failed = 0
+    pairs = list(schedules())
+    printed, fault = printed_by(sys.argv[1], [lines for pair in pairs for lines in pair])
+    faults = [("the run", fault)]
+    for number, pair in enumerate(pairs):
+        faults.append((f"schedule {number}", fault_of(*pair, *printed[2 * number:2 * number + 2])))
+    for name, fault in faults:
+        if fault is None:
+            passed += 1
+        else:
+            failed += 1
+            print(f"FAILS {name}: {fault}")
+    print(f"{passed} passed, {failed} failed")
+    return 1 if failed else 0
+
+
+if __name__ == "__main__":
+    sys.exit(main())
