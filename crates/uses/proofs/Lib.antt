@@ -1,3 +1,4 @@
 pub mod Counted
 pub mod Heard
+pub mod Played
 pub mod Served
