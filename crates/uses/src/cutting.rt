@@ -1,6 +1,6 @@
 //! Play a schedule: a client and a server, with the connection cut at each place of the request and of the reply.
 
-ghost use Rattle.std.specs.Prelude.{◌≡◌, IfOk, map, OnOk};
+ghost use Rattle.std.specs.Prelude.{◌≡◌, ◌≤◌, IfOk, map, OnOk};
 ghost use Rattle.std.specs.List.{AllByRecursion};
 ghost use Rattle.ft_ends.specs.Both.{ActsOnce};
 ghost use Rattle.ft_ends.specs.Playing.{AreNew, IsCallable, given_of, numbered, step_as};
@@ -96,6 +96,7 @@ pub fn ticket_at_cut(
 ) -> Result<AtCut, CuttingError>
     ensures completed { IfOk result (λ told. map given_of told.completions.items ≡ map numbered (world_at limits request reply).completions) }
     ensures given { IfOk result (λ told. told.given ≡ given_at limits request reply) }
+    ensures few { IfOk result (λ told. told.given ≤ 1) }
     ensures once { OnOk result (ActsOnce tickets_meaning (tickets_made limits) (newcomers limits) (world_at limits request reply)) }
 {
     let tickets = Tickets::new(alloc)?;
@@ -179,8 +180,11 @@ mod tests {
     /// Whether call 1 of the one client returned ticket 1, and no other was given.
     fn is_ticket_1(cut: &AtCut) -> bool {
         match cut.completions.as_slice() {
-            [(0, 1, Ended::Returned(results))] => {
-                results.octets.as_slice() == TICKET_1 && cut.given == 1
+            [(client, call, Ended::Returned(results))] => {
+                *client == 0
+                    && *call == 1
+                    && results.octets.as_slice() == TICKET_1
+                    && cut.given == 1
             }
             _ => false,
         }

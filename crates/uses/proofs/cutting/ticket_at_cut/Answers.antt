@@ -1,7 +1,8 @@
-use Rattle.std.proofs.Common.{map, ap, ◌∙◌}
+use Rattle.std.proofs.Common.{ℕ, ◌≤◌, subst, sym, map, ap, ◌∙◌}
 use Rattle.ft_ends.specs.Playing.{step_as}
 use Rattle.uses.specs.Cutting.{newcomers, steps_at, world_at}
 use Rattle.uses.specs.Serving.{tickets_made}
+use Rattle.uses.proofs.OneTicket.{given_few, one_client}
 use Rattle.uses.proofs.Played.{begins, completed_as, once_in, stands_in, taken_are}
 use Rattle.uses.proofs.Served.{as_made}
 use Rattle.uses.proofs.cutting.ticket_at_cut.Goals as goal
@@ -34,3 +35,9 @@ returns-clause-once c =
     let start = begins limits c.new-server.result c.in_ok-clients.clients.items stands c.in_ok-clients.ensures in
     let steps = taken_are c.in_ok-steps.steps.items c.deref.result.now (steps_at c.args.request c.args.reply) c.deref.ensures.value c.in_ok-steps.ensures.steps in
     once_in limits _ (steps_at c.args.request c.args.reply) steps (c.in_ok-both_ends.ensures.once (tickets_made limits) (newcomers limits) start)
+
+pub returns-clause-few : goal.returns-clause-few
+returns-clause-few c =
+    let limits = c.args.limits in
+    let world = world_at limits c.args.request c.args.reply in
+    subst (λ (n : ℕ). n ≤ 1) (sym (returns-clause-given c)) (given_few limits world (one_client limits c.args.request c.args.reply) (returns-clause-once c))
