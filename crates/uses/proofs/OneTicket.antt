@@ -35,7 +35,7 @@ each_append : {X : Type 0} (P : X → Type 0) (xs ys : List X) → AllByRecursio
 each_append P [] ys h k = k
 each_append P (x ∷ xs) ys h k = (h.0, each_append P xs ys h.1 k)
 
-each_weaker : {X : Type 0} (P Q : X → Type 0) → ((x : X) → P x → Q x) → (xs : List X) → AllByRecursion P xs → AllByRecursion Q xs
+pub each_weaker : {X : Type 0} (P Q : X → Type 0) → ((x : X) → P x → Q x) → (xs : List X) → AllByRecursion P xs → AllByRecursion Q xs
 each_weaker P Q f [] h = tt
 each_weaker P Q f (x ∷ xs) h = (f x h.0, each_weaker P Q f xs h.1)
 
@@ -48,7 +48,7 @@ next_few given = go (is_ulonglong (given + 1))
     go true = omega arith
     go false = omega arith
 
-abbrev rules_here : Rules ℕ Wanted Asked Performed
+abbrev pub rules_here : Rules ℕ Wanted Asked Performed
 rules_here = rules_of tickets_meaning 100 10
 
 called_few : (given : ℕ) (asked : Result Asked SystemName) → state_after_call rules_here.apply given asked ≤ given + 1
@@ -197,9 +197,10 @@ module _ (limits : Limits) (w : World) (one : HasOne w.members) (once : ActsOnce
             ∙ ap (λ (r : ℕ). Present (record { client_id = codes "A"; retention_id = pos r }) t.call.expiration) number,
       )
 
-  pub given_few : state_of rules_here 0 (arrivals limits w.past) ≤ 1
-  given_few =
+  pub performed_few : length (performed_of rules_here (arrivals limits w.past)) ≤ 1
+  performed_few =
       let all = each_weaker (λ a. IsSentBy w.members a) (Has the_key) sent_has (arrivals limits w.past) once.arrived in
-      let few = one_of_key the_key (performed_of rules_here (arrivals limits w.past)) (performed_each (Has the_key) [] (arrivals limits w.past) tt all) once.performed in
-      let state = state_few 0 (performed_of rules_here (arrivals limits w.past)) in
-      omega (arith, few, state)
+      one_of_key the_key (performed_of rules_here (arrivals limits w.past)) (performed_each (Has the_key) [] (arrivals limits w.past) tt all) once.performed
+
+  pub given_few : state_of rules_here 0 (arrivals limits w.past) ≤ 1
+  given_few = let state = state_few 0 (performed_of rules_here (arrivals limits w.past)) in omega (arith, performed_few, state)

@@ -2,9 +2,10 @@
 
 ghost use Rattle.std.specs.Prelude.{◌≡◌, ◌≤◌, IfOk, map, OnOk};
 ghost use Rattle.std.specs.List.{AllByRecursion};
+ghost use Rattle.ft_client.specs.Ends.{ended_of};
 ghost use Rattle.ft_ends.specs.Both.{ActsOnce};
 ghost use Rattle.ft_ends.specs.Playing.{AreNew, IsCallable, given_of, numbered, step_as};
-ghost use Rattle.uses.specs.Cutting.{given_at, newcomers, steps_at, world_at};
+ghost use Rattle.uses.specs.Cutting.{IsFirst, given_at, newcomers, steps_at, world_at};
 ghost use Rattle.uses.specs.Serving.{tickets_made};
 ghost use Rattle.uses.specs.Tickets.{tickets_meaning};
 
@@ -97,6 +98,7 @@ pub fn ticket_at_cut(
     ensures completed { IfOk result (λ told. map given_of told.completions.items ≡ map numbered (world_at limits request reply).completions) }
     ensures given { IfOk result (λ told. told.given ≡ given_at limits request reply) }
     ensures few { IfOk result (λ told. told.given ≤ 1) }
+    ensures first { IfOk result (λ told. AllByRecursion (λ x. IsFirst (ended_of x.2)) told.completions.items) }
     ensures once { OnOk result (ActsOnce tickets_meaning (tickets_made limits) (newcomers limits) (world_at limits request reply)) }
 {
     let tickets = Tickets::new(alloc)?;
