@@ -1,3 +1,6 @@
 pub mod Counted
+pub mod FirstTicket
 pub mod Heard
+pub mod OneTicket
+pub mod Played
 pub mod Served

@@ -7,5 +7,6 @@ pub mod Keeping
 pub mod Tickets
 pub mod Serving
 pub mod Retrying
+pub mod Cutting
 -- a proof that `impl Servant for Tickets` cites
 pub mod TicketsFacts

@@ -1,10 +1,11 @@
-//! Ten uses of the libraries, as a caller writes them: each is one file with one subject, proved, and
+//! Eleven uses of the libraries, as a caller writes them: each is one file with one subject, proved, and
 //! run by a test on octets written out by hand from the standard's layouts (CORBA 3.3 Part 2, 9.3 and 9.4).
 //! docs/GUIDE.md and the pages of `giop_link` and `ft_log` quote them.
 #![tactic(auto)]
 
 mod arguments;
 mod capture;
+mod cutting;
 mod endpoint;
 mod hearing;
 mod invocation;
@@ -18,6 +19,7 @@ mod tickets;
 
 pub use arguments::{DecodeError, first_arguments, publish_types};
 pub use capture::{Capture, read_capture};
+pub use cutting::{AtCut, CuttingError, reply_lines, request_lines, ticket_at_cut};
 pub use endpoint::first_endpoint;
 pub use hearing::requests_heard;
 pub use invocation::{Retry, add_request, cut};

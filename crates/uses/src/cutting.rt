@@ -1,0 +1,236 @@
+//! Play a schedule: a client and a server, with the connection cut at each place of the request and of the reply.
+
+ghost use Rattle.std.specs.Prelude.{◌≡◌, ◌≤◌, IfOk, map, OnOk};
+ghost use Rattle.std.specs.List.{AllByRecursion};
+ghost use Rattle.ft_client.specs.Ends.{ended_of};
+ghost use Rattle.ft_ends.specs.Both.{ActsOnce};
+ghost use Rattle.ft_ends.specs.Playing.{AreNew, IsCallable, given_of, numbered, step_as};
+ghost use Rattle.uses.specs.Cutting.{IsFirst, given_at, newcomers, steps_at, world_at};
+ghost use Rattle.uses.specs.Serving.{tickets_made};
+ghost use Rattle.uses.specs.Tickets.{tickets_meaning};
+
+use crate::tickets::Tickets;
+use ft_client::{Ended, FtClient};
+use ft_ends::{Call, Step, both_ends};
+use ft_orb::{PlayError, Server};
+use giop_core::Version;
+use giop_frames::Limits;
+use std::alloc::{AllocError, Global};
+use std::hash::RandomState;
+use thiserror::Error;
+
+/// Why a schedule was not played.
+#[derive(Debug, Drop, Error)]
+pub enum CuttingError {
+    #[error("memory")]
+    Memory(#[from] AllocError),
+    #[error("{0}")]
+    Play(#[from] PlayError),
+}
+
+/// What completed, each with the client's place and the number of its call, and how many tickets were given.
+#[derive(Debug, Drop)]
+pub struct AtCut {
+    pub completions: Vec<(u32, i32, Ended)>,
+    pub given: u64,
+}
+
+/// A new client `A`, alone in a list.
+fn one_client(alloc: Global, limits: Limits) -> Result<Vec<FtClient>, AllocError>
+    ensures { IfOk result (λ clients. AreNew (newcomers limits) clients.items) }
+{
+    Ok(vec![in alloc; FtClient::new(alloc, b"A", Version::V12, limits)?]?)
+}
+
+/// The client calls `next` of the tickets and connects. So many octets of the request and then of the reply are
+/// delivered; then the connection is cut, and all goes well on another.
+#[tactic(auto, unfolding(crate::specs::Cutting::steps_at))]
+fn steps_at_cut(alloc: Global, request: u32, reply: u32) -> Result<Vec<Step>, AllocError>
+    ensures steps { IfOk result (λ steps. map step_as steps.items ≡ steps_at request reply) }
+    ensures callable { IfOk result (λ steps. AllByRecursion IsCallable steps.items) }
+{
+    let client = 0;
+    let call = Call {
+        object_key: Vec::from_slice(alloc, b"tickets")?,
+        operation: Vec::from_slice(alloc, b"next")?,
+        arguments: Vec::new(alloc),
+        expiration: 100,
+    };
+    Ok(vec![in alloc;
+        Step::Call {
+            client,
+            now: 50,
+            call
+        },
+        Step::Connect { client, now: 50 },
+        Step::Up {
+            client,
+            count: request,
+            now: 50
+        },
+        Step::Down {
+            client,
+            count: reply
+        },
+        Step::Cut { client },
+        Step::Connect { client, now: 60 },
+        Step::Up {
+            client,
+            count: u32::MAX,
+            now: 60
+        },
+        Step::Down {
+            client,
+            count: u32::MAX
+        },
+    ]?)
+}
+
+/// A new client asks a new server for a ticket, and the connection is cut after so many octets of the request, and
+/// of the reply.
+pub fn ticket_at_cut(
+    alloc: Global,
+    hasher: RandomState,
+    limits: Limits,
+    request: u32,
+    reply: u32,
+) -> Result<AtCut, CuttingError>
+    ensures completed { IfOk result (λ told. map given_of told.completions.items ≡ map numbered (world_at limits request reply).completions) }
+    ensures given { IfOk result (λ told. told.given ≡ given_at limits request reply) }
+    ensures few { IfOk result (λ told. told.given ≤ 1) }
+    ensures first { IfOk result (λ told. AllByRecursion (λ x. IsFirst (ended_of x.2)) told.completions.items) }
+    ensures once { OnOk result (ActsOnce tickets_meaning (tickets_made limits) (newcomers limits) (world_at limits request reply)) }
+{
+    let tickets = Tickets::new(alloc)?;
+    let mut server = Server::new(alloc, tickets, limits, 100, 10, hasher);
+    let mut clients = one_client(alloc, limits)?;
+    let steps = steps_at_cut(alloc, request, reply)?;
+    let mut completions = Vec::new(alloc);
+    both_ends(alloc, &mut server, &mut clients, &steps, &mut completions)?;
+    let given = server.servant().given();
+    Ok(AtCut { completions, given })
+}
+
+/// How the one call ended.
+fn ending(completions: &[(u32, i32, Ended)]) -> &'static str {
+    match completions {
+        [(_, _, Ended::Returned(_))] => "returned",
+        [(_, _, Ended::System(_))] => "refused",
+        [(_, _, Ended::Expired)] => "expired",
+        [] => "not ended",
+        _ => "ended otherwise",
+    }
+}
+
+/// Appends the line of a cut.
+fn put_line(octet: u32, message: &str, cut: &AtCut, lines: &mut String) -> Result<(), AllocError> {
+    let ending = ending(&cut.completions);
+    let given = cut.given;
+    write!(
+        lines,
+        "cut after octet {octet} of the {message}: {ending}, tickets given: {given}\n"
+    )
+}
+
+/// A line for each cut of the request, after 0 to `count` of its octets.
+pub fn request_lines(
+    alloc: Global,
+    hasher: RandomState,
+    limits: Limits,
+    count: u32,
+) -> Result<String, CuttingError> {
+    let mut lines = String::new(alloc);
+    for octet in 0..=count {
+        let cut = ticket_at_cut(alloc, hasher, limits, octet, 0)?;
+        put_line(octet, "request", &cut, &mut lines)?;
+    }
+    Ok(lines)
+}
+
+/// A line for each cut of the reply, after the whole request and 0 to `count` octets of the reply.
+pub fn reply_lines(
+    alloc: Global,
+    hasher: RandomState,
+    limits: Limits,
+    count: u32,
+) -> Result<String, CuttingError> {
+    let mut lines = String::new(alloc);
+    for octet in 0..=count {
+        let cut = ticket_at_cut(alloc, hasher, limits, u32::MAX, octet)?;
+        put_line(octet, "reply", &cut, &mut lines)?;
+    }
+    Ok(lines)
+}
+
+#[cfg(test)]
+mod tests {
+    use super::{AtCut, reply_lines, request_lines, ticket_at_cut};
+    use ft_client::Ended;
+    use giop_frames::Limits;
+    use std::hash::RandomState;
+    use std::test::Fail;
+
+    /// How many octets the request takes.
+    const REQUEST: u32 = 84;
+
+    /// How many octets the reply takes.
+    const REPLY: u32 = 32;
+
+    /// The body of a reply that returns the unsigned long long 1.
+    const TICKET_1: &[u8] = &[0, 0, 0, 0, 0, 0, 0, 1];
+
+    /// Whether call 1 of the one client returned ticket 1, and no other was given.
+    fn is_ticket_1(cut: &AtCut) -> bool {
+        match cut.completions.as_slice() {
+            [(client, call, Ended::Returned(results))] => {
+                *client == 0
+                    && *call == 1
+                    && results.octets.as_slice() == TICKET_1
+                    && cut.given == 1
+            }
+            _ => false,
+        }
+    }
+
+    #[test]
+    fn wherever_the_request_is_cut_ticket_1_is_given(rt: HostRuntime) -> Result<(), Fail> {
+        let hasher = RandomState::new(&rt)?;
+        for octet in 0..=REQUEST {
+            let cut = ticket_at_cut(rt.alloc(), hasher, Limits::default(), octet, 0)?;
+            assert!(rt; is_ticket_1(&cut), "after octet {octet}");
+        }
+        Ok(())
+    }
+
+    #[test]
+    fn wherever_the_reply_is_cut_ticket_1_is_given(rt: HostRuntime) -> Result<(), Fail> {
+        let hasher = RandomState::new(&rt)?;
+        for octet in 0..=REPLY {
+            let cut = ticket_at_cut(rt.alloc(), hasher, Limits::default(), REQUEST, octet)?;
+            assert!(rt; is_ticket_1(&cut), "after octet {octet}");
+        }
+        Ok(())
+    }
+
+    #[test]
+    fn each_cut_has_a_line(rt: HostRuntime) -> Result<(), Fail> {
+        let hasher = RandomState::new(&rt)?;
+        let lines = request_lines(rt.alloc(), hasher, Limits::default(), REQUEST)?;
+        for (octet, line) in lines.lines().enumerate() {
+            let expected = format!(in rt.alloc();
+                "cut after octet {octet} of the request: returned, tickets given: 1"
+            )?;
+            assert_eq!(rt; line, expected.as_str());
+        }
+        assert_eq!(rt; lines.lines().count(), 85);
+        let lines = reply_lines(rt.alloc(), hasher, Limits::default(), REPLY)?;
+        for (octet, line) in lines.lines().enumerate() {
+            let expected = format!(in rt.alloc();
+                "cut after octet {octet} of the reply: returned, tickets given: 1"
+            )?;
+            assert_eq!(rt; line, expected.as_str());
+        }
+        assert_eq!(rt; lines.lines().count(), 33);
+        Ok(())
+    }
+}
