@@ -112,6 +112,7 @@ pub fn ticket_at_cut(
 }
 
 /// How the one call ended.
+#[cfg(test)]
 fn ending(completions: &[(u32, i32, Ended)]) -> &'static str {
     match completions {
         [(_, _, Ended::Returned(_))] => "returned",
@@ -123,6 +124,7 @@ fn ending(completions: &[(u32, i32, Ended)]) -> &'static str {
 }
 
 /// Appends the line of a cut.
+#[cfg(test)]
 fn put_line(octet: u32, message: &str, cut: &AtCut, lines: &mut String) -> Result<(), AllocError> {
     let ending = ending(&cut.completions);
     let given = cut.given;
@@ -133,7 +135,8 @@ fn put_line(octet: u32, message: &str, cut: &AtCut, lines: &mut String) -> Resul
 }
 
 /// A line for each cut of the request, after 0 to `count` of its octets.
-pub fn request_lines(
+#[cfg(test)]
+fn request_lines(
     alloc: Global,
     hasher: RandomState,
     limits: Limits,
@@ -148,7 +151,8 @@ pub fn request_lines(
 }
 
 /// A line for each cut of the reply, after the whole request and 0 to `count` octets of the reply.
-pub fn reply_lines(
+#[cfg(test)]
+fn reply_lines(
     alloc: Global,
     hasher: RandomState,
     limits: Limits,

@@ -19,7 +19,7 @@ mod tickets;
 
 pub use arguments::{DecodeError, first_arguments, publish_types};
 pub use capture::{Capture, read_capture};
-pub use cutting::{AtCut, CuttingError, reply_lines, request_lines, ticket_at_cut};
+pub use cutting::{AtCut, CuttingError, ticket_at_cut};
 pub use endpoint::first_endpoint;
 pub use hearing::requests_heard;
 pub use invocation::{Retry, add_request, cut};
