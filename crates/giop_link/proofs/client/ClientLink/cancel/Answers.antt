@@ -1,4 +1,4 @@
-use Rattle.std.proofs.Common.{List, None, refl, sym, ap, ◌∙◌}
+use Rattle.std.proofs.Common.{List, None, refl, sym, ap, ◌∙◌, rules}
 use Rattle.std.specs.List.{list_any, position}
 use Rattle.giop_link.specs.declared.outstanding.Outstanding.{Outstanding}
 use Rattle.giop_link.specs.ClientLinking.{Terms}
@@ -55,3 +55,6 @@ returns-clause-stands c = λ terms x st.
     let one = found test l.outstanding.items c.in-Some.place (ap (λ (ws : List Outstanding). position test ws) (sym c.as_slice.ensures.value) ∙ sym c.place_of.ensures ∙ c.in-Some.is) in
     stands-without terms x c.args.self.now _ c.args.id
     (gives-up own l.given l.outstanding.items c.remove.new.self.items l.delivers l.state c.args.self.now c.args.id c.self.view_is (c.remove.ensures.items ∙ one.1)) st
+
+pub returns-clause-out : goal.returns-clause-out
+returns-clause-out c = search rules

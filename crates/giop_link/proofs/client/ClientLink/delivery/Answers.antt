@@ -1,4 +1,4 @@
-use Rattle.std.proofs.Common.{Bool, sym, ap, ◌∙◌}
+use Rattle.std.proofs.Common.{Bool, sym, ap, ◌∙◌, rules}
 use Rattle.giop_link.specs.declared.link.State.{State}
 use Rattle.giop_link.specs.declared.link.State.TheVariants.{Live}
 use Rattle.giop_link.specs.ClientLinking.{ClientLinked, Terms}
@@ -16,3 +16,9 @@ returns-in_ok-message-in-Live-clause-lent c =
     ∙ ap (λ (b : Bool). (client_linked terms ids b (Live c.in-Live.assembler)).delivery) (sym c.if-not-self.false)
     ∙ ap (λ (s : State). (client_linked terms ids l.delivers s).delivery) (sym c.in-Live.is)
     ∙ ap (λ (v : ClientLinked). v.delivery) c.self.view_is
+
+pub returns-then-not-self-clause-lent : goal.returns-then-not-self-clause-lent
+returns-then-not-self-clause-lent c = search rules
+
+pub returns-in-Parting-Closed-clause-lent : goal.returns-in-Parting-Closed-clause-lent
+returns-in-Parting-Closed-clause-lent c = search rules

@@ -1,4 +1,5 @@
-use Rattle.std.proofs.Common.{◌≡◌, ◌≤◌, Bool, List, length, sym, ap, subst, ◌∙◌, arith}
+use Rattle.std.proofs.lemmas.Grind.{common_steps}
+use Rattle.std.proofs.Common.{◌≡◌, ◌≤◌, Bool, List, length, sym, ap, subst, ◌∙◌, arith, rules}
 use Rattle.giop_frames.specs.Standing.{Standing}
 use Rattle.giop_link.specs.declared.link.State.{State}
 use Rattle.giop_link.specs.declared.link.State.TheVariants.{Live}
@@ -53,3 +54,24 @@ returns-in-Live-state-clause-takes c = λ terms x st.
     let out : List Outstanding → Bool → ClientLinked = λ os b. client_linked own (record { given = l.given; outstanding = os }) b (Live a) in
     subst (λ (b : Bool). TakesIn terms x c.args.piece.now c.in-Ok.heard.taken (out c.settle-self-inside.new.waiting.items b)) (sym by)
     (subst (λ (os : List Outstanding). TakesIn terms x c.args.piece.now c.in-Ok.heard.taken (out os (settles (answered_by a.message) l.outstanding.items))) (sym left) taken)
+
+pub returns-in-Parting-clause-takes : goal.returns-in-Parting-clause-takes
+returns-in-Parting-clause-takes c = grind (arith, common_steps)
+
+pub returns-in-Parting-clause-closed : goal.returns-in-Parting-clause-closed
+returns-in-Parting-clause-closed c = search rules
+
+pub invariant_of-self-in-Err : goal.invariant_of-self-in-Err
+invariant_of-self-in-Err c = search rules
+
+pub returns-in-Err-clause-fault : goal.returns-in-Err-clause-fault
+returns-in-Err-clause-fault c = search rules
+
+pub returns-in-Err-clause-err : goal.returns-in-Err-clause-err
+returns-in-Err-clause-err c = search rules
+
+pub invariant_of-self-in-Some : goal.invariant_of-self-in-Some
+invariant_of-self-in-Some c = search rules
+
+pub returns-in-Some-clause-takes : goal.returns-in-Some-clause-takes
+returns-in-Some-clause-takes c = grind (arith, common_steps)

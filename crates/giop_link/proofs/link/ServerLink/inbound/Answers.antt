@@ -1,4 +1,4 @@
-use Rattle.std.proofs.Common.{sym, ap, ◌∙◌}
+use Rattle.std.proofs.Common.{sym, ap, ◌∙◌, rules}
 use Rattle.giop_link.specs.declared.link.State.{State}
 use Rattle.giop_link.specs.Linking.{Linked}
 use Rattle.giop_link.specs.Private.{linked}
@@ -10,3 +10,6 @@ returns-in_ok-message-in-Live-clause-lent c =
     c.spoken.ensures.told ∙ lent-spoken c.in-Live.assembler.message c.in_ok-message-in-Live.field-0 c.in_ok-message-in-Live.ensures.lent
     ∙ ap (λ (s : State). (linked c.self.inside.limits s).inbound) (sym c.in-Live.is)
     ∙ ap (λ (l : Linked). l.inbound) c.self.view_is
+
+pub returns-in-Parting-Closed-clause-lent : goal.returns-in-Parting-Closed-clause-lent
+returns-in-Parting-Closed-clause-lent c = search rules
