@@ -1,5 +1,6 @@
-use Rattle.std.proofs.Common.{rules}
+use Rattle.std.proofs.Common.{arith}
+use Rattle.std.proofs.lemmas.Grind.{common_steps}
 use Rattle.cdr_core.proofs.runs.more.Goals as goal
 
-pub returns-in_err-reserve_exact : goal.returns-in_err-reserve_exact
-returns-in_err-reserve_exact c = search rules
+pub returns-clause-reads : goal.returns-clause-reads
+returns-clause-reads c = grind (arith, common_steps)
