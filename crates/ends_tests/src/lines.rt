@@ -12,7 +12,7 @@
 //!
 //! There is one space between words, numbers are in decimal digits, and KEY and OPERATION are the octets of the word.
 
-ghost use Rattle.std.specs.Prelude.{IfSome, OnOk};
+ghost use Rattle.std.specs.Prelude.{IfOk, IfSome, OnOk};
 ghost use Rattle.std.specs.List.{AllByRecursion};
 ghost use Rattle.ft_ends.specs.Playing.{IsCallable};
 
@@ -24,7 +24,42 @@ use std::alloc::Global;
 use std::hash::RandomState;
 use std::io::{BufRead, BufReader, BufWriter, Read, Write};
 
-/// Takes a line: the schedule that is being read, if there is one, begins, is extended, or ends and is played.
+/// Begins a schedule by the words of its first line.
+fn begin(alloc: Global, hasher: RandomState, name: &str, words: &[&str]) -> Result<Schedule, Stop>
+    ensures { IfOk result (λ s. AllByRecursion IsCallable s.steps.items) }
+{
+    match name {
+        "server" => Schedule::new(alloc, hasher, words),
+        _ => Err(Stop::BadLine),
+    }
+}
+
+/// Takes the words of a line: the schedule that is being read, if there is one, begins, is extended, or ends and is
+/// played.
+fn take_words<W: Write>(
+    alloc: Global,
+    hasher: RandomState,
+    name: &str,
+    words: &[&str],
+    reading: &mut Option<Schedule>,
+    out: &mut W,
+) -> Result<(), Stop>
+    requires { IfSome reading.old (λ s. AllByRecursion IsCallable s.steps.items) }
+    ensures { OnOk result (IfSome reading.new (λ s. AllByRecursion IsCallable s.steps.items)) }
+{
+    let Some(mut schedule) = reading.take() else {
+        *reading = Some(begin(alloc, hasher, name, words)?);
+        return Ok(());
+    };
+    if name == "end" {
+        return play(alloc, schedule, out);
+    }
+    schedule.extend(alloc, name, words)?;
+    *reading = Some(schedule);
+    Ok(())
+}
+
+/// Takes a line.
 fn take_line<W: Write>(
     alloc: Global,
     hasher: RandomState,
@@ -36,22 +71,24 @@ fn take_line<W: Write>(
     ensures { OnOk result (IfSome reading.new (λ s. AllByRecursion IsCallable s.steps.items)) }
 {
     let words = words_of(alloc, line)?;
-    let [name, words @ ..] = words.as_slice() else {
-        return Err(Stop::BadLine);
-    };
-    match (*name, reading.take()) {
-        ("server", None) => {
-            *reading = Some(Schedule::new(alloc, hasher, words)?);
-            Ok(())
-        }
-        ("end", Some(schedule)) => play(alloc, schedule, out),
-        (_, Some(mut schedule)) => {
-            schedule.extend(alloc, name, words)?;
-            *reading = Some(schedule);
-            Ok(())
-        }
-        (_, None) => Err(Stop::BadLine),
+    match words.as_slice() {
+        [] => Err(Stop::BadLine),
+        [name, words @ ..] => take_words(alloc, hasher, name, words, reading, out),
     }
+}
+
+/// Takes the lines of an input, and returns the schedule that none of them ends.
+fn take_lines<B: BufRead + Drop, W: Write>(
+    alloc: Global,
+    hasher: RandomState,
+    input: B,
+    out: &mut W,
+) -> Result<Option<Schedule>, Stop> {
+    let mut reading = None;
+    for line in input.lines(alloc) {
+        take_line(alloc, hasher, &line?, &mut reading, out)?;
+    }
+    Ok(reading)
 }
 
 /// Plays the schedules of an input, and prints what completes.
@@ -62,12 +99,9 @@ pub(crate) fn play_lines<R: Read, W: Write>(
     out: &mut W,
 ) -> Result<(), Stop> {
     let mut out = BufWriter::new(alloc, out)?;
-    let mut reading = None;
-    for line in BufReader::new(alloc, input)?.lines(alloc) {
-        take_line(alloc, hasher, &line?, &mut reading, &mut out)?;
-    }
+    let left = take_lines(alloc, hasher, BufReader::new(alloc, input)?, &mut out)?;
     out.flush()?;
-    match reading {
+    match left {
         None => Ok(()),
         Some(_) => Err(Stop::BadLine),
     }

@@ -39,6 +39,24 @@ fn print_ended<W: Write>(ended: &Ended, out: &mut W) -> io::Result<()> {
     }
 }
 
+/// Prints what completed: the client, the number of its call, and how that ended.
+fn print_completions<W: Write>(completions: &[(u32, i32, Ended)], out: &mut W) -> io::Result<()> {
+    for (client, number, ended) in completions {
+        write!(out, "{client} {number} ")?;
+        print_ended(ended, out)?;
+    }
+    Ok(())
+}
+
+/// Prints the counter's total, or after how many steps memory ran out, and `end`.
+fn print_end<W: Write>(played: Result<(), PlayError>, total: i64, out: &mut W) -> io::Result<()> {
+    match played {
+        Ok(()) => writeln!(out, "total {total}")?,
+        Err(PlayError::Memory { events }) => writeln!(out, "memory after {events} steps")?,
+    }
+    writeln!(out, "end")
+}
+
 /// Plays a schedule, and prints what completes, the total or after how many steps memory ran out, and `end`.
 pub(crate) fn play<W: Write>(alloc: Global, schedule: Schedule, out: &mut W) -> Result<(), Stop>
     requires { AllByRecursion IsCallable schedule.steps.items }
@@ -50,14 +68,6 @@ pub(crate) fn play<W: Write>(alloc: Global, schedule: Schedule, out: &mut W) -> 
     } = schedule;
     let mut completions = Vec::new(alloc);
     let played = both_ends(alloc, &mut server, &mut clients, &steps, &mut completions);
-    for (client, number, ended) in &completions {
-        write!(out, "{client} {number} ")?;
-        print_ended(ended, out)?;
-    }
-    match played {
-        Ok(()) => writeln!(out, "total {}", server.servant().total())?,
-        Err(PlayError::Memory { events }) => writeln!(out, "memory after {events} steps")?,
-    }
-    writeln!(out, "end")?;
-    Ok(())
+    print_completions(&completions, out)?;
+    Ok(print_end(played, server.servant().total(), out)?)
 }

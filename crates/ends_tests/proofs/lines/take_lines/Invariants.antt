@@ -1,7 +1,7 @@
 use Rattle.std.proofs.Common.{IfSome}
 use Rattle.std.specs.List.{AllByRecursion}
 use Rattle.ft_ends.specs.Playing.{IsCallable}
-use Rattle.ends_tests.proofs.lines.play_lines.Given as goal
+use Rattle.ends_tests.proofs.lines.take_lines.Given as goal
 
 -- each call of the schedule that is being read can be made
 abbrev pub invariant-loop-line : goal.invariant-loop-line
