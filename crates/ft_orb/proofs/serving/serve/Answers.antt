@@ -1,4 +1,4 @@
-use Rattle.std.proofs.Common.{◌≡◌, ◌≤◌, ◌<◌, ◌+◌, [], length, sym, refl, ◌∙◌, arith}
+use Rattle.std.proofs.Common.{◌≡◌, ◌≤◌, ◌<◌, ◌+◌, [], length, sym, refl, ◌∙◌, arith, rules}
 use Rattle.std.proofs.lemmas.List.{append-nil}
 use Rattle.std.proofs.lemmas.Result.{IfErr-weaker, err_from_is_err_and, on_ok_weaker}
 use Rattle.giop_link.specs.Linking.{meaning_at}
@@ -114,3 +114,45 @@ pub returns-clause-ok : goal.returns-clause-ok
 returns-clause-ok g c = λ limits c' s t st al.
     stood-whole _ _ limits c' c.args.desk.now.clock t s c.args.out.now.items c.args.piece.now c.loop-taken.taken c.loop-taken.link (table_of c.loop-taken.desk) c.loop-taken.out.items c.loop-taken.handled
     c.loop-taken-test.false (c.loop-taken.invariant.goes limits c' s t st al)
+
+pub returns-in-Err-clause-some : goal.returns-in-Err-clause-some
+returns-in-Err-clause-some g c = search rules
+
+pub returns-in-Err-clause-clock : goal.returns-in-Err-clause-clock
+returns-in-Err-clause-clock g c = search rules
+
+pub returns-in-Err-clause-capacity : goal.returns-in-Err-clause-capacity
+returns-in-Err-clause-capacity g c = search rules
+
+pub returns-in-Err-clause-share : goal.returns-in-Err-clause-share
+returns-in-Err-clause-share g c = search rules
+
+pub returns-in_err-handled-clause-ok : goal.returns-in_err-handled-clause-ok
+returns-in_err-handled-clause-ok g c = search rules
+
+pub returns-in_err-handled-clause-some : goal.returns-in_err-handled-clause-some
+returns-in_err-handled-clause-some g c = search rules
+
+pub returns-in_err-handled-clause-clock : goal.returns-in_err-handled-clause-clock
+returns-in_err-handled-clause-clock g c = search rules
+
+pub returns-in_err-handled-clause-capacity : goal.returns-in_err-handled-clause-capacity
+returns-in_err-handled-clause-capacity g c = search rules
+
+pub returns-in_err-handled-clause-share : goal.returns-in_err-handled-clause-share
+returns-in_err-handled-clause-share g c = search rules
+
+pub returns-clause-err : goal.returns-clause-err
+returns-clause-err g c = search rules
+
+pub returns-clause-some : goal.returns-clause-some
+returns-clause-some g c = search rules
+
+pub returns-clause-clock : goal.returns-clause-clock
+returns-clause-clock g c = search rules
+
+pub returns-clause-capacity : goal.returns-clause-capacity
+returns-clause-capacity g c = search rules
+
+pub returns-clause-share : goal.returns-clause-share
+returns-clause-share g c = search rules

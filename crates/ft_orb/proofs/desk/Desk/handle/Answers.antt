@@ -1,3 +1,4 @@
+use Rattle.ft_orb.specs.Renderings.{rendering}
 use Rattle.std.proofs.Common.{◌≡◌, ℤ, rules, SFits, w32, ap, ◌∙◌, subst}
 use Rattle.std.proofs.lemmas.Int.{to_z-of_z}
 use Rattle.ft_log.specs.Keys.{RequestKey}
@@ -23,3 +24,15 @@ returns-in-Ok-clause-did g c c' =
     let same = ap (λ (k : RequestKey). Present k c.in-Present.expiration) key ∙ ap field_by c.in-Present.ensures in
     subst (λ (f : Field). StepsOne (rules_of g.S.Servant.meaning (capacity_of old) (share_of old)) g.S.Servant.meaning.knows old.clock (record { field = f; clock = old.clock; content = asking c' (question_by c.args.version c.args.request.now) }) (table_of old) c.keyed.result (table_of c.keyed.new.self) c.args.out.now.items c.keyed.new.out.items)
     same (c.keyed.ensures.did c')
+
+pub returns-then-expiration-self-clause-did : goal.returns-then-expiration-self-clause-did
+unfolding rendering
+returns-then-expiration-self-clause-did g c c' = search rules
+
+pub returns-in-Bad-clause-did : goal.returns-in-Bad-clause-did
+unfolding rendering
+returns-in-Bad-clause-did g c c' = search rules
+
+pub returns-in-Err-clause-did : goal.returns-in-Err-clause-did
+unfolding rendering
+returns-in-Err-clause-did g c c' = search rules

@@ -1,4 +1,5 @@
-use Rattle.std.proofs.Common.{sym, subst}
+use Rattle.ft_orb.specs.Renderings.{rendering}
+use Rattle.std.proofs.Common.{sym, subst, rules}
 use Rattle.giop_link.specs.Linking.{meaning_at}
 use Rattle.giop_link.specs.declared.inbound.Inbound.{Inbound}
 use Rattle.ft_orb.specs.Private.{Steps, heard_by}
@@ -17,3 +18,15 @@ returns-in-Locate-clause-did g c c' =
     let old = c.args.self.now in
     subst (λ (m : Inbound). Steps (rules_of g.S.Servant.meaning (capacity_of old) (share_of old)) g.S.Servant.meaning.knows old.clock c' (heard_by (meaning_at m)) (table_of old) c.locate.result (table_of old) c.args.out.now.items c.locate.new.out.items)
     (sym c.in-Locate.is) (c.locate.ensures.did c')
+
+pub returns-in-Cancelled-clause-did : goal.returns-in-Cancelled-clause-did
+unfolding rendering
+returns-in-Cancelled-clause-did g c c' = search rules
+
+pub returns-in-Cancelled-2-clause-did : goal.returns-in-Cancelled-2-clause-did
+unfolding rendering
+returns-in-Cancelled-2-clause-did g c c' = search rules
+
+pub returns-in-Cancelled-3-clause-did : goal.returns-in-Cancelled-3-clause-did
+unfolding rendering
+returns-in-Cancelled-3-clause-did g c c' = search rules
