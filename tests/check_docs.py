@@ -7,7 +7,7 @@
 - Each clause that PROMISES.md quotes stands in a source of some crate, word for word, and each row of a table of
   words names a definition of the file beside it.
 - Each block of Rust that README.md, docs/GUIDE.md and the pages of giop_link and ft_log show stands in a
-  file of crates/uses/src.
+  file of crates/uses/src or of crates/uses_tests/src.
 - The client that docs/INTEROP.md shows is examples/retry_client.py.
 - docs/ARCHITECTURE.md names each crate, with the libraries that it stands on, and each room of the crates
   whose rooms it lists.
@@ -23,7 +23,7 @@ import sys
 ROOT = os.path.dirname(os.path.dirname(os.path.abspath(__file__)))
 PROMISES = "docs/PROMISES.md"
 QUOTING = ["README.md", "docs/GUIDE.md", "crates/giop_link/README.md", "crates/ft_log/README.md"]
-USES = "crates/uses/src"
+USES = ["crates/uses/src", "crates/uses_tests/src"]
 ARCHITECTURE = "docs/ARCHITECTURE.md"
 INTEROP = "docs/INTEROP.md"
 CLIENT = "examples/retry_client.py"
@@ -119,15 +119,15 @@ def clauses():
 
 def quotes():
     """A result for each block of Rust that is quoted."""
-    folder = os.path.join(ROOT, USES)
-    sources = [text_of(os.path.join(USES, name)) for name in sorted(os.listdir(folder)) if name.endswith(".rt")]
+    files = [os.path.join(folder, name) for folder in USES for name in sorted(os.listdir(os.path.join(ROOT, folder)))]
+    sources = [text_of(name) for name in files if name.endswith(".rt")]
     for name in QUOTING:
         blocks = re.findall(r"^```rust\n(.*?)^```$", text_of(name), re.M | re.S)
         if not blocks:
-            yield f"{name}: it quotes nothing of {USES}"
+            yield f"{name}: it quotes nothing of {USES[0]}"
         for block in blocks:
             is_there = any("\n" + block in "\n" + source for source in sources)
-            yield None if is_there else f"{name}: not in {USES}: {block.split(chr(10))[0]}"
+            yield None if is_there else f"{name}: not in {' or '.join(USES)}: {block.split(chr(10))[0]}"
 
 
 def client():

@@ -76,35 +76,39 @@ fn front(octets: &[u8], count: usize) -> &[u8] {
     octets.get(..count).unwrap_or(octets)
 }
 
-/// Calls `add` of 7 on a first connection, which is cut so, and connects again, in pieces of as many octets. Whether the
-/// call is sent again exactly where its reply did not come whole.
-fn call_and_cut(alloc: Global, ends: &mut Ends, cut: Cut, size: usize) -> Result<bool, Fail> {
-    let first = Way {
+/// Calls `add` of 7 on a first connection, in pieces of as many octets, and loses it.
+fn call_and_lose(alloc: Global, ends: &mut Ends, cut: Cut, size: usize) -> Result<(), Fail> {
+    let way = Way {
         connection: 1,
         now: 50,
         size,
     };
-    let mut request = ends.join(alloc, first)?;
-    add(&mut ends.client, first.now, 7, &mut request)?;
-    let reply = ends.answer(alloc, first, front(&request, cut.request))?;
+    let mut request = ends.join(alloc, way)?;
+    add(&mut ends.client, way.now, 7, &mut request)?;
+    let reply = ends.answer(alloc, way, front(&request, cut.request))?;
     feed_in_pieces(&mut ends.client, front(&reply, cut.reply), size)?;
-    ends.part(first);
+    ends.part(way);
+    Ok(())
+}
 
-    let second = Way {
+/// Connects again, and says whether the call was sent again.
+fn call_again(alloc: Global, ends: &mut Ends, size: usize) -> Result<bool, Fail> {
+    let way = Way {
         connection: 2,
         now: 60,
         size,
     };
-    let again = ends.join(alloc, second)?;
-    let reply = ends.answer(alloc, second, &again)?;
+    let again = ends.join(alloc, way)?;
+    let reply = ends.answer(alloc, way, &again)?;
     feed_in_pieces(&mut ends.client, &reply, size)?;
-    Ok(again.is_empty() == (cut.reply == SEVEN_1.len()))
+    Ok(!again.is_empty())
 }
 
-/// Whether that call acts once and is completed once.
+/// Whether that call acts once and is completed once, and is sent again exactly where its reply did not come whole.
 fn acts_once(alloc: Global, hasher: RandomState, cut: Cut, size: usize) -> Result<bool, Fail> {
     let mut ends = Ends::new(alloc, hasher)?;
-    let is_again = call_and_cut(alloc, &mut ends, cut, size)?;
+    call_and_lose(alloc, &mut ends, cut, size)?;
+    let is_again = call_again(alloc, &mut ends, size)? == (cut.reply < SEVEN_1.len());
     let is_completed = completes(&mut ends.client, &[(1, Done::Returned(Order::Big, SEVEN))]);
     Ok(is_again && is_completed && ends.server.servant().total() == 7)
 }

@@ -1,38 +1,40 @@
 //! Calls: what is sent, and sent again.
 
-use crate::clients::{Done, add, client, client_of, completes, join};
-use crate::octets::{ADD_7, ADD_8, ADD_8_FIRST_1_0};
+use crate::clients::{Done, client, client_of};
+use crate::octets::{ADD_7, ADD_7_1_0, ADD_8, ADD_8_1_0, ADD_8_FIRST_1_0, CANCEL_1_1_0};
+use crate::steps::Step::{Calls, Cancels, Completes, Connects, Loses, Ticks};
+use crate::steps::{Step, assert_given};
 use ft_client::CallError;
 use giop_core::Version;
 use std::alloc::Global;
 use std::test::Fail;
 
+static AGAIN: [Step; 8] = [
+    Connects(50, &[]),
+    Calls(50, 7, Ok(1), &[ADD_7]),
+    Loses,
+    Connects(60, &[ADD_7]),
+    Loses,
+    Connects(101, &[]),
+    Ticks(101),
+    Completes(&[(1, Done::Expired)]),
+];
+
 #[test]
 fn a_call_is_sent_again(rt: HostRuntime) -> Result<(), Fail> {
     let mut one = client(rt.alloc())?;
-    let mut out = join(rt.alloc(), &mut one, 50)?;
-    assert_eq!(rt; out.len(), 0);
-    assert_eq!(rt; add(&mut one, 50, 7, &mut out)?, 1);
-    assert_eq!(rt; out.as_slice(), ADD_7);
-    one.lost();
-    let again = join(rt.alloc(), &mut one, 60)?;
-    assert_eq!(rt; again.as_slice(), ADD_7);
-    one.lost();
-    let late = join(rt.alloc(), &mut one, 101)?;
-    assert_eq!(rt; late.len(), 0);
-    one.tick(101);
-    assert!(rt; completes(&mut one, &[(1, Done::Expired)]));
-    Ok(())
+    assert_given(&rt, &mut one, &AGAIN)
 }
+
+static TOO_LATE: [Step; 2] = [
+    Calls(101, 7, Err(CallError::Expired), &[]),
+    Calls(100, 7, Ok(1), &[]),
+];
 
 #[test]
 fn an_expired_call_is_refused(rt: HostRuntime) -> Result<(), Fail> {
     let mut one = client(rt.alloc())?;
-    let mut out = Vec::new(rt.alloc());
-    assert_eq!(rt; add(&mut one, 101, 7, &mut out), Err(CallError::Expired));
-    assert_eq!(rt; add(&mut one, 100, 7, &mut out)?, 1);
-    assert_eq!(rt; out.len(), 0);
-    Ok(())
+    assert_given(&rt, &mut one, &TOO_LATE)
 }
 
 /// One octet more than a sequence can have: 4 GiB.
@@ -45,58 +47,59 @@ fn too_many(alloc: Global) -> Result<Vec<u8>, Fail> {
     Ok(octets)
 }
 
+/// After a call that was too long.
+static AFTERWARDS: [Step; 2] = [Calls(50, 7, Ok(1), &[]), Connects(50, &[ADD_7])];
+
 #[test]
 fn a_call_too_long_is_refused_without_a_connection(rt: HostRuntime) -> Result<(), Fail> {
     let mut one = client(rt.alloc())?;
     let mut out = Vec::new(rt.alloc());
     let key = too_many(rt.alloc())?;
-    assert_eq!(rt;
-        one.call(50, &key, b"add", &[], 100, &mut out),
-        Err(CallError::TooLong)
-    );
-    assert_eq!(rt; add(&mut one, 50, 7, &mut out)?, 1);
-    assert_eq!(rt; out.len(), 0);
-    let sent = join(rt.alloc(), &mut one, 50)?;
-    assert_eq!(rt; sent.as_slice(), ADD_7);
-    Ok(())
+    let refused = one.call(50, &key, b"add", &[], 100, &mut out);
+    assert!(rt; refused == Err(CallError::TooLong) && out.is_empty());
+    assert_given(&rt, &mut one, &AFTERWARDS)
 }
+
+static EXPIRES: [Step; 8] = [
+    Connects(50, &[]),
+    Calls(50, 7, Ok(1), &[ADD_7]),
+    Ticks(100),
+    Completes(&[]),
+    Ticks(101),
+    Completes(&[(1, Done::Expired)]),
+    Loses,
+    Connects(60, &[]),
+];
 
 #[test]
 fn a_call_expires(rt: HostRuntime) -> Result<(), Fail> {
     let mut one = client(rt.alloc())?;
-    let mut out = join(rt.alloc(), &mut one, 50)?;
-    assert_eq!(rt; add(&mut one, 50, 7, &mut out)?, 1);
-    one.tick(100);
-    assert!(rt; completes(&mut one, &[]));
-    one.tick(101);
-    assert!(rt; completes(&mut one, &[(1, Done::Expired)]));
-    one.lost();
-    let again = join(rt.alloc(), &mut one, 60)?;
-    assert_eq!(rt; again.len(), 0);
-    Ok(())
+    assert_given(&rt, &mut one, &EXPIRES)
 }
+
+static WAITS: [Step; 3] = [
+    Calls(50, 7, Ok(1), &[]),
+    Calls(50, 8, Ok(2), &[]),
+    Connects(50, &[ADD_7, ADD_8]),
+];
 
 #[test]
 fn calls_wait_for_a_connection(rt: HostRuntime) -> Result<(), Fail> {
     let mut one = client(rt.alloc())?;
-    let mut out = Vec::new(rt.alloc());
-    assert_eq!(rt; add(&mut one, 50, 7, &mut out)?, 1);
-    assert_eq!(rt; add(&mut one, 50, 8, &mut out)?, 2);
-    assert_eq!(rt; out.len(), 0);
-    let sent = join(rt.alloc(), &mut one, 50)?;
-    assert!(rt; sent.strip_prefix(ADD_7) == Some(ADD_8));
-    Ok(())
+    assert_given(&rt, &mut one, &WAITS)
 }
+
+static ANOTHER_ID: [Step; 6] = [
+    Connects(50, &[]),
+    Calls(50, 7, Ok(1), &[ADD_7_1_0]),
+    Calls(50, 8, Ok(2), &[ADD_8_1_0]),
+    Cancels(1, true, &[CANCEL_1_1_0]),
+    Loses,
+    Connects(60, &[ADD_8_FIRST_1_0]),
+];
 
 #[test]
 fn a_call_of_1_0_is_sent_again_under_another_id(rt: HostRuntime) -> Result<(), Fail> {
     let mut one = client_of(rt.alloc(), Version::V10)?;
-    let mut out = join(rt.alloc(), &mut one, 50)?;
-    assert_eq!(rt; add(&mut one, 50, 7, &mut out)?, 1);
-    assert_eq!(rt; add(&mut one, 50, 8, &mut out)?, 2);
-    assert!(rt; one.cancel(1, &mut out)?);
-    one.lost();
-    let again = join(rt.alloc(), &mut one, 60)?;
-    assert_eq!(rt; again.as_slice(), ADD_8_FIRST_1_0);
-    Ok(())
+    assert_given(&rt, &mut one, &ANOTHER_ID)
 }

@@ -13,6 +13,6 @@ mod octets;
 #[cfg(test)]
 mod replies;
 #[cfg(test)]
-mod schedules;
-#[cfg(test)]
 mod sessions;
+#[cfg(test)]
+mod steps;

@@ -8,6 +8,7 @@ use crate::octets::{
     SEVEN_1_CLOSE_FIFTEEN_2, SEVEN_1_FIFTEEN_2, SEVEN_1_FIRST, SEVEN_1_LAST, SEVEN_1_LITTLE,
     SEVEN_LITTLE, SYSTEM_2, TOO_LARGE,
 };
+use crate::steps::are;
 use cdr_core::Order;
 use ft_client::FtClient;
 use std::alloc::Global;
@@ -189,18 +190,6 @@ static ROWS: [Row; 22] = [
         again: &[ADD_7, ADD_8],
     },
 ];
-
-/// Whether octets are these messages, one after another.
-fn are(octets: &[u8], messages: &[&[u8]]) -> bool {
-    let mut left = octets;
-    for message in messages {
-        match left.strip_prefix(*message) {
-            Some(rest) => left = rest,
-            None => return false,
-        }
-    }
-    left.is_empty()
-}
 
 /// A client whose calls 1 and 2 were sent, and sent again on its second connection.
 fn waiting(alloc: Global) -> Result<FtClient, Fail> {

@@ -87,17 +87,16 @@ impl Both {
     }
 }
 
-/// Whether both are alike over so many calls.
-fn are_alike(
-    alloc: Global,
-    hasher: RandomState,
-    (capacity, share): (u32, u32),
-    calls: u64,
-) -> Result<bool, LogError> {
-    let mut both = Both {
+/// A log and its list, of that capacity and share.
+fn both_of(alloc: Global, hasher: RandomState, capacity: u32, share: u32) -> Both {
+    Both {
         log: Log::new(alloc, capacity, share, hasher),
         list: ListLog::new(alloc, capacity as usize, share as usize),
-    };
+    }
+}
+
+/// Whether both are alike over so many calls.
+fn are_alike(alloc: Global, both: &mut Both, calls: u64) -> Result<bool, LogError> {
     let mut number = 1;
     for now in 0..calls {
         number = after(number);
@@ -115,7 +114,7 @@ static SIZES: [(u32, u32); 4] = [(64, 64), (20, 20), (40, 5), (0, 0)];
 fn a_log_is_its_list(rt: HostRuntime) {
     let hasher = RandomState::new(&rt).expect(&rt, "random");
     for (capacity, share) in &SIZES {
-        let holds = are_alike(rt.alloc(), hasher, (*capacity, *share), 4000).expect(&rt, "memory");
-        assert!(rt; holds);
+        let mut both = both_of(rt.alloc(), hasher, *capacity, *share);
+        assert!(rt; are_alike(rt.alloc(), &mut both, 4000).unwrap_or(false));
     }
 }

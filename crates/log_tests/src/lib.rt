@@ -7,12 +7,14 @@ mod comparing;
 #[cfg(test)]
 mod exceptions;
 #[cfg(test)]
-mod expiring;
-#[cfg(test)]
 mod list_log;
 #[cfg(test)]
 mod logs;
 #[cfg(test)]
+mod many;
+#[cfg(test)]
 mod minors;
 #[cfg(test)]
 mod outcomes;
+#[cfg(test)]
+mod steps;

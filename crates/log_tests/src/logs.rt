@@ -1,66 +1,118 @@
 //! Logs: what is kept, found, forgotten and refused.
 
-use crate::minors::{keep_minor, minor_of};
+use crate::minors::keep_minor;
+use crate::steps::Step::{Expires, Finds, Forgets, Holds, HoldsOf, Keeps, MakesRoom, Refuses};
+use crate::steps::{Step, assert_given};
 use ft_log::{Log, LogError};
-use std::alloc::Global;
+use std::alloc::{AllocError, Global};
 use std::hash::RandomState;
 
-/// Whether exactly what is expired is forgotten.
-fn are_expired_forgotten(alloc: Global, hasher: RandomState) -> Result<bool, LogError> {
-    let mut log = Log::new(alloc, 8, 8, hasher);
-    keep_minor(alloc, &mut log, b"A", 1, 30, 7)?;
-    keep_minor(alloc, &mut log, b"A", 2, 10, 8)?;
-    keep_minor(alloc, &mut log, b"B", 1, 20, 9)?;
-    log.forget(10);
-    let all = log.len() == 3;
-    log.forget(21);
-    let first = minor_of(alloc, &log, b"A", 1)? == Some(7);
-    let second = minor_of(alloc, &log, b"A", 2)?.is_none();
-    let third = minor_of(alloc, &log, b"B", 1)?.is_none();
-    Ok(all && log.len() == 1 && first && second && third)
-}
+/// Exactly what is expired is forgotten.
+static EXPIRED: [Step; 9] = [
+    Keeps(b"A", 1, 30, 7),
+    Keeps(b"A", 2, 10, 8),
+    Keeps(b"B", 1, 20, 9),
+    Forgets(10),
+    Holds(3),
+    Forgets(21),
+    Finds(b"A", 1, Some(7)),
+    Finds(b"A", 2, None),
+    Finds(b"B", 1, None),
+];
 
 #[test]
 fn what_is_expired_is_forgotten(rt: HostRuntime) {
     let hasher = RandomState::new(&rt).expect(&rt, "random");
-    let holds = are_expired_forgotten(rt.alloc(), hasher).expect(&rt, "memory");
-    assert!(rt; holds);
+    assert_given(&rt, hasher, (8, 8), &EXPIRED);
 }
 
-/// Whether a full log refuses, keeps what it has, and takes another once one is forgotten.
-fn is_full_at_capacity(alloc: Global, hasher: RandomState) -> Result<bool, LogError> {
-    let mut log = Log::new(alloc, 2, 2, hasher);
-    keep_minor(alloc, &mut log, b"A", 1, 30, 7)?;
-    keep_minor(alloc, &mut log, b"A", 2, 10, 8)?;
-    let refused = keep_minor(alloc, &mut log, b"B", 1, 40, 9) == Err(LogError::Full);
-    let first = minor_of(alloc, &log, b"A", 1)? == Some(7);
-    log.forget(11);
-    keep_minor(alloc, &mut log, b"B", 1, 40, 9)?;
-    let new = minor_of(alloc, &log, b"B", 1)? == Some(9);
-    Ok(refused && first && new && log.len() == 2)
+/// The next expiry is the least of those that are kept.
+static LEAST: [Step; 12] = [
+    Expires(None),
+    Keeps(b"A", 1, 30, 7),
+    Keeps(b"A", 2, 10, 8),
+    Keeps(b"B", 1, 20, 9),
+    Expires(Some(10)),
+    Forgets(10),
+    Holds(3),
+    Expires(Some(10)),
+    Forgets(21),
+    Expires(Some(30)),
+    HoldsOf(b"A", 1),
+    HoldsOf(b"B", 0),
+];
+
+#[test]
+fn the_next_expiry_is_the_least(rt: HostRuntime) {
+    let hasher = RandomState::new(&rt).expect(&rt, "random");
+    assert_given(&rt, hasher, (8, 8), &LEAST);
 }
+
+/// A full log refuses, keeps what it has, and takes another once one is forgotten.
+static FULL: [Step; 8] = [
+    Keeps(b"A", 1, 30, 7),
+    Keeps(b"A", 2, 10, 8),
+    Refuses(b"B", 1, LogError::Full),
+    Finds(b"A", 1, Some(7)),
+    Forgets(11),
+    Keeps(b"B", 1, 40, 9),
+    Finds(b"B", 1, Some(9)),
+    Holds(2),
+];
 
 #[test]
 fn a_full_log_refuses(rt: HostRuntime) {
     let hasher = RandomState::new(&rt).expect(&rt, "random");
-    let holds = is_full_at_capacity(rt.alloc(), hasher).expect(&rt, "memory");
-    assert!(rt; holds);
+    assert_given(&rt, hasher, (2, 2), &FULL);
 }
 
-/// Whether a client that has its share is refused, and another is not.
-fn is_share_kept(alloc: Global, hasher: RandomState) -> Result<bool, LogError> {
-    let mut log = Log::new(alloc, 4, 1, hasher);
-    keep_minor(alloc, &mut log, b"A", 1, 30, 7)?;
-    let refused = keep_minor(alloc, &mut log, b"A", 2, 30, 8) == Err(LogError::ShareFull);
-    keep_minor(alloc, &mut log, b"B", 2, 30, 9)?;
-    let held = log.held_by(b"A") == 1 && log.held_by(b"B") == 1 && log.held_by(b"C") == 0;
-    let text = format!(in alloc; "{log:?}")?;
-    Ok(refused && held && text.as_str() == "Log { capacity: 4, share: 1, len: 2, .. }")
-}
+/// A client that has its share is refused, and another is not.
+static SHARES: [Step; 6] = [
+    Keeps(b"A", 1, 30, 7),
+    Refuses(b"A", 2, LogError::ShareFull),
+    Keeps(b"B", 2, 30, 9),
+    HoldsOf(b"A", 1),
+    HoldsOf(b"B", 1),
+    HoldsOf(b"C", 0),
+];
 
 #[test]
 fn a_client_has_its_share(rt: HostRuntime) {
     let hasher = RandomState::new(&rt).expect(&rt, "random");
-    let holds = is_share_kept(rt.alloc(), hasher).expect(&rt, "memory");
-    assert!(rt; holds);
+    assert_given(&rt, hasher, (4, 1), &SHARES);
+}
+
+/// Room that is made shows nowhere, and gives way to the room of another key.
+static UNSEEN: [Step; 10] = [
+    Finds(b"A", 1, None),
+    MakesRoom(b"A", 1),
+    Finds(b"A", 1, None),
+    HoldsOf(b"A", 0),
+    Holds(0),
+    Expires(None),
+    Keeps(b"B", 2, 30, 7),
+    Finds(b"B", 2, Some(7)),
+    Finds(b"A", 1, None),
+    HoldsOf(b"A", 0),
+];
+
+#[test]
+fn room_is_unseen(rt: HostRuntime) {
+    let hasher = RandomState::new(&rt).expect(&rt, "random");
+    assert_given(&rt, hasher, (1, 1), &UNSEEN);
+}
+
+/// Whether a log prints so.
+fn is_shown(alloc: Global, log: &Log, wanted: &str) -> Result<bool, AllocError> {
+    let text = format!(in alloc; "{log:?}")?;
+    Ok(text.as_str() == wanted)
+}
+
+#[test]
+fn a_log_is_printed_without_its_outcomes(rt: HostRuntime) {
+    let hasher = RandomState::new(&rt).expect(&rt, "random");
+    let mut log = Log::new(rt.alloc(), 4, 1, hasher);
+    assert!(rt; keep_minor(rt.alloc(), &mut log, b"A", 1, 30, 7) == Ok(true));
+    let text = "Log { capacity: 4, share: 1, len: 1, .. }";
+    assert!(rt; is_shown(rt.alloc(), &log, text).unwrap_or(false));
 }

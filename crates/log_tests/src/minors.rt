@@ -16,7 +16,7 @@ pub(crate) fn minor_in(outcome: Option<&Outcome>) -> Option<u32> {
     }
 }
 
-/// Keeps a system exception of this minor code for a request, unless its outcome is kept.
+/// Keeps a system exception of this minor code for a request, and says whether it had none before.
 pub(crate) fn keep_minor(
     alloc: Global,
     log: &mut Log,
@@ -24,14 +24,14 @@ pub(crate) fn keep_minor(
     retention_id: i32,
     expiration: u64,
     minor: u32,
-) -> Result<(), LogError> {
+) -> Result<bool, LogError> {
     let key = Key::new(alloc, client_id, retention_id)?;
     if log.find(&key).is_some() {
-        return Ok(());
+        return Ok(false);
     }
     log.make_room(&key)?;
     log.keep(key, expiration, outcome_of(minor));
-    Ok(())
+    Ok(true)
 }
 
 /// The minor code of the system exception that is kept for a request.

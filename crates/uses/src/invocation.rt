@@ -70,38 +70,3 @@ pub fn cut(alloc: Global, message: &[u8], frame: u32) -> Result<Vec<u8>, AllocEr
     fragments(message, frame, &mut out)?;
     Ok(out)
 }
-
-#[cfg(test)]
-mod tests {
-    use super::{Retry, add_request, cut};
-    use std::test::Fail;
-
-    /// `add` with the id 5, the amount 7 and the context of a retry.
-    const ADD: &[u8] = b"GIOP\x01\x02\x00\x00\x00\x00\x00\x48\
-        \x00\x00\x00\x05\x03\x00\x00\x00\x00\x00\x00\x00\x00\x00\x00\x01c\x00\x00\x00\
-        \x00\x00\x00\x04add\x00\x00\x00\x00\x01\x00\x00\x00\x0d\x00\x00\x00\x18\
-        \x00\x00\x00\x00\x00\x00\x00\x02A\x00\x00\x00\x00\x00\x00\x01\x00\x00\x00\x00\x00\x00\x00\x64\
-        \x00\x00\x00\x00\x00\x00\x00\x07";
-
-    /// The same in frames of 40 octets.
-    const CUT: &[u8] = b"GIOP\x01\x02\x02\x00\x00\x00\x00\x1c\
-        \x00\x00\x00\x05\x03\x00\x00\x00\x00\x00\x00\x00\x00\x00\x00\x01c\x00\x00\x00\x00\x00\x00\x04add\x00\
-        GIOP\x01\x02\x02\x07\x00\x00\x00\x1c\x00\x00\x00\x05\
-        \x00\x00\x00\x01\x00\x00\x00\x0d\x00\x00\x00\x18\x00\x00\x00\x00\x00\x00\x00\x02A\x00\x00\x00\
-        GIOP\x01\x02\x00\x07\x00\x00\x00\x18\x00\x00\x00\x05\
-        \x00\x00\x00\x01\x00\x00\x00\x00\x00\x00\x00\x64\x00\x00\x00\x00\x00\x00\x00\x07";
-
-    #[test]
-    fn a_request_is_written_and_cut_by_the_layout(rt: HostRuntime) -> Result<(), Fail> {
-        let retry = Retry {
-            client_id: b"A",
-            retention_id: 1,
-            expiration: 100,
-        };
-        let message = add_request(rt.alloc(), 5, b"c", 7, &retry)?;
-        assert_eq!(rt; message.as_slice(), ADD);
-        let frames = cut(rt.alloc(), message.as_slice(), 40)?;
-        assert_eq!(rt; frames.as_slice(), CUT);
-        Ok(())
-    }
-}

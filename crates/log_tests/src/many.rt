@@ -1,0 +1,60 @@
+//! Many long clients.
+
+use crate::minors::{keep_minor, minor_of};
+use ft_log::{Log, LogError};
+use std::alloc::Global;
+use std::hash::RandomState;
+
+/// A client of 256 octets whose first four are a number.
+fn client(alloc: Global, number: u32) -> Result<Vec<u8>, LogError> {
+    let mut octets = Vec::new(alloc);
+    for octet in number.to_be_bytes() {
+        if octets.push(octet).is_err() {
+            return Err(LogError::Memory);
+        }
+    }
+    octets.resize(256, b'c')?;
+    Ok(octets)
+}
+
+/// Keeps an outcome for a client, which is its number.
+fn keep_client(alloc: Global, log: &mut Log, number: u32) -> Result<bool, LogError> {
+    let client_id = client(alloc, number)?;
+    keep_minor(alloc, log, &client_id, 1, 30, number)
+}
+
+/// Whether the outcome of a client is found.
+fn is_client_found(alloc: Global, log: &Log, number: u32) -> Result<bool, LogError> {
+    let client_id = client(alloc, number)?;
+    Ok(minor_of(alloc, log, &client_id, 1)? == Some(number))
+}
+
+/// Whether the outcomes of 1,000 clients are kept, one after another.
+fn are_kept(alloc: Global, log: &mut Log) -> Result<bool, LogError> {
+    for number in 0..1000 {
+        if !keep_client(alloc, log, number)? {
+            return Ok(false);
+        }
+    }
+    Ok(true)
+}
+
+/// Whether the outcomes of 1,000 clients are found.
+fn are_found(alloc: Global, log: &Log) -> Result<bool, LogError> {
+    for number in 0..1000 {
+        if !is_client_found(alloc, log, number)? {
+            return Ok(false);
+        }
+    }
+    Ok(true)
+}
+
+#[test]
+fn a_thousand_long_clients_are_kept(rt: HostRuntime) {
+    let hasher = RandomState::new(&rt).expect(&rt, "random");
+    let mut log = Log::new(rt.alloc(), 1000, 1, hasher);
+    assert!(rt; are_kept(rt.alloc(), &mut log).unwrap_or(false));
+    assert!(rt; keep_client(rt.alloc(), &mut log, 1000) == Err(LogError::Full));
+    assert!(rt; are_found(rt.alloc(), &log).unwrap_or(false));
+    assert!(rt; log.len() == 1000);
+}

@@ -1,0 +1,26 @@
+//! Tests of `uses`: each example once, on octets written out by hand from the standard's layouts (CORBA 3.3
+//! Part 2, 9.3 and 9.4).
+#![tactic(auto)]
+
+#[cfg(test)]
+mod arguments;
+#[cfg(test)]
+mod capture;
+#[cfg(test)]
+mod cutting;
+#[cfg(test)]
+mod endpoint;
+#[cfg(test)]
+mod hearing;
+#[cfg(test)]
+mod invocation;
+#[cfg(test)]
+mod keeping;
+#[cfg(test)]
+mod locating;
+#[cfg(test)]
+mod octets;
+#[cfg(test)]
+mod retrying;
+#[cfg(test)]
+mod serving;
