@@ -48,24 +48,37 @@ fn number_option<'a>(
         .action(ArgAction::Set)
 }
 
+/// With an option that takes a number.
+fn with_number<'a>(
+    alloc: Global,
+    command: Command<'a>,
+    name: &'a str,
+    help: &'a str,
+    range: ValueParser<'a>,
+) -> Result<Command<'a>, AllocError> {
+    command.arg(number_option(alloc, name, help, range))
+}
+
 /// The options for what a play keeps.
 fn with_log<'a>(alloc: Global, command: Command<'a>) -> Result<Command<'a>, AllocError> {
     let outcomes = ValueParser::unsigned(1, 65_536);
+    let command = with_number(alloc, command, "capacity", help::CAPACITY, outcomes)?;
     let outcomes_each = ValueParser::unsigned(0, u64::from(u32::MAX));
-    command
-        .arg(number_option(alloc, "capacity", help::CAPACITY, outcomes))?
-        .arg(number_option(alloc, "share", help::SHARE, outcomes_each))
+    with_number(alloc, command, "share", help::SHARE, outcomes_each)
 }
 
-/// The options for the counter and for the limits of a connection.
+/// The options for the limits of a connection.
 fn with_limits<'a>(alloc: Global, command: Command<'a>) -> Result<Command<'a>, AllocError> {
-    let totals = ValueParser::unsigned(0, i64::MAX as u64);
     let octets = ValueParser::unsigned(4_096, 16_777_216);
+    let command = with_number(alloc, command, "limit", help::LIMIT, octets)?;
     let messages = ValueParser::unsigned(1, 16);
-    command
-        .arg(number_option(alloc, "start", help::START, totals))?
-        .arg(number_option(alloc, "limit", help::LIMIT, octets))?
-        .arg(number_option(alloc, "partials", help::PARTIALS, messages))
+    with_number(alloc, command, "partials", help::PARTIALS, messages)
+}
+
+/// The option for the counter.
+fn with_start<'a>(alloc: Global, command: Command<'a>) -> Result<Command<'a>, AllocError> {
+    let totals = ValueParser::unsigned(0, i64::MAX as u64);
+    with_number(alloc, command, "start", help::START, totals)
 }
 
 /// `giop play`.
@@ -73,7 +86,9 @@ fn play_command<'a>(alloc: Global) -> Result<Command<'a>, AllocError> {
     let command = Command::new(alloc, "play")
         .about("Plays a script of events on standard input, and prints what is written")
         .after_help(help::PLAY);
-    with_limits(alloc, with_log(alloc, command)?)
+    let command = with_log(alloc, command)?;
+    let command = with_start(alloc, command)?;
+    with_limits(alloc, command)
 }
 
 /// `giop show`.
@@ -102,17 +117,26 @@ fn ior_command<'a>(alloc: Global) -> Result<Command<'a>, AllocError> {
         .arg(text)
 }
 
+/// With an option that takes a number and has to be there.
+fn with_required<'a>(
+    alloc: Global,
+    command: Command<'a>,
+    name: &'a str,
+    help: &'a str,
+    range: ValueParser<'a>,
+) -> Result<Command<'a>, AllocError> {
+    command.arg(number_option(alloc, name, help, range).required(true))
+}
+
 /// `giop serve`.
 fn serve_command<'a>(alloc: Global) -> Result<Command<'a>, AllocError> {
-    let ports = ValueParser::unsigned(1, u64::from(u16::MAX));
-    let counts = ValueParser::unsigned(1, 1_000);
-    let port = number_option(alloc, "port", help::PORT, ports).required(true);
-    let connections = number_option(alloc, "connections", help::CONNECTIONS, counts).required(true);
-    Command::new(alloc, "serve")
+    let command = Command::new(alloc, "serve")
         .about("Serves a counter on 127.0.0.1, and prints its object reference")
-        .after_help(help::SERVE)
-        .arg(port)?
-        .arg(connections)
+        .after_help(help::SERVE);
+    let ports = ValueParser::unsigned(1, u64::from(u16::MAX));
+    let command = with_required(alloc, command, "port", help::PORT, ports)?;
+    let counts = ValueParser::unsigned(1, 1_000);
+    with_required(alloc, command, "connections", help::CONNECTIONS, counts)
 }
 
 /// `giop` without a subcommand.
@@ -131,12 +155,20 @@ fn with_streams<'a>(alloc: Global, command: Command<'a>) -> Result<Command<'a>, 
         .subcommand(check_command(alloc))
 }
 
+/// With a subcommand.
+fn with<'a>(
+    command: Command<'a>,
+    subcommand: Result<Command<'a>, AllocError>,
+) -> Result<Command<'a>, AllocError> {
+    command.subcommand(subcommand?)
+}
+
 /// The whole command line.
 fn command<'a>(alloc: Global) -> Result<Command<'a>, AllocError> {
-    let command = base_command(alloc)?.subcommand(play_command(alloc)?)?;
-    with_streams(alloc, command)?
-        .subcommand(ior_command(alloc)?)?
-        .subcommand(serve_command(alloc)?)
+    let command = with(base_command(alloc)?, play_command(alloc))?;
+    let command = with_streams(alloc, command)?;
+    let command = with(command, ior_command(alloc))?;
+    with(command, serve_command(alloc))
 }
 
 /// A play whose numbers are those that the words don't say.

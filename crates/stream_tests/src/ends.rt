@@ -2,7 +2,7 @@
 
 use crate::Terms;
 use crate::messages::{ADD, AGAIN, BROKEN, CLOSE, ERROR, EXPIRED, HERE, LOCATE, SEVEN};
-use crate::visits::{new_server, visit, visit_at};
+use crate::visits::{Course, Wanted, comes, is_wanted, new_server, visit_at};
 use ft_orb::StreamEnd;
 use std::alloc::{AllocError, Global};
 use std::hash::RandomState;
@@ -179,42 +179,49 @@ fn joined(alloc: Global, parts: &[&[u8]]) -> Result<Vec<u8>, AllocError> {
     Ok(all)
 }
 
+/// Whether a connection ends as its row says, and is closed then.
+fn holds(alloc: Global, hasher: RandomState, row: &Row) -> Result<bool, Fail> {
+    let mut server = new_server(alloc, hasher)?;
+    let taken = joined(alloc, row.taken)?;
+    let wanted = Wanted {
+        end: row.end,
+        taken: &taken,
+        total: row.total,
+    };
+    let is_so = comes(alloc, &mut server, 1, (row.terms, row.max_reads), wanted)?;
+    Ok(is_so && server.is_closed(1))
+}
+
 #[test]
 fn each_end_has_its_cause(rt: HostRuntime) -> Result<(), Fail> {
+    let hasher = RandomState::new(&rt)?;
     for row in &ROWS {
-        let mut server = new_server(rt.alloc(), RandomState::new(&rt)?)?;
-        let came = visit(rt.alloc(), &mut server, 1, row.terms, row.max_reads)?;
-        assert_eq!(rt; came.end, row.end, "{}", row.name);
-        assert!(rt;
-            came.taken == joined(rt.alloc(), row.taken)?,
-            "{}",
-            row.name
-        );
-        assert_eq!(rt; came.total, row.total, "{}", row.name);
-        assert!(rt; server.is_closed(1), "{}", row.name);
+        assert!(rt; holds(rt.alloc(), hasher, row)?, "{}", row.name);
     }
     Ok(())
 }
 
-/// The expiration of `ADD` is 100. The third moment goes back, and counts as the second.
-#[test]
-fn the_clock_is_asked_for_each_piece(rt: HostRuntime) -> Result<(), Fail> {
+/// What a server of a counter from 0 makes of two locates and a request with these moments.
+fn come_at(alloc: Global, hasher: RandomState, moments: &[u64]) -> Result<Course, Fail> {
     let terms = Terms {
         sends: &[LOCATE, LOCATE, ADD],
         takes: ALL,
         fails: 0,
     };
-    let mut server = new_server(rt.alloc(), RandomState::new(&rt)?)?;
-    let came = visit_at(
-        rt.alloc(),
-        &mut server,
-        1,
-        terms,
-        9,
-        [50, 120, 60].as_slice(),
-    )?;
-    assert_eq!(rt; came.end, StreamEnd::PeerEnded);
-    assert!(rt; came.taken == joined(rt.alloc(), [HERE, HERE, EXPIRED].as_slice())?);
-    assert_eq!(rt; came.total, 0);
+    let mut server = new_server(alloc, hasher)?;
+    visit_at(alloc, &mut server, 1, terms, 9, moments)
+}
+
+/// The expiration of `ADD` is 100. The third moment goes back, and counts as the second.
+#[test]
+fn the_clock_is_asked_for_each_piece(rt: HostRuntime) -> Result<(), Fail> {
+    let course = come_at(rt.alloc(), RandomState::new(&rt)?, [50, 120, 60].as_slice())?;
+    let taken = joined(rt.alloc(), [HERE, HERE, EXPIRED].as_slice())?;
+    let wanted = Wanted {
+        end: StreamEnd::PeerEnded,
+        taken: &taken,
+        total: 0,
+    };
+    assert!(rt; is_wanted(&course, wanted));
     Ok(())
 }

@@ -2,8 +2,9 @@
 
 use crate::Terms;
 use crate::messages::{ADD, AGAIN, SEVEN, SEVEN_AGAIN};
-use crate::visits::{new_server, visit};
+use crate::visits::{Wanted, comes, new_server};
 use ft_orb::StreamEnd;
+use std::alloc::Global;
 use std::hash::RandomState;
 use std::test::Fail;
 
@@ -27,28 +28,36 @@ fn failed_at(fails: u32) -> (StreamEnd, usize) {
     }
 }
 
+/// A wire that brings the request again, and takes its answer at once.
+const AGAIN_WHOLE: Terms<'static> = Terms {
+    sends: &[AGAIN],
+    takes: 64,
+    fails: 0,
+};
+
+/// Whether a request acts once where the call of this number fails, and its client asks again.
+fn acts_once(alloc: Global, hasher: RandomState, fails: u32) -> Result<bool, Fail> {
+    let mut server = new_server(alloc, hasher)?;
+    let (end, sent) = failed_at(fails);
+    let first = Wanted {
+        end,
+        taken: SEVEN.get(..sent).unwrap_or(SEVEN),
+        total: if fails == 1 { 0 } else { 7 },
+    };
+    let second = Wanted {
+        end: StreamEnd::PeerEnded,
+        taken: SEVEN_AGAIN,
+        total: 7,
+    };
+    let is_first = comes(alloc, &mut server, 1, (failing(fails), 9), first)?;
+    Ok(is_first && comes(alloc, &mut server, 2, (AGAIN_WHOLE, 9), second)?)
+}
+
 #[test]
 fn a_request_acts_once_whichever_call_fails(rt: HostRuntime) -> Result<(), Fail> {
-    let again = Terms {
-        sends: &[AGAIN],
-        takes: 64,
-        fails: 0,
-    };
+    let hasher = RandomState::new(&rt)?;
     for fails in 1..=35 {
-        let mut server = new_server(rt.alloc(), RandomState::new(&rt)?)?;
-        let (end, sent) = failed_at(fails);
-        let first = visit(rt.alloc(), &mut server, 1, failing(fails), 9)?;
-        assert_eq!(rt; first.end, end, "call {fails}");
-        assert_eq!(rt;
-            first.taken.as_slice(),
-            SEVEN.get(..sent).unwrap_or(SEVEN),
-            "call {fails}"
-        );
-        assert_eq!(rt; first.total, if fails == 1 { 0 } else { 7 }, "call {fails}");
-        let second = visit(rt.alloc(), &mut server, 2, again, 9)?;
-        assert_eq!(rt; second.end, StreamEnd::PeerEnded, "call {fails}");
-        assert_eq!(rt; second.taken.as_slice(), SEVEN_AGAIN, "call {fails}");
-        assert_eq!(rt; second.total, 7, "call {fails}");
+        assert!(rt; acts_once(rt.alloc(), hasher, fails)?, "call {fails}");
     }
     Ok(())
 }

@@ -2,46 +2,74 @@
 
 use crate::messages::{CLOSE, HERE, LOCATE};
 use crate::visits::new_server;
-use ft_orb::Clock;
-use giop_run::{SystemClock, UNIX_EPOCH, reference_text, serve_on};
+use ft_orb::{Clock, Server};
+use giop_run::{Counter, SystemClock, UNIX_EPOCH, reference_text, serve_on};
+use std::alloc::Global;
 use std::hash::RandomState;
+use std::io;
 use std::io::{Read, Write};
 use std::net::{TcpListener, TcpStream};
 use std::test::Fail;
 
+/// A client of a listener.
+fn connect(rt: &HostRuntime, listener: &TcpListener) -> io::Result<TcpStream> {
+    TcpStream::connect(rt, listener.local_addr()?)
+}
+
+/// Asks where the object is, and closes the connection in the words of the protocol.
+fn ask(client: &mut TcpStream) -> io::Result<()> {
+    client.write_all(LOCATE)?;
+    client.write_all(CLOSE)
+}
+
+/// Whether the octets that come until the connection ends are these.
+fn is_answer(alloc: Global, client: &mut TcpStream, wanted: &[u8]) -> io::Result<bool> {
+    let mut answers = Vec::new(alloc);
+    client.read_to_end(&mut answers)?;
+    Ok(answers.as_slice() == wanted)
+}
+
+/// Serves so many connections, with the system's clock.
+fn serve_all(
+    rt: &HostRuntime,
+    listener: &TcpListener,
+    count: u32,
+    server: &mut Server<Counter>,
+) -> io::Result<()> {
+    let mut clock = SystemClock::new(rt);
+    serve_on(rt.alloc(), listener, count, server, &mut clock)
+}
+
 #[test]
 fn a_client_is_answered(rt: HostRuntime) -> Result<(), Fail> {
     let listener = TcpListener::bind(&rt, "127.0.0.1:0")?;
-    let mut client = TcpStream::connect(&rt, listener.local_addr()?)?;
-    client.write_all(LOCATE)?;
-    client.write_all(CLOSE)?;
+    let mut client = connect(&rt, &listener)?;
+    ask(&mut client)?;
     let mut server = new_server(rt.alloc(), RandomState::new(&rt)?)?;
-    let mut clock = SystemClock::new(&rt);
-    serve_on(rt.alloc(), &listener, 1, &mut server, &mut clock)?;
-    let mut answers = Vec::new(rt.alloc());
-    client.read_to_end(&mut answers)?;
-    assert_eq!(rt; answers.as_slice(), HERE);
+    serve_all(&rt, &listener, 1, &mut server)?;
+    assert!(rt; is_answer(rt.alloc(), &mut client, HERE)?);
     assert!(rt; server.is_closed(1));
     Ok(())
+}
+
+/// A server of a counter from 0 whose connection 1 is open.
+fn used_server(alloc: Global, hasher: RandomState) -> Result<Server<Counter>, Fail> {
+    let mut server = new_server(alloc, hasher)?;
+    server.connect(1)?;
+    Ok(server)
 }
 
 /// The connection whose number was used is dropped, and counts.
 #[test]
 fn a_used_number_is_dropped(rt: HostRuntime) -> Result<(), Fail> {
     let listener = TcpListener::bind(&rt, "127.0.0.1:0")?;
-    let mut first = TcpStream::connect(&rt, listener.local_addr()?)?;
-    let mut second = TcpStream::connect(&rt, listener.local_addr()?)?;
-    second.write_all(LOCATE)?;
-    second.write_all(CLOSE)?;
-    let mut server = new_server(rt.alloc(), RandomState::new(&rt)?)?;
-    server.connect(1)?;
-    let mut clock = SystemClock::new(&rt);
-    serve_on(rt.alloc(), &listener, 2, &mut server, &mut clock)?;
-    let mut answers = Vec::new(rt.alloc());
-    first.read_to_end(&mut answers)?;
-    assert_eq!(rt; answers.as_slice(), b"".as_slice());
-    second.read_to_end(&mut answers)?;
-    assert_eq!(rt; answers.as_slice(), HERE);
+    let mut first = connect(&rt, &listener)?;
+    let mut second = connect(&rt, &listener)?;
+    ask(&mut second)?;
+    let mut server = used_server(rt.alloc(), RandomState::new(&rt)?)?;
+    serve_all(&rt, &listener, 2, &mut server)?;
+    assert!(rt; is_answer(rt.alloc(), &mut first, b"")?);
+    assert!(rt; is_answer(rt.alloc(), &mut second, HERE)?);
     Ok(())
 }
 

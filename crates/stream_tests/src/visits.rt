@@ -67,3 +67,30 @@ pub(crate) fn visit(
         moments.as_slice(),
     )
 }
+
+/// How a connection is to end, what its wire is to take, and the counter's total afterwards.
+#[derive(Clone, Copy)]
+pub(crate) struct Wanted<'a> {
+    pub(crate) end: StreamEnd,
+    pub(crate) taken: &'a [u8],
+    pub(crate) total: i64,
+}
+
+/// Whether that came of a connection.
+pub(crate) fn is_wanted(course: &Course, wanted: Wanted) -> bool {
+    course.end == wanted.end
+        && course.taken.as_slice() == wanted.taken
+        && course.total == wanted.total
+}
+
+/// Serves a new connection over a wire, and says whether that comes of it.
+pub(crate) fn comes(
+    alloc: Global,
+    server: &mut Server<Counter>,
+    connection: u64,
+    (terms, max_reads): (Terms, u32),
+    wanted: Wanted,
+) -> Result<bool, Fail> {
+    let course = visit(alloc, server, connection, terms, max_reads)?;
+    Ok(is_wanted(&course, wanted))
+}

@@ -6,22 +6,33 @@ use giop_frames::Limits;
 use std::test::Fail;
 use uses::{first_arguments, publish_types};
 
+/// Whether a value is a quote of this symbol and price.
+fn is_quote(quote: &Val, symbol: &[u8], cents: i64) -> bool {
+    let Val::Struct(members) = quote else {
+        return false;
+    };
+    match members.as_slice() {
+        [Val::Str(found), Val::LongLong(price)] => found.as_slice() == symbol && *price == cents,
+        _ => false,
+    }
+}
+
+/// Whether values are one quote of this symbol and price, and true.
+fn is_final_quote(values: &[Val], symbol: &[u8], cents: i64) -> bool {
+    let [Val::Seq(quotes), Val::Boolean(true)] = values else {
+        return false;
+    };
+    match quotes.as_slice() {
+        [quote] => is_quote(quote, symbol, cents),
+        _ => false,
+    }
+}
+
 #[test]
 fn arguments_are_those_of_the_octets(rt: HostRuntime) -> Result<(), Fail> {
     let types = publish_types(rt.alloc())?;
     let found = first_arguments(rt.alloc(), Limits::default(), PUBLISH, types.as_slice())?;
     let values = found.expect(&rt, "a request");
-    let [Val::Seq(quotes), Val::Boolean(is_final)] = values.as_slice() else {
-        panic!(rt; "a sequence and a boolean");
-    };
-    let [Val::Struct(quote)] = quotes.as_slice() else {
-        panic!(rt; "one struct");
-    };
-    let [Val::Str(symbol), Val::LongLong(cents)] = quote.as_slice() else {
-        panic!(rt; "a string and a long long");
-    };
-    assert_eq!(rt; symbol.as_slice(), b"IBM".as_slice());
-    assert_eq!(rt; *cents, 12_500);
-    assert!(rt; *is_final);
+    assert!(rt; is_final_quote(&values, b"IBM", 12_500));
     Ok(())
 }

@@ -98,6 +98,14 @@ fn wherever_the_reply_is_cut_ticket_1_is_given(rt: HostRuntime) -> Result<(), Fa
     Ok(())
 }
 
+/// Whether a line says that the call returned where a message was cut there.
+fn is_returned(alloc: Global, line: &str, octet: usize, message: &str) -> Result<bool, AllocError> {
+    let expected = format!(in alloc;
+        "cut after octet {octet} of the {message}: returned, tickets given: 1"
+    )?;
+    Ok(line == expected.as_str())
+}
+
 /// Asserts that each line of the cuts of a message says that the call returned, and how many lines there are.
 fn assert_lines(
     rt: &(impl Abort + AllocGlobal),
@@ -106,10 +114,7 @@ fn assert_lines(
     count: usize,
 ) -> Result<(), Fail> {
     for (octet, line) in lines.lines().enumerate() {
-        let expected = format!(in rt.alloc();
-            "cut after octet {octet} of the {message}: returned, tickets given: 1"
-        )?;
-        assert!(rt; line == expected.as_str(), "{line}");
+        assert!(rt; is_returned(rt.alloc(), line, octet, message)?, "{line}");
     }
     assert!(rt; lines.lines().count() == count, "{message}");
     Ok(())

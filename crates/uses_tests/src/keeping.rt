@@ -27,17 +27,35 @@ fn minor_of(alloc: Global, log: &Log, retention_id: i32) -> Result<Option<u32>, 
     }
 }
 
+/// An outcome that is offered: the number of its request, its minor code, the moment and its expiration; and the
+/// minor code that is found then, or why it was refused.
+type Offer = (i32, u32, (u64, u64), Result<Option<u32>, LogError>);
+
+static OFFERS: [Offer; 5] = [
+    (1, 7, (0, 20), Ok(Some(7))),
+    (1, 8, (20, 30), Ok(Some(7))),
+    (1, 9, (21, 30), Ok(Some(9))),
+    (2, 10, (21, 30), Ok(Some(10))),
+    (3, 11, (21, 30), Err(LogError::Full)),
+];
+
+/// What is found after an outcome was offered.
+fn found_after(
+    alloc: Global,
+    log: &mut Log,
+    (retention_id, minor): (i32, u32),
+    moments: (u64, u64),
+) -> Result<Option<u32>, LogError> {
+    keep_minor(alloc, log, (retention_id, minor), moments)?;
+    minor_of(alloc, log, retention_id)
+}
+
 #[test]
 fn the_first_outcome_is_kept_until_it_expires(rt: HostRuntime) -> Result<(), Fail> {
-    let alloc = rt.alloc();
-    let mut log = Log::new(alloc, 2, 2, RandomState::new(&rt)?);
-    keep_minor(alloc, &mut log, (1, 7), (0, 20))?;
-    keep_minor(alloc, &mut log, (1, 8), (20, 30))?;
-    assert_eq!(rt; minor_of(alloc, &log, 1)?, Some(7));
-    keep_minor(alloc, &mut log, (1, 9), (21, 30))?;
-    assert_eq!(rt; minor_of(alloc, &log, 1)?, Some(9));
-    keep_minor(alloc, &mut log, (2, 10), (21, 30))?;
-    let refused = keep_minor(alloc, &mut log, (3, 11), (21, 30));
-    assert!(rt; refused == Err(LogError::Full));
+    let mut log = Log::new(rt.alloc(), 2, 2, RandomState::new(&rt)?);
+    for (retention_id, minor, moments, wanted) in &OFFERS {
+        let found = found_after(rt.alloc(), &mut log, (*retention_id, *minor), *moments);
+        assert!(rt; found == *wanted, "{minor}");
+    }
     Ok(())
 }

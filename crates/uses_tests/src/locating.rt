@@ -1,6 +1,7 @@
 //! Locate requests that are answered.
 
-use giop_core::{Header, Message, read_message};
+use giop_core::{Header, Message, WriteError, read_message};
+use std::alloc::Global;
 use std::process::Abort;
 use std::test::Fail;
 use uses::answer_locate;
@@ -16,25 +17,34 @@ fn message_in<'m>(rt: &impl Abort, octets: &'m [u8]) -> Message<'m> {
 const LOCATE: &[u8] = b"GIOP\x01\x02\x01\x03\x0d\x00\x00\x00\
     \x01\x00\x00\x00\x00\x00\x00\x00\x01\x00\x00\x00c";
 
+/// The LocateReply to it where the object is here, and where there is none.
+const HERE: &[u8] = b"GIOP\x01\x02\x01\x04\x08\x00\x00\x00\x01\x00\x00\x00\x01\x00\x00\x00";
+
+const UNKNOWN: &[u8] = b"GIOP\x01\x02\x01\x04\x08\x00\x00\x00\x01\x00\x00\x00\x00\x00\x00\x00";
+
+/// Whether a message is answered, where that key names an object, and by which octets.
+fn answers(
+    alloc: Global,
+    message: &Message,
+    key: &[u8],
+    wanted: (bool, &[u8]),
+) -> Result<bool, WriteError> {
+    let mut out = Vec::new(alloc);
+    let is_answered = answer_locate(message, key, &mut out)?;
+    Ok(is_answered == wanted.0 && out.as_slice() == wanted.1)
+}
+
 #[test]
 fn a_locate_request_is_answered_in_its_version_and_order(rt: HostRuntime) -> Result<(), Fail> {
     let message = message_in(&rt, LOCATE);
-    let mut out = Vec::new(rt.alloc());
-    assert!(rt; answer_locate(&message, b"c", &mut out)?);
-    let here = b"GIOP\x01\x02\x01\x04\x08\x00\x00\x00\x01\x00\x00\x00\x01\x00\x00\x00";
-    assert_eq!(rt; out.as_slice(), here.as_slice());
-    out.clear();
-    assert!(rt; answer_locate(&message, b"d", &mut out)?);
-    let unknown = b"GIOP\x01\x02\x01\x04\x08\x00\x00\x00\x01\x00\x00\x00\x00\x00\x00\x00";
-    assert_eq!(rt; out.as_slice(), unknown.as_slice());
+    assert!(rt; answers(rt.alloc(), &message, b"c", (true, HERE))?);
+    assert!(rt; answers(rt.alloc(), &message, b"d", (true, UNKNOWN))?);
     Ok(())
 }
 
 #[test]
 fn another_message_is_not_answered(rt: HostRuntime) -> Result<(), Fail> {
     let close = message_in(&rt, b"GIOP\x01\x02\x00\x05\x00\x00\x00\x00");
-    let mut out = Vec::new(rt.alloc());
-    assert!(rt; !answer_locate(&close, b"c", &mut out)?);
-    assert_eq!(rt; out.len(), 0);
+    assert!(rt; answers(rt.alloc(), &close, b"c", (false, b""))?);
     Ok(())
 }
