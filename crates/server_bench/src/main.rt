@@ -169,43 +169,42 @@ fn driven(
     Ok(drive(alloc, server, stream.as_slice(), size as usize))
 }
 
-/// Does what the words ask for.
-fn answer(rt: &HostRuntime) -> io::Result<()> {
-    let alloc = rt.alloc();
-    let words: Vec<String> = env::args(rt)?.collect(alloc)?;
-    let kind = words.get(3).map_or("add", |word| word.as_str());
-    let entries = number(words.as_slice(), 4).clamp(1024, 65_536);
-    let counter = Counter::new(alloc, 0)?;
-    let mut server = Server::new(
-        alloc,
-        counter,
-        Limits::default(),
-        entries,
-        entries,
-        RandomState::new(rt)?,
-    );
-    if server.connect(1).is_err() {
-        return println!(rt; "memory");
+/// A server of a counter from 0 that keeps `entries` outcomes, and whose connection 1 is open.
+fn new_server(rt: &HostRuntime, entries: u32) -> io::Result<Server<Counter>> {
+    let counter = Counter::new(rt.alloc(), 0)?;
+    let (limits, hasher) = (Limits::default(), RandomState::new(rt)?);
+    let mut server = Server::new(rt.alloc(), counter, limits, entries, entries, hasher);
+    match server.connect(1) {
+        Ok(()) => Ok(server),
+        Err(_) => Err(io::ErrorKind::OutOfMemory.into()),
     }
-    match driven(
-        alloc,
-        words.as_slice(),
-        kind,
-        u64::from(entries),
-        &mut server,
-    )? {
-        Some(tally) => println!(rt;
-            "octets {} sum {} total {}",
-            tally.octets,
-            tally.sum,
-            server.servant().total()
-        ),
+}
+
+/// Prints what was written, and the counter's total.
+fn print_tally(rt: &HostRuntime, tally: Option<Tally>, total: i64) -> io::Result<()> {
+    match tally {
+        Some(tally) => println!(rt; "octets {} sum {} total {total}", tally.octets, tally.sum),
         None => println!(rt; "memory"),
     }
 }
 
+/// Does what the words ask for.
+fn answer(rt: &HostRuntime, words: &[String]) -> io::Result<()> {
+    let kind = words.get(3).map_or("add", |word| word.as_str());
+    let entries = number(words, 4).clamp(1024, 65_536);
+    let mut server = new_server(rt, entries)?;
+    let tally = driven(rt.alloc(), words, kind, u64::from(entries), &mut server)?;
+    print_tally(rt, tally, server.servant().total())
+}
+
+/// Does what the words of the command line ask for.
+fn run(rt: &HostRuntime) -> io::Result<()> {
+    let words: Vec<String> = env::args(rt)?.collect(rt.alloc())?;
+    answer(rt, words.as_slice())
+}
+
 fn main(rt: HostRuntime) -> ExitCode {
-    match answer(&rt) {
+    match run(&rt) {
         Ok(()) => ExitCode::from(0),
         Err(_) => ExitCode::from(1),
     }
