@@ -113,6 +113,7 @@ fn a_log_is_printed_without_its_outcomes(rt: HostRuntime) {
     let hasher = RandomState::new(&rt).expect(&rt, "random");
     let mut log = Log::new(rt.alloc(), 4, 1, hasher);
     assert!(rt; keep_minor(rt.alloc(), &mut log, b"A", 1, 30, 7) == Ok(true));
-    let text = "Log { capacity: 4, share: 1, len: 1, .. }";
+    assert!(rt; keep_minor(rt.alloc(), &mut log, b"B", 2, 30, 9) == Ok(true));
+    let text = "Log { capacity: 4, share: 1, len: 2, .. }";
     assert!(rt; is_shown(rt.alloc(), &log, text).unwrap_or(false));
 }
