@@ -3,7 +3,7 @@
 
 usage: measure.py OURS PLAIN GIOP [--rounds 5] [--only WORD] [--no-instructions]
 
-OURS is the program of crates/frames_bench, PLAIN that of bench/plain.rs, GIOP the program `giop`. Each row is a
+OURS is the program of crates/benches, PLAIN that of bench/plain.rs, GIOP the program `giop`. Each row is a
 kind of work: what it does in one count, so many counts, and the octets of a piece. Times are user time, the best
 of so many rounds, in which the programs take turns; of `check` and `show`, which read their input, user and
 system time. The time of making the stream is left out: it is that of the same program with pieces of 0 octets.
@@ -74,7 +74,7 @@ def best_of(rounds, programs, words, source=None):
     for _ in range(rounds):
         printed = set()
         for name in programs:
-            took, text, held = run([programs[name], *words], source)
+            took, text, held = run(programs[name] + words, source)
             time[name] = min(time.get(name, took), took)
             memory[name] = max(memory.get(name, 0), held)
             printed.add(text)
@@ -92,8 +92,8 @@ def net_times(rounds, programs, kind, piece, count):
 
 def net_instructions(programs, kind, piece, count):
     """The instructions for one count, without those of making the stream."""
-    return {name: (instructions([programs[name], str(count), str(piece), kind]) - instructions([programs[name], str(count), "0", kind])) / count
-            for name in programs}
+    return {name: (instructions(words + [str(count), str(piece), kind]) - instructions(words + [str(count), "0", kind])) / count
+            for name, words in programs.items()}
 
 
 def line(title, time, counted, memory=None):
@@ -118,7 +118,7 @@ def digits_row(given, programs, word):
         time, memory = best_of(given.rounds, programs, [word], sources["time"])
         counted = None
         if not given.no_instructions:
-            counted = {name: instructions([programs[name], word], sources["instructions"]) / counts["instructions"] for name in programs}
+            counted = {name: instructions(words + [word], sources["instructions"]) / counts["instructions"] for name, words in programs.items()}
         line(f"`{word}`, a digit", {name: time[name] / counts["time"] * 1e9 for name in programs}, counted,
              {name: memory[name] / counts["time"] for name in programs})
 
@@ -133,14 +133,14 @@ def main():
     parser.add_argument("--no-instructions", action="store_true")
     given = parser.parse_args()
     print(f"{'':<32} {'nanoseconds':>12} {'plain':>12} {'ratio':>6} {'instructions':>12} {'plain':>12} {'ratio':>6}")
-    programs = {"ours": given.ours, "plain": given.plain}
+    programs = {"ours": [given.ours, "frames"], "plain": [given.plain]}
     for title, kind, piece, count, fewer in ROWS:
         if given.only not in title:
             continue
         time = net_times(given.rounds, programs, kind, piece, count)
         counted = None if given.no_instructions else net_instructions(programs, kind, piece, fewer)
         line(title, {name: time[name] / count * 1e9 for name in programs}, counted)
-    programs["ours"] = given.giop
+    programs["ours"] = [given.giop]
     for word in ("check", "show"):
         if given.only in word:
             digits_row(given, programs, word)

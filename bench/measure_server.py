@@ -3,7 +3,7 @@
 
 usage: measure_server.py OURS PLAIN [--rounds 5] [--count 1000000] [--no-instructions]
 
-OURS is the program of crates/server_bench, PLAIN that of bench/plain.rs. The stream has COUNT messages of a
+OURS is the program of crates/benches, PLAIN that of bench/plain.rs. The stream has COUNT messages of a
 kind: `add` is a Request of 52 octets without FT_REQUEST that is performed, `repeat` one of 84 octets of
 which all but the first repeat the first, `locate` a LocateRequest of 25 octets. Each time is user
 time, the best of so many rounds, in which the programs take turns. The time of making the stream is left
@@ -88,7 +88,7 @@ def main():
     parser.add_argument("--count", type=int, default=1_000_000)
     parser.add_argument("--no-instructions", action="store_true")
     given = parser.parse_args()
-    engines = {"ours": [given.ours], "plain": [given.plain, "serve"]}
+    engines = {"ours": [given.ours, "server"], "plain": [given.plain, "serve"]}
 
     def words(name, kind, count, size):
         return engines[name] + [str(count), str(size), kind]

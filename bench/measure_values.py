@@ -3,7 +3,7 @@
 
 usage: measure_values.py OURS PLAIN [--rounds 5] [--no-instructions]
 
-OURS is the program of crates/values_bench, PLAIN that of bench/values.rs. Each time is user and system time
+OURS is the program of crates/benches, PLAIN that of bench/values.rs. Each time is user and system time
 for one value in microseconds, the best of so many runs in which the programs take turns; the time of making
 the value is left out. Values that were read are dropped, and that counts. Instructions are those that
 callgrind counts for one value.
@@ -29,11 +29,11 @@ def main():
     parser.add_argument("--rounds", type=int, default=5)
     parser.add_argument("--no-instructions", action="store_true")
     given = parser.parse_args()
-    programs = [given.ours, given.plain]
+    programs = [[given.ours, "values"], [given.plain]]
     print("a value of a megabyte: microseconds ours, plain, ratio; instructions ours, plain, ratio")
     for what in ["read", "write"]:
         for kind, count in KINDS.items():
-            words = [[program, what, kind] for program in programs]
+            words = [program + [what, kind] for program in programs]
             printed = {run(each + ["3"])[1] for each in words}
             if len(printed) != 1:
                 sys.exit(f"{what} {kind}: {printed}")

@@ -1,6 +1,6 @@
 //! A plain assembler of GIOP streams and a plain server, to measure against: no proofs, no crates.
 //!
-//! usage: plain N PIECE [KIND]        does N times a kind of work, as `frames_bench` does, and prints a count and a checksum
+//! usage: plain N PIECE [KIND]        does N times a kind of work, as `benches frames` does, and prints a count and a checksum
 //!        plain serve N PIECE KIND [ENTRIES]    serves N messages of a kind, prints what was written
 //!        plain check | show          reads digits on standard input, prints how the stream ends, or its messages too
 

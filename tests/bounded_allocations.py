@@ -2,7 +2,7 @@
 """Runs a program on hostile input, and refuses each allocation that is large for that input.
 
 usage: bounded_allocations.py PROGRAM            the program `giop`
-       bounded_allocations.py --calls PROGRAM    the program `memory_tests`, by its word `lines`
+       bounded_allocations.py --calls PROGRAM    the program `value_trials`, by its word `lines`
 
 The inputs of `giop` are the streams of the rows (rows/*.txt), for `giop show`, and the references of the cases
 (cases/ior), for `giop ior`: each as it is, and with ffffffff written over four octets, at each place
@@ -11,7 +11,7 @@ either byte order. In a stream the size of each frame is also once one that the 
 so that the frame is waited for: its octets take room as they come. Under a bound of a few times the input's octets the program must print what it prints
 with ample memory: what it takes follows the octets that are there, and no count among them.
 
-The inputs of `memory_tests` are the octets of spellings.py, which it reads by types, alone (`read`) and
+The inputs of `value_trials` are the octets of spellings.py, which it reads by types, alone (`read`) and
 after other octets (`read_list`, `Body::read`), or as references (`read_ior`) and profiles (`read_iiop`):
 each as it is, which must give the value there; with each of three large numbers written over the four
 octets at each place that is a multiple of 4; and each front whose length is a multiple of 4. No line that
@@ -91,7 +91,7 @@ def variants(octets, first):
             yield octets[:place] + HUGE + octets[place + 4:]
 
 
-# a call that `memory_tests` makes: the words before the digits, the order, the octets, and what it prints of them
+# a call that `value_trials` makes: the words before the digits, the order, the octets, and what it prints of them
 Call = namedtuple("Call", "words order octets printed")
 
 

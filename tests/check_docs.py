@@ -1,13 +1,15 @@
 #!/usr/bin/env python3
 """Checks that the documents say what the repository has.
 
-- docs/PROMISES.md names each must-fail edit of each crate, and no other: in the last column of the tables
+- docs/PROMISES.md names each wrong body of each crate, and no other: in the last column of the tables
   under the crate's heading.
+- Each wrong body of the table of promises is one of the crate beside it, and each of the table of clauses one of
+  the crate in its head.
 - Each name in the other columns of these tables stands in a source or a definition of some crate.
 - Each clause that PROMISES.md quotes stands in a source of some crate, word for word, and each row of a table of
   words names a definition of the file beside it.
-- Each block of Rust that README.md, docs/GUIDE.md and the pages of giop_link and ft_log show stands in a
-  file of crates/uses/src or of crates/uses_tests/src.
+- Each block of Rust that README.md, docs/GUIDE.md and the pages of giop_core, giop_frames, giop_link and ft_log
+  show stands in a file of crates/uses/src or of crates/uses_tests/src.
 - The client that docs/INTEROP.md shows is examples/retry_client.py.
 - docs/ARCHITECTURE.md names each crate, with the libraries that it stands on, and each room of the crates
   whose rooms it lists.
@@ -22,13 +24,20 @@ import sys
 
 ROOT = os.path.dirname(os.path.dirname(os.path.abspath(__file__)))
 PROMISES = "docs/PROMISES.md"
-QUOTING = ["README.md", "docs/GUIDE.md", "crates/giop_link/README.md", "crates/ft_log/README.md"]
+QUOTING = ["README.md", "docs/GUIDE.md"] + [
+    f"crates/{crate}/README.md" for crate in ("giop_core", "giop_frames", "giop_link", "ft_log")
+]
 USES = ["crates/uses/src", "crates/uses_tests/src"]
 ARCHITECTURE = "docs/ARCHITECTURE.md"
 INTEROP = "docs/INTEROP.md"
 CLIENT = "examples/retry_client.py"
 FOUR = "`cdr_core`, `ior_core`, `giop_core`, `giop_frames`"
 LAST_COLUMN = "Edits that the prover refuses"
+# the heads of the tables of wrong bodies by promise, and of the clauses that exclude some
+BY_PROMISE = "| Promise | Crate | Wrong bodies |"
+BY_CLAUSE = "| Edit of `ft_orb` | What excludes it |"
+# where a crate's wrong bodies stand: those of the headline, which the gate tries, and all others
+FOLDERS = ("must-fail", "wrong_bodies")
 
 
 def text_of(name):
@@ -58,35 +67,50 @@ def edits_named():
 
 
 def edits_there():
-    """The pairs of a crate and an edit that has a file."""
-    there = set()
+    """The pairs of a crate and an edit that has a file, each once."""
+    there = []
     for crate in os.listdir(os.path.join(ROOT, "crates")):
-        folder = os.path.join(ROOT, "crates", crate, "must-fail")
-        if os.path.isdir(folder):
-            there |= {(crate, name[:-5]) for name in os.listdir(folder) if name.endswith(".edit")}
+        for folder in (os.path.join(ROOT, "crates", crate, name) for name in FOLDERS):
+            names = os.listdir(folder) if os.path.isdir(folder) else []
+            there += [(crate, name[:-5]) for name in names if name.endswith(".edit")]
     return there
 
 
 def edits():
     """A result for each edit: what is wrong with it, or None."""
     named, there = edits_named(), edits_there()
-    for crate, edit in sorted(named | there, key=str):
+    for crate, edit in sorted(named | set(there), key=str):
         if (crate, edit) not in there:
-            yield f"{PROMISES}: there is no crates/{crate}/must-fail/{edit}.edit"
+            yield f"{PROMISES}: there is no wrong body {crate}/{edit}"
         elif (crate, edit) not in named:
-            yield f"{PROMISES}: crates/{crate}/must-fail/{edit}.edit is not named under `{crate}`"
+            yield f"{PROMISES}: {crate}/{edit} is not named under `{crate}`"
         else:
-            yield None
+            yield f"{crate}/{edit} stands in both folders" if there.count((crate, edit)) > 1 else None
     for edit in re.findall(r"the edit `(\w+)`", text_of(PROMISES)):
         is_there = edit in {name for _, name in there}
         yield None if is_there else f"{PROMISES}: there is no edit {edit}"
+
+
+def table(head):
+    """The cells of each row of the table with this head."""
+    lines = text_of(PROMISES).split(head + "\n")[1].split("\n\n")[0].split("\n")[1:]
+    return [[cell.strip() for cell in line.strip().strip("|").split("|")] for line in lines]
+
+
+def promises():
+    """A result for each wrong body that a promise or a clause names: whether it is one of the crate."""
+    named = [(crate.strip("`"), edit) for _, crate, edits in table(BY_PROMISE) for edit in re.findall(r"`(\w+)`", edits)]
+    named += [("ft_orb", edit.strip("`")) for edit, _ in table(BY_CLAUSE)]
+    there = set(edits_there())
+    for crate, edit in named:
+        yield None if (crate, edit) in there else f"{PROMISES}: there is no wrong body {crate}/{edit}"
 
 
 def words():
     """The words of the sources and the definitions of each crate."""
     found = set()
     for folder, folders, names in os.walk(os.path.join(ROOT, "crates")):
-        folders[:] = [f for f in folders if f not in ("out", "proofs", "must-fail")]
+        folders[:] = [f for f in folders if f not in ("out", "proofs", *FOLDERS)]
         for name in names:
             if name.endswith((".rt", ".antt")):
                 found.update(re.findall(r"\w+", text_of(os.path.join(folder, name))))
@@ -188,7 +212,7 @@ def links():
 
 def main():
     passed = failed = 0
-    for part in (edits, calls, clauses, quotes, client, crates, rooms, links):
+    for part in (edits, promises, calls, clauses, quotes, client, crates, rooms, links):
         results = list(part())
         if not results:
             results = [f"nothing was checked of {part.__name__}"]

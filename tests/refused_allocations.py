@@ -2,7 +2,8 @@
 """Runs a program with allocation N refused, for each N from 1 until none is refused.
 
 usage: refused_allocations.py PROGRAM            the program `giop`, on the inputs below
-       refused_allocations.py --calls PROGRAM    the program `memory_tests`, on each call that it lists
+       refused_allocations.py --calls PROGRAM..    the programs `value_trials` and `stream_trials`, one after
+                                                   another, on each call that it lists
        refused_allocations.py --schedules PROGRAM    the program `ends_tests`, on the schedules below
 
 An allocation is a call of malloc or realloc. With one refused,
@@ -241,32 +242,48 @@ def calls_of(program):
     return out.decode().split() if status == 0 else []
 
 
+def cases_of(kind, program):
+    """The cases of a kind on a program: a name, what judges it, and what that is given."""
+    if kind == "--calls":
+        names, taken = calls_of(program), {}
+        cases = [(name, fault_of_call, (name, taken)) for name in names]
+        cases += [(f"the pair {pair}", fault_of_pair, (once, often, taken))
+                  for pair, (once, often) in pairs_of(names).items()]
+        return cases
+    if kind == "--schedules":
+        return [(name, fault_of_schedule, (head, steps)) for name, head, steps in SCHEDULES]
+    return [(name, fault_of_input, (words, given)) for name, words, given in INPUTS]
+
+
+def counts_of(kind, program):
+    """Runs the cases of a kind on a program, prints what was seen, and answers how many passed and failed."""
+    passed = failed = 0
+    cases = cases_of(kind, program)
+    if not cases:
+        failed += 1
+        print("FAILS the list: it names no call")
+    for name, fault_of, given in cases:
+        fault, seen = fault_of(program, *given)
+        if fault is None:
+            passed += 1
+            print(f"{name}: {seen}")
+        else:
+            failed += 1
+            print(f"FAILS {name}: {fault}")
+    return passed, failed
+
+
 def main():
+    words = sys.argv[1:]
+    kind = words.pop(0) if words[0].startswith("--") else ""
     passed = failed = 0
     with tempfile.TemporaryDirectory() as folder:
-        program = Program(sys.argv[-1], folder)
-        if sys.argv[1:-1] == ["--calls"]:
-            names, taken = calls_of(program), {}
-            cases = [(name, fault_of_call, (name, taken)) for name in names]
-            cases += [(f"the pair {pair}", fault_of_pair, (once, often, taken))
-                      for pair, (once, often) in pairs_of(names).items()]
-        elif sys.argv[1:-1] == ["--schedules"]:
-            cases = [(name, fault_of_schedule, (head, steps)) for name, head, steps in SCHEDULES]
-        else:
-            cases = [(name, fault_of_input, (words, given)) for name, words, given in INPUTS]
-        if not cases:
-            failed += 1
-            print("FAILS the list: it names no call")
-        for name, fault_of, given in cases:
-            fault, seen = fault_of(program, *given)
-            if fault is None:
-                passed += 1
-                print(f"{name}: {seen}")
-            else:
-                failed += 1
-                print(f"FAILS {name}: {fault}")
+        for path in words:
+            counts = counts_of(kind, Program(path, folder))
+            passed += counts[0]
+            failed += counts[1]
     print(f"{passed} passed, {failed} failed")
-    return 1 if failed else 0
+    return 1 if failed or not passed else 0
 
 
 sys.exit(main())

@@ -1,7 +1,7 @@
 """Values of IDL types, references and profiles as octets, written out from the rules of the representation,
 in both byte orders.
 
-Each spelling begins at a place that is a multiple of 8. The types are those of crates/memory_tests/src/types.rt,
+Each spelling begins at a place that is a multiple of 8. The types are those of crates/value_trials/src/types.rt,
 by their names there; the values are as `{:?}` prints them.
 """
 from collections import namedtuple

@@ -1,0 +1,81 @@
+//! The program `benches`: does a kind of work again and again, to be timed, and prints a line.
+//!
+//! The first word is `frames`, `values` or `server`, and the modules of these names say what the others are. The
+//! word `all` does each of the three once, on a small input. Where the words are wrong the program says in a line
+//! on standard error how they go, and ends with status 2.
+#![tactic(auto)]
+
+mod frames;
+mod messages;
+mod report;
+mod server;
+mod stop;
+mod values;
+mod words;
+
+use report::Report;
+use std::env;
+use std::hash::RandomState;
+use std::process::ExitCode;
+use stop::Stop;
+use words::texts_of;
+
+/// How the words go.
+const USAGE: &str = "usage: benches frames|values|server WORD.. | all";
+
+/// What `all` does.
+const ALL: [(&str, &[&str]); 3] = [
+    ("frames", &["10000", "84"]),
+    ("values", &["read", "structs", "1"]),
+    ("server", &["1000", "4096", "add"]),
+];
+
+/// Does the work of a name that the words ask for.
+fn work(rt: &HostRuntime, name: &str, words: &[&str]) -> Result<Report, Stop> {
+    match name {
+        "frames" => frames::run(rt.alloc(), words),
+        "values" => values::run(rt.alloc(), words),
+        "server" => server::run(rt.alloc(), RandomState::new(rt)?, words),
+        _ => Err(Stop::Words(USAGE)),
+    }
+}
+
+/// Does the work of a name, and prints what it gave.
+fn print_work(rt: &HostRuntime, name: &str, words: &[&str]) -> Result<(), Stop> {
+    work(rt, name, words)?.print(rt)?;
+    Ok(())
+}
+
+/// Does what `all` does.
+fn print_all(rt: &HostRuntime) -> Result<(), Stop> {
+    for (name, words) in ALL {
+        print_work(rt, name, words)?;
+    }
+    Ok(())
+}
+
+/// Does what the words ask for. The first is the program's name.
+fn run(rt: &HostRuntime, words: &[&str]) -> Result<(), Stop> {
+    match words {
+        [_, "all"] => print_all(rt),
+        [_, name, others @ ..] => print_work(rt, name, others),
+        _ => Err(Stop::Words(USAGE)),
+    }
+}
+
+/// Does what the words of the command line ask for.
+fn run_words(rt: &HostRuntime) -> Result<(), Stop> {
+    let words: Vec<String> = env::args(rt)?.collect(rt.alloc())?;
+    let texts = texts_of(rt.alloc(), words.as_slice())?;
+    run(rt, texts.as_slice())
+}
+
+fn main(rt: HostRuntime) -> ExitCode {
+    match run_words(&rt) {
+        Ok(()) => ExitCode::from(0),
+        Err(stop) => {
+            let _ = eprintln!(&rt; "{}", stop.text());
+            ExitCode::from(stop.status())
+        }
+    }
+}

@@ -1,0 +1,47 @@
+//! The program `stream_trials`: calls of `giop_frames`, `giop_link`, `ft_log`, `ft_orb` and `ft_client` that take
+//! memory, each made by name.
+//!
+//! A case is one call on fixed inputs. Where an allocation of it is refused, the program checks what is left,
+//! and makes the same call again. What the calls give is compared with octets and texts written out in
+//! `stream_samples`, `link_samples`, `log_samples`, `server_samples` and `call_samples`.
+//! tests/refused_allocations.py runs it under a `malloc` that refuses one allocation.
+#![tactic(auto)]
+
+mod asking;
+mod attending;
+mod call_samples;
+mod calling;
+mod calls;
+mod closing;
+mod cutting;
+mod feeding;
+mod hearing;
+mod keeping;
+mod keys;
+mod link_samples;
+mod log_samples;
+mod misses;
+mod outcomes;
+mod run;
+mod sending;
+mod server_samples;
+mod servers;
+mod stream_samples;
+mod suites;
+
+use std::hash::RandomState;
+use std::process::ExitCode;
+use std::{env, io};
+
+/// Runs the case that the first word names.
+fn status_of(rt: &HostRuntime) -> io::Result<u8> {
+    let alloc = rt.alloc();
+    let words: Vec<String> = env::args(rt)?.collect(alloc)?;
+    let hasher = RandomState::new(rt)?;
+    let word = words.get(1).map_or("", |word| word.as_str());
+    Ok(run::run(alloc, hasher, word, &mut rt.stdout(), &mut rt.stderr()))
+}
+
+fn main(rt: HostRuntime) -> ExitCode {
+    trials::exit_code(&rt, status_of(&rt))
+}
