@@ -1,29 +1,14 @@
 -- What is written for a value is octets, if the texts and the octets in it are.
 use Rattle.std.proofs.Common.{ℕ, zero, suc, ◌+◌, ◌<◌, true, false, List, [], ◌∷◌, ◌++◌, length, replicate, arith}
-use Rattle.std.specs.Bool.{⊤}
 use Rattle.std.specs.Int.{byte_at, bytes_high_first, bytes_low_first}
 use Rattle.cdr_core.specs.declared.order.Order.{Order}
 use Rattle.cdr_core.specs.declared.order.Order.TheVariants.{Big, Little}
 use Rattle.cdr_core.specs.Form.{size}
 use Rattle.cdr_core.specs.Numbers.{bits_of, digits_of, padding, AreOctets}
+use Rattle.cdr_core.specs.Octets.{HoldAll, HoldsOctets}
 use Rattle.cdr_core.specs.Value as value
 use Rattle.cdr_core.specs.Value.{Value, Values, count}
 use Rattle.cdr_core.specs.Writing.{number_octets, octets_of, octets_of_all}
-
--- each octet in a value is one
-abbrev mutual
-  pub HoldsOctets : Value → Type 0
-  HoldsOctets (value.string text) = AreOctets text
-  HoldsOctets (value.octets all) = AreOctets all
-  HoldsOctets (value.sequence vs) = HoldAll vs
-  HoldsOctets (value.array vs) = HoldAll vs
-  HoldsOctets (value.structure vs) = HoldAll vs
-  HoldsOctets (value.union d ms) = HoldsOctets d × HoldAll ms
-  HoldsOctets _ = ⊤
-
-  pub HoldAll : Values → Type 0
-  HoldAll value.no_values = ⊤
-  HoldAll (value.value v vs) = HoldsOctets v × HoldAll vs
 
 both : (front rest : List ℕ) → AreOctets front → AreOctets rest → AreOctets (front ++ rest)
 both [] rest a b = b

@@ -6,6 +6,7 @@ use Rattle.cdr_core.specs.Encapsulation.{byte_order, encapsulated, order_at, Sto
 use Rattle.cdr_core.specs.Form.{Form, Forms}
 use Rattle.cdr_core.specs.Value.{Value, Values}
 use Rattle.cdr_core.specs.Numbers.{padding, AreOctets}
+use Rattle.cdr_core.specs.Octets.{HoldsOctets}
 use Rattle.cdr_core.specs.Parts.{most, ulong, ulong_value}
 use Rattle.cdr_core.specs.Reading.{◌>>=◌, Read, length_at, members_at, value_at}
 use Rattle.cdr_core.specs.Spelling.{Spells, Takes}
@@ -76,6 +77,10 @@ WrittenIsRead = (t : Form) (v : Value) → Fits t v → IsReadAgain t v
 -- .. and so are values, one after another, by their types.
 abbrev pub WrittenValuesAreRead : Type 0
 WrittenValuesAreRead = (ts : Forms) (vs : Values) → FitsMembers ts vs → (order : Order) (o : ℕ) (rest : List ℕ) → members_at ts order o (octets_of_all order vs o ++ rest) ≡ Ok (vs, o + length (octets_of_all order vs o), rest)
+
+-- What is written for a value is octets, where each octet in it is one.
+abbrev pub WrittenIsOctets : Type 0
+WrittenIsOctets = (order : Order) (v : Value) → HoldsOctets v → (o : ℕ) → AreOctets (octets_of order v o)
 
 -- A length without a bound is an unsigned long.
 abbrev pub LengthIsUnsignedLong : Type 0

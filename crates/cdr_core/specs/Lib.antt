@@ -13,6 +13,7 @@
 --   Answering   what `read` and `read_list` return
 --   Fitting     which types are valid, and which values are of a type
 --   Writing     the octets that are written, and what a `Writer` appends
+--   Octets      values in which each octet is one
 --   Encapsulation  octets that name their own byte order
 --   Parts       the types and values of the parts that a `Cursor` reads
 --   Cursor      what a `Cursor` stands for, and what its calls return
@@ -29,6 +30,7 @@ pub mod Memory
 pub mod Answering
 pub mod Fitting
 pub mod Writing
+pub mod Octets
 pub mod Encapsulation
 pub mod Parts
 pub mod Cursor

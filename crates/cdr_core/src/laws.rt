@@ -4,7 +4,7 @@
 //! They tie reading and writing (`specs/Reading.antt`, `Writing.antt`) to what octets mean
 //! (`specs/Spelling.antt`, `Stopping.antt`).
 
-ghost use Rattle.cdr_core.specs.Laws.{ByteOrderIsRead, ByteOrderStops, EitherWay, EncapsulatedStops, FaultsStop, FittingIsWritable, LengthIsUnsignedLong, NotBoth, OneFault, OneFront, PaddingIsLeast, ReadFits, ReadIsSpelled, SpelledFits, SpelledIsRead, StopsAreFaults, WrittenIsRead, WrittenIsSpelled, WrittenValuesAreRead};
+ghost use Rattle.cdr_core.specs.Laws.{ByteOrderIsRead, ByteOrderStops, EitherWay, EncapsulatedStops, FaultsStop, FittingIsWritable, LengthIsUnsignedLong, NotBoth, OneFault, OneFront, PaddingIsLeast, ReadFits, ReadIsSpelled, SpelledFits, SpelledIsRead, StopsAreFaults, WrittenIsOctets, WrittenIsRead, WrittenIsSpelled, WrittenValuesAreRead};
 ghost use Rattle.cdr_core.specs.Numbers.{AreOctets};
 
 /// Padding is the fewest octets that lead to a place divisible by the alignment (CORBA 3.3 Part 2,
@@ -86,6 +86,12 @@ pub fn spelled_fits()
 #[tactic(auto, using(crate::proofs::SpelledFits::read_fits))]
 pub fn read_fits()
     ensures { ReadFits }
+{}
+
+/// What is written for a value is octets, where each octet in it is one.
+#[tactic(auto, using(crate::proofs::WrittenOctets::written_octets))]
+pub fn written_is_octets()
+    ensures { WrittenIsOctets }
 {}
 
 /// A length without a bound, as `Cursor::count` reads it, is an unsigned long.

@@ -1,6 +1,6 @@
 -- The length of an FT_REQUEST context, and of a Request that is kept.
 use Rattle.std.proofs.Common.{◌≡◌, ℕ, suc, ◌+◌, ◌<◌, ◌≤◌, ◌^◌, ℤ, pos, List, [], ◌∷◌, ◌++◌, length, Err, arith, length-append, ap, ◌∙◌}
-use Rattle.cdr_core.proofs.Lengths.{number_length}
+use Rattle.ft_client.proofs.Numbers.{number_length}
 use Rattle.cdr_core.specs.Parts.{long_value, ulonglong_value}
 use Rattle.cdr_core.specs.Value as value
 use Rattle.cdr_core.specs.Value.{values}

@@ -1,4 +1,5 @@
 mod Samples
+pub mod Numbers
 pub mod Patching
 pub mod Contexts
 pub mod Marking

@@ -1,7 +1,7 @@
 -- Where the request id stands in a Request: the octets before it and after it are the same under each id.
 use Rattle.std.proofs.Common.{◌≡◌, ℕ, ◌+◌, ◌≤◌, pos, List, [], ◌∷◌, ◌++◌, length, take, drop, replicate, refl, sym, take_at, ap, ◌∙◌, arith, length-append, append_assoc}
 use Rattle.std.proofs.lemmas.List.{length-replicate, drop_at}
-use Rattle.cdr_core.proofs.Lengths.{digits_length, number_length}
+use Rattle.ft_client.proofs.Numbers.{digits_length, number_length}
 use Rattle.cdr_core.specs.Numbers.{padding, digits_of}
 use Rattle.cdr_core.specs.Value.{Values, no_values, value, values}
 use Rattle.cdr_core.specs.Writing.{and_then, number_octets, octets_of, octets_of_all}

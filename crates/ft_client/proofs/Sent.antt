@@ -3,7 +3,7 @@ use Rattle.std.proofs.Common.{◌≡◌, ◌≢◌, ℕ, suc, ◌+◌, ◌<◌, 
 use Rattle.std.specs.Result.{OnErr}
 use Rattle.std.proofs.lemmas.Bool.Decides.{nat_tests}
 use Rattle.std.proofs.lemmas.List.{append-nil}
-use Rattle.cdr_core.proofs.Lengths.{digits_length}
+use Rattle.ft_client.proofs.Numbers.{digits_length}
 use Rattle.cdr_core.specs.Numbers.{digits_of}
 use Rattle.cdr_core.specs.declared.order.Order.TheVariants.{Big}
 use Rattle.giop_core.specs.declared.request.ReplyWish.TheVariants.{Full}

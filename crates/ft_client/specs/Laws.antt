@@ -1,13 +1,21 @@
 -- The laws, each over the definitions alone.
-use Rattle.std.specs.Prelude.{ℕ, List}
+use Rattle.std.specs.Prelude.{◌≡◌, ℕ, List, length}
 use Rattle.giop_core.specs.declared.header.Version.{Version}
 use Rattle.giop_frames.specs.declared.limits.Limits.{Limits}
-use Rattle.ft_client.specs.Clients.{Happening}
+use Rattle.ft_client.specs.Clients.{Happening, transmission}
 use Rattle.ft_client.specs.Directions.{Hearing}
-use Rattle.ft_client.specs.Lives.{IsLife, lived, new_life}
-use Rattle.ft_client.specs.Messages.{Answer}
+use Rattle.ft_client.specs.Lives.{IsLife, Life, goes_on, lived, new_life}
+use Rattle.ft_client.specs.Messages.{Answer, Call, request_behind}
 
 -- Whatever happens to a client, and whatever it hears: each call is pending or was completed once, and each transmission of it
 -- carries its content, none past its expiration.
 abbrev pub CallsCompleteOnce : Type 0
 CallsCompleteOnce = (client_id : List ℕ) (version : Version) (limits : Limits) (down : Hearing Answer) (happenings : List Happening) → IsLife client_id version (lived down happenings (new_life client_id version limits))
+
+-- What holds of such a client holds after one happening more.
+abbrev pub LivesGoOn : Type 0
+LivesGoOn = (client_id : List ℕ) (version : Version) (down : Hearing Answer) (h : Happening) (l : Life) → IsLife client_id version l → IsLife client_id version (goes_on down h l)
+
+-- The Request of a call is as long under each request id.
+abbrev pub RequestsAreAsLong : Type 0
+RequestsAreAsLong = (version : Version) (client_id : List ℕ) (id i j : ℕ) (call : Call) → length (request_behind (transmission version client_id id i call)) ≡ length (request_behind (transmission version client_id id j call))

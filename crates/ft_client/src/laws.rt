@@ -1,9 +1,19 @@
 //! Laws over the definitions: each is what a function with an empty body ensures.
 
-ghost use Rattle.ft_client.specs.Laws.{CallsCompleteOnce};
+ghost use Rattle.ft_client.specs.Laws.{CallsCompleteOnce, LivesGoOn, RequestsAreAsLong};
 
 /// Whatever happens to a client: each call is pending or was completed once, and each transmission of it carries its
 /// content, none past its expiration.
 pub fn a_call_completes_once()
     ensures { CallsCompleteOnce }
+{}
+
+/// What holds of such a client holds after one happening more.
+pub fn a_life_goes_on()
+    ensures { LivesGoOn }
+{}
+
+/// The Request of a call is as long under each request id.
+pub fn requests_are_as_long()
+    ensures { RequestsAreAsLong }
 {}

@@ -71,6 +71,13 @@ refused-is now call c refused.TooLong h is =
     (and_right (nat_lt c.last 2147483647) (nat_lt (length c.pending) 64 && fits c call) (and_right (nat_lt (length c.pending) 64) (fits c call) is.3))
 refused-is now call c refused.Memory h is = absurd h
 
+-- A call that had no memory is one that no refusal but its length holds for.
+
+pub memory-is : (client : FtClient) (now : ℕ) (call asked : Call) (r : Result ℤ CallError) → call ≡ asked → IfErr r (λ e. (m : Client) → FtStands client m → IsCallError now call m e) → r ≡ Err refused.Memory
+    → (m : Client) → FtStands client m → IsCallError now asked m refused.Memory
+memory-is client now call asked r same err is =
+    subst (λ (k : Call). (m : Client) → FtStands client m → IsCallError now k m refused.Memory) same (subst (λ (s : Result ℤ CallError). IfErr s (λ e. (m : Client) → FtStands client m → IsCallError now call m e)) is err)
+
 -- The steps.
 
 module _ (tells : ℕ → List Telling) (old new : FtClient) (was is : CodeWire) (c : Client) (o : Option Wire) (stands : FtStands old c) (linked : is_some c.link ≡ is_some o) (held : IsWireFor tells was o)

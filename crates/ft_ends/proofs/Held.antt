@@ -12,7 +12,7 @@ use Rattle.ft_orb.specs.Servants.{Meaning}
 use Rattle.ft_orb.specs.Standing.{Stands}
 use Rattle.ft_ends.specs.declared.wire.Wire.{Wire as CodeWire}
 use Rattle.ft_ends.specs.Laws.{sides_of}
-use Rattle.ft_ends.specs.Playing.{AreNew, given_of, numbered}
+use Rattle.ft_ends.specs.Playing.{AreClientsOf, AreNew, given_of, numbered}
 use Rattle.ft_ends.specs.Private.{AreHeld, AreUnused, Holds, IsReady, IsSettled, IsUnused, IsWireFor, Runs, tells}
 use Rattle.ft_ends.specs.Tellings.{Telling}
 use Rattle.ft_ends.specs.World.{Member, Newcomer, Step, Wire, World, client_of, emptied, given_out, member_of, moved, moved_to, step, step_of, with_client}
@@ -34,6 +34,15 @@ module _ (tells : ℕ → List Telling) where
   held-wires [] (c ∷ cs) us h = absurd h
   held-wires (m ∷ ms) [] us h = absurd h
   held-wires (m ∷ ms) (c ∷ cs) [] h = absurd h
+
+  -- the clients stand for the members
+  pub held-stand : (ms : List Member) (cs : List FtClient) (us : List CodeWire) → AreHeld tells ms cs us → AreClientsOf ms cs
+  held-stand [] [] [] h = tt
+  held-stand (m ∷ ms) (c ∷ cs) (u ∷ us) h = (h.0.0, held-stand ms cs us h.1)
+  held-stand [] [] (u ∷ us) h = absurd h
+  held-stand [] (c ∷ cs) us h = absurd h
+  held-stand (m ∷ ms) [] us h = absurd h
+  held-stand (m ∷ ms) (c ∷ cs) [] h = absurd h
 
   -- what stands at a place
   pub record IsAt (ms : List Member) (k : ℕ) (c : FtClient) (u : CodeWire) : Type 0 where
@@ -87,6 +96,12 @@ held-new tells [] [] (u ∷ us) new unused = absurd unused
 held-new tells [] (c ∷ cs) us new unused = absurd new
 held-new tells (n ∷ ns) [] us new unused = absurd new
 held-new tells (n ∷ ns) (c ∷ cs) [] new unused = absurd unused
+
+pub new-stand : (ns : List Newcomer) (cs : List FtClient) → AreNew ns cs → AreClientsOf (map member_of ns) cs
+new-stand [] [] h = tt
+new-stand (n ∷ ns) (c ∷ cs) h = (h.0, new-stand ns cs h.1)
+new-stand [] (c ∷ cs) h = absurd h
+new-stand (n ∷ ns) [] h = absurd h
 
 none-at : {A : Type 0} (xs : List A) (k : ℕ) → length xs ≤ k → slice_get xs k ≡ None
 none-at [] k h = refl

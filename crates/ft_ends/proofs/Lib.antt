@@ -6,6 +6,7 @@ pub mod Served
 pub mod Small
 pub mod Members
 pub mod Moves
+pub mod Stepped
 pub mod Worlds
 pub mod Short
 pub mod Faithful

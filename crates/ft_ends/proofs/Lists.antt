@@ -12,6 +12,15 @@ front-trans {A} xs ys zs h k = (h.0 ++ k.0, k.1 ∙ ap (λ (l : List A). l ++ k.
 
 -- What holds of each.
 
+-- .. of two lists holds of each of both together
+pub each-append : {A : Type 0} (P : A → Type 0) (xs ys : List A) → AllByRecursion P xs → AllByRecursion P ys → AllByRecursion P (xs ++ ys)
+each-append P [] ys h k = k
+each-append P (x ∷ xs) ys h k = (h.0, each-append P xs ys h.1 k)
+
+pub each-weaker : {A : Type 0} (P Q : A → Type 0) → ((x : A) → P x → Q x) → (xs : List A) → AllByRecursion P xs → AllByRecursion Q xs
+each-weaker P Q f [] h = tt
+each-weaker P Q f (x ∷ xs) h = (f x h.0, each-weaker P Q f xs h.1)
+
 pub each-left : {A : Type 0} (P : A → Type 0) (xs ys : List A) → AllByRecursion P (xs ++ ys) → AllByRecursion P xs
 each-left P [] ys h = tt
 each-left P (x ∷ xs) ys h = (h.0, each-left P xs ys h.1)
@@ -53,6 +62,11 @@ contains-head x xs = Contains-append_left (x ∷ []) xs x (Contains-push [] x)
 
 pub contains-tail : {A : Type 0} (x y : A) (xs : List A) → Contains xs y → Contains (x ∷ xs) y
 contains-tail x y xs h = Contains-append_right (x ∷ []) xs y h
+
+-- .. and back
+pub each-within : {A : Type 0} (P : A → Type 0) (xs : List A) → ((x : A) → Contains xs x → P x) → AllByRecursion P xs
+each-within P [] f = tt
+each-within P (x ∷ xs) f = (f x (contains-head x xs), each-within P xs (λ y among. f y (contains-tail x y xs among)))
 
 -- One element set.
 

@@ -9,10 +9,8 @@ use Rattle.giop_frames.specs.declared.limits.Limits.{Limits}
 use Rattle.ft_log.specs.Keys.{RequestKey}
 use Rattle.ft_client.specs.Clients.{Called, Cancelled, Client, Ended, Expired, Linked, NeedsAddressing, Pending, Recalled, Ticked, Told, completed_if, ended_by, find_pending, is_taken, late, on_time, placed, recalled, says_placed, says_recalled, settled, settled_all, transmission, waiting, withdrawn, without}
 use Rattle.ft_client.specs.Directions.{Hearing, news, stream}
-use Rattle.ft_client.specs.Lives.{IsLife, IsOfCall, Life, sent_at}
+use Rattle.ft_client.specs.Lives.{IsLife, IsOfCall, Life, ended_count, sent_at}
 use Rattle.ft_client.specs.Messages.{Answer, Asked, Call, Said, Shown, Transmission, Withdrawn, located, replied}
-use Rattle.ft_client.proofs.Living.{each-append, ended-append, life-goes_on, on_time-each, without-each}
-use Rattle.ft_client.proofs.Patching.{same_length}
 use Rattle.ft_orb.specs.ExactlyOnce.{Arrival}
 use Rattle.ft_orb.specs.History.{Event, arrivals}
 use Rattle.ft_orb.specs.Outputs.{Made}
@@ -21,16 +19,21 @@ use Rattle.ft_orb.specs.Servants.{Meaning}
 use Rattle.ft_ends.specs.Both.{key_of}
 use Rattle.ft_ends.specs.Fine.{AreFaithful, IsFine, IsFineCall, IsFineSaid, IsFront}
 use Rattle.ft_ends.specs.Laws.{sides_of}
+use Rattle.ft_ends.specs.Private.{ClientLaws}
 use Rattle.ft_ends.specs.Tellings.{answer_in, octets_told, tellings, told}
 use Rattle.ft_ends.specs.World.{Member, Wire, acted, emptied, extended}
-use Rattle.ft_ends.proofs.Lists.{each-contains, each-drop, each-front, front-trans}
+use Rattle.ft_ends.proofs.Lists.{each-append, each-contains, each-drop, each-front, front-trans}
 use Rattle.ft_ends.proofs.Served.{IsReply, IsServed, Traced, front-more, served-said, traced-later}
-use Rattle.ft_ends.proofs.Small.{IsSmall, IsTaken, found-each, settled-each, small-after, taken-is}
+use Rattle.ft_ends.proofs.Small.{IsSmall, IsTaken, found-each, on_time-each, settled-each, small-after, taken-is, without-each}
 use Rattle.ft_ends.proofs.Spoken.{IsAmong, IsSent, IsSentAs, IsSpoken, asked_as, asked_as-each, asked_as-id, spoken-called, spoken-pending, spoken-withdrawn, waiting-sent}
 
 -- the key of a client's call
 abbrev pub own_key : List ℕ → ℕ → RequestKey
 own_key id r = record { client_id = id; retention_id = pos r }
+
+pub ended-append : (r : ℕ) (xs ys : List (ℕ × Ended)) → ended_count r (xs ++ ys) ≡ ended_count r xs + ended_count r ys
+ended-append r [] ys = omega arith
+ended-append r (x ∷ xs) ys = let rest = ended-append r xs ys in omega (arith, rest)
 
 module _ {State : Type 0} (meaning : Meaning State) (made : Made State) where
   -- a completion by a reply has a trace
@@ -116,7 +119,7 @@ module _ {State : Type 0} (meaning : Meaning State) (made : Made State) where
           call = is.fine.fine;
           number = is.fine.number;
           id = omega (arith, few, low);
-          size = subst (λ (k : ℕ). k < 2 ^ 32) (same_length c.version c.client_id (suc c.last) 1 (suc l.given) call) is.fine.size;
+          size = is.fine.size (suc l.given);
         } in
         record {
           spoken = spoken-called sent x.said c.pending now l.given t refl fine h.spoken;
@@ -157,20 +160,20 @@ module _ {State : Type 0} (meaning : Meaning State) (made : Made State) where
     pub own-clean : (m : Member) → IsLife id version m.life → IsClean m.life.client.client_id
     own-clean m h = subst IsClean (sym h.alive.client) clean
 
-    pub member-called : (now : ℕ) (call : Call) (m : Member) → IsFineCall call → IsMember past opened id version m → IsMember past opened id version (acted (sides_of meaning made hears) (Called now call) m)
-    member-called now call m fine h =
+    pub member-called : ClientLaws → (now : ℕ) (call : Call) (m : Member) → IsFineCall call → IsMember past opened id version m → IsMember past opened id version (acted (sides_of meaning made hears) (Called now call) m)
+    member-called of_clients now call m fine h =
         let c = m.life.client in
         let down = hears c.limits in
         record {
-          life = life-goes_on id version down (Called now call) m.life h.life;
-          small = small-after down (Called now call) c fine h.small;
+          life = of_clients.goes_on id version down (Called now call) m.life h.life;
+          small = small-after of_clients.as_long down (Called now call) c fine h.small;
           told =
               elim (is_taken now call c) as (λ b. AllByRecursion (λ x. IsToldOf (arrivals made.limits past) id x) (cond b (placed call c c.link) c).completions)
               [ true ↦ placed-told c.link | false ↦ h.told ];
           wired =
               elim (is_taken now call c) as (λ b. is_taken now call c ≡ b
               → IsWired past opened (m.life.sent ++ sent_at now (cond b (says_placed call c c.link) [])) (cond b (placed call c c.link) c).pending (cond b (placed call c c.link) c).last (cond b (placed call c c.link) c).link (extended (cond b (says_placed call c c.link) []) m.wire)) [
-                | true ↦ λ is. wired-called past opened m.life.sent now call c c.link m.wire (own-clean m h.life) (taken-is now call c fine is) h.wired
+                | true ↦ λ is. wired-called past opened m.life.sent now call c c.link m.wire (own-clean m h.life) (taken-is of_clients.as_long now call c fine is) h.wired
                 | false ↦ λ is. wired-nothing past opened m.life.sent c.pending c.last c.link m.wire h.wired
               ] refl;
         }
@@ -179,13 +182,13 @@ module _ {State : Type 0} (meaning : Meaning State) (made : Made State) where
         placed-told None = h.told
         placed-told (Some l) = h.told
 
-    pub member-recalled : (number : ℤ) (m : Member) → IsMember past opened id version m → IsMember past opened id version (acted (sides_of meaning made hears) (Recalled number) m)
-    member-recalled number m h =
+    pub member-recalled : ClientLaws → (number : ℤ) (m : Member) → IsMember past opened id version m → IsMember past opened id version (acted (sides_of meaning made hears) (Recalled number) m)
+    member-recalled of_clients number m h =
         let c = m.life.client in
         let down = hears c.limits in
         record {
-          life = life-goes_on id version down (Recalled number) m.life h.life;
-          small = small-after down (Recalled number) c tt h.small;
+          life = of_clients.goes_on id version down (Recalled number) m.life h.life;
+          small = small-after of_clients.as_long down (Recalled number) c tt h.small;
           told = recalled-told (find_pending number c.pending);
           wired = wired-recalled past opened m.life.sent number c (find_pending number c.pending) m.wire refl h.wired;
         }
@@ -194,13 +197,13 @@ module _ {State : Type 0} (meaning : Meaning State) (made : Made State) where
         recalled-told None = h.told
         recalled-told (Some p) = each-append (λ x. IsToldOf (arrivals made.limits past) id x) m.life.client.completions ((p.id, Cancelled) ∷ []) h.told (tt, tt)
 
-    pub member-ticked : (now : ℕ) (m : Member) → IsMember past opened id version m → IsMember past opened id version (acted (sides_of meaning made hears) (Ticked now) m)
-    member-ticked now m h =
+    pub member-ticked : ClientLaws → (now : ℕ) (m : Member) → IsMember past opened id version m → IsMember past opened id version (acted (sides_of meaning made hears) (Ticked now) m)
+    member-ticked of_clients now m h =
         let c = m.life.client in
         let down = hears c.limits in
         record {
-          life = life-goes_on id version down (Ticked now) m.life h.life;
-          small = small-after down (Ticked now) c tt h.small;
+          life = of_clients.goes_on id version down (Ticked now) m.life h.life;
+          small = small-after of_clients.as_long down (Ticked now) c tt h.small;
           told = each-append (λ x. IsToldOf (arrivals made.limits past) id x) c.completions (late now c.pending) h.told (late-told (arrivals made.limits past) id now c.pending);
           wired =
               wired-fewer past opened (m.life.sent ++ []) c.pending (on_time now c.pending) c.last c.link (extended [] m.wire) (λ said each. on_time-each (λ q. IsSent said q) now c.pending each)

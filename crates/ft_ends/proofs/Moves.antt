@@ -9,12 +9,10 @@ use Rattle.giop_core.specs.declared.header.Version.{Version}
 use Rattle.giop_frames.specs.declared.limits.Limits.{Limits}
 use Rattle.giop_link.specs.Hearing.{Ending}
 use Rattle.giop_link.specs.Laws.{HearingGrows}
-use Rattle.ft_client.specs.Clients.{Called, Client, Ended, Fed, Happening, Joined, Linked, Parted, Pending, Recalled, Ticked, completed_if, ended_by, gives, ids_after, parted_at, resent, says as client_says, settled, settled_all, told_of, waiting}
+use Rattle.ft_client.specs.Clients.{Called, Client, Ended, Fed, Happening, Joined, Linked, Parted, Pending, Recalled, Ticked, completed_if, ended_by, ending_of, gives, ids_after, parted_at, resent, says as client_says, settled, settled_all, told_of, waiting}
 use Rattle.ft_client.specs.Directions.{Hearing, news, stream}
 use Rattle.ft_client.specs.Lives.{IsLife, Life, goes_on, moment_of, sent_at}
 use Rattle.ft_client.specs.Messages.{Answer, Said, Transmission, located, octets_said, replied}
-use Rattle.ft_client.proofs.Feeds.{fed-at, longer_by, told-is}
-use Rattle.ft_client.proofs.Living.{each-weaker, life-goes_on}
 use Rattle.ft_orb.specs.ExactlyOnce.{Arrival}
 use Rattle.ft_orb.specs.History.{Close, Event, Gone, Line, Lost, Opened, Piece, arrivals, clock, completed, connection_of, counted, does_count, line}
 use Rattle.ft_orb.specs.Outputs.{Made}
@@ -23,8 +21,10 @@ use Rattle.ft_orb.specs.Servants.{Meaning}
 use Rattle.ft_ends.specs.Both.{IsSentIn}
 use Rattle.ft_ends.specs.Fine.{AreFaithful, IsFineTelling}
 use Rattle.ft_ends.specs.Laws.{ArePlain, AreShort, IsFineStep, IsPlain, sides_of}
+use Rattle.ft_ends.specs.Private.{ClientLaws}
 use Rattle.ft_ends.specs.Tellings.{Telling, answer_in, octets_told, tellings, told}
 use Rattle.ft_ends.specs.World.{CallNow, Cancel, Connect, Cut, Down, Member, Moved, Shut, Step, Tick, UpTo, Wire, acted, connected, cut, down, extended, fed_off, moved, moved_to, shut, up}
+use Rattle.ft_ends.proofs.Lists.{each-weaker}
 use Rattle.ft_ends.proofs.Members.{IsLinked, IsMember, IsToldOf, IsWired, member-called, member-recalled, member-ticked, news-replies, own-clean, served-down, told-later, told-settled_all}
 use Rattle.ft_ends.proofs.Served.{IsFrom, IsLine, IsReply, line-close, line-more, line-opened, line-other, line-piece, line-shut, piece-from, plain-from, served-here, tellings-here, tellings-other}
 use Rattle.ft_ends.proofs.Small.{IsSmall, settled_all-each, small-after}
@@ -43,6 +43,18 @@ settled-last (located i shown) c = refl
 settled_all-last : (xs : List Answer) (c : Client) → (settled_all xs c).last ≡ c.last
 settled_all-last [] c = refl
 settled_all-last (x ∷ xs) c = settled_all-last xs (settled x c) ∙ settled-last x c
+
+settled-linked : (a : Answer) (c : Client) → (settled a c).link ≡ c.link
+settled-linked (replied i shown) c = by-waiting (waiting i c.pending)
+  where
+    by-waiting : (o : Option ℕ) → (completed_if o (ended_by shown) c).link ≡ c.link
+    by-waiting None = refl
+    by-waiting (Some id) = refl
+settled-linked (located i shown) c = refl
+
+settled_all-linked : (xs : List Answer) (c : Client) → (settled_all xs c).link ≡ c.link
+settled_all-linked [] c = refl
+settled_all-linked (x ∷ xs) c = settled_all-linked xs (settled x c) ∙ settled-linked x c
 
 parted_at-completions : (e : Option Ending) (c : Client) → (parted_at e c).completions ≡ c.completions
 parted_at-completions None c = refl
@@ -110,7 +122,7 @@ module _ {State : Type 0} (meaning : Meaning State) (made : Made State) (hears :
       let no = ne_eqb (connection_of e) y (λ same. absurd (omega (arith, low, above, same))) in
       (line-other e past y no ∙ was.0, tellings-other (told meaning made) e past y no ∙ was.1, ap (λ (ns : List ℕ). list_all (λ d. nat_lt d y) ns) quiet ∙ was.2)
 
-  module _ (past : List Event) (opened : ℕ) (id : List ℕ) (version : Version) (m : Member) (is : IsMember meaning made past opened id version m) (unopened : (y : ℕ) → opened < y → IsUnopened past y) where
+  module _ (past : List Event) (opened : ℕ) (id : List ℕ) (version : Version) (m : Member) (is : IsMember meaning made past opened id version m) (unopened : (y : ℕ) → opened < y → IsUnopened past y) (of_clients : ClientLaws) where
     -- a step that can't act
     move-still : IsMove past opened id version m (moved_to past opened m)
     move-still = record {
@@ -199,7 +211,7 @@ module _ {State : Type 0} (meaning : Meaning State) (made : Made State) (hears :
       move-cut : IsMove past opened id version m (cut (sides_of meaning made hears) past opened m (Some x))
       move-cut =
           let down' = hears m.life.client.limits in
-          move-lost (goes_on down' Parted m.life) (life-goes_on id version down' Parted m.life is.life) (small-after down' Parted m.life.client tt is.small) is.told refl refl (append-nil m.life.taken)
+          move-lost (goes_on down' Parted m.life) (of_clients.goes_on id version down' Parted m.life is.life) (small-after of_clients.as_long down' Parted m.life.client tt is.small) is.told refl refl (append-nil m.life.taken)
 
       module _ (faithful : AreFaithful made.limits hears) (grow : HearingGrows) (sends : AreShort meaning made) (plain : ArePlain (arrivals made.limits past)) where
         move-up : (n now : ℕ) → IsMove past opened id version m (up (sides_of meaning made hears) past opened n now m (Some x))
@@ -287,32 +299,30 @@ module _ {State : Type 0} (meaning : Meaning State) (made : Made State) (hears :
             let octets = take n (drop x.came (stream octets_told (tellings (told meaning made) past x.number))) in
             let life = goes_on f (Fed octets) m.life in
             let xs = news f k.received octets in
-            let k' = longer_by f octets k in
-            let settled_client : Client = record (settled_all xs c) { link = Some k' } in
-            let fed = fed-at f octets c k linked.1 in
-            let told_so = told-is f octets c k in
-            let told_client = told_of f octets c (Some k) in
-            let alive = life-goes_on id version f (Fed octets) m.life is.life in
-            let small = small-after f (Fed octets) c tt is.small in
+            let k' : Linked = record k { received = k.received ++ octets } in
+            let c' : Client = record c { link = Some k' } in
+            let told_client = settled_all xs c' in
+            let fed : life.client ≡ parted_at (f.ending (k.received ++ octets)) told_client = ap (λ (o : Option Linked). parted_at (ending_of f octets o) (told_of f octets c o)) linked.1 in
+            let alive = of_clients.goes_on id version f (Fed octets) m.life is.life in
+            let small = small-after of_clients.as_long f (Fed octets) c tt is.small in
             let replies = news-replies meaning made hears faithful c.limits past x.said x.number x.went x.came n k.received link.served in
-            let ended = told-settled_all meaning made (arrivals made.limits past) id version m.life.calls m.life.sent x.said link.spoken.among is.life.sent xs c link.spoken.waits replies is.told in
-            let same : life.client.completions ≡ (settled_all xs c).completions =
-            ap (λ (y : Client). y.completions) fed ∙ parted_at-completions (f.ending (k.received ++ octets)) told_client ∙ ap (λ (y : Client). y.completions) told_so in
+            let ended = told-settled_all meaning made (arrivals made.limits past) id version m.life.calls m.life.sent x.said link.spoken.among is.life.sent xs c' link.spoken.waits replies is.told in
+            let same : life.client.completions ≡ told_client.completions = ap (λ (y : Client). y.completions) fed ∙ parted_at-completions (f.ending (k.received ++ octets)) told_client in
             let ended_too = subst (λ (ys : List (ℕ × Ended)). AllByRecursion (λ y. IsToldOf meaning made (arrivals made.limits past) id y) ys) (sym same) ended in
             let x' : Wire = record x { came = x.came + length octets } in
             let going : f.ending (k.received ++ octets) ≡ None → IsMove past opened id version m (fed_off (sides_of meaning made hears) past opened life x (length octets) life.client.link) = λ goes.
-            let client_is : life.client ≡ settled_client = fed ∙ (λ i. parted_at (goes i) told_client) ∙ told_so in
-            let last_is = settled_all-last xs c in
+            let client_is : life.client ≡ told_client = fed ∙ (λ i. parted_at (goes i) told_client) in
+            let last_is = settled_all-last xs c' in
             let few = link.few in
-            let settled_link : IsLinked meaning made past opened (m.life.sent ++ []) settled_client.pending settled_client.last k' x' = record {
+            let settled_link : IsLinked meaning made past opened (m.life.sent ++ []) told_client.pending told_client.last k' x' = record {
               spoken =
-                  spoken-sent m.life.sent [] x.said (settled_all xs c).pending k.given
-                  (spoken-pending m.life.sent x.said c.pending (settled_all xs c).pending k.given (settled_all-each (λ p. IsSent x.said p) xs c link.spoken.waits) link.spoken);
+                  spoken-sent m.life.sent [] x.said told_client.pending k.given
+                  (spoken-pending m.life.sent x.said c.pending told_client.pending k.given (settled_all-each (λ p. IsSent x.said p) xs c' link.spoken.waits) link.spoken);
               few = omega (arith, last_is, few);
               served = served-down meaning made past x.said x.number x.went x.came n k.received link.served;
               known = link.known;
             } in
-            let link_is : life.client.link ≡ Some k' = ap (λ (y : Client). y.link) client_is in
+            let link_is : life.client.link ≡ Some k' = ap (λ (y : Client). y.link) client_is ∙ settled_all-linked xs c' in
             subst (λ (q : Option Linked). IsMove past opened id version m (fed_off (sides_of meaning made hears) past opened life x (length octets) q)) (sym link_is)
             (move-fed life (length octets) k' alive small ended_too link_is refl (append-nil m.life.taken)
             (subst (λ (y : Client). IsLinked meaning made past opened (m.life.sent ++ []) y.pending y.last k' x') (sym client_is) settled_link)) in
@@ -355,8 +365,8 @@ module _ {State : Type 0} (meaning : Meaning State) (made : Made State) (hears :
         } in
         record {
           member = record {
-            life = life-goes_on id version down' (Joined now) m.life is.life;
-            small = small-after down' (Joined now) c tt is.small;
+            life = of_clients.goes_on id version down' (Joined now) m.life is.life;
+            small = small-after of_clients.as_long down' (Joined now) c tt is.small;
             told = told-more past [] id c.completions is.told;
             wired = link;
           };
@@ -380,7 +390,7 @@ module _ {State : Type 0} (meaning : Meaning State) (made : Made State) (hears :
         }
 
     pub move-is : AreFaithful made.limits hears → HearingGrows → AreShort meaning made → ArePlain (arrivals made.limits past) → IsClean id → (s : Step) → IsFineStep s → IsMove past opened id version m (moved (sides_of meaning made hears) past opened s m)
-    move-is faithful grow sends plain clean (CallNow k now call) fine = move-acted (Called now call) refl (member-called meaning made hears past opened id version clean now call m fine is)
+    move-is faithful grow sends plain clean (CallNow k now call) fine = move-acted (Called now call) refl (member-called meaning made hears past opened id version clean of_clients now call m fine is)
     move-is faithful grow sends plain clean (Connect k now) fine = by-wire m.wire refl
       where
         by-wire : (w : Option Wire) → m.wire ≡ w → IsMove past opened id version m (connected (sides_of meaning made hears) past opened now m w)
@@ -406,5 +416,5 @@ module _ {State : Type 0} (meaning : Meaning State) (made : Made State) (hears :
         by-wire : (w : Option Wire) → m.wire ≡ w → IsMove past opened id version m (shut (sides_of meaning made hears) past opened m w)
         by-wire None at = move-still
         by-wire (Some x) at = move-shut x at faithful grow sends plain
-    move-is faithful grow sends plain clean (Cancel k number) fine = move-acted (Recalled number) refl (member-recalled meaning made hears past opened id version clean number m is)
-    move-is faithful grow sends plain clean (Tick k now) fine = move-acted (Ticked now) refl (member-ticked meaning made hears past opened id version clean now m is)
+    move-is faithful grow sends plain clean (Cancel k number) fine = move-acted (Recalled number) refl (member-recalled meaning made hears past opened id version clean of_clients number m is)
+    move-is faithful grow sends plain clean (Tick k now) fine = move-acted (Ticked now) refl (member-ticked meaning made hears past opened id version clean of_clients now m is)

@@ -3,7 +3,8 @@ use Rattle.std.proofs.Common.{◌≡◌, ℕ, zero, suc, ◌<◌, ◌≤◌, ◌
 use Rattle.std.specs.List.{AllByRecursion, slice_get}
 use Rattle.std.proofs.lemmas.List.{map-append, take_more}
 use Rattle.std.proofs.lemmas.Option.{none-some, same_Some}
-use Rattle.cdr_core.proofs.WrittenOctets.{HoldAll, written_octets}
+use Rattle.cdr_core.specs.Laws.{WrittenIsOctets}
+use Rattle.cdr_core.specs.Octets.{HoldAll}
 use Rattle.cdr_core.specs.declared.order.Order.TheVariants.{Big}
 use Rattle.cdr_core.specs.Spelling.{IsClean}
 use Rattle.cdr_core.specs.Value.{structure}
@@ -26,14 +27,14 @@ use Rattle.ft_ends.specs.Both.{AreDistinct}
 use Rattle.ft_ends.specs.Fine.{AreFaithful}
 use Rattle.ft_ends.specs.Laws.{AreShort, IsFineStep, sides_of}
 use Rattle.ft_ends.specs.Playing.{AreBeginning, AreNew, IsCallable, step_as}
-use Rattle.ft_ends.specs.Private.{AreHeld, AreSet, AreUnused, IsReady, tells}
+use Rattle.ft_ends.specs.Private.{AreHeld, AreSet, AreUnused, ClientLaws, IsReady, tells}
 use Rattle.ft_ends.specs.World.{Member, Newcomer, Step, Wire, World, client_of, given_out, member_of, moved, start, step, step_of, world}
 use Rattle.ft_ends.proofs.Held.{held-new}
 use Rattle.ft_ends.proofs.Members.{IsWired}
 use Rattle.ft_ends.proofs.Moves.{IsOff, move-is}
-use Rattle.ft_ends.proofs.Worlds.{IsWorld, acts-once, run-is, start-is, step-is}
+use Rattle.ft_ends.proofs.Worlds.{IsWorld, one-expiration, run-is, start-is, step-is}
 
-module _ {State : Type 0} (meaning : Meaning State) (made : Made State) (newcomers : List Newcomer) (distinct : AreDistinct newcomers) (faithful : AreFaithful made.limits down) (grow : HearingGrows) (sends : AreShort meaning made)
+module _ {State : Type 0} (meaning : Meaning State) (made : Made State) (newcomers : List Newcomer) (distinct : AreDistinct newcomers) (of_clients : ClientLaws) (faithful : AreFaithful made.limits down) (grow : HearingGrows) (sends : AreShort meaning made)
     (clean : AllByRecursion (λ n. IsClean n.client_id) newcomers) where
   -- a client has a link where it has a connection, whose number is not past the last
   wired-linked : (past : List Event) (opened : ℕ) (sent : List (ℕ × Transmission)) (pending : List Pending) (last : ℕ) (l : Option Linked) (o : Option Wire) → IsWired meaning made past opened sent pending last l o → is_some l ≡ is_some o
@@ -61,7 +62,7 @@ module _ {State : Type 0} (meaning : Meaning State) (made : Made State) (newcome
     others-by (Some m) is k n x at on apart =
         let name = h.named (client_of s) m is in
         let own = h.named k n at in
-        let move = move-is meaning made down w.past w.opened name.0.client_id name.0.version m name.2 h.unopened faithful grow sends h.plain (clean-at (client_of s) name.0 newcomers name.1 clean) s fine in
+        let move = move-is meaning made down w.past w.opened name.0.client_id name.0.version m name.2 h.unopened of_clients faithful grow sends h.plain (clean-at (client_of s) name.0 newcomers name.1 clean) s fine in
         let low = wired-known w.past w.opened n.life.sent n.life.client.pending n.life.client.last n.life.client.link n.wire x on own.2.wired in
         (move.others x.number low (off-by m.wire x.number (λ y here same. apart (h.apart k (client_of s) n m x y at is on here (sym same))))).1
       where
@@ -78,21 +79,21 @@ module _ {State : Type 0} (meaning : Meaning State) (made : Made State) (newcome
             linked = wired-linked w.past w.opened m.life.sent m.life.client.pending m.life.client.last m.life.client.link m.wire name.2.wired;
             fresh = (h.unopened (suc w.opened) (omega arith)).1;
             once = subst (λ (u : World). OneExpiration (arrivals made.limits u.past)) (after-here m is)
-                (acts-once meaning made down newcomers distinct (step (sides_of meaning made down) w s) (step-is meaning made down newcomers faithful grow sends clean w s fine h)).expirations;
+                (one-expiration meaning made down newcomers distinct (step (sides_of meaning made down) w s) (step-is meaning made down newcomers of_clients faithful grow sends clean w s fine h));
           };
       others = others-by (slice_get w.members (client_of s)) refl;
     }
 
   -- the world of the steps that were taken
   pub world-is : (steps : List Step) → AllByRecursion IsFineStep steps → IsWorld meaning made down newcomers (world (sides_of meaning made down) newcomers steps)
-  world-is steps fine = run-is meaning made down newcomers faithful grow sends clean (start newcomers) steps fine (start-is meaning made down newcomers)
+  world-is steps fine = run-is meaning made down newcomers of_clients faithful grow sends clean (start newcomers) steps fine (start-is meaning made down newcomers of_clients.once)
 
 -- The steps of the code.
 
-pub call-fine : (s : CodeStep) (k now : ℕ) (call : CodeCall) → s ≡ code.Call k now call → IsCallable s → HoldAll (values_of call.arguments.items) → IsFineStep (step_as s)
-call-fine s k now call is callable held =
+pub call-fine : WrittenIsOctets → (s : CodeStep) (k now : ℕ) (call : CodeCall) → s ≡ code.Call k now call → IsCallable s → HoldAll (values_of call.arguments.items) → IsFineStep (step_as s)
+call-fine octets s k now call is callable held =
     subst (λ (d : CodeStep). IsFineStep (step_as d)) (sym is)
-    (record { operation = (subst IsCallable is callable).0; arguments = λ place. written_octets Big (structure (values_of call.arguments.items)) held place; expiration = call.near })
+    (record { operation = (subst IsCallable is callable).0; arguments = λ place. octets Big (structure (values_of call.arguments.items)) held place; expiration = call.near })
 
 pub first-fine : (n : ℕ) (ss : List CodeStep) → AllByRecursion IsFineStep (map step_as ss) → AllByRecursion IsFineStep (map step_as (take n ss))
 first-fine zero ss h = tt

@@ -21,7 +21,6 @@ use Rattle.ft_log.specs.declared.system_exception.SystemName.{SystemName}
 use Rattle.ft_client.specs.Clients.{Ended, ended_by}
 use Rattle.ft_client.specs.Directions.{Hearing, stream}
 use Rattle.ft_client.specs.Messages.{Answer, Asked, Call, Said, fields_of, Transmission, Withdrawn, incoming_of, located, octets_said, question_of, replied}
-use Rattle.ft_client.proofs.Living.{each-append, each-weaker}
 use Rattle.ft_orb.specs.ExactlyOnce.{Arrival, Present, answer_of, answers_after}
 use Rattle.ft_orb.specs.History.{Close, Event, Gone, Line, Lost, Opened, Piece, Shut, Up, arrivals, arrivals_in, arrivals_on, completed, connection_of, does_count, heard_after, line, longer, shut}
 use Rattle.ft_orb.specs.Outputs.{Made}
@@ -33,7 +32,7 @@ use Rattle.ft_ends.specs.Fine.{AreFaithful, IsFine, IsFineCall, IsFineSaid, IsFi
 use Rattle.ft_ends.specs.Laws.{ArePlain, AreShort, IsPlain}
 use Rattle.ft_ends.specs.Tellings.{Telling, answer_in, close_told, close_told_on, error_told, error_told_on, farewell_told, octets_told, shown_as, tellings, told, told_all, told_of}
 use Rattle.ft_ends.proofs.Firm.{IsFirm, answer-firm}
-use Rattle.ft_ends.proofs.Lists.{IfGiven, each-both, each-drop, each-front, each-map, each-some, front-trans}
+use Rattle.ft_ends.proofs.Lists.{IfGiven, each-append, each-both, each-drop, each-front, each-map, each-some, each-weaker, front-trans}
 use Rattle.ft_ends.proofs.Spoken.{IsListed, asked_as, asked_as-append}
 use Rattle.ft_ends.proofs.Written.{stream-append}
 

@@ -1,27 +1,32 @@
 -- A servant that keeps its promises gives short answers.
-use Rattle.std.proofs.Common.{◌≡◌, ℕ, ◌≤◌, Bool, true, false, cond, nat_lt, List, [], ◌∷◌, ◌++◌, length, take, Option, Some, None, Result, Ok, Err, IsTrue, refl, sym, ap, ◌∙◌, subst, take_at, lit≤}
+use Rattle.std.proofs.Common.{◌≡◌, ℕ, ◌<◌, ◌≤◌, Bool, true, false, cond, nat_lt, List, [], ◌∷◌, ◌++◌, length, Option, Some, None, Result, Ok, Err, IsTrue, refl, sym, subst, lit≤}
 use Rattle.std.specs.Option.{unwrap_or}
 use Rattle.std.proofs.lemmas.Option.{none-some, same_Some}
-use Rattle.cdr_core.specs.Laws.{ReadFits, ReadIsSpelled, SpelledIsRead}
+use Rattle.cdr_core.specs.Fitting.{AreValid, FitsMembers}
+use Rattle.cdr_core.specs.Form as form
+use Rattle.cdr_core.specs.Form.{Forms}
+use Rattle.cdr_core.specs.Laws.{SpelledFits}
+use Rattle.cdr_core.specs.Numbers.{AreOctets}
 use Rattle.cdr_core.specs.Spelling.{SpellsMembers}
+use Rattle.cdr_core.specs.Value as value
+use Rattle.cdr_core.specs.Value.{Values}
 use Rattle.cdr_core.specs.Writing.{octets_of_all}
+use Rattle.cdr_core.specs.declared.order.Order.{Order}
 use Rattle.cdr_core.specs.declared.order.Order.TheVariants.{Big}
 use Rattle.giop_core.specs.Keys.{key_of_addressed}
 use Rattle.ft_log.specs.Keys.{RequestKey}
 use Rattle.ft_log.specs.Performed.{Performed}
 use Rattle.ft_log.specs.declared.system_exception.SystemName.{SystemName}
 use Rattle.ft_log.specs.declared.system_exception.SystemName.TheVariants as name
-use Rattle.ft_client.proofs.Living.{each-append}
 use Rattle.ft_orb.specs.ExactlyOnce.{Absent, Arrival, Bad, Field, Present, acts, answer_by_field, has_key, live_keys, new_answer, outcome_kept, outcome_of, performed_after, performed_of, state_after, state_after_call}
-use Rattle.ft_orb.specs.Interfaces.{AreArgumentsOf}
+use Rattle.ft_orb.specs.Interfaces.{AreArgumentsOf, Interface, IsValidInterface, operation}
+use Rattle.ft_orb.specs.Laws.{CallsAreAsked}
 use Rattle.ft_orb.specs.Outputs.{Made}
 use Rattle.ft_orb.specs.Replies.{answered_as, body_of}
 use Rattle.ft_orb.specs.Requests.{Call, Wanted, asked_of, asking, locating, rules_of}
 use Rattle.ft_orb.specs.Servants.{IsServant, Meaning}
-use Rattle.ft_orb.proofs.Asking.{calls-are-asked}
-use Rattle.ft_orb.proofs.Calls.{args-fit}
-use Rattle.ft_orb.proofs.Law.{grown}
 use Rattle.ft_ends.specs.Laws.{AnswersAreShort, ArePlain, IsPlain}
+use Rattle.ft_ends.proofs.Lists.{each-append, each-left}
 
 -- the body of an outcome is short
 abbrev IsShort : Performed → Type 0
@@ -41,15 +46,21 @@ refusal-short name.ImpLimit = lit≤ tt
 refusal-short name.Internal = lit≤ tt
 refusal-short name.Transient = lit≤ tt
 
-module _ {State : Type 0} (meaning : Meaning State) (made : Made State) (spells : ReadIsSpelled) (reads : SpelledIsRead) (fits : ReadFits) (promises : IsServant meaning) where
+-- arguments that octets spell by valid types fit them; no types are a case of their own, since no structure is without members
+members-fit : SpelledFits → (ts : Forms) (order : Order) (o : ℕ) (octets : List ℕ) (vs : Values) → AreValid ts → AreOctets octets → SpellsMembers ts order vs o octets → FitsMembers ts vs
+members-fit fits form.no_forms order o octets value.no_values valid are spelled = tt
+members-fit fits form.no_forms order o octets (value.value v vs) valid are spelled = absurd spelled
+members-fit fits (form.form t ts) order o octets vs valid are spelled = fits (form.structure (form.form t ts)) order (value.structure vs) o octets ((λ none. absurd cc), valid) are spelled
+
+module _ {State : Type 0} (meaning : Meaning State) (made : Made State) (fits : SpelledFits) (calls : CallsAreAsked) (promises : IsServant meaning) where
   -- what is asked has arguments of its operation
   asked-fit : (w : Wanted) (call : Call) → IsPlain w → asked_of meaning.interface w ≡ Ok call → AreArgumentsOf (meaning.interface call.object_key call.operation) call.arguments
   asked-fit (asking c q) call plain is =
-      let asked = (calls-are-asked spells reads meaning.interface q (key_of_addressed q.target) call).0 is in
-      let front : take (length asked.front) q.body.octets ≡ asked.front = ap (take (length asked.front)) asked.octets_are ∙ take_at asked.front asked.rest (length asked.front) refl in
-      subst (λ (operation : List ℕ). AreArgumentsOf (meaning.interface call.object_key operation) call.arguments) asked.operation_is
-      (args-fit reads fits (meaning.interface call.object_key q.operation) asked.types (sym asked.known) (promises.valid call.object_key q.operation) q.body.order q.body.place q.body.octets call.arguments (length asked.front) plain
-      (subst (λ (octets : List ℕ). SpellsMembers asked.types.arguments q.body.order call.arguments q.body.place octets) (sym front) asked.spelled))
+      let asked = (calls meaning.interface q (key_of_addressed q.target) call).0 is in
+      let own : AreOctets asked.front = each-left (λ x. x < 256) asked.front asked.rest (subst AreOctets asked.octets_are plain) in
+      let valid : IsValidInterface (operation asked.types) = subst IsValidInterface asked.known (promises.valid call.object_key q.operation) in
+      let fit = members-fit fits asked.types.arguments q.body.order q.body.place asked.front call.arguments valid.0 own asked.spelled in
+      subst (λ (name : List ℕ). AreArgumentsOf (meaning.interface call.object_key name) call.arguments) asked.operation_is (subst (λ (i : Interface). AreArgumentsOf i call.arguments) (sym asked.known) fit)
   asked-fit (locating c version id to) call plain is = absurd cc
 
   call-state : (state : State) (r : Result Call SystemName) → IsTrue (meaning.is_state state) → ((call : Call) → r ≡ Ok call → AreArgumentsOf (meaning.interface call.object_key call.operation) call.arguments)
@@ -99,7 +110,7 @@ module _ {State : Type 0} (meaning : Meaning State) (made : Made State) (spells 
   performed-plain performed [] h k = h
   performed-plain performed (a ∷ xs) h k =
       let rules = rules_of meaning made.capacity made.share in
-      performed-plain (grown rules performed a) xs
+      performed-plain (cond (acts rules performed a) (performed ++ a ∷ []) performed) xs
       (elim (acts rules performed a) as (λ b. ArePlain (cond b (performed ++ a ∷ []) performed)) [ true ↦ each-append (λ b. IsPlain b.content) performed (a ∷ []) h (k.0, tt) | false ↦ h ]) k.1
 
   field-short : (performed : List (Arrival Wanted)) (a : Arrival Wanted) (f : Field) → IsTrue (meaning.is_state made.opening) → ArePlain performed → IsPlain a.content
@@ -117,7 +128,7 @@ module _ {State : Type 0} (meaning : Meaning State) (made : Made State) (spells 
             (new-short state (rules.has_room key (live_keys a.clock performed)) (asked_of meaning.interface a.content) (all-state made.opening performed known h) (λ call is. asked-fit a.content call plain is))
       ]
 
-pub answers-are-short : {State : Type 0} (meaning : Meaning State) → ReadIsSpelled → SpelledIsRead → ReadFits → IsServant meaning → AnswersAreShort meaning
-answers-are-short meaning spells reads fits promises made known before a plain own =
+pub answers-are-short : {State : Type 0} (meaning : Meaning State) → SpelledFits → CallsAreAsked → IsServant meaning → AnswersAreShort meaning
+answers-are-short meaning fits calls promises made known before a plain own =
     let rules = rules_of meaning made.capacity made.share in
-    field-short meaning made spells reads fits promises (performed_of rules before) a a.field known (performed-plain meaning made spells reads fits promises [] before tt plain) own
+    field-short meaning made fits calls promises (performed_of rules before) a a.field known (performed-plain meaning made fits calls promises [] before tt plain) own

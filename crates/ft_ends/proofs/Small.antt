@@ -5,11 +5,12 @@ use Rattle.std.specs.Ordering.{int_eq}
 use Rattle.std.proofs.lemmas.Bool.{and_parts, ltb-true}
 use Rattle.std.proofs.lemmas.Option.{none-some, same_Some}
 use Rattle.giop_link.specs.Hearing.{Ending}
-use Rattle.ft_client.specs.Clients.{Called, Cancelled, Client, Ended, Fed, Happening, Joined, Linked, Parted, Pending, Recalled, Taken, Ticked, after, completed, completed_if, ended_by, ending_of, find_pending, fits, ids_after, is_taken, on_time, parted, parted_at, placed, recalled, resent, settled, settled_all, told_of, unsent, waiting, without}
+use Rattle.ft_client.specs.Clients.{Called, Cancelled, Client, Ended, Fed, Happening, Joined, Linked, Parted, Pending, Recalled, Taken, Ticked, after, completed, completed_if, ended_by, ending_of, find_pending, fits, ids_after, is_taken, on_time, parted, parted_at, placed, recalled, resent, settled, settled_all, told_of, transmission, unsent, waiting, without}
 use Rattle.ft_client.specs.Directions.{Hearing, news}
-use Rattle.ft_client.specs.Messages.{Answer, Call, located, replied}
-use Rattle.ft_client.proofs.Living.{AreAlike, alike-each, alike-resent, alike-unsent, each-append, on_time-each, without-each}
+use Rattle.ft_client.specs.Laws.{RequestsAreAsLong}
+use Rattle.ft_client.specs.Messages.{Answer, Call, located, replied, request_behind}
 use Rattle.ft_ends.specs.Fine.{IsFineCall}
+use Rattle.ft_ends.proofs.Lists.{each-append}
 use Rattle.ft_ends.proofs.Spoken.{IsFinePending}
 
 -- what it has pending can be written, and at most 64 calls are; its last number is a long
@@ -17,12 +18,6 @@ pub record IsSmall (m : Client) : Type 0 where
   pub waits : AllByRecursion (λ p. IsFinePending m.version m.client_id p.id p.call) m.pending
   pub few : length m.pending ≤ 64
   pub low : m.last ≤ 2147483647
-
-alike-length : (ps qs : List Pending) → AreAlike ps qs → length ps ≡ length qs
-alike-length [] [] h = refl
-alike-length [] (q ∷ qs) h = absurd h
-alike-length (p ∷ ps) [] h = absurd h
-alike-length (p ∷ ps) (q ∷ qs) h = ap suc (alike-length ps qs h.2)
 
 without-length : (id : ℕ) (ps : List Pending) → length (without id ps) ≤ length ps
 without-length id [] = omega arith
@@ -35,7 +30,38 @@ on_time-length now (p ∷ ps) =
     let rest = on_time-length now ps in
     elim (nat_le now p.call.expiration) as (λ b. length (cond b (p ∷ on_time now ps) (on_time now ps)) ≤ length (p ∷ ps)) [ true ↦ omega (arith, rest) | false ↦ omega (arith, rest) ]
 
+unsent-length : (ps : List Pending) → length (unsent ps) ≡ length ps
+unsent-length [] = refl
+unsent-length (p ∷ ps) = ap suc (unsent-length ps)
+
+resent-length : (now n : ℕ) (ps : List Pending) → length (resent now n ps) ≡ length ps
+resent-length now n [] = refl
+resent-length now n (p ∷ ps) =
+    elim (nat_le now p.call.expiration) as (λ b. length (cond b (record p { sent = Some (suc n) } ∷ resent now (suc n) ps) (record p { sent = None } ∷ resent now n ps)) ≡ suc (length ps))
+    [ true ↦ ap suc (resent-length now (suc n) ps) | false ↦ ap suc (resent-length now n ps) ]
+
 -- What holds of each pending call holds of those that are left.
+
+pub without-each : (P : Pending → Type 0) (id : ℕ) (ps : List Pending) → AllByRecursion P ps → AllByRecursion P (without id ps)
+without-each P id [] h = tt
+without-each P id (p ∷ ps) h = elim (p.id == id) as (λ b. AllByRecursion P (cond b ps (p ∷ without id ps))) [ true ↦ h.1 | false ↦ (h.0, without-each P id ps h.1) ]
+
+pub on_time-each : (P : Pending → Type 0) (now : ℕ) (ps : List Pending) → AllByRecursion P ps → AllByRecursion P (on_time now ps)
+on_time-each P now [] h = tt
+on_time-each P now (p ∷ ps) h =
+    elim (nat_le now p.call.expiration) as (λ b. AllByRecursion P (cond b (p ∷ on_time now ps) (on_time now ps)))
+    [ true ↦ (h.0, on_time-each P now ps h.1) | false ↦ on_time-each P now ps h.1 ]
+
+-- sent or not
+unsent-each : (P : ℕ → Call → Type 0) (ps : List Pending) → AllByRecursion (λ p. P p.id p.call) ps → AllByRecursion (λ p. P p.id p.call) (unsent ps)
+unsent-each P [] h = tt
+unsent-each P (p ∷ ps) h = (h.0, unsent-each P ps h.1)
+
+resent-each : (P : ℕ → Call → Type 0) (now n : ℕ) (ps : List Pending) → AllByRecursion (λ p. P p.id p.call) ps → AllByRecursion (λ p. P p.id p.call) (resent now n ps)
+resent-each P now n [] h = tt
+resent-each P now n (p ∷ ps) h =
+    elim (nat_le now p.call.expiration) as (λ b. AllByRecursion (λ q. P q.id q.call) (cond b (record p { sent = Some (suc n) } ∷ resent now (suc n) ps) (record p { sent = None } ∷ resent now n ps)))
+    [ true ↦ (h.0, resent-each P now (suc n) ps h.1) | false ↦ (h.0, resent-each P now n ps h.1) ]
 
 pub completed_if-each : (P : Pending → Type 0) (o : Option ℕ) (e : Ended) (m : Client) → AllByRecursion P m.pending → AllByRecursion P (completed_if o e m).pending
 completed_if-each P None e m h = h
@@ -57,12 +83,8 @@ found-each P id p (q ∷ ps) is h =
 
 -- What happens to a client.
 
-small-alike : (m : Client) (qs : List Pending) (l : Option Linked) → AreAlike m.pending qs → IsSmall m → IsSmall (record m { pending = qs; link = l })
-small-alike m qs l same h = record {
-  waits = alike-each (λ id call. IsFinePending m.version m.client_id id call) m.pending qs same h.waits;
-  few = let few = h.few in let long = alike-length m.pending qs same in omega (arith, few, long);
-  low = h.low;
-}
+small-as : (m : Client) (qs : List Pending) (l : Option Linked) → length qs ≡ length m.pending → AllByRecursion (λ p. IsFinePending m.version m.client_id p.id p.call) qs → IsSmall m → IsSmall (record m { pending = qs; link = l })
+small-as m qs l as_many waits h = record { waits = waits; few = let few = h.few in omega (arith, few, as_many); low = h.low }
 
 small-linked : (m : Client) (l : Option Linked) → IsSmall m → IsSmall (record m { link = l })
 small-linked m l h = record { waits = h.waits; few = h.few; low = h.low }
@@ -92,7 +114,7 @@ small-told down octets m (Some l) h =
     small-settled_all (news down l.received octets) (record m { link = Some (record l { received = l.received ++ octets }) }) (small-linked m (Some (record l { received = l.received ++ octets })) h)
 
 small-parted : (m : Client) → IsSmall m → IsSmall (parted m)
-small-parted m h = small-alike m (unsent m.pending) None (alike-unsent m.pending) h
+small-parted m h = small-as m (unsent m.pending) None (unsent-length m.pending) (unsent-each (IsFinePending m.version m.client_id) m.pending h.waits) h
 
 small-parted_at : (e : Option Ending) (m : Client) → IsSmall m → IsSmall (parted_at e m)
 small-parted_at None m h = h
@@ -108,8 +130,8 @@ pub record IsTaken (m : Client) (call : Call) : Type 0 where
   pub few : length m.pending < 64
   pub fine : IsFinePending m.version m.client_id (suc m.last) call
 
-pub taken-is : (now : ℕ) (call : Call) (m : Client) → IsFineCall call → is_taken now call m ≡ true → IsTaken m call
-taken-is now call m fine is =
+pub taken-is : RequestsAreAsLong → (now : ℕ) (call : Call) (m : Client) → IsFineCall call → is_taken now call m ≡ true → IsTaken m call
+taken-is as_long now call m fine is =
     let a = (and_parts (nat_le now call.expiration) (nat_lt m.last 2147483647 && (nat_lt (length m.pending) 64 && fits m call)) is).1 in
     let b = and_parts (nat_lt m.last 2147483647) (nat_lt (length m.pending) 64 && fits m call) a in
     let c = and_parts (nat_lt (length m.pending) 64) (fits m call) b.1 in
@@ -117,7 +139,11 @@ taken-is now call m fine is =
     record {
       low = low;
       few = ltb-true (length m.pending) 64 c.0;
-      fine = record { fine = fine; number = omega (arith, low); size = ltb-true _ 4294967296 c.1 };
+      fine = record {
+        fine = fine;
+        number = omega (arith, low);
+        size = λ i. subst (λ (k : ℕ). k < 4294967296) (as_long m.version m.client_id (suc m.last) 1 i call) (ltb-true (length (request_behind (transmission m.version m.client_id (suc m.last) 1 call))) 4294967296 c.1);
+      };
     }
 
 small-called : (call : Call) (sent : Option ℕ) (l : Option Linked) (m : Client) → IsTaken m call → IsSmall m → IsSmall (record m { last = suc m.last; pending = m.pending ++ record { id = suc m.last; call = call; sent = sent } ∷ []; link = l })
@@ -138,17 +164,18 @@ abbrev pub IsFineHappening : Happening → Type 0
 IsFineHappening (Called now call) = IsFineCall call
 IsFineHappening h = Unit {0}
 
-pub small-after : (down : Hearing Answer) (h : Happening) (m : Client) → IsFineHappening h → IsSmall m → IsSmall (after down h m)
-small-after down (Called now call) m fine s =
+pub small-after : RequestsAreAsLong → (down : Hearing Answer) (h : Happening) (m : Client) → IsFineHappening h → IsSmall m → IsSmall (after down h m)
+small-after as_long down (Called now call) m fine s =
     elim (is_taken now call m) as (λ b. is_taken now call m ≡ b → IsSmall (cond b (placed call m m.link) m))
-    [ true ↦ λ is. small-placed call m m.link (taken-is now call m fine is) s | false ↦ λ is. s ] refl
-small-after down (Joined now) m fine s = small-alike m (resent now 0 m.pending) (Some (record { given = ids_after now 0 m.pending; received = [] })) (alike-resent now 0 m.pending) s
-small-after down (Fed octets) m fine s = small-parted_at (ending_of down octets m.link) (told_of down octets m m.link) (small-told down octets m m.link s)
-small-after down Parted m fine s = small-parted m s
-small-after down (Recalled id) m fine s = small-recalled (find_pending id m.pending) m s
-small-after down (Ticked now) m fine s = record {
+    [ true ↦ λ is. small-placed call m m.link (taken-is as_long now call m fine is) s | false ↦ λ is. s ] refl
+small-after as_long down (Joined now) m fine s =
+    small-as m (resent now 0 m.pending) (Some (record { given = ids_after now 0 m.pending; received = [] })) (resent-length now 0 m.pending) (resent-each (IsFinePending m.version m.client_id) now 0 m.pending s.waits) s
+small-after as_long down (Fed octets) m fine s = small-parted_at (ending_of down octets m.link) (told_of down octets m m.link) (small-told down octets m m.link s)
+small-after as_long down Parted m fine s = small-parted m s
+small-after as_long down (Recalled id) m fine s = small-recalled (find_pending id m.pending) m s
+small-after as_long down (Ticked now) m fine s = record {
   waits = on_time-each (λ p. IsFinePending m.version m.client_id p.id p.call) now m.pending s.waits;
   few = let few = s.few in let less = on_time-length now m.pending in omega (arith, few, less);
   low = s.low;
 }
-small-after down Taken m fine s = record { waits = s.waits; few = s.few; low = s.low }
+small-after as_long down Taken m fine s = record { waits = s.waits; few = s.few; low = s.low }

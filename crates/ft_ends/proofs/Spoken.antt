@@ -10,10 +10,8 @@ use Rattle.giop_core.specs.declared.header.Version.{Version}
 use Rattle.ft_client.specs.Clients.{Pending, ids_after, is_sent_as, resent, says_again, transmission, waiting}
 use Rattle.ft_client.specs.Lives.{sent_at}
 use Rattle.ft_client.specs.Messages.{Asked, Call, Said, Transmission, Withdrawn, request_behind}
-use Rattle.ft_client.proofs.Living.{each-append, each-weaker}
-use Rattle.ft_client.proofs.Patching.{same_length}
 use Rattle.ft_ends.specs.Fine.{IsFine, IsFineCall, IsFineSaid}
-use Rattle.ft_ends.proofs.Lists.{contains-head, contains-tail}
+use Rattle.ft_ends.proofs.Lists.{contains-head, contains-tail, each-append, each-weaker}
 
 -- the request of an id, if one was sent
 abbrev pub asked_as : List Said → ℕ → Option Transmission
@@ -40,11 +38,11 @@ IsSentAs said r (Some i) = (t : Transmission) × (asked_as said i ≡ Some t) ×
 abbrev pub IsSent : List Said → Pending → Type 0
 IsSent said p = IsSentAs said p.id p.sent
 
--- a pending call can be written
+-- a pending call can be written, under each request id
 pub record IsFinePending (version : Version) (client_id : List ℕ) (id : ℕ) (call : Call) : Type 0 where
   pub fine : IsFineCall call
   pub number : id < 2 ^ 31
-  pub size : length (request_behind (transmission version client_id id 1 call)) < 2 ^ 32
+  pub size : (i : ℕ) → length (request_behind (transmission version client_id id i call)) < 2 ^ 32
 
 -- what was said on a connection whose link gave so many ids, where these transmissions were made and these calls are pending
 pub record IsSpoken (sent : List (ℕ × Transmission)) (said : List Said) (pending : List Pending) (given : ℕ) : Type 0 where
@@ -235,7 +233,7 @@ module _ (version : Version) (client_id : List ℕ) (now : ℕ) where
             call = h.0.fine;
             number = h.0.number;
             id = omega arith;
-            size = subst (λ (k : ℕ). k < 2 ^ 32) (same_length version client_id p.id 1 (suc n) p.call) h.0.size;
+            size = h.0.size (suc n);
           },
           again-fine (suc n) ps clean (omega arith) h.1,
         )

@@ -3,7 +3,7 @@ use Rattle.std.proofs.Common.{◌≡◌, ⊎_elim, ℕ, zero, suc, ◌+◌, ◌<
 use Rattle.std.specs.List.{AllByRecursion, Contains, slice_get}
 use Rattle.std.specs.Option.{option_map}
 use Rattle.std.proofs.lemmas.Bool.{and_parts, cases_eq, eq-eqb, false≢true, leb-true, ltb-true, ne_eqb}
-use Rattle.std.proofs.lemmas.List.Elements.{Contains-append_left}
+use Rattle.std.proofs.lemmas.List.Elements.{Contains-append_left, Contains-append_right}
 use Rattle.std.proofs.lemmas.Option.{none-some, same_Some}
 use Rattle.std.proofs.lemmas.Slice.Eq.{bytes_eq-Decides}
 use Rattle.cdr_core.specs.Spelling.{IsClean}
@@ -12,24 +12,25 @@ use Rattle.giop_link.specs.Laws.{HearingGrows}
 use Rattle.ft_log.specs.Keys.{RequestKey}
 use Rattle.ft_client.specs.Clients.{Cancelled, Ended, Expired, Linked, NeedsAddressing, Pending, Told}
 use Rattle.ft_client.specs.Directions.{Hearing}
+use Rattle.ft_client.specs.Laws.{CallsCompleteOnce}
 use Rattle.ft_client.specs.Lives.{IsOfCall, call_at, ended_count, one_if}
 use Rattle.ft_client.specs.Messages.{Answer, Call, Transmission}
-use Rattle.ft_client.proofs.Living.{each-append, each-weaker, ended-append, life-new}
 use Rattle.ft_client.specs.Standing.{down}
 use Rattle.ft_orb.specs.ExactlyOnce.{Arrival, OneExpiration, Present}
-use Rattle.ft_orb.specs.History.{Event, arrivals}
+use Rattle.ft_orb.specs.History.{arrivals}
+use Rattle.ft_orb.specs.Laws.{KeysActOnce}
 use Rattle.ft_orb.specs.Outputs.{Made}
 use Rattle.ft_orb.specs.Requests.{Wanted, rules_of}
 use Rattle.ft_orb.specs.Servants.{Meaning}
-use Rattle.ft_orb.proofs.Once.{keys-act-once}
-use Rattle.ft_ends.specs.Both.{ActsOnce, AreDistinct, IsExplainedAs, IsSentBy, IsSentIn, completed_count, key_of}
+use Rattle.ft_ends.specs.Both.{ActsOnce, AreDistinct, Explains, IsExplainedAs, IsSentBy, IsSentFor, IsSentIn, completed_count, key_at, key_of}
 use Rattle.ft_ends.specs.Fine.{AreFaithful}
 use Rattle.ft_ends.specs.Laws.{AnswersAreShort, ArePlain, AreShort, BothEndsActOnce, DirectionsAreFaithful, IsFineStep, IsPlain, sides_of}
+use Rattle.ft_ends.specs.Private.{ClientLaws}
 use Rattle.ft_ends.specs.World.{Member, Moved, Newcomer, Sides, Step, Wire, World, client_of, emptied, given_out, member_of, moved, run, start, step, step_of, with_client, world}
-use Rattle.ft_ends.proofs.Lists.{each-contains, set-here, set-other}
-use Rattle.ft_ends.proofs.Members.{IsMember, IsTold, IsToldOf, IsWired, member-emptied, own_key, told-later}
+use Rattle.ft_ends.proofs.Lists.{contains-head, each-append, each-contains, each-weaker, each-within, set-here, set-other}
+use Rattle.ft_ends.proofs.Members.{IsMember, IsTold, IsToldOf, IsWired, ended-append, member-emptied, own_key, told-later}
 use Rattle.ft_ends.proofs.Moves.{IsMove, IsOff, IsUnopened, move-is, told-more}
-use Rattle.ft_ends.proofs.Served.{served-other, traced-explains}
+use Rattle.ft_ends.proofs.Served.{Traced, served-other, traced-explains}
 
 -- Lists and counts.
 
@@ -95,6 +96,13 @@ new-at k m [] is = absurd (none-some m is)
 new-at zero m (n ∷ ns) is = (n, refl, same_Some (member_of n) m is)
 new-at (suc k) m (n ∷ ns) is = new-at k m ns is
 
+-- an arrival is that of a transmission of one of these clients
+pub record IsTransmitted (members : List Member) (a : Arrival Wanted) : Type 0 where
+  pub place : ℕ
+  pub member : Member
+  pub is : slice_get members place ≡ Some member
+  pub sent : IsSentIn member.life.sent a
+
 -- more transmissions were made
 sent_in-more : (sent more : List (ℕ × Transmission)) (a : Arrival Wanted) → IsSentIn sent a → IsSentIn (sent ++ more) a
 sent_in-more sent more a h = record {
@@ -115,7 +123,7 @@ module _ {State : Type 0} (meaning : Meaning State) (made : Made State) (hears :
     pub named : (k : ℕ) (m : Member) → slice_get w.members k ≡ Some m → (n : Newcomer) × (slice_get newcomers k ≡ Some n) × IsMember meaning made w.past w.opened n.client_id n.version m
     pub apart : (j k : ℕ) (m n : Member) (x y : Wire) → slice_get w.members j ≡ Some m → slice_get w.members k ≡ Some n → m.wire ≡ Some x → n.wire ≡ Some y → x.number ≡ y.number → j ≡ k
     pub unopened : (c : ℕ) → w.opened < c → IsUnopened meaning made hears w.past c
-    pub arrived : AllByRecursion (λ a. IsSentBy w.members a) (arrivals made.limits w.past)
+    pub arrived : AllByRecursion (λ a. IsTransmitted w.members a) (arrivals made.limits w.past)
     pub plain : ArePlain (arrivals made.limits w.past)
     pub traced : AllByRecursion (λ x. IsTracedAs (arrivals made.limits w.past) x) w.completions
     pub counts : (k : ℕ) (m : Member) → slice_get w.members k ≡ Some m → (r : ℕ) → completed_count k r w.completions ≡ ended_count r m.life.taken
@@ -123,17 +131,17 @@ module _ {State : Type 0} (meaning : Meaning State) (made : Made State) (hears :
 
   -- The start.
 
-  new-member : (n : Newcomer) → IsMember meaning made [] 0 n.client_id n.version (member_of n)
-  new-member n = record {
-    life = life-new n.client_id n.version n.limits;
+  new-member : CallsCompleteOnce → (n : Newcomer) → IsMember meaning made [] 0 n.client_id n.version (member_of n)
+  new-member once n = record {
+    life = once n.client_id n.version n.limits (hears n.limits) [];
     small = record { waits = tt; few = omega arith; low = omega arith };
     told = tt;
     wired = tt;
   }
 
-  pub start-is : IsWorld (start newcomers)
-  start-is = record {
-    named = λ k m is. let at = new-at k m newcomers is in (at.0, at.1, subst (λ (p : Member). IsMember meaning made [] 0 at.0.client_id at.0.version p) at.2 (new-member at.0));
+  pub start-is : CallsCompleteOnce → IsWorld (start newcomers)
+  start-is once = record {
+    named = λ k m is. let at = new-at k m newcomers is in (at.0, at.1, subst (λ (p : Member). IsMember meaning made [] 0 at.0.client_id at.0.version p) at.2 (new-member once at.0));
     apart = λ j k m n x y is as_well on too same. let at = new-at j m newcomers is in absurd (none-some x (ap (λ (p : Member). p.wire) at.2 ∙ on));
     unopened = λ c above. (refl, refl, refl);
     arrived = tt;
@@ -240,10 +248,10 @@ module _ {State : Type 0} (meaning : Meaning State) (made : Made State) (hears :
             ⊎_elim (λ (own : j ≡ k). absurd (apart-own i p y x other (other-at i p other is) (own-wire j q y own as_well too) on (sym same)))
             (λ (other_too : j ≡ k → ⊥). h.apart i j p q x y (other-at i p other is) (other-at j q other_too as_well) on too same) (cases_eq j k)
 
-    sent_by-after : (a : Arrival Wanted) → IsSentBy w.members a → IsSentBy (set w.members k next) a
+    sent_by-after : (a : Arrival Wanted) → IsTransmitted w.members a → IsTransmitted (set w.members k next) a
     sent_by-after a by = ⊎_elim (λ (same : by.place ≡ k). own same) (λ (apart : by.place ≡ k → ⊥). other apart) (cases_eq by.place k)
       where
-        own : by.place ≡ k → IsSentBy (set w.members k next) a
+        own : by.place ≡ k → IsTransmitted (set w.members k next) a
         own same =
             let is : by.member ≡ m = same_Some by.member m (sym by.is ∙ ap (slice_get w.members) same ∙ here) in
             record {
@@ -255,7 +263,7 @@ module _ {State : Type 0} (meaning : Meaning State) (made : Made State) (hears :
                   (sent_in-more m.life.sent move.more_sent a (subst (λ (p : Member). IsSentIn p.life.sent a) is by.sent));
             }
 
-        other : (by.place ≡ k → ⊥) → IsSentBy (set w.members k next) a
+        other : (by.place ≡ k → ⊥) → IsTransmitted (set w.members k next) a
         other apart = record { place = by.place; member = by.member; is = set-other by.place k next w.members apart ∙ by.is; sent = by.sent }
 
     counts-after : (j : ℕ) (p : Member) → slice_get (set w.members k next) j ≡ Some p → (r : ℕ) → completed_count j r (w.completions ++ with_client k v.member.life.client.completions) ≡ ended_count r p.life.taken
@@ -299,9 +307,9 @@ module _ {State : Type 0} (meaning : Meaning State) (made : Made State) (hears :
           apart = apart-after;
           unopened = move.unopened;
           arrived =
-              subst (λ (all : List (Arrival Wanted)). AllByRecursion (λ a. IsSentBy (set w.members k next) a) all) (sym move.arrivals_are)
-              (each-append (λ a. IsSentBy (set w.members k next) a) old move.more (each-weaker (λ a. IsSentBy w.members a) (λ a. IsSentBy (set w.members k next) a) sent_by-after old h.arrived)
-              (each-weaker (λ a. IsSentIn v.member.life.sent a) (λ a. IsSentBy (set w.members k next) a) (λ a is. record { place = k; member = next; is = next-here; sent = is }) move.more move.fields));
+              subst (λ (all : List (Arrival Wanted)). AllByRecursion (λ a. IsTransmitted (set w.members k next) a) all) (sym move.arrivals_are)
+              (each-append (λ a. IsTransmitted (set w.members k next) a) old move.more (each-weaker (λ a. IsTransmitted w.members a) (λ a. IsTransmitted (set w.members k next) a) sent_by-after old h.arrived)
+              (each-weaker (λ a. IsSentIn v.member.life.sent a) (λ a. IsTransmitted (set w.members k next) a) (λ a is. record { place = k; member = next; is = next-here; sent = is }) move.more move.fields));
           plain = subst ArePlain (sym move.arrivals_are) (each-append (λ a. IsPlain a.content) old move.more h.plain move.plain);
           traced =
               each-append (λ x. IsTracedAs (arrivals made.limits v.past) x) w.completions (with_client k xs)
@@ -314,7 +322,7 @@ module _ {State : Type 0} (meaning : Meaning State) (made : Made State) (hears :
 
   -- A schedule.
 
-  module _ (faithful : AreFaithful made.limits hears) (grow : HearingGrows) (sends : AreShort meaning made) (clean : AllByRecursion (λ n. IsClean n.client_id) newcomers) where
+  module _ (of_clients : ClientLaws) (faithful : AreFaithful made.limits hears) (grow : HearingGrows) (sends : AreShort meaning made) (clean : AllByRecursion (λ n. IsClean n.client_id) newcomers) where
     pub step-is : (w : World) (s : Step) → IsFineStep s → IsWorld w → IsWorld (step (sides_of meaning made hears) w s)
     step-is w s fine h = by-member (slice_get w.members (client_of s)) refl
       where
@@ -324,7 +332,7 @@ module _ {State : Type 0} (meaning : Meaning State) (made : Made State) (hears :
             let n = h.named (client_of s) m is in
             let own = each-at (λ (q : Newcomer). IsClean q.client_id) (client_of s) n.0 newcomers n.1 clean in
             given-out (client_of s) w m (moved (sides_of meaning made hears) w.past w.opened s m) n.0 is n.1 own h
-            (move-is meaning made hears w.past w.opened n.0.client_id n.0.version m n.2 h.unopened faithful grow sends h.plain own s fine)
+            (move-is meaning made hears w.past w.opened n.0.client_id n.0.version m n.2 h.unopened of_clients faithful grow sends h.plain own s fine)
 
     pub run-is : (w : World) (steps : List Step) → AllByRecursion IsFineStep steps → IsWorld w → IsWorld (run (sides_of meaning made hears) w steps)
     run-is w [] fine h = h
@@ -332,26 +340,17 @@ module _ {State : Type 0} (meaning : Meaning State) (made : Made State) (hears :
 
   -- Both ends act as one.
 
-  explained-as : (past : List Event) (x : ℕ × ℕ × Ended) → IsTracedAs (arrivals made.limits past) x → IsExplainedAs meaning made newcomers past x.0 x.1 x.2
-  explained-as past x h = by-ended x.2 h.2
-    where
-      by-ended : (e : Ended) → IsTold meaning made (arrivals made.limits past) h.0.client_id x.1 e → IsExplainedAs meaning made newcomers past x.0 x.1 e
-      by-ended Expired is = tt
-      by-ended Cancelled is = tt
-      by-ended (Told status body) is = (own_key h.0.client_id x.1, ap (option_map (λ n. own_key n.client_id x.1)) h.1, traced-explains meaning made past (own_key h.0.client_id x.1) (Told status body) is)
-      by-ended NeedsAddressing is = (own_key h.0.client_id x.1, ap (option_map (λ n. own_key n.client_id x.1)) h.1, traced-explains meaning made past (own_key h.0.client_id x.1) NeedsAddressing is)
-
   module _ (distinct : AreDistinct newcomers) (w : World) (h : IsWorld w) where
     -- what is known of an arrival
     record Known (a : Arrival Wanted) : Type 0 where
-      by : IsSentBy w.members a
+      by : IsTransmitted w.members a
       owner : Newcomer
       at : slice_get newcomers by.place ≡ Some owner
       of_call : IsOfCall owner.client_id owner.version by.member.life.calls (by.sent.now, by.sent.transmission)
 
     known : (a : Arrival Wanted) → Contains (arrivals made.limits w.past) a → Known a
     known a among =
-        let by = each-contains (λ x. IsSentBy w.members x) (arrivals made.limits w.past) a h.arrived among in
+        let by = each-contains (λ x. IsTransmitted w.members x) (arrivals made.limits w.past) a h.arrived among in
         let n = h.named by.place by.member by.is in
         record {
           by = by;
@@ -360,7 +359,49 @@ module _ {State : Type 0} (meaning : Meaning State) (made : Made State) (hears :
           of_call = each-contains (λ x. IsOfCall n.0.client_id n.0.version by.member.life.calls x) by.member.life.sent (by.sent.now, by.sent.transmission) n.2.life.sent by.sent.among;
         }
 
-    one-expiration : OneExpiration (arrivals made.limits w.past)
+    -- one that carries the key of a call of a client was sent by that client for that call
+    sent-for : (k r : ℕ) (n : Newcomer) (a : Arrival Wanted) (expiration : ℕ) → slice_get newcomers k ≡ Some n → Contains (arrivals made.limits w.past) a → a.field ≡ Present (own_key n.client_id r) expiration
+        → IsSentFor newcomers w.members k r a
+    sent-for k r n a expiration at among field =
+        let ka = known a among in
+        let t = ka.by.sent.transmission in
+        let fields : Present (key_of t) t.call.expiration ≡ Present (own_key n.client_id r) expiration = sym ka.by.sent.field ∙ field in
+        let keys : key_of t ≡ own_key n.client_id r = cc (fields) in
+        let ids : t.client_id ≡ n.client_id = ap (λ (x : RequestKey). x.client_id) keys in
+        let whole : pos t.retention_id ≡ pos r = ap (λ (x : RequestKey). x.retention_id) keys in
+        let number : t.retention_id ≡ r = cc (whole) in
+        let place : ka.by.place ≡ k = one-place newcomers ka.by.place k ka.owner n distinct ka.at at (sym ka.of_call.client ∙ ids) in
+        subst (λ (j : ℕ). IsSentFor newcomers w.members j r a) place
+        (record { newcomer = ka.owner; member = ka.by.member; client = ka.at; is = ka.by.is; sent = ka.by.sent; number = number; of_call = ka.of_call })
+
+    sent-by : (a : Arrival Wanted) → Contains (arrivals made.limits w.past) a → IsSentBy newcomers w.members a
+    sent-by a among =
+        let ka = known a among in
+        record {
+          place = ka.by.place;
+          number = ka.by.sent.transmission.retention_id;
+          call = record { newcomer = ka.owner; member = ka.by.member; client = ka.at; is = ka.by.is; sent = ka.by.sent; number = refl; of_call = ka.of_call };
+        }
+
+    explained-as : (x : ℕ × ℕ × Ended) → IsTracedAs (arrivals made.limits w.past) x → IsExplainedAs meaning made newcomers w x.0 x.1 x.2
+    explained-as x t = by-ended x.2 t.2
+      where
+        by-trace : (e : Ended) → Traced meaning made (arrivals made.limits w.past) (own_key t.0.client_id x.1) e
+            → (key : RequestKey) × (key_at newcomers x.0 x.1 ≡ Some key) × (why : Explains meaning made w.past key e) × IsSentFor newcomers w.members x.0 x.1 why.arrival
+        by-trace e is =
+            let key = own_key t.0.client_id x.1 in
+            let why = traced-explains meaning made w.past key e is in
+            let among : Contains (arrivals made.limits w.past) why.arrival =
+            subst (λ (all : List (Arrival Wanted)). Contains all why.arrival) (sym why.split) (Contains-append_right why.before (why.arrival ∷ why.later) why.arrival (contains-head why.arrival why.later)) in
+            (key, ap (option_map (λ n. own_key n.client_id x.1)) t.1, why, sent-for x.0 x.1 t.0 why.arrival why.expiration t.1 among why.field)
+
+        by-ended : (e : Ended) → IsTold meaning made (arrivals made.limits w.past) t.0.client_id x.1 e → IsExplainedAs meaning made newcomers w x.0 x.1 e
+        by-ended Expired is = tt
+        by-ended Cancelled is = tt
+        by-ended (Told status body) is = by-trace (Told status body) is
+        by-ended NeedsAddressing is = by-trace NeedsAddressing is
+
+    pub one-expiration : OneExpiration (arrivals made.limits w.past)
     one-expiration a b key early late in_a in_b is_a is_b =
         let ka = known a in_a in
         let kb = known b in_b in
@@ -396,11 +437,11 @@ module _ {State : Type 0} (meaning : Meaning State) (made : Made State) (hears :
         let all = n.2.life.alive.once r in
         (m, is, call_at-there m.life.calls r (low-from r (length m.life.calls) (subst (λ (last : ℕ). 0 < one_if (nat_lt 0 r && nat_le r last)) (sym n.2.life.alive.count) (omega (arith, count, all, some)))))
 
-    pub acts-once : ActsOnce meaning made newcomers w
-    acts-once = record {
-      explained = each-weaker (λ x. IsTracedAs (arrivals made.limits w.past) x) (λ x. IsExplainedAs meaning made newcomers w.past x.0 x.1 x.2) (λ x is. explained-as w.past x is) w.completions h.traced;
-      performed = λ front between rest p q key early late. keys-act-once (rules_of meaning made.capacity made.share) (arrivals made.limits w.past) front between rest p q key early late;
-      arrived = h.arrived;
+    pub acts-once : ((capacity share : ℕ) → KeysActOnce (rules_of meaning capacity share)) → ActsOnce meaning made newcomers w
+    acts-once keys = record {
+      explained = each-weaker (λ x. IsTracedAs (arrivals made.limits w.past) x) (λ x. IsExplainedAs meaning made newcomers w x.0 x.1 x.2) explained-as w.completions h.traced;
+      performed = λ front between rest p q key early late. keys made.capacity made.share (arrivals made.limits w.past) front between rest p q key early late;
+      arrived = each-within (λ a. IsSentBy newcomers w.members a) (arrivals made.limits w.past) sent-by;
       sent = λ k n m name is.
           let own = h.named k m is in
           let same : own.0 ≡ n = same_Some own.0 n (sym own.1 ∙ name) in
@@ -418,7 +459,7 @@ world-push sides newcomers steps s = run-push (start newcomers) steps
     run-push w [] = refl
     run-push w (x ∷ steps) = run-push (step sides w x) steps
 
-pub both-ends-act-once : {State : Type 0} (meaning : Meaning State) → HearingGrows → AnswersAreShort meaning → DirectionsAreFaithful → BothEndsActOnce meaning
-both-ends-act-once meaning grow short faithful made newcomers steps state distinct clean fine =
+pub both-ends-act-once : {State : Type 0} (meaning : Meaning State) → ClientLaws → ((capacity share : ℕ) → KeysActOnce (rules_of meaning capacity share)) → HearingGrows → AnswersAreShort meaning → DirectionsAreFaithful → BothEndsActOnce meaning
+both-ends-act-once meaning of_clients keys grow short faithful made newcomers steps state distinct clean fine =
     acts-once meaning made down newcomers distinct (world (sides_of meaning made down) newcomers steps)
-    (run-is meaning made down newcomers (faithful made.limits) grow (short made state) clean (start newcomers) steps fine (start-is meaning made down newcomers))
+    (run-is meaning made down newcomers of_clients (faithful made.limits) grow (short made state) clean (start newcomers) steps fine (start-is meaning made down newcomers of_clients.once)) keys

@@ -61,12 +61,21 @@ pub record IsSentIn (sent : List (ℕ × Transmission)) (a : Arrival Wanted) : T
   pub content : a.content ≡ asking connection (question_of transmission)
   pub field : a.field ≡ Present (key_of transmission) transmission.call.expiration
 
--- .. among those of one of these clients
-pub record IsSentBy (members : List Member) (a : Arrival Wanted) : Type 0 where
-  pub place : ℕ
+-- .. of one that client k made for its call r
+pub record IsSentFor (newcomers : List Newcomer) (members : List Member) (k r : ℕ) (a : Arrival Wanted) : Type 0 where
+  pub newcomer : Newcomer
   pub member : Member
-  pub is : slice_get members place ≡ Some member
+  pub client : slice_get newcomers k ≡ Some newcomer
+  pub is : slice_get members k ≡ Some member
   pub sent : IsSentIn member.life.sent a
+  pub number : sent.transmission.retention_id ≡ r
+  pub of_call : IsOfCall newcomer.client_id newcomer.version member.life.calls (sent.now, sent.transmission)
+
+-- .. of one that some client made for one of its calls
+pub record IsSentBy (newcomers : List Newcomer) (members : List Member) (a : Arrival Wanted) : Type 0 where
+  pub place : ℕ
+  pub number : ℕ
+  pub call : IsSentFor newcomers members place number a
 
 module _ {State : Type 0} (meaning : Meaning State) (made : Made State) where
   -- the answer to an arrival with a key, after these: the outcome of the performed arrival of its key; or a refusal, and then
@@ -86,21 +95,21 @@ module _ {State : Type 0} (meaning : Meaning State) (made : Made State) where
     pub is : ended ≡ ended_of (answered_as (answer_of (rules_of meaning made.capacity made.share) made.opening before arrival))
     pub answers : Answers past before arrival key (answer_of (rules_of meaning made.capacity made.share) made.opening before arrival)
 
-  -- a completion by a reply is explained so
-  abbrev pub IsExplainedAs : List Newcomer → List Event → ℕ → ℕ → Ended → Type 0
-  IsExplainedAs newcomers past k r Expired = Unit {0}
-  IsExplainedAs newcomers past k r Cancelled = Unit {0}
-  IsExplainedAs newcomers past k r ended = (key : RequestKey) × (key_at newcomers k r ≡ Some key) × Explains past key ended
+  -- a completion of call r of client k by a reply is explained so, by an arrival of that call
+  abbrev pub IsExplainedAs : List Newcomer → World → ℕ → ℕ → Ended → Type 0
+  IsExplainedAs newcomers w k r Expired = Unit {0}
+  IsExplainedAs newcomers w k r Cancelled = Unit {0}
+  IsExplainedAs newcomers w k r ended = (key : RequestKey) × (key_at newcomers k r ≡ Some key) × (why : Explains w.past key ended) × IsSentFor newcomers w.members k r why.arrival
 
   -- both ends act as one
   pub record ActsOnce (newcomers : List Newcomer) (w : World) : Type 0 where
-    -- each completion with a reply is the answer to an arrival of that call: the outcome of the one that was performed, or a
-    -- refusal of one that wasn't
-    pub explained : AllByRecursion (λ x. IsExplainedAs newcomers w.past x.0 x.1 x.2) w.completions
+    -- each completion with a reply is the answer to an arrival that this client sent for that call: the outcome of the one that
+    -- was performed, or a refusal of one that wasn't
+    pub explained : AllByRecursion (λ x. IsExplainedAs newcomers w x.0 x.1 x.2) w.completions
     -- no key is performed twice
     pub performed : AreOnce (performed_of (rules_of meaning made.capacity made.share) (arrivals made.limits w.past))
-    -- each arrival is that of a transmission of a client
-    pub arrived : AllByRecursion (λ a. IsSentBy w.members a) (arrivals made.limits w.past)
+    -- each arrival is one that a client sent for one of its calls
+    pub arrived : AllByRecursion (λ a. IsSentBy newcomers w.members a) (arrivals made.limits w.past)
     -- all transmissions of a call carry its content, and none was made past its expiration
     pub sent : (k : ℕ) (n : Newcomer) (m : Member) → slice_get newcomers k ≡ Some n → slice_get w.members k ≡ Some m → AllByRecursion (λ x. IsOfCall n.client_id n.version m.life.calls x) m.life.sent
     -- each call completes at most once

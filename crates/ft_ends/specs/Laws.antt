@@ -1,5 +1,5 @@
 -- The laws, each over the definitions alone.
-use Rattle.std.specs.Prelude.{◌≡◌, ◌≤◌, List, length, IsTrue}
+use Rattle.std.specs.Prelude.{◌≡◌, ℕ, ◌≤◌, ◌==◌, if◌then◌else◌, List, [], ◌∷◌, ◌++◌, Some, length, slice_get, IsTrue}
 use Rattle.std.specs.List.{AllByRecursion}
 use Rattle.cdr_core.specs.Numbers.{AreOctets}
 use Rattle.cdr_core.specs.Spelling.{IsClean}
@@ -7,7 +7,7 @@ use Rattle.cdr_core.specs.Writing.{octets_of_all}
 use Rattle.cdr_core.specs.declared.order.Order.TheVariants.{Big}
 use Rattle.giop_frames.specs.declared.limits.Limits.{Limits}
 use Rattle.ft_client.specs.Directions.{Hearing, stream}
-use Rattle.ft_client.specs.Messages.{Answer, octets_said}
+use Rattle.ft_client.specs.Messages.{Answer, Call, octets_said}
 use Rattle.ft_client.specs.Standing.{down}
 use Rattle.ft_orb.specs.ExactlyOnce.{Arrival, answer_of}
 use Rattle.ft_orb.specs.History.{Event}
@@ -18,7 +18,7 @@ use Rattle.ft_orb.specs.Servants.{Meaning}
 use Rattle.ft_ends.specs.Both.{ActsOnce, AreDistinct}
 use Rattle.ft_ends.specs.Fine.{AreFaithful, IsFineCall}
 use Rattle.ft_ends.specs.Tellings.{octets_told, told}
-use Rattle.ft_ends.specs.World.{CallNow, Newcomer, Sides, Step, world}
+use Rattle.ft_ends.specs.World.{CallNow, Member, Newcomer, Sides, Step, world}
 
 -- What an event makes a server write are the octets of these messages, one after another.
 abbrev pub TellingsAreWritten : {State : Type 0} → Meaning State → Type 0
@@ -54,6 +54,26 @@ AnswersAreShort {State} meaning = (made : Made State) → IsTrue (meaning.is_sta
 -- Nothing is heard on either direction but what was said.
 abbrev pub DirectionsAreFaithful : Type 0
 DirectionsAreFaithful = (limits : Limits) → AreFaithful limits down
+
+-- the call that a step has client k make, if it has one
+abbrev pub call_in : ℕ → Step → List Call
+call_in k (CallNow j now call) = if j == k then call ∷ [] else []
+call_in k s = []
+
+-- the calls that steps have it make, in order
+abbrev pub calls_in : ℕ → List Step → List Call
+calls_in k [] = []
+calls_in k (s ∷ ss) = call_in k s ++ calls_in k ss
+
+-- the first list is the second but for items that are left out
+pub data IsPartOf {A : Type 0} : List A → List A → Type 0 where
+  none : IsPartOf [] []
+  both : {x : A} {xs ys : List A} → IsPartOf xs ys → IsPartOf (x ∷ xs) (x ∷ ys)
+  left : {y : A} {xs ys : List A} → IsPartOf xs ys → IsPartOf xs (y ∷ ys)
+
+-- What a client called are calls of its steps, in order: all but those that were refused.
+abbrev pub CallsAreOfSteps : Type 0
+CallsAreOfSteps = (sides : Sides) (newcomers : List Newcomer) (steps : List Step) (k : ℕ) (m : Member) → slice_get (world sides newcomers steps).members k ≡ Some m → IsPartOf m.life.calls (calls_in k steps)
 
 -- Over every schedule both ends act as one, where the servant begins in one of its states, the clients' ids differ and have no
 -- NUL, and what is called can be written.

@@ -18,7 +18,7 @@ use Rattle.ft_ends.specs.declared.steps.Call.{Call as CodeCall}
 use Rattle.ft_ends.specs.declared.steps.Step.{Step as CodeStep}
 use Rattle.ft_ends.specs.declared.steps.Step.TheVariants as code
 use Rattle.ft_ends.specs.Both.{AreDistinct}
-use Rattle.ft_ends.specs.World.{CallNow, Cancel, Connect, Cut, Down, Newcomer, Shut, Step, Tick, UpTo}
+use Rattle.ft_ends.specs.World.{CallNow, Cancel, Connect, Cut, Down, Member, Newcomer, Shut, Step, Tick, UpTo}
 
 -- a call of the code
 abbrev pub call_as : CodeCall → Call
@@ -60,6 +60,13 @@ AreNew [] [] = Unit {0}
 AreNew (n ∷ ns) (c ∷ cs) = FtStands c (new_client n.client_id n.version n.limits) × AreNew ns cs
 AreNew [] (c ∷ cs) = ⊥
 AreNew (n ∷ ns) [] = ⊥
+
+-- clients that stand for these of a world, one for each, in order
+abbrev pub AreClientsOf : List Member → List FtClient → Type 0
+AreClientsOf [] [] = Unit {0}
+AreClientsOf (m ∷ ms) (c ∷ cs) = FtStands c m.life.client × AreClientsOf ms cs
+AreClientsOf [] (c ∷ cs) = ⊥
+AreClientsOf (m ∷ ms) [] = ⊥
 
 -- nothing has happened to the server, and the clients are new, with ids that differ
 pub record AreBeginning {State : Type 0} (meaning : Meaning State) (made : Made State) (newcomers : List Newcomer) (server : Server State) (clients : List FtClient) : Type 0 where

@@ -8,6 +8,7 @@ use Rattle.ft_client.specs.declared.error.CallError.{CallError}
 use Rattle.ft_client.specs.declared.error.CallError.TheVariants.{Expired, IdsUsed, Memory, TooLong, TooManyCalls}
 use Rattle.ft_client.specs.Clients.{Ended}
 use Rattle.ft_client.specs.Directions.{stream}
+use Rattle.ft_client.specs.Laws.{CallsCompleteOnce, LivesGoOn, RequestsAreAsLong}
 use Rattle.ft_client.specs.Messages.{octets_said}
 use Rattle.ft_client.specs.Standing.{FtStands, down}
 use Rattle.ft_orb.specs.declared.server.Server.{Server}
@@ -23,6 +24,12 @@ use Rattle.ft_ends.specs.Laws.{sides_of}
 use Rattle.ft_ends.specs.Playing.{given_of, numbered}
 use Rattle.ft_ends.specs.Tellings.{Telling, octets_told, tellings, told}
 use Rattle.ft_ends.specs.World.{Member, Moved, Newcomer, Step, Wire, World, client_of, member_of, moved, step}
+
+-- the laws of clients
+pub record ClientLaws : Type 0 where
+  pub once : CallsCompleteOnce
+  pub goes_on : LivesGoOn
+  pub as_long : RequestsAreAsLong
 
 -- an error that is no failed allocation
 abbrev pub IsRefusal : CallError → Type 0

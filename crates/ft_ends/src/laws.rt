@@ -1,6 +1,7 @@
 //! Laws over the definitions: each is what a function with an empty body ensures. `S.meaning` is what a servant means.
 
-ghost use Rattle.ft_ends.specs.Laws.{AnswersAreShort, BothEndsActOnce, DirectionsAreFaithful, TellingsAreWritten};
+ghost use Rattle.ft_ends.specs.Laws.{AnswersAreShort, BothEndsActOnce, CallsAreOfSteps, DirectionsAreFaithful, TellingsAreWritten};
+ghost use Rattle.ft_ends.specs.Private.{ClientLaws};
 
 use ft_orb::Servant;
 
@@ -14,9 +15,8 @@ pub fn tellings_are_written<S: Servant>()
 pub fn answers_are_short<S: Servant>()
     ensures { AnswersAreShort S.meaning }
 {
-    cdr_core::laws::read_is_spelled();
-    cdr_core::laws::spelled_is_read();
-    cdr_core::laws::read_fits();
+    cdr_core::laws::spelled_fits();
+    ft_orb::laws::calls_are_asked();
 }
 
 /// Nothing is heard on either direction but what was said: of requests and cancels that clients write a server hears a
@@ -30,12 +30,28 @@ pub fn directions_are_faithful()
     giop_link::laws::written_answers_are_heard();
 }
 
+/// The calls that a client made in a schedule are among those that its steps have it make, in order.
+pub fn calls_are_of_steps()
+    ensures { CallsAreOfSteps }
+{}
+
+/// What holds of each client, whatever happens to it.
+pub(crate) fn clients_keep_their_laws()
+    ensures { ClientLaws }
+{
+    ft_client::laws::a_call_completes_once();
+    ft_client::laws::a_life_goes_on();
+    ft_client::laws::requests_are_as_long();
+}
+
 /// Over every schedule both ends act as one: each completion with a reply is the outcome of the one performance of its
 /// call, or a refusal of a transmission of it that was not performed.
 pub fn both_ends_act_once<S: Servant>()
     ensures { BothEndsActOnce S.meaning }
 {
     giop_link::laws::streams_are_heard();
+    clients_keep_their_laws();
+    ft_orb::laws::keys_act_once::<S>();
     answers_are_short::<S>();
     directions_are_faithful();
 }

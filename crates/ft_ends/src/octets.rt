@@ -2,14 +2,14 @@
 
 ghost use Rattle.std.specs.Prelude.{map};
 ghost use Rattle.std.specs.List.{AllByRecursion};
-ghost use Rattle.cdr_core.proofs.WrittenOctets.{HoldAll, HoldsOctets};
+ghost use Rattle.cdr_core.specs.Octets.{HoldAll, HoldsOctets};
 ghost use Rattle.cdr_core.specs.View.{value_of, values_of};
 ghost use Rattle.ft_ends.specs.Laws.{IsFineStep};
 ghost use Rattle.ft_ends.specs.Playing.{IsCallable, step_as};
 
 use crate::steps::Step;
 use cdr_core::Val;
-use cdr_core::laws::are_octets;
+use cdr_core::laws::{are_octets, written_is_octets};
 
 /// The texts and the octets in a value are octets.
 #[cycle(octets)]
@@ -44,6 +44,7 @@ fn is_fine(step: &Step)
     requires { IsCallable step.now }
     ensures { IsFineStep (step_as step.now) }
 {
+    written_is_octets();
     if let Step::Call { call, .. } = step {
         hold_octets(&call.arguments);
     }

@@ -1,6 +1,6 @@
 //! Which outcomes of the two sides' calls end a schedule: failed allocations alone. What is refused does nothing.
 
-ghost use Rattle.std.specs.Prelude.{◌≡◌, IfErr, OnOk, false};
+ghost use Rattle.std.specs.Prelude.{◌≡◌, IfErr, OnErr, OnOk, false, true};
 ghost use Rattle.ft_orb.specs.Laws.{is_memory};
 ghost use Rattle.ft_orb.specs.Standing.{note_of, note_of_opening};
 ghost use Rattle.ft_ends.specs.Private.{IsRefusal};
@@ -11,7 +11,8 @@ use std::alloc::AllocError;
 
 /// A call.
 pub(crate) fn after_call(outcome: Result<i32, CallError>) -> Result<(), AllocError>
-    ensures { OnOk result (IfErr outcome IsRefusal) }
+    ensures ok { OnOk result (IfErr outcome IsRefusal) }
+    ensures err { OnErr result (outcome ≡ Err CallError.Memory) }
 {
     match outcome {
         Err(CallError::Memory) => Err(AllocError),
@@ -21,7 +22,8 @@ pub(crate) fn after_call(outcome: Result<i32, CallError>) -> Result<(), AllocErr
 
 /// The opening of a connection.
 pub(crate) fn after_opening(outcome: Result<(), ConnectError>) -> Result<(), AllocError>
-    ensures { OnOk result (is_memory (note_of_opening outcome) ≡ false) }
+    ensures ok { OnOk result (is_memory (note_of_opening outcome) ≡ false) }
+    ensures err { OnErr result (is_memory (note_of_opening outcome) ≡ true) }
 {
     match outcome {
         Err(ConnectError::Memory) => Err(AllocError),
@@ -31,7 +33,8 @@ pub(crate) fn after_opening(outcome: Result<(), ConnectError>) -> Result<(), All
 
 /// A piece or a close.
 pub(crate) fn after_serving(outcome: Result<(), ServeError>) -> Result<(), AllocError>
-    ensures { OnOk result (is_memory (note_of outcome) ≡ false) }
+    ensures ok { OnOk result (is_memory (note_of outcome) ≡ false) }
+    ensures err { OnErr result (is_memory (note_of outcome) ≡ true) }
 {
     match outcome {
         Err(ServeError::Memory { .. }) => Err(AllocError),

@@ -10,7 +10,7 @@ ghost use Rattle.ft_orb.specs.Outputs.{Made};
 ghost use Rattle.ft_orb.specs.Standing.{Stands, events_played};
 ghost use Rattle.ft_ends.specs.Both.{ActsOnce};
 ghost use Rattle.ft_ends.specs.Laws.{IsFineStep, sides_of};
-ghost use Rattle.ft_ends.specs.Playing.{AreBeginning, IsCallable, given_of, numbered, step_as};
+ghost use Rattle.ft_ends.specs.Playing.{AreBeginning, AreClientsOf, IsCallable, given_of, numbered, step_as};
 ghost use Rattle.ft_ends.specs.Private.{AreSet, AreUnused, Holds, IsReady, IsSettled, Runs};
 ghost use Rattle.ft_ends.specs.World as world;
 ghost use Rattle.ft_ends.specs.World.{Member, Newcomer, World, moved, moved_to, with_client};
@@ -127,9 +127,12 @@ fn run<S: Servant + Drop>(
         → map given_of out.new.items ≡ map given_of out.old.items ++ map numbered (world.world (sides_of S.meaning made down) newcomers (map step_as (take (events_played (length steps.now) result) steps.now))).completions }
     ensures stands { OnOk result ((made : Made S) (newcomers : List Newcomer) → AreSet S.meaning made newcomers server.old clients.old wires.old
         → Stands S.meaning made server.new (world.world (sides_of S.meaning made down) newcomers (map step_as steps.now)).past) }
+    ensures clients { OnOk result ((made : Made S) (newcomers : List Newcomer) → AreSet S.meaning made newcomers server.old clients.old wires.old
+        → AreClientsOf (world.world (sides_of S.meaning made down) newcomers (map step_as steps.now)).members clients.new) }
     ensures err { OnErr result (events_played (length steps.now) result < length steps.now) }
 {
     giop_link::laws::streams_are_heard();
+    crate::laws::clients_keep_their_laws();
     crate::laws::answers_are_short::<S>();
     crate::laws::directions_are_faithful();
     let mut opened = 0;
@@ -158,9 +161,12 @@ pub fn both_ends<S: Servant + Drop>(
     // what completes is what completes in the world of the steps ..
     ensures given { (made : Made S) (newcomers : List Newcomer) → AreBeginning S.meaning made newcomers server.old clients.old.items
         → map given_of out.new.items ≡ map given_of out.old.items ++ map numbered (world.world (sides_of S.meaning made down) newcomers (map step_as (take (events_played (length steps.now) result) steps.now))).completions }
-    // .. and the server stands for its past
+    // .. the server stands for its past ..
     ensures server { OnOk result ((made : Made S) (newcomers : List Newcomer) → AreBeginning S.meaning made newcomers server.old clients.old.items
         → Stands S.meaning made server.new (world.world (sides_of S.meaning made down) newcomers (map step_as steps.now)).past) }
+    // .. and each client for the one at its place
+    ensures clients { OnOk result ((made : Made S) (newcomers : List Newcomer) → AreBeginning S.meaning made newcomers server.old clients.old.items
+        → AreClientsOf (world.world (sides_of S.meaning made down) newcomers (map step_as steps.now)).members clients.new.items) }
     // both ends act as one there
     ensures once { (made : Made S) (newcomers : List Newcomer) → AreBeginning S.meaning made newcomers server.old clients.old.items
         → ActsOnce S.meaning made newcomers (world.world (sides_of S.meaning made down) newcomers (map step_as (take (events_played (length steps.now) result) steps.now))) }

@@ -1,9 +1,11 @@
 //! What is between a client and the server, and the steps that touch it.
 
-ghost use Rattle.std.specs.Prelude.{◌≡◌, ◌+◌, ◌<◌, ◌≤◌, ℕ, ℤ, List, [], ◌∷◌, Option, Some, None, OnOk, false, is_some, length, suc, take, true};
+ghost use Rattle.std.specs.Prelude.{◌≡◌, ◌+◌, ◌<◌, ◌≤◌, ℕ, ℤ, List, [], ◌∷◌, Option, Some, None, OnErr, OnOk, false, is_some, length, suc, take, true};
 ghost use Rattle.cdr_core.specs.Spelling.{IsClean};
 ghost use Rattle.cdr_core.specs.View.{values_of};
 ghost use Rattle.cdr_core.specs.Writing.{AreWritable};
+ghost use Rattle.ft_client.specs.declared.error.CallError.TheVariants.{Memory};
+ghost use Rattle.ft_client.specs.Calling.{IsCallError};
 ghost use Rattle.ft_client.specs.Clients.{Called, Client, Joined, Parted, Recalled, Ticked, after, says};
 ghost use Rattle.ft_client.specs.Standing.{FtStands, down};
 ghost use Rattle.ft_orb.specs.ExactlyOnce.{OneExpiration};
@@ -55,7 +57,7 @@ impl Wire {
     }
 }
 
-/// A client calls. A call that is refused does nothing.
+/// A client calls. A call that is refused does nothing, and is no error.
 pub(crate) fn called(
     client: &mut FtClient,
     wire: &mut Wire,
@@ -64,8 +66,9 @@ pub(crate) fn called(
 ) -> Result<(), AllocError>
     requires clean { IsClean call.now.operation.items }
     requires writable { AreWritable (values_of call.now.arguments.items) }
-    ensures { OnOk result ((tells : ℕ → List Telling) (c : Client) (o : Option world.Wire) → FtStands client.old c → is_some c.link ≡ is_some o → IsWireFor tells wire.old o
+    ensures ok { OnOk result ((tells : ℕ → List Telling) (c : Client) (o : Option world.Wire) → FtStands client.old c → is_some c.link ≡ is_some o → IsWireFor tells wire.old o
         → FtStands client.new (after (down c.limits) (Called now (call_as call.now)) c) × IsWireFor tells wire.new (extended (says (Called now (call_as call.now)) c) o)) }
+    ensures err { OnErr result ((c : Client) → FtStands client.old c → IsCallError now (call_as call.now) c Memory) }
 {
     after_call(client.call(
         now,

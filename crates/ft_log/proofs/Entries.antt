@@ -1,11 +1,13 @@
 -- Entries of the code: what is found in them, and what is left without one of them.
-use Rattle.std.proofs.Common.{◌≡◌, ℕ, ◌+◌, ◌<◌, ◌≤◌, Bool, true, false, not, ◌&&◌, ◌==◌, cond, nat_lt, nat_le, min, List, [], ◌∷◌, ◌++◌, length, bytes_eq, Option, Some, None, option_map, IfSome, refl, sym, ap, ◌∙◌, subst, true≢false, arith, length-append}
+use Rattle.std.proofs.Common.{◌≡◌, ℕ, ◌+◌, ◌<◌, ◌≤◌, Bool, true, false, not, ◌&&◌, ◌==◌, cond, nat_lt, nat_le, min, List, [], ◌∷◌, ◌++◌, length, bytes_eq, Option, Some, None, option_map, IfSome, is_some, refl, sym, ap, ◌∙◌, subst, true≢false, arith, append-nil, length-append}
 use Rattle.std.specs.Borrow.{Bor}
 use Rattle.std.specs.List.{list_any, sum_by}
 use Rattle.std.specs.Option.{option_copied, option_map_or}
 use Rattle.std.proofs.lemmas.Bool.{and_parts, and_from, or_parts, or_from, not_from_false, ltb-false, leb-true, le-leb, eqb-true, eq-eqb}
+use Rattle.std.proofs.lemmas.Bool.Decides.{Decides-like, nat_tests, same_from_decides}
 use Rattle.std.proofs.lemmas.List.Sums.{sum_by-cons, sum_by-append}
-use Rattle.ft_log.specs.Keys.{RequestKey, are_distinct, held_of, same_key}
+use Rattle.std.proofs.lemmas.Slice.Eq.{bytes_eq-Decides}
+use Rattle.ft_log.specs.Keys.{RequestKey, are_distinct, clients_in, held_of, same_key}
 use Rattle.ft_log.specs.Kept.{keys_of, kept_for, least_expiration, unexpired}
 use Rattle.ft_log.specs.Tied.{due_of, outcome_for}
 use Rattle.ft_log.specs.View.{entries_at, entry_in, key_of, performed_in}
@@ -240,6 +242,54 @@ least_is t (e ∷ es) h there = by (e.expiration == t) refl (least_is t es parts
         let le = ltb-false e.expiration t parts.0 in
         ap Some (ap (λ o. option_map_or (min e.expiration) o e.expiration) later ∙ omega (arith, le))
 
+-- an entry is found under its key
+outcome_for-split : (key : RequestKey) (front : List Entry) (e : Entry) (rest : List Entry) → same_key key (key_of e.key) ≡ true → is_some (outcome_for key (front ++ e ∷ rest)) ≡ true
+outcome_for-split key [] e rest h = λ i. is_some (cond (h i) (Some e.outcome) (outcome_for key rest))
+outcome_for-split key (f ∷ front) e rest h =
+    elim (same_key key (key_of f.key)) as (λ b. is_some (cond b (Some f.outcome) (outcome_for key (front ++ e ∷ rest))) ≡ true)
+    [ true ↦ refl | false ↦ outcome_for-split key front e rest h ]
+
+-- one entry more, at any place: of a client, and of how many clients
+pub held-split : (client : List ℕ) (front : List Entry) (e : Entry) (rest : List Entry)
+    → held_of client (keys_at (front ++ e ∷ rest)) ≡ held_of client (keys_at (front ++ rest)) + cond (bytes_eq (key_of e.key).client_id client) 1 0
+held-split client front e rest =
+    let all = sum-split (λ (x : Entry). cond (bytes_eq (key_of x.key).client_id client) 1 0) front e rest in
+    omega (arith, all, held_sum client (front ++ rest), held_sum client (front ++ e ∷ rest))
+
+bytes_eq_comm : (a b : List ℕ) → bytes_eq a b ≡ bytes_eq b a
+bytes_eq_comm a b = same_from_decides (bytes_eq a b) (bytes_eq b a) (bytes_eq-Decides a b) (Decides-like (bytes_eq b a) sym sym (bytes_eq-Decides b a))
+
+-- one key more, after the last of its client or before: x is how many the other client has, y how many its own
+last_moves : (b : Bool) (x y m n : ℕ) → (b ≡ true → x ≡ y) → n ≡ m + cond (y == 0) 1 0
+    → cond (x + cond b 1 0 == 0) 1 0 + n ≡ (cond (x == 0) 1 0 + m) + cond (cond b 1 0 + y == 0) 1 0
+last_moves true x y m n same is = let e = same refl in grind (arith, nat_tests)
+last_moves false x y m n same is = grind (arith, nat_tests)
+
+-- no more clients than keys
+pub clients_few : (ks : List RequestKey) → clients_in ks ≤ length ks
+clients_few [] = omega arith
+clients_few (k ∷ ks) = let later = clients_few ks in grind (arith, nat_tests)
+
+pub clients-split : (front : List Entry) (e : Entry) (rest : List Entry)
+    → clients_in (keys_at (front ++ e ∷ rest)) ≡ clients_in (keys_at (front ++ rest)) + cond (held_of (key_of e.key).client_id (keys_at (front ++ rest)) == 0) 1 0
+clients-split [] e rest = omega arith
+clients-split (f ∷ front) e rest =
+    let here : List ℕ = (key_of e.key).client_id in
+    let theirs : List ℕ = (key_of f.key).client_id in
+    let old : List RequestKey = keys_at (front ++ rest) in
+    let new : List RequestKey = keys_at (front ++ e ∷ rest) in
+    let same : bytes_eq here theirs ≡ true → held_of theirs old ≡ held_of here old = λ t. ap (λ c. held_of c old) (sym ((bytes_eq-Decides here theirs).0 t)) in
+    let more : held_of theirs new ≡ held_of theirs old + cond (bytes_eq here theirs) 1 0 = held-split theirs front e rest in
+    let own : held_of here (key_of f.key ∷ old) ≡ cond (bytes_eq here theirs) 1 0 + held_of here old =
+    sum_by-cons (λ (k : RequestKey). cond (bytes_eq k.client_id here) 1 0) (key_of f.key) old ∙ ap (λ b. cond b 1 0 + held_of here old) (bytes_eq_comm theirs here) in
+    ap (λ n. cond (n == 0) 1 0 + clients_in new) more
+    ∙ last_moves (bytes_eq here theirs) (held_of theirs old) (held_of here old) (clients_in old) (clients_in new) same (clients-split front e rest)
+    ∙ ap (λ n. clients_in (key_of f.key ∷ old) + cond (n == 0) 1 0) (sym own)
+
+-- the same of the last
+pub clients-push : (es : List Entry) (e : Entry) → clients_in (keys_at (es ++ e ∷ [])) ≡ clients_in (keys_at es) + cond (held_of (key_of e.key).client_id (keys_at es) == 0) 1 0
+clients-push es e = clients-split es e [] ∙ ap (λ l. clients_in (keys_at l) + cond (held_of (key_of e.key).client_id (keys_at l) == 0) 1 0) (append-nil es)
+
 -- what is left without one entry
 pub record IsLeft (x : ℕ) (key : RequestKey) (es : List Entry) : Type 0 where
   pub entry : Entry
@@ -247,17 +297,23 @@ pub record IsLeft (x : ℕ) (key : RequestKey) (es : List Entry) : Type 0 where
   pub of_key : key_of entry.key ≡ key
   pub sums : (g : Entry → ℕ) → sum_by g (without key es) + g entry ≡ sum_by g es
   pub same : (now : ℕ) → x < now → unexpired now (entries_at (without key es)) ≡ unexpired now (entries_at es)
+  pub found : is_some (outcome_for key es) ≡ true
+  pub clients : clients_in (keys_at es) ≡ clients_in (keys_at (without key es)) + cond (held_of key.client_id (keys_at (without key es)) == 0) 1 0
 
 pub left_from : (x : ℕ) (key : RequestKey) (es : List Entry) → IsSplit x key es → are_distinct (keys_at es) ≡ true → IsLeft x key es
 left_from x key es s distinct =
     let there = subst (λ (l : List Entry). are_distinct (keys_at l) ≡ true) s.is distinct in
     let left : without key es ≡ s.front ++ s.rest = (λ i. without (sym s.of_key i) (s.is i)) ∙ without-split s.front s.entry s.rest there in
+    let back = sym left in
     record {
       entry = s.entry;
       until = s.until;
       of_key = s.of_key;
       sums = λ g. ap (λ l. sum_by g l + g s.entry) left ∙ sum-split g s.front s.entry s.rest ∙ ap (sum_by g) (sym s.is);
       same = λ now lt. ap (λ l. unexpired now (entries_at l)) left ∙ unexpired-split now s.front s.entry s.rest (omega (arith, lt, s.until)) ∙ ap (λ l. unexpired now (entries_at l)) (sym s.is);
+      found = ap (λ l. is_some (outcome_for key l)) s.is ∙ outcome_for-split key s.front s.entry s.rest (ap (same_key key) s.of_key ∙ itself key);
+      clients = ap (λ l. clients_in (keys_at l)) s.is ∙ clients-split s.front s.entry s.rest
+          ∙ (λ i. clients_in (keys_at (back i)) + cond (held_of (s.of_key i).client_id (keys_at (back i)) == 0) 1 0);
     }
 
 pub length_left : (x : ℕ) (key : RequestKey) (es : List Entry) → IsLeft x key es → length (without key es) + 1 ≡ length es

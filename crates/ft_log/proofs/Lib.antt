@@ -1,5 +1,6 @@
 pub mod Listed
 pub mod Named
+pub mod Slots
 pub mod Heaped
 pub mod Entries
 pub mod Dated

@@ -2,10 +2,10 @@
 --
 --   Exceptions  the names of system exceptions, their repository ids, and the numbers of completion
 --   Performed   what performing a request gave
---   Keys        keys of requests, when two are one, and how many a client has
+--   Keys        keys of requests, when two are one, how many a client has, and how many clients
 --   Kept        kept outcomes: which is found for a key, and which are forgotten
 --   View        what a `Key`, an `Outcome` and an entry of the code stand for
---   Logged      what a `Log` stands for
+--   Logged      what a `Log` stands for, and how many slots it has
 -- Laws          what the tests of keys say, and of repository ids
 -- Names, Shelf, Dues, Without, Tied      words for the fields of a `Log`; no public contract, definition or law uses them
 pub mod Exceptions

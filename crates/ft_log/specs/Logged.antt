@@ -1,5 +1,6 @@
 -- What a `Log` stands for.
 use Rattle.std.specs.Prelude.{ℕ, List, Option, option_map}
+use Rattle.indexmap.specs.IndexMap.{index_map_len}
 use Rattle.ft_log.specs.Keys.{RequestKey}
 use Rattle.ft_log.specs.Kept.{KeptOutcome}
 use Rattle.ft_log.specs.Performed.{Performed}
@@ -22,3 +23,7 @@ logged l = record {
   entries = entries_at l.story.entries;
   room = option_map (λ r. key_of r.key) l.room;
 }
+
+-- how many slots its map has: what it keeps in memory for outcomes and for clients
+unfoldable pub slots_of : Log → ℕ
+slots_of l = index_map_len l.kept

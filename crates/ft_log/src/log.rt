@@ -1,9 +1,9 @@
 //! The log: outcomes by their keys.
 
-ghost use Rattle.std.specs.Prelude.{◌≡◌, ◌≤◌, IsTrue, List, ℕ, length, option_map};
-ghost use Rattle.indexmap.specs.IndexMap.{spare};
+ghost use Rattle.std.specs.Prelude.{◌≡◌, ◌≤◌, ◌+◌, IsTrue, List, ℕ, length, option_map};
+ghost use Rattle.indexmap.specs.IndexMap.{index_map_len, spare};
 ghost use Rattle.ft_log.specs.Dues.{places};
-ghost use Rattle.ft_log.specs.Keys.{are_distinct, held_of};
+ghost use Rattle.ft_log.specs.Keys.{are_distinct, clients_in, held_of};
 ghost use Rattle.ft_log.specs.Kept.{keys_of};
 ghost use Rattle.ft_log.specs.Shelf.{held_at};
 ghost use Rattle.ft_log.specs.Tied.{AreDues, AreOutcomes, AreOutcomes-prop, is_ready};
@@ -29,8 +29,9 @@ use std::hash::RandomState;
 /// entries, and the key that room is made for, if there is one. `find`, `forget`, `keep`, `len`,
 /// `held_by` and `next_expiry` allocate nothing.
 ///
-/// `kept` has each outcome by its key, and how many each client has; `order` has the keys by their
-/// expirations. Only these two grow. `story` takes no memory.
+/// `kept` has a slot for each entry, with its outcome, one for each client of an entry, with how many it has,
+/// and no other; `order` has the key of each entry by its expiration. `room` holds two copies of one client
+/// id, so that keeping takes no memory. `story` takes none.
 #[derive(Drop)]
 pub struct Log {
     capacity: u32,
@@ -45,14 +46,15 @@ pub struct Log {
     ghost shared: { (client : List ℕ) → held_of client (keys_of (entries_at story.entries)) ≤ share },
     ghost found: { AreOutcomes kept story.entries } by { AreOutcomes-prop kept story.entries },
     ghost counted: { (client : List ℕ) → held_at kept client ≡ held_of client (keys_of (entries_at story.entries)) },
+    ghost slim: { index_map_len kept ≤ length story.entries + clients_in (keys_of (entries_at story.entries)) },
     ghost dated: { AreDues order story.entries },
     ghost ready: { IsTrue (is_ready (option_map (λ r. key_of r.key) room) (keys_of (entries_at story.entries)) capacity share (places order) (spare kept)) },
 }
 
 impl Log {
-    ghost use Rattle.std.specs.Prelude.{◌≡◌, ◌↔◌, ◌<◌, ◌++◌, [], ◌∷◌, None, Some, Err, OnOk, OnErr, MatchOption, false, length};
+    ghost use Rattle.std.specs.Prelude.{◌≡◌, ◌↔◌, ◌<◌, ◌*◌, ◌++◌, [], ◌∷◌, None, Some, Err, OnOk, OnErr, MatchOption, false, length};
     ghost use Rattle.ft_log.specs.Kept.{kept_for, least_expiration, unexpired};
-    ghost use Rattle.ft_log.specs.Logged.{logged};
+    ghost use Rattle.ft_log.specs.Logged.{logged, slots_of};
     ghost use Rattle.ft_log.specs.View.{performed_in};
     ghost use Rattle.ft_log.specs.declared.error.LogError.TheVariants.{Full, ShareFull};
 
@@ -194,6 +196,15 @@ impl Log {
     #[tactic(auto, unfolding(crate::specs::Logged::logged))]
     pub fn keys_are_distinct(&self)
         ensures { IsTrue (are_distinct (keys_of (logged self.now).entries)) }
+    {}
+
+    /// The map has at most one slot for each entry and one for each client of an entry, however many clients
+    /// have asked.
+    #[tactic(auto, unfolding(crate::specs::Logged::logged, crate::specs::Logged::slots_of))]
+    pub fn slots_are_few(&self)
+        ensures each { slots_of self.now ≤ length (logged self.now).entries + clients_in (keys_of (logged self.now).entries) }
+        ensures twice { slots_of self.now ≤ 2 * length (logged self.now).entries }
+        ensures bound { slots_of self.now ≤ 2 * (logged self.now).capacity }
     {}
 }
 

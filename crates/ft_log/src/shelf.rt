@@ -1,8 +1,8 @@
 //! The map of a log: under each key its outcome, and under each client how many of them it has.
 
-ghost use Rattle.std.specs.Prelude.{◌≡◌, ◌+◌, ◌^◌, ◌<◌, ◌≤◌, if◌then◌else◌, List, ℕ, Some, None, bytes_eq};
+ghost use Rattle.std.specs.Prelude.{◌≡◌, ◌+◌, ◌^◌, ◌<◌, ◌≤◌, ◌==◌, if◌then◌else◌, List, ℕ, Some, None, bytes_eq, is_some};
 ghost use Rattle.std.specs.Option.{option_copied};
-ghost use Rattle.indexmap.specs.IndexMap.{spare};
+ghost use Rattle.indexmap.specs.IndexMap.{index_map_len, spare};
 ghost use Rattle.ft_log.specs.Keys.{RequestKey, same_key};
 ghost use Rattle.ft_log.specs.Shelf.{held_at, kept_at};
 ghost use Rattle.ft_log.specs.View.{key_of};
@@ -50,6 +50,7 @@ pub(crate) fn put(shelf: &mut Shelf, key: Key, outcome: Outcome)
     requires { 0 < spare shelf.old }
     ensures kept { (other : RequestKey) → kept_at shelf.new other ≡ (if same_key other (key_of key) then Some outcome else kept_at shelf.old other) }
     ensures held { (client : List ℕ) → held_at shelf.new client ≡ held_at shelf.old client }
+    ensures slots { index_map_len shelf.new ≤ index_map_len shelf.old + 1 }
 {
     let Key {
         client_id,
@@ -66,6 +67,7 @@ pub(crate) fn put(shelf: &mut Shelf, key: Key, outcome: Outcome)
 pub(crate) fn take(shelf: &mut Shelf, key: &Key)
     ensures kept { (other : RequestKey) → kept_at shelf.new other ≡ (if same_key other (key_of key.now) then None else kept_at shelf.old other) }
     ensures held { (client : List ℕ) → held_at shelf.new client ≡ held_at shelf.old client }
+    ensures slots { index_map_len shelf.new + (if is_some (kept_at shelf.old (key_of key.now)) then 1 else 0) ≤ index_map_len shelf.old }
     ensures room { spare shelf.old ≤ spare shelf.new }
 {
     let name = Lent {
@@ -81,6 +83,7 @@ pub(crate) fn count_up(shelf: &mut Shelf, client_id: Vec<u8>)
     requires fits { held_at shelf.old client_id.items + 1 < 2 ^ 32 }
     ensures kept { (key : RequestKey) → kept_at shelf.new key ≡ kept_at shelf.old key }
     ensures held { (client : List ℕ) → held_at shelf.new client ≡ held_at shelf.old client + (if bytes_eq client_id.items client then 1 else 0) }
+    ensures slots { index_map_len shelf.new ≤ index_map_len shelf.old + (if held_at shelf.old client_id.items == 0 then 1 else 0) }
     ensures room { spare shelf.old ≤ spare shelf.new + 1 }
 {
     let count = count_of(shelf, client_id.as_slice());
@@ -96,6 +99,7 @@ pub(crate) fn count_down(shelf: &mut Shelf, client_id: &[u8])
     requires { 0 < held_at shelf.old client_id.now }
     ensures kept { (key : RequestKey) → kept_at shelf.new key ≡ kept_at shelf.old key }
     ensures held { (client : List ℕ) → held_at shelf.new client + (if bytes_eq client_id.now client then 1 else 0) ≡ held_at shelf.old client }
+    ensures slots { index_map_len shelf.new + (if held_at shelf.old client_id.now == 1 then 1 else 0) ≤ index_map_len shelf.old }
     ensures room { spare shelf.old ≤ spare shelf.new }
 {
     let count = count_of(shelf, client_id);

@@ -1,8 +1,10 @@
 //! What a server does with one piece of a connection.
 
-ghost use Rattle.std.specs.Prelude.{◌≡◌, ◌<◌, ◌+◌, ◌^◌, ◌++◌, ℕ, List, IfErr, IsFalse, OnErr, OnOk, length};
+ghost use Rattle.std.specs.Prelude.{◌≡◌, ◌↔◌, ◌<◌, ◌+◌, ◌^◌, ◌++◌, ℕ, true, List, IfErr, IsFalse, OnErr, OnOk, length};
+ghost use Rattle.giop_frames.specs.declared.fault.StreamFault.TheVariants.{Memory};
 ghost use Rattle.giop_frames.specs.declared.limits.Limits.{Limits};
 ghost use Rattle.giop_link.specs.Linking.{IsFaultOf, LinkStands};
+ghost use Rattle.giop_link.specs.declared.fault.LinkFault.TheVariants.{Stream};
 ghost use Rattle.ft_log.specs.Performed.{Performed};
 ghost use Rattle.ft_orb.specs.Private.{IsCut, IsEnd, Served, all_answered, counted_by};
 ghost use Rattle.ft_orb.specs.Replies.{message_error};
@@ -25,7 +27,8 @@ pub(crate) struct Cut {
 
 /// Whether a link was closed because an allocation failed. Else the stream has ended, and a MessageError is due.
 fn is_memory(fault: LinkFault) -> bool
-    ensures { (limits : Limits) (s piece : List ℕ) → IsFaultOf limits s piece fault → IsFalse result → IsEnd limits s piece }
+    ensures memory { (result ≡ true) ↔ (fault ≡ Stream Memory) }
+    ensures end { (limits : Limits) (s piece : List ℕ) → IsFaultOf limits s piece fault → IsFalse result → IsEnd limits s piece }
 {
     fault.is_memory()
 }

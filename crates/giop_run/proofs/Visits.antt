@@ -1,6 +1,8 @@
 -- Visits one after another, and how a connection begins.
-use Rattle.std.proofs.Common.{◌≡◌, ◌≢◌, ℕ, suc, ◌+◌, Bool, true, false, not, if◌then◌else◌, List, [], ◌∷◌, ◌++◌, length, Result, Ok, Err, None, is_none, is_ok, refl, ap, subst, ◌∙◌, arith}
+use Rattle.std.proofs.Common.{◌≡◌, ◌≢◌, ℕ, suc, ◌+◌, Bool, true, false, not, if◌then◌else◌, List, [], ◌∷◌, ◌++◌, length, Option, Result, Ok, Err, None, is_none, is_ok, refl, sym, ap, subst, ◌∙◌, arith}
 use Rattle.std.proofs.lemmas.Bool.{eq-eqb}
+use Rattle.std.proofs.lemmas.Grind.{flat_map-append}
+use Rattle.std.proofs.lemmas.List.{append-nil}
 use Rattle.giop_frames.specs.declared.limits.Limits.{Limits}
 use Rattle.giop_link.specs.Hearing.{ending}
 use Rattle.ft_orb.specs.declared.error.ConnectError.{ConnectError}
@@ -10,7 +12,9 @@ use Rattle.ft_orb.specs.History.{Event, Opened, Up, does_count, line}
 use Rattle.ft_orb.specs.Outputs.{Made, is_going, note_in, table_says}
 use Rattle.ft_orb.specs.Servants.{Meaning}
 use Rattle.ft_orb.specs.Standing.{note_of_opening}
-use Rattle.giop_run.specs.Visits.{AreVisits, IsVisit, Visit, past_with_visit, past_with_visits}
+use Rattle.ft_orb.specs.Wires.{Follows}
+use Rattle.ft_orb.proofs.Streams.{grows-then}
+use Rattle.giop_run.specs.Visits.{AreVisits, IsVisit, Visit, moments_in, moments_of, past_with_visit, past_with_visits}
 
 pub note-done : {A : Type 0} (r : Result A ConnectError) → is_ok r ≡ true → note_of_opening r ≡ Done
 note-done (Ok x) is = refl
@@ -30,6 +34,13 @@ pub opened-going : (limits : Limits) (past : List Event) (c : ℕ) → ending li
 opened-going limits past c quiet is =
     ap (λ (b : Bool). is_going limits (if b then (if does_count past c then Up [] else line past c) else line past c)) (eq-eqb c c refl)
     ∙ ap (λ (b : Bool). is_going limits (if b then Up [] else line past c)) (counts-by (does_count past c) is) ∙ ap (λ o. is_none o) quiet
+
+-- what is known of a clock after one visit more
+pub moments-more : (vs : List Visit) (v : Visit) (old mid new : Option (List ℕ)) → Follows (λ (t u : List ℕ). u ≡ t ++ moments_in vs) old mid → Follows (λ (t u : List ℕ). u ≡ t ++ moments_of v) mid new
+    → Follows (λ (t u : List ℕ). u ≡ t ++ moments_in (vs ++ v ∷ [])) old new
+moments-more vs v old mid new p q =
+    grows-then (moments_in vs) (moments_of v) (moments_in (vs ++ v ∷ [])) old mid new p q
+    (ap (λ (ms : List ℕ). moments_in vs ++ ms) (sym (append-nil (moments_of v))) ∙ sym (flat_map-append moments_of vs (v ∷ [])))
 
 module _ {State : Type 0} (meaning : Meaning State) (made : Made State) where
   abbrev Are : List Event → ℕ → List Visit → Type 0

@@ -9,7 +9,8 @@ use Rattle.cdr_core.specs.Numbers.{AreOctets}
 use Rattle.cdr_core.specs.Parts.{raw, text}
 use Rattle.cdr_core.specs.Value as value
 use Rattle.cdr_core.specs.Writing.{octets_of, AreWritable, IsWritable}
-use Rattle.cdr_core.proofs.WrittenOctets.{written_octets, HoldAll}
+use Rattle.cdr_core.proofs.WrittenOctets.{written_octets}
+use Rattle.cdr_core.specs.Octets.{HoldAll}
 use Rattle.ior_core.specs.declared.profile.IiopProfile.{IiopProfile}
 use Rattle.ior_core.specs.declared.reference.Ior.{Ior}
 use Rattle.ior_core.specs.declared.tagged.Tagged.{Tagged}

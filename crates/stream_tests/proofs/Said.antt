@@ -1,33 +1,34 @@
--- What is said afterwards follows from what was said before, and where nothing is said nothing has to follow.
-use Rattle.std.proofs.Common.{◌≡◌, ◌≢◌, ℕ, zero, suc, List, [], ◌∷◌, ◌++◌, take, Option, Some, Ok, refl, sym, ap, subst, ◌∙◌}
-use Rattle.ft_orb.specs.Wires.{Follows, Traffic, after_read, after_write}
-use Rattle.stream_tests.specs.Tapes.{said_by, traffic_of}
-use Rattle.stream_tests.specs.declared.tape.Tape.{Tape}
+-- What is said afterwards is what was said before and one act more, and where nothing is said nothing has to follow.
+use Rattle.std.proofs.Common.{◌≡◌, ◌≢◌, ℕ, zero, suc, List, [], ◌∷◌, ◌++◌, map, take, Option, Some, Ok, Vec, Global, refl, sym, ap, subst, ◌∙◌}
+use Rattle.std.proofs.lemmas.List.{map-append}
+use Rattle.ft_orb.specs.Wires.{Act, Follows, Gave, GaveNone, Took, TookNone, act_of_read, act_of_write}
+use Rattle.stream_tests.specs.Tapes.{act_of, said_by}
+use Rattle.stream_tests.specs.declared.tape.Act.{Act as CodeAct}
 
 follows-some : {A : Type 0} (step : A → A → Type 0) (old new : A) → step old new → Follows step (Some old) (Some new)
 follows-some step old new h now is = let e : new ≡ now = cc in (old, refl, subst (λ u. step old u) e h)
 
-pub said : (step : Traffic → Traffic → Type 0) (old : Option Tape) (t : Tape) (new : Traffic) → old ≡ Some t → step (traffic_of t) new → Follows step (said_by old) (Some new)
-said step old t new is h = subst (λ (o : Option Tape). Follows step (said_by o) (Some new)) (sym is) (follows-some step (traffic_of t) new h)
+-- an act more
+pub said : (tape : Option (Vec CodeAct Global)) (old new : Vec CodeAct Global) (act : CodeAct) → tape ≡ Some old → new.items ≡ old.items ++ act ∷ [] → Follows (λ t u. u ≡ t ++ act_of act ∷ []) (said_by tape) (said_by (Some new))
+said tape old new act is more =
+    subst (λ (o : Option (Vec CodeAct Global)). Follows (λ (t u : List Act). u ≡ t ++ act_of act ∷ []) (said_by o) (said_by (Some new))) (sym is)
+    (follows-some (λ (t u : List Act). u ≡ t ++ act_of act ∷ []) (map act_of old.items) (map act_of new.items) (ap (λ (acts : List CodeAct). map act_of acts) more ∙ map-append act_of old.items (act ∷ [])))
 
-after_read-some : (t : Traffic) (buffer : List ℕ) (n : ℕ) → n ≢ 0 → record t { pieces = t.pieces ++ take n buffer ∷ [] } ≡ after_read t buffer (Ok n)
-after_read-some t buffer zero h = absurd (h refl)
-after_read-some t buffer (suc n) h = refl
+pub said-as : (old new : Option (List Act)) (act other : Act) → act ≡ other → Follows (λ t u. u ≡ t ++ act ∷ []) old new → Follows (λ t u. u ≡ t ++ other ∷ []) old new
+said-as old new act other is h = subst (λ (a : Act). Follows (λ (t u : List Act). u ≡ t ++ a ∷ []) old new) is h
 
-after_write-some : (t : Traffic) (octets : List ℕ) (n : ℕ) → n ≢ 0 → record t { written = t.written ++ take n octets } ≡ after_write t octets (Ok n)
-after_write-some t octets zero h = absurd (h refl)
-after_write-some t octets (suc n) h = refl
+pub read-none : (buffer : List ℕ) (n : ℕ) → n ≡ 0 → GaveNone ≡ act_of_read buffer (Ok n)
+read-none buffer zero h = refl
+read-none buffer (suc n) h = absurd cc
 
-pub read-none : (t : Tape) (buffer : List ℕ) (n : ℕ) (u : Traffic) → n ≡ 0 → u ≡ after_read (traffic_of t) buffer (Ok 0) → u ≡ after_read (traffic_of t) buffer (Ok n)
-read-none t buffer n u none is = is ∙ ap (λ (k : ℕ). after_read (traffic_of t) buffer (Ok k)) (sym none)
+pub write-none : (octets : List ℕ) (n : ℕ) → n ≡ 0 → TookNone ≡ act_of_write octets (Ok n)
+write-none octets zero h = refl
+write-none octets (suc n) h = absurd cc
 
-pub write-none : (t : Tape) (octets : List ℕ) (n : ℕ) (u : Traffic) → n ≡ 0 → u ≡ after_write (traffic_of t) octets (Ok 0) → u ≡ after_write (traffic_of t) octets (Ok n)
-write-none t octets n u none is = is ∙ ap (λ (k : ℕ). after_write (traffic_of t) octets (Ok k)) (sym none)
+pub read-some : (buffer piece : List ℕ) (n : ℕ) → n ≢ 0 → piece ≡ take n buffer → Gave piece ≡ act_of_read buffer (Ok n)
+read-some buffer piece zero h is = absurd (h refl)
+read-some buffer piece (suc n) h is = ap (λ (xs : List ℕ). Gave xs) is
 
-pub read-some : (t : Tape) (buffer : List ℕ) (n : ℕ) (pieces : List (List ℕ)) → n ≢ 0 → pieces ≡ (traffic_of t).pieces ++ take n buffer ∷ []
-    → record (traffic_of t) { pieces = pieces } ≡ after_read (traffic_of t) buffer (Ok n)
-read-some t buffer n pieces some is = ap (λ (ps : List (List ℕ)). record (traffic_of t) { pieces = ps }) is ∙ after_read-some (traffic_of t) buffer n some
-
-pub write-some : (t : Tape) (octets : List ℕ) (n : ℕ) (written : List ℕ) → n ≢ 0 → written ≡ t.written.items ++ take n octets
-    → record (traffic_of t) { written = written } ≡ after_write (traffic_of t) octets (Ok n)
-write-some t octets n written some is = ap (λ (xs : List ℕ). record (traffic_of t) { written = xs }) is ∙ after_write-some (traffic_of t) octets n some
+pub write-some : (octets taken : List ℕ) (n : ℕ) → n ≢ 0 → taken ≡ take n octets → Took taken ≡ act_of_write octets (Ok n)
+write-some octets taken zero h is = absurd (h refl)
+write-some octets taken (suc n) h is = ap (λ (xs : List ℕ). Took xs) is

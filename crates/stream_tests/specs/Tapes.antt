@@ -1,23 +1,20 @@
 -- What a tape says of a wire.
-use Rattle.std.specs.Prelude.{[], map, Option}
+use Rattle.std.specs.Prelude.{List, map, Option}
 use Rattle.std.specs.Option.{option_map}
-use Rattle.ft_orb.specs.Wires.{Traffic}
-use Rattle.stream_tests.specs.declared.tape.Tape.{Tape}
+use Rattle.std.proofs.Common.{Vec, Global}
+use Rattle.ft_orb.specs.Wires.{Act, Gave, GaveNone, ReadFailed, Took, TookNone, WriteFailed}
+use Rattle.stream_tests.specs.declared.tape.Act.{Act as CodeAct}
+use Rattle.stream_tests.specs.declared.tape.Act.TheVariants as code
 
-abbrev pub traffic_of : Tape → Traffic
-traffic_of t = record {
-  pieces = map (λ p. p.items) t.pieces.items;
-  empty_reads = t.empty_reads;
-  failed_reads = t.failed_reads;
-  written = t.written.items;
-  empty_writes = t.empty_writes;
-  failed_writes = t.failed_writes;
-}
+-- an act of the code, without where its octets lie in memory
+abbrev pub act_of : CodeAct → Act
+act_of (code.Gave octets) = Gave octets.items
+act_of code.GaveNone = GaveNone
+act_of code.ReadFailed = ReadFailed
+act_of (code.Took octets) = Took octets.items
+act_of code.TookNone = TookNone
+act_of code.WriteFailed = WriteFailed
 
--- nothing is said where there is no tape
-abbrev pub said_by : Option Tape → Option Traffic
-said_by tape = option_map traffic_of tape
-
--- what a wire has done at first
-abbrev pub nothing_done : Traffic
-nothing_done = record { pieces = []; empty_reads = 0; failed_reads = 0; written = []; empty_writes = 0; failed_writes = 0 }
+-- the acts of a tape; nothing is said where there is none
+abbrev pub said_by : Option (Vec CodeAct Global) → Option (List Act)
+said_by tape = option_map (λ acts. map act_of acts.items) tape

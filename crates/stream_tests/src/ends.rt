@@ -14,6 +14,9 @@ struct Row {
     terms: Terms<'static>,
     max_reads: u32,
     end: StreamEnd,
+    /// What the wire's calls do: a read gives octets (G), gives none (g) or fails (r); a write takes octets (T), takes
+    /// none (t) or fails (w).
+    acts: &'static [u8],
     /// The parts of what the wire takes.
     taken: &'static [&'static [u8]],
     /// The counter's total afterwards.
@@ -33,6 +36,7 @@ static ROWS: [Row; 12] = [
         },
         max_reads: 9,
         end: StreamEnd::PeerEnded,
+        acts: b"GTTTTTTTTTTTTTTTTTTTTTTTTTTTTTTTTg",
         taken: &[SEVEN],
         total: 7,
     },
@@ -45,6 +49,7 @@ static ROWS: [Row; 12] = [
         },
         max_reads: 9,
         end: StreamEnd::PeerEnded,
+        acts: b"GTg",
         taken: &[SEVEN],
         total: 7,
     },
@@ -57,6 +62,7 @@ static ROWS: [Row; 12] = [
         },
         max_reads: 1,
         end: StreamEnd::ReadsUsed,
+        acts: b"GTT",
         taken: &[SEVEN, CLOSE],
         total: 7,
     },
@@ -69,6 +75,7 @@ static ROWS: [Row; 12] = [
         },
         max_reads: 0,
         end: StreamEnd::ReadsUsed,
+        acts: b"T",
         taken: &[CLOSE],
         total: 0,
     },
@@ -81,6 +88,7 @@ static ROWS: [Row; 12] = [
         },
         max_reads: 9,
         end: StreamEnd::ReadFault,
+        acts: b"r",
         taken: &[],
         total: 0,
     },
@@ -93,6 +101,7 @@ static ROWS: [Row; 12] = [
         },
         max_reads: 9,
         end: StreamEnd::ReadFault,
+        acts: b"GTr",
         taken: &[SEVEN],
         total: 7,
     },
@@ -105,6 +114,7 @@ static ROWS: [Row; 12] = [
         },
         max_reads: 9,
         end: StreamEnd::WriteFault,
+        acts: b"Gt",
         taken: &[],
         total: 7,
     },
@@ -117,6 +127,7 @@ static ROWS: [Row; 12] = [
         },
         max_reads: 1,
         end: StreamEnd::WriteFault,
+        acts: b"GTw",
         taken: &[SEVEN],
         total: 7,
     },
@@ -129,6 +140,7 @@ static ROWS: [Row; 12] = [
         },
         max_reads: 9,
         end: StreamEnd::LinkClosed,
+        acts: b"GTTTTGTTT",
         taken: &[HERE, ERROR],
         total: 0,
     },
@@ -141,6 +153,7 @@ static ROWS: [Row; 12] = [
         },
         max_reads: 9,
         end: StreamEnd::LinkClosed,
+        acts: b"GTG",
         taken: &[HERE],
         total: 0,
     },
@@ -153,6 +166,7 @@ static ROWS: [Row; 12] = [
         },
         max_reads: 2,
         end: StreamEnd::LinkClosed,
+        acts: b"GTG",
         taken: &[HERE],
         total: 0,
     },
@@ -165,6 +179,7 @@ static ROWS: [Row; 12] = [
         },
         max_reads: 9,
         end: StreamEnd::PeerEnded,
+        acts: b"g",
         taken: &[],
         total: 0,
     },
@@ -185,6 +200,7 @@ fn holds(alloc: Global, hasher: RandomState, row: &Row) -> Result<bool, Fail> {
     let taken = joined(alloc, row.taken)?;
     let wanted = Wanted {
         end: row.end,
+        acts: Some(row.acts),
         taken: &taken,
         total: row.total,
     };
@@ -219,6 +235,7 @@ fn the_clock_is_asked_for_each_piece(rt: HostRuntime) -> Result<(), Fail> {
     let taken = joined(rt.alloc(), [HERE, HERE, EXPIRED].as_slice())?;
     let wanted = Wanted {
         end: StreamEnd::PeerEnded,
+        acts: Some(b"GTGTGTg".as_slice()),
         taken: &taken,
         total: 0,
     };

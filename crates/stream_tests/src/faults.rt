@@ -41,11 +41,13 @@ fn acts_once(alloc: Global, hasher: RandomState, fails: u32) -> Result<bool, Fai
     let (end, sent) = failed_at(fails);
     let first = Wanted {
         end,
+        acts: None,
         taken: SEVEN.get(..sent).unwrap_or(SEVEN),
         total: if fails == 1 { 0 } else { 7 },
     };
     let second = Wanted {
         end: StreamEnd::PeerEnded,
+        acts: Some(b"GTg".as_slice()),
         taken: SEVEN_AGAIN,
         total: 7,
     };

@@ -17,4 +17,5 @@ mod visits;
 mod wire;
 
 pub use clock::MemoryClock;
+pub use tape::Act;
 pub use wire::{MemoryWire, Terms};

@@ -1,6 +1,6 @@
 //! A connection that is served over a wire in memory.
 
-use crate::{MemoryClock, MemoryWire, Terms};
+use crate::{Act, MemoryClock, MemoryWire, Terms};
 use ft_orb::{Server, StreamEnd, serve_stream};
 use giop_frames::Limits;
 use giop_run::{CAPACITY, Counter};
@@ -22,10 +22,44 @@ pub(crate) fn new_server(
 #[derive(Drop)]
 pub(crate) struct Course {
     pub(crate) end: StreamEnd,
+    /// What the wire's calls did, a letter for each.
+    pub(crate) acts: Vec<u8>,
     /// What the wire took.
     pub(crate) taken: Vec<u8>,
     /// The counter's total afterwards.
     pub(crate) total: i64,
+}
+
+/// The letter of an act, a capital where octets moved.
+fn letter(act: &Act) -> u8 {
+    match act {
+        Act::Gave(_) => b'G',
+        Act::GaveNone => b'g',
+        Act::ReadFailed => b'r',
+        Act::Took(_) => b'T',
+        Act::TookNone => b't',
+        Act::WriteFailed => b'w',
+    }
+}
+
+/// The letters of acts.
+fn letters(alloc: Global, acts: &[Act]) -> Result<Vec<u8>, AllocError> {
+    let mut letters = Vec::new(alloc);
+    for act in acts {
+        letters.push(letter(act))?;
+    }
+    Ok(letters)
+}
+
+/// The octets that a wire took.
+fn taken_in(alloc: Global, acts: &[Act]) -> Result<Vec<u8>, AllocError> {
+    let mut taken = Vec::new(alloc);
+    for act in acts {
+        if let Act::Took(octets) = act {
+            taken.extend_from_slice(octets)?;
+        }
+    }
+    Ok(taken)
 }
 
 /// Serves a new connection over a wire, with these moments.
@@ -41,10 +75,11 @@ pub(crate) fn visit_at(
     let mut wire = MemoryWire::new(alloc, terms);
     let mut clock = MemoryClock::new(moments);
     let end = serve_stream(alloc, server, connection, &mut wire, &mut clock, max_reads);
-    let taken = wire.written().unwrap_or(b"unknown".as_slice());
+    let acts = wire.acts().unwrap_or(&[]);
     Ok(Course {
         end,
-        taken: Vec::from_slice(alloc, taken)?,
+        acts: letters(alloc, acts)?,
+        taken: taken_in(alloc, acts)?,
         total: server.servant().total(),
     })
 }
@@ -68,17 +103,28 @@ pub(crate) fn visit(
     )
 }
 
-/// How a connection is to end, what its wire is to take, and the counter's total afterwards.
+/// How a connection is to end, what its wire's calls are to do, where that is asked, what it is to take, and the
+/// counter's total afterwards.
 #[derive(Clone, Copy)]
 pub(crate) struct Wanted<'a> {
     pub(crate) end: StreamEnd,
+    pub(crate) acts: Option<&'a [u8]>,
     pub(crate) taken: &'a [u8],
     pub(crate) total: i64,
+}
+
+/// Whether a wire's calls did what is asked.
+fn did(course: &Course, acts: Option<&[u8]>) -> bool {
+    match acts {
+        Some(acts) => course.acts.as_slice() == acts,
+        None => true,
+    }
 }
 
 /// Whether that came of a connection.
 pub(crate) fn is_wanted(course: &Course, wanted: Wanted) -> bool {
     course.end == wanted.end
+        && did(course, wanted.acts)
         && course.taken.as_slice() == wanted.taken
         && course.total == wanted.total
 }

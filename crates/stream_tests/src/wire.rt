@@ -1,8 +1,8 @@
 //! A wire in memory.
 
-ghost use Rattle.std.specs.Prelude.{◌≡◌, ◌≤◌, Some, length, option_map};
+ghost use Rattle.std.specs.Prelude.{◌≡◌, ◌≤◌, [], Some, length, map, option_map};
 
-use crate::tape::{Tape, blank, with_failed_read, with_failed_write, with_read, with_write};
+use crate::tape::{Act, with_act, with_read, with_write};
 use ft_orb::{Wire, WireError};
 use std::alloc::Global;
 
@@ -24,31 +24,31 @@ pub struct MemoryWire<'a> {
     terms: Terms<'a>,
     reads: usize,
     calls: u32,
-    tape: Option<Tape>,
+    tape: Option<Vec<Act>>,
 }
 
 impl<'a> MemoryWire<'a> {
-    ghost use Rattle.stream_tests.specs.Tapes.{nothing_done, said_by};
+    ghost use Rattle.stream_tests.specs.Tapes.{act_of, said_by};
 
     /// A wire that has done nothing.
     pub fn new(alloc: Global, terms: Terms<'a>) -> MemoryWire<'a>
-        ensures { said_by result.tape ≡ Some nothing_done }
+        ensures { said_by result.tape ≡ Some [] }
     {
         MemoryWire {
             alloc,
             terms,
             reads: 0,
             calls: 0,
-            tape: Some(blank(alloc)),
+            tape: Some(Vec::new(alloc)),
         }
     }
 
-    /// The octets that it took, if it says them.
-    pub fn written(&self) -> Option<&[u8]>
-        ensures { option_map (λ octets. octets.now) result ≡ option_map (λ t. t.written) (said_by self.now.tape) }
+    /// What its calls did, the first first, if it says that.
+    pub fn acts(&self) -> Option<&[Act]>
+        ensures { option_map (λ acts. map act_of acts.now) result ≡ said_by self.now.tape }
     {
         match &self.tape {
-            Some(tape) => Some(tape.written.as_slice()),
+            Some(tape) => Some(tape.as_slice()),
             None => None,
         }
     }
@@ -83,7 +83,7 @@ impl<'a> Wire for MemoryWire<'a> {
 
     fn read(&mut self, buffer: &mut [u8]) -> Result<usize, WireError> {
         if self.is_failing() {
-            self.tape = with_failed_read(self.tape.take());
+            self.tape = with_act(self.tape.take(), Act::ReadFailed);
             return Err(WireError);
         }
         let n = self.fill(buffer);
@@ -93,11 +93,11 @@ impl<'a> Wire for MemoryWire<'a> {
 
     fn write(&mut self, octets: &[u8]) -> Result<usize, WireError> {
         if self.is_failing() {
-            self.tape = with_failed_write(self.tape.take());
+            self.tape = with_act(self.tape.take(), Act::WriteFailed);
             return Err(WireError);
         }
         let n = octets.len().min(self.terms.takes);
-        self.tape = with_write(self.tape.take(), octets, n);
+        self.tape = with_write(self.alloc, self.tape.take(), octets, n);
         Ok(n)
     }
 }

@@ -6,8 +6,8 @@ use Rattle.std.proofs.lemmas.Result.{IfOk-at_ok}
 use Rattle.giop_frames.specs.declared.limits.Limits.{Limits}
 use Rattle.ft_client.specs.Clients.{Cancelled, Ended, Expired, NeedsAddressing, Told}
 use Rattle.ft_ends.specs.Both.{ActsOnce, Answers, Explains, IsExplainedAs, ended_of}
+use Rattle.ft_ends.specs.Laws.{CallsAreOfSteps}
 use Rattle.ft_ends.specs.Playing.{numbered}
-use Rattle.ft_ends.specs.World.{World}
 use Rattle.ft_log.specs.Keys.{RequestKey}
 use Rattle.ft_log.specs.Performed.{Performed}
 use Rattle.ft_log.specs.declared.system_exception.SystemName.{SystemName}
@@ -15,10 +15,10 @@ use Rattle.ft_orb.specs.ExactlyOnce.{Arrival, answer_of, has_key, outcome_kept, 
 use Rattle.ft_orb.specs.History.{arrivals}
 use Rattle.ft_orb.specs.Replies.{answered_as}
 use Rattle.ft_orb.specs.Requests.{Call as Asked, Wanted}
-use Rattle.uses.specs.Cutting.{IsFirst, first_ticket, newcomers}
+use Rattle.uses.specs.Cutting.{IsFirst, first_ticket, newcomers, world_at}
 use Rattle.uses.specs.Serving.{tickets_made}
 use Rattle.uses.specs.Tickets.{tickets_meaning}
-use Rattle.uses.proofs.OneTicket.{HasOne, each_weaker, performed_few, rules_here}
+use Rattle.uses.proofs.OneTicket.{each_weaker, performed_few, rules_here}
 
 -- Lists.
 
@@ -49,20 +49,20 @@ answer_first : (answer : Result Performed SystemName) (ended : Ended) → ended 
 answer_first (Ok p) ended is h = subst IsFirst (sym (is ∙ ap ended_of (h p refl))) refl
 answer_first (Err name) ended is h = subst IsFirst (sym is) tt
 
-module _ (limits : Limits) (w : World) (one : HasOne w.members) (once : ActsOnce tickets_meaning (tickets_made limits) (newcomers limits) w) where
-  explained_first : (key : RequestKey) (ended : Ended) → Explains tickets_meaning (tickets_made limits) w.past key ended → IsFirst ended
+module _ (limits : Limits) (request reply : ℕ) (called : CallsAreOfSteps) (once : ActsOnce tickets_meaning (tickets_made limits) (newcomers limits) (world_at limits request reply)) where
+  explained_first : (key : RequestKey) (ended : Ended) → Explains tickets_meaning (tickets_made limits) (world_at limits request reply).past key ended → IsFirst ended
   explained_first key ended e =
       answer_first (answer_of rules_here 0 e.before e.arrival) ended e.is
-      (λ p is. kept_first key (performed_of rules_here (arrivals limits w.past)) p (performed_few limits w one once)
-      (subst (λ (answer : Result Performed SystemName). Answers tickets_meaning (tickets_made limits) w.past e.before e.arrival key answer) is e.answers))
+      (λ p is. kept_first key (performed_of rules_here (arrivals limits (world_at limits request reply).past)) p (performed_few limits request reply called once)
+      (subst (λ (answer : Result Performed SystemName). Answers tickets_meaning (tickets_made limits) (world_at limits request reply).past e.before e.arrival key answer) is e.answers))
 
-  ended_first : (k r : ℕ) (ended : Ended) → IsExplainedAs tickets_meaning (tickets_made limits) (newcomers limits) w.past k r ended → IsFirst ended
+  ended_first : (k r : ℕ) (ended : Ended) → IsExplainedAs tickets_meaning (tickets_made limits) (newcomers limits) (world_at limits request reply) k r ended → IsFirst ended
   ended_first k r Expired h = tt
   ended_first k r Cancelled h = tt
   ended_first k r NeedsAddressing h = tt
   ended_first k r (Told status body) h = explained_first h.0 (Told status body) h.2
 
-  pub completed_first : AllByRecursion (λ (x : _). IsFirst x.2) (map numbered w.completions)
+  pub completed_first : AllByRecursion (λ (x : _). IsFirst x.2) (map numbered (world_at limits request reply).completions)
   completed_first =
-      each_map (λ x. IsFirst x.2) numbered w.completions
-      (each_weaker (λ x. IsExplainedAs tickets_meaning (tickets_made limits) (newcomers limits) w.past x.0 x.1 x.2) (λ x. IsFirst x.2) (λ x h. ended_first x.0 x.1 x.2 h) w.completions once.explained)
+      each_map (λ x. IsFirst x.2) numbered (world_at limits request reply).completions
+      (each_weaker (λ x. IsExplainedAs tickets_meaning (tickets_made limits) (newcomers limits) (world_at limits request reply) x.0 x.1 x.2) (λ x. IsFirst x.2) (λ x h. ended_first x.0 x.1 x.2 h) (world_at limits request reply).completions once.explained)

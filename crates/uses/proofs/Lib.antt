@@ -1,4 +1,5 @@
 pub mod Counted
+pub mod Fed
 pub mod FirstTicket
 pub mod Heard
 pub mod OneTicket

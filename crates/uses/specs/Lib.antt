@@ -6,6 +6,7 @@ pub mod Invocation
 pub mod Keeping
 pub mod Tickets
 pub mod Serving
+pub mod Pieces
 pub mod Retrying
 pub mod Cutting
 -- a proof that `impl Servant for Tickets` cites

@@ -101,6 +101,7 @@ pub fn ticket_at_cut(
     ensures first { IfOk result (λ told. AllByRecursion (λ x. IsFirst (ended_of x.2)) told.completions.items) }
     ensures once { OnOk result (ActsOnce tickets_meaning (tickets_made limits) (newcomers limits) (world_at limits request reply)) }
 {
+    ft_ends::laws::calls_are_of_steps();
     let tickets = Tickets::new(alloc)?;
     let mut server = Server::new(alloc, tickets, limits, 100, 10, hasher);
     let mut clients = one_client(alloc, limits)?;

@@ -1,4 +1,4 @@
-//! Eleven uses of the libraries, as a caller writes them: each is one file with one subject, proved, and
+//! Twelve uses of the libraries, as a caller writes them: each is one file with one subject, proved, and
 //! run by a test of `uses_tests` on octets written out by hand from the standard's layouts (CORBA 3.3 Part 2, 9.3 and 9.4).
 //! docs/GUIDE.md and the pages of `giop_link` and `ft_log` quote them.
 #![tactic(auto)]
@@ -11,6 +11,7 @@ mod hearing;
 mod invocation;
 mod keeping;
 mod locating;
+mod pieces;
 mod retrying;
 mod serving;
 mod tickets;
@@ -23,6 +24,7 @@ pub use hearing::requests_heard;
 pub use invocation::{Retry, add_request, cut};
 pub use keeping::keep_once;
 pub use locating::answer_locate;
+pub use pieces::{Piece, serve_pieces};
 pub use retrying::{RetryingError, next_ticket};
 pub use serving::{ServingError, serve_once};
 pub use tickets::Tickets;

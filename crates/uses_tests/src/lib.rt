@@ -21,6 +21,8 @@ mod locating;
 #[cfg(test)]
 mod octets;
 #[cfg(test)]
+mod pieces;
+#[cfg(test)]
 mod retrying;
 #[cfg(test)]
 mod serving;

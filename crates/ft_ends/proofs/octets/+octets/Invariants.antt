@@ -1,5 +1,5 @@
 use Rattle.std.proofs.Common.{drop}
-use Rattle.cdr_core.proofs.WrittenOctets.{HoldAll}
+use Rattle.cdr_core.specs.Octets.{HoldAll}
 use Rattle.cdr_core.specs.View.{values_of}
 use Rattle.ft_ends.proofs.octets.+octets.Given as goal
 

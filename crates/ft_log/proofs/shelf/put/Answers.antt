@@ -6,6 +6,7 @@ use Rattle.ft_log.specs.Keys.{RequestKey, same_key}
 use Rattle.ft_log.specs.Shelf.{Shelf, kept_at}
 use Rattle.ft_log.specs.declared.slot.Slot.TheVariants.{Kept}
 use Rattle.ft_log.proofs.Named.{kept-key, held-key}
+use Rattle.ft_log.proofs.Slots.{put_one}
 use Rattle.ft_log.proofs.shelf.put.Goals as goal
 
 pub returns-clause-kept : goal.returns-clause-kept
@@ -18,6 +19,9 @@ returns-clause-kept c =
     let old : Shelf = c.args.shelf.now in
     let P : ℤ → Type 0 = λ n. (other : RequestKey) → kept_at new other ≡ cond (same_key other (key n)) (Some c.args.outcome) (kept_at old other) in
     subst P (to_z-of_z w32 z fits) (kept-key _ (λ x y. refl) old new (Some (Kept c.args.outcome)) (key (to_z w32 (of_z w32 z))) up.1 up.3)
+
+pub returns-clause-slots : goal.returns-clause-slots
+returns-clause-slots c = put_one c.unwrap.result _ _ (rw c.unwrap.ensures at c.insert.ensures.len)
 
 pub returns-clause-held : goal.returns-clause-held
 returns-clause-held c =

@@ -5,7 +5,7 @@ use Rattle.ft_ends.specs.Playing.{given_of, step_as}
 use Rattle.uses.specs.Cutting.{IsFirst, newcomers, steps_at, world_at}
 use Rattle.uses.specs.Serving.{tickets_made}
 use Rattle.uses.proofs.FirstTicket.{completed_first, each_unmap}
-use Rattle.uses.proofs.OneTicket.{given_few, one_client}
+use Rattle.uses.proofs.OneTicket.{given_few}
 use Rattle.uses.proofs.Played.{begins, completed_as, once_in, stands_in, taken_are}
 use Rattle.uses.proofs.Served.{as_made}
 use Rattle.uses.proofs.cutting.ticket_at_cut.Goals as goal
@@ -42,12 +42,10 @@ returns-clause-once c =
 pub returns-clause-few : goal.returns-clause-few
 returns-clause-few c =
     let limits = c.args.limits in
-    let world = world_at limits c.args.request c.args.reply in
-    subst (λ (n : ℕ). n ≤ 1) (sym (returns-clause-given c)) (given_few limits world (one_client limits c.args.request c.args.reply) (returns-clause-once c))
+    subst (λ (n : ℕ). n ≤ 1) (sym (returns-clause-given c)) (given_few limits c.args.request c.args.reply c.calls_are_of_steps.ensures (returns-clause-once c))
 
 pub returns-clause-first : goal.returns-clause-first
 returns-clause-first c =
     let limits = c.args.limits in
-    let world = world_at limits c.args.request c.args.reply in
     each_unmap (λ x. IsFirst x.2) given_of c.both_ends.new.out.items
-    (subst (λ (xs : List (ℕ × ℤ × Ended)). AllByRecursion (λ x. IsFirst x.2) xs) (sym (returns-clause-completed c)) (completed_first limits world (one_client limits c.args.request c.args.reply) (returns-clause-once c)))
+    (subst (λ (xs : List (ℕ × ℤ × Ended)). AllByRecursion (λ x. IsFirst x.2) xs) (sym (returns-clause-completed c)) (completed_first limits c.args.request c.args.reply c.calls_are_of_steps.ensures (returns-clause-once c)))

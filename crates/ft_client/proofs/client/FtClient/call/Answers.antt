@@ -1,4 +1,4 @@
-use Rattle.std.proofs.Common.{◌≡◌, suc, ◌+◌, ◌<◌, length, map, Some, None, true, refl, ap, ◌∙◌, arith}
+use Rattle.std.proofs.Common.{◌≡◌, suc, ◌+◌, ◌<◌, length, map, Some, None, true, refl, rules, ap, ◌∙◌, arith}
 use Rattle.ft_client.specs.Calling.{call_of}
 use Rattle.ft_client.specs.Clients.{is_taken, placed}
 use Rattle.ft_client.specs.Ends.{completion_of}
@@ -75,3 +75,15 @@ returns-clause-out c = λ m st.
     let l = there.0 in
     let id = c.in_ok-transmit.field-0 in
     says_taken c.args.now call m l (kept_by c.in_ok-call.call) id c.args.out.now.items c.transmit.new.out.items taken there.1 k (next_id m l c.in-Some.link id there.2 c.in_ok-transmit.ensures.ok.0) c.in_ok-transmit.ensures.out
+
+pub returns-in_err-call-clause-same : goal.returns-in_err-call-clause-same
+returns-in_err-call-clause-same c = search rules
+
+pub returns-in_err-reserve-clause-same : goal.returns-in_err-reserve-clause-same
+returns-in_err-reserve-clause-same c = search rules
+
+pub returns-in_err-reserve-2-clause-same : goal.returns-in_err-reserve-2-clause-same
+returns-in_err-reserve-2-clause-same c = search rules
+
+pub returns-in_err-transmit-clause-same : goal.returns-in_err-transmit-clause-same
+returns-in_err-transmit-clause-same c = search rules

@@ -1,12 +1,12 @@
-use Rattle.std.proofs.Common.{◌≡◌, ◌≤◌, ◌+◌, true, cond, List, ℕ, length, bytes_eq, option_map, refl, sym, ap, ◌∙◌, subst, arith}
+use Rattle.std.proofs.Common.{◌≡◌, ◌≤◌, ◌+◌, ◌==◌, true, cond, List, ℕ, length, bytes_eq, is_some, option_map, refl, sym, ap, ◌∙◌, subst, arith}
 use Rattle.std.proofs.lemmas.List.{length-map}
 use Rattle.std.proofs.lemmas.Slice.Eq.{bytes_eq-Decides}
-use Rattle.indexmap.specs.IndexMap.{spare}
+use Rattle.indexmap.specs.IndexMap.{index_map_len, spare}
 use Rattle.ft_log.specs.Dues.{places}
-use Rattle.ft_log.specs.Keys.{RequestKey, are_distinct, held_of, same_key}
+use Rattle.ft_log.specs.Keys.{RequestKey, are_distinct, clients_in, held_of, same_key}
 use Rattle.ft_log.specs.Kept.{unexpired}
 use Rattle.ft_log.specs.Logged.{logged}
-use Rattle.ft_log.specs.Shelf.{held_at}
+use Rattle.ft_log.specs.Shelf.{held_at, kept_at}
 use Rattle.ft_log.specs.Tied.{AreDues, AreOutcomes, is_ready}
 use Rattle.ft_log.specs.View.{entries_at, entry_in, key_of}
 use Rattle.ft_log.specs.Without.{without}
@@ -14,6 +14,7 @@ use Rattle.ft_log.specs.declared.entry.Entry.{Entry}
 use Rattle.ft_log.proofs.Dated.{dues_left, left_of, none_before}
 use Rattle.ft_log.proofs.Entries.{IsLeft, all_stay, are_distinct-without, held_left, keys_at, length_left, outcome_for-without}
 use Rattle.ft_log.proofs.Ready.{ready-without}
+use Rattle.ft_log.proofs.Slots.{slim-without}
 use Rattle.ft_log.proofs.log.Log.forget_next.Goals as goal
 use Rattle.ft_log.proofs.log.Log.forget_next.Goals.{In-Some}
 
@@ -45,6 +46,11 @@ invariant_of-self c =
     let held : (client : List ℕ) → held_of client (keys_at (without key es)) ≤ held_of client (keys_at es) = λ client. omega (arith, held_left x key es l client) in
     let fewer = length_left x key es l in
     let spares : spare s.kept ≤ spare n = omega (arith, c.take.ensures.room, c.count_down.ensures.room) in
+    let there : ◌≡◌ {A = ℕ} (cond (is_some (kept_at s.kept key)) 1 0) 1 = ap (λ b. cond b 1 0) (ap is_some (s.found key) ∙ l.found) in
+    let here : ◌≡◌ {A = ℕ} (cond (bytes_eq key.client_id key.client_id) 1 0) 1 = ap (λ b. cond b 1 0) ((bytes_eq-Decides key.client_id key.client_id).1 refl) in
+    let had : held_at c.take.new.shelf c.as_slice.result.now ≡ held_of key.client_id (keys_at es) =
+    ap (held_at c.take.new.shelf) c.as_slice.ensures.value ∙ c.take.ensures.held key.client_id ∙ s.counted key.client_id in
+    let counted : ◌≡◌ {A = ℕ} (cond (held_at c.take.new.shelf c.as_slice.result.now == 1) 1 0) (cond (held_of key.client_id (keys_at es) == 1) 1 0) = ap (λ h. cond (h == 1) 1 0) had in
     let shorter : length (keys_at (without key es)) ≤ length (keys_at es) = simp length-map (omega (arith, fewer)) in
     record {
       within = subst (λ (l : List Entry). length l ≤ s.capacity) is (omega (arith, fewer, s.within));
@@ -54,6 +60,10 @@ invariant_of-self c =
       counted = subst (λ (l : List Entry). (client : List ℕ) → held_at n client ≡ held_of client (keys_at l)) is (λ client.
           let less = ap (λ bytes. held_at n client + cond (bytes_eq bytes client) 1 0) (sym c.as_slice.ensures.value) ∙ c.count_down.ensures.held client in
           omega (arith, less, c.take.ensures.held client, s.counted client, held_left x key es l client));
+      slim = subst (λ (l : List Entry). index_map_len n ≤ length l + clients_in (keys_at l)) is
+          (slim-without (index_map_len s.kept) (index_map_len c.take.new.shelf) (index_map_len n) (length es) (length (without key es)) (clients_in (keys_at es)) (clients_in (keys_at (without key es)))
+          (held_of key.client_id (keys_at es)) (held_of key.client_id (keys_at (without key es))) s.slim (omega (arith, c.take.ensures.slots, there)) (omega (arith, c.count_down.ensures.slots, counted))
+          fewer (omega (arith, here, held_left x key es l key.client_id)) l.clients);
       dated = subst (AreDues c.pop_before.new.self) is (dues_left s.order es s.dated c.pop_before.new.self due c.in-Some.ensures.sums l);
       ready = subst (λ (l : List Entry). is_ready (option_map (λ r. key_of r.key) s.room) (keys_at l) s.capacity s.share (places c.pop_before.new.self) (spare n) ≡ true) is
           (subst (λ (p : ℕ). is_ready (option_map (λ r. key_of r.key) s.room) (keys_at (without key es)) s.capacity s.share p (spare n) ≡ true) (sym c.pop_before.ensures.places)

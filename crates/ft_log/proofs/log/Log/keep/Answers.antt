@@ -1,15 +1,15 @@
-use Rattle.std.proofs.Common.{◌≡◌, ◌≤◌, ◌+◌, true, cond, List, ℕ, length, bytes_eq, option_map, Some, refl, sym, ap, ◌∙◌, subst, arith}
+use Rattle.std.proofs.Common.{◌≡◌, ◌≤◌, ◌+◌, ◌==◌, true, cond, List, ℕ, length, bytes_eq, option_map, Some, refl, sym, ap, ◌∙◌, subst, arith}
 use Rattle.std.proofs.lemmas.List.Sums.{sum_by_push}
-use Rattle.indexmap.specs.IndexMap.{spare}
+use Rattle.indexmap.specs.IndexMap.{index_map_len, spare}
 use Rattle.ft_log.specs.Dues.{places}
-use Rattle.ft_log.specs.Keys.{RequestKey, are_distinct, held_of, same_key}
+use Rattle.ft_log.specs.Keys.{RequestKey, are_distinct, clients_in, held_of, same_key}
 use Rattle.ft_log.specs.Logged.{logged}
 use Rattle.ft_log.specs.Shelf.{held_at}
 use Rattle.ft_log.specs.Tied.{AreDues, AreOutcomes, due_of, is_ready}
 use Rattle.ft_log.specs.View.{key_of}
 use Rattle.ft_log.specs.declared.entry.Entry.{Entry}
 use Rattle.ft_log.proofs.Dated.{as_many}
-use Rattle.ft_log.proofs.Entries.{keys_at, length_push, outcome_for-push}
+use Rattle.ft_log.proofs.Entries.{clients-push, keys_at, length_push, outcome_for-push}
 use Rattle.ft_log.proofs.Listed.{are_distinct-push, keys-push, length_keys, within_share-push}
 use Rattle.ft_log.proofs.Ready.{IsReady, ready_at}
 use Rattle.ft_log.proofs.log.Log.keep.Goals as goal
@@ -54,6 +54,8 @@ invariant_of-self-2 c =
     let is = sym c.with-self.ensures in
     let pushed = sym (keys-push es e) in
     let client_is = c.in-Some.room.same ∙ ap (λ (k : RequestKey). k.client_id) (of_key inside) in
+    let first : ◌≡◌ {A = ℕ} (cond (held_at s.kept c.in-Some.room.client_id.items == 0) 1 0) (cond (held_of key.client_id keys == 0) 1 0) =
+    ap (λ h. cond (h == 0) 1 0) (ap (held_at s.kept) client_is ∙ s.counted key.client_id) in
     record {
       within = subst (λ (l : List Entry). length l ≤ s.capacity) is (omega (arith, p.within, length_keys es, length_push es e));
       distinct = subst (λ (l : List Entry). are_distinct (keys_at l) ≡ true) is (subst (λ (ks : List RequestKey). are_distinct ks ≡ true) pushed (are_distinct-push keys key s.distinct p.new));
@@ -64,6 +66,8 @@ invariant_of-self-2 c =
           let more = ap (λ bytes. held_at s.kept client + cond (bytes_eq bytes client) 1 0) client_is in
           let all = ap (held_of client) (keys-push es e) ∙ sum_by_push (λ (k : RequestKey). cond (bytes_eq k.client_id client) 1 0) keys key in
           omega (arith, c.put.ensures.held client, c.count_up.ensures.held client, more, s.counted client, all));
+      slim = subst (λ (l : List Entry). index_map_len n ≤ length l + clients_in (keys_at l)) is
+          (omega (arith, s.slim, c.put.ensures.slots, c.count_up.ensures.slots, first, clients-push es e, length_push es e));
       dated = subst (AreDues c.push.new.self) is (λ f.
           let same : f (c.args.expiration, key_of c.in-Some.room.key) ≡ f (due_of e) = λ i. f (c.args.expiration, of_key inside i) in
           omega (arith, c.push.ensures (λ d. f (d.until.0, key_of d.key)), s.dated f, same, sum_by_push (λ x. f (due_of x)) es e));

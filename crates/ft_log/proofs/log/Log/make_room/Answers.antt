@@ -61,6 +61,7 @@ invariant_of-self-2 c =
       shared = s.shared;
       found = found_in s.kept c.reserve-2.new.self es c.reserve-2.ensures.entries s.found;
       counted = counted_in s.kept c.reserve-2.new.self es c.reserve-2.ensures.entries s.counted;
+      slim = omega (arith, s.slim, ap (λ l. length l) c.reserve-2.ensures.entries);
       dated = dated_in s.order c.reserve.new.self es c.reserve.ensures.same s.dated;
       ready = subst (λ (k : RequestKey). is_ready (Some k) old s.capacity s.share (places c.reserve.new.self) (spare c.reserve-2.new.self) ≡ true) (sym c.in_ok-room.ensures)
           (ready_from key old s.capacity s.share (places c.reserve.new.self) (spare c.reserve-2.new.self) place);

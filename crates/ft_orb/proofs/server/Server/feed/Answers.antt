@@ -1,4 +1,4 @@
-use Rattle.std.proofs.Common.{sym, refl, ◌∙◌, arith}
+use Rattle.std.proofs.Common.{sym, refl, ◌∙◌, arith, rules}
 use Rattle.std.proofs.lemmas.Grind.{common_steps}
 use Rattle.ft_orb.specs.declared.events.Note.TheVariants.{Done, Memory, Refused}
 use Rattle.ft_orb.specs.History.{Piece}
@@ -9,7 +9,7 @@ use Rattle.ft_orb.proofs.server.Server.feed.Goals as goal
 pub returns-in_default-clause-table : goal.returns-in_default-clause-table
 returns-in_default-clause-table g c made past st =
     fed-none g.S.Servant.meaning made c.args.self.now _ past c.args.connection c.args.moment c.args.piece.now c.args.out.now.items st
-    (record { limits = refl; capacity = refl; share = refl; greatest = refl; others = λ q n. grind (arith, common_steps) }) c.max-self.ensures refl (sym c.in_default.ensures.value) (grind (arith, common_steps))
+    (record { limits = refl; capacity = refl; share = refl; greatest = refl; others = λ q n. grind (arith, common_steps) }) (search rules) refl (sym c.in_default.ensures.value) (grind (arith, common_steps))
 
 pub returns-then-is_closed-clause-table : goal.returns-then-is_closed-clause-table
 returns-then-is_closed-clause-table g c made past st =
