@@ -28,6 +28,7 @@ import tempfile
 from collections import namedtuple
 from concurrent.futures import ThreadPoolExecutor
 
+import idl
 import run_rows
 import spellings
 
@@ -104,11 +105,12 @@ def calls_by_types(order):
     """The calls that read by types, in an order: a value alone, and one after other octets."""
     before = octets_of(spellings.BEFORE, order)
     for spelling in spellings.VALUES:
-        name, value, alone = spelling.name, spelling.value, octets_of(spelling, order)
+        one, value, alone = idl.types(spelling.type), spelling.value, octets_of(spelling, order)
+        two = idl.types(f"{spellings.BEFORE.type}, {spelling.type}")
         both, values = before + alone, f"[{spellings.BEFORE.value}, {value}]"
-        yield Call(f"read {name} {order} 0", order, alone, f"({value}, {len(alone)})")
-        yield Call(f"read_list {name} {order} 8", order, both, f"({values}, {len(both)})")
-        yield Call(f"body {name} {order} 24", order, both, values)
+        yield Call(f"read {one} {order} 0", order, alone, f"({value}, {len(alone)})")
+        yield Call(f"read_list {two} {order} 8", order, both, f"({values}, {len(both)})")
+        yield Call(f"body {two} {order} 24", order, both, values)
 
 
 def calls():

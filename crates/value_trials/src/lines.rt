@@ -1,132 +1,85 @@
 //! Calls that the lines of an input ask for, and what they give.
 //!
-//! A line is `read TYPE ORDER AT HEX`, `read_list TYPE ORDER AT HEX`, `body TYPE ORDER AT HEX` (which is
-//! `Body::read`), `read_ior ORDER AT HEX` or `read_iiop HEX`, with one space between words: TYPE is the
-//! name of a type, ORDER `big` or `little`, AT the place of the first octet, in decimal digits, and HEX
-//! the octets in hexadecimal digits, which may be none. For each line one is printed: what was read, or
-//! why nothing was.
+//! A line is the name of a call and what the call takes, with one space between words. For each line one is
+//! printed: what the call gives, or why it gives nothing. The calls stand in `value_call`, `reference_call`
+//! and `message_call`, each with what it takes at its function. TYPES and VALUES are words as `types` and
+//! `values` say, ORDER is `big` or `little`, AT the place of the first octet, in decimal digits, and HEX
+//! are octets in hexadecimal digits, which may be none.
 
-use crate::types::{list_named, type_named};
-use cdr_core::{Order, are_valid, read, read_list};
-use giop_core::Body;
-use ior_core::{read_iiop, read_ior};
+mod input;
+mod judging;
+mod messages;
+mod profiles;
+mod reading;
+mod references;
+mod stack;
+mod tagged;
+mod types;
+mod values;
+mod writing;
+
+use input::parted;
 use std::alloc::Global;
-use std::fmt::{Debug, Display};
 use std::io::{BufRead, BufReader, BufWriter, Read, Write};
 use trials::Stop;
 
-/// Octets that are read, their order, and the place of the first.
-#[derive(Drop)]
-struct Input {
-    order: Order,
-    at: u32,
-    octets: Vec<u8>,
-}
-
-/// The first word of a text, and what stands after its space.
-fn parted(text: &str) -> Result<(&str, &str), Stop> {
-    text.split_once(' ').ok_or(Stop::BadLine)
-}
-
-/// The order of that name.
-fn order_named(name: &str) -> Result<Order, Stop> {
-    match name {
-        "big" => Ok(Order::Big),
-        "little" => Ok(Order::Little),
+/// Makes a call of `giop_core`.
+fn message_call<W: Write>(alloc: Global, call: &str, words: &str, out: &mut W) -> Result<(), Stop> {
+    match call {
+        "body" => messages::read_body(alloc, words, out),
+        "arguments" => messages::read_arguments(alloc, words, out),
+        "target" => messages::show_target(alloc, words, out),
+        "profiles" => messages::show_profiles(alloc, words, out),
         _ => Err(Stop::BadLine),
     }
 }
 
-/// The octets of `ORDER AT HEX`.
-fn input_in(alloc: Global, words: &str) -> Result<Input, Stop> {
-    let (order, words) = parted(words)?;
-    let (at, digits) = parted(words)?;
-    Ok(Input {
-        order: order_named(order)?,
-        at: at.parse().map_err(|_| Stop::BadLine)?,
-        octets: hex::decode(alloc, digits)?,
-    })
-}
-
-/// Prints what was read, or why nothing was.
-fn print<T: Debug + Drop, E: Display + Drop, W: Write>(
-    given: Result<T, E>,
+/// Makes a call of `ior_core`, or of `giop_core`.
+fn reference_call<W: Write>(
+    alloc: Global,
+    call: &str,
+    words: &str,
     out: &mut W,
 ) -> Result<(), Stop> {
-    match given {
-        Ok(value) => writeln!(out, "{value:?}")?,
-        Err(error) => writeln!(out, "{error}")?,
+    match call {
+        "read_ior" => references::read(alloc, words, out),
+        "write_ior" => references::write(alloc, words, out),
+        "is_writable_ior" => references::judge(alloc, words, out),
+        "parse_text" => references::parse(alloc, words, out),
+        "print_text" => references::print(alloc, words, out),
+        "object_key" => references::find_key(alloc, words, out),
+        "read_iiop" => profiles::read(alloc, words, out),
+        "write_iiop" => profiles::write(alloc, words, out),
+        "is_writable_iiop" => profiles::judge(alloc, words, out),
+        "iiop_key" => profiles::find_key(alloc, words, out),
+        "profile_key" => profiles::find_tagged_key(alloc, words, out),
+        "read_tagged" => tagged::read(alloc, words, out),
+        _ => message_call(alloc, call, words, out),
     }
-    Ok(())
 }
 
-/// `read` by the type that the first word names.
-fn read_value<W: Write>(alloc: Global, words: &str, out: &mut W) -> Result<(), Stop> {
-    let (name, words) = parted(words)?;
-    let ty = type_named(alloc, name)?;
-    let input = input_in(alloc, words)?;
-    if !ty.is_valid() {
-        return Err(Stop::BadLine);
+/// Makes a call of `cdr_core`, or of another library.
+fn value_call<W: Write>(alloc: Global, call: &str, words: &str, out: &mut W) -> Result<(), Stop> {
+    match call {
+        "read" => reading::read_one(alloc, words, out),
+        "read_list" => reading::read_all(alloc, words, out),
+        "write" => writing::write_one(alloc, words, out),
+        "write_copy" => writing::write_copy(alloc, words, out),
+        "write_list" => writing::write_all(alloc, words, out),
+        "is_valid" => judging::is_type(alloc, words, out),
+        "are_valid" => judging::are_types(alloc, words, out),
+        "fits" => judging::is_fitting(alloc, words, out),
+        "writable" => judging::is_writable(alloc, words, out),
+        "are_writable" => judging::are_all_writable(alloc, words, out),
+        "has_no_nul" => judging::is_clean(alloc, words, out),
+        _ => reference_call(alloc, call, words, out),
     }
-    let at = u64::from(input.at);
-    print(read(alloc, &ty, input.order, at, &input.octets), out)
-}
-
-/// `read_list` by the types that the first word names.
-fn read_values<W: Write>(alloc: Global, words: &str, out: &mut W) -> Result<(), Stop> {
-    let (name, words) = parted(words)?;
-    let types = list_named(alloc, name)?;
-    let input = input_in(alloc, words)?;
-    if !are_valid(&types) {
-        return Err(Stop::BadLine);
-    }
-    let at = u64::from(input.at);
-    print(
-        read_list(alloc, &types, input.order, at, &input.octets),
-        out,
-    )
-}
-
-/// `Body::read` by the types that the first word names.
-fn read_body<W: Write>(alloc: Global, words: &str, out: &mut W) -> Result<(), Stop> {
-    let (name, words) = parted(words)?;
-    let types = list_named(alloc, name)?;
-    let input = input_in(alloc, words)?;
-    if !are_valid(&types) {
-        return Err(Stop::BadLine);
-    }
-    let body = Body {
-        order: input.order,
-        at: u64::from(input.at),
-        octets: &input.octets,
-    };
-    print(body.read(alloc, &types), out)
-}
-
-/// `read_ior`.
-fn read_reference<W: Write>(alloc: Global, words: &str, out: &mut W) -> Result<(), Stop> {
-    let input = input_in(alloc, words)?;
-    let at = u64::from(input.at);
-    print(read_ior(alloc, input.order, at, &input.octets), out)
-}
-
-/// `read_iiop`.
-fn read_profile<W: Write>(alloc: Global, digits: &str, out: &mut W) -> Result<(), Stop> {
-    let octets = hex::decode(alloc, digits)?;
-    print(read_iiop(alloc, &octets), out)
 }
 
 /// Makes the call that a line asks for, and prints what it gives.
 fn answer<W: Write>(alloc: Global, line: &str, out: &mut W) -> Result<(), Stop> {
     let (call, words) = parted(line)?;
-    match call {
-        "read" => read_value(alloc, words, out),
-        "read_list" => read_values(alloc, words, out),
-        "body" => read_body(alloc, words, out),
-        "read_ior" => read_reference(alloc, words, out),
-        "read_iiop" => read_profile(alloc, words, out),
-        _ => Err(Stop::BadLine),
-    }
+    value_call(alloc, call, words, out)
 }
 
 /// Makes the call that each line of an input asks for, and prints what it gives, one line for each.

@@ -6,8 +6,9 @@
 //! texts written out in `samples` and `message_samples`.
 //! tests/refused_allocations.py runs it under a `malloc` that refuses one allocation.
 //!
-//! By the word `lines` the calls are those that the lines of standard input ask for, on octets that stand
-//! there, and what each gives is printed. tests/bounded_allocations.py runs it so on hostile octets.
+//! By the word `lines` the calls are those that the lines of standard input ask for, on octets and values that
+//! stand there, and what each gives is printed. tests/run_readings.py runs it so on the rows of tests/readings,
+//! tests/bounded_allocations.py on hostile octets.
 #![tactic(auto)]
 
 mod calls;
@@ -23,7 +24,6 @@ mod references;
 mod run;
 mod samples;
 mod suites;
-mod types;
 mod writing;
 
 use std::process::ExitCode;

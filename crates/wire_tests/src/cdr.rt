@@ -1,12 +1,5 @@
-//! The octets of values.
+//! The octets of values, part by part.
 
-mod checking;
 mod cursor;
-mod faults;
-mod forms;
-mod lists;
-mod octets;
 mod orders;
-mod samples;
-mod spelling;
 mod writer;

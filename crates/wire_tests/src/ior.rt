@@ -1,9 +1,27 @@
-//! References and profiles.
+//! Why a reference or a profile was not read.
 
-mod conditions;
-mod places;
-mod profiles;
-mod refused;
-mod samples;
-mod tagged;
-mod texts;
+use crate::rows::assert_printed;
+use cdr_core::Fault;
+use cdr_core::Kind::InteriorNul;
+use ior_core::IorError;
+use ior_core::IorError::{BadDigit, BadMajor, Cdr, Memory, NoPrefix, OddDigits};
+
+/// A fault in the octets.
+const FAULT: Fault = Fault {
+    kind: InteriorNul,
+    at: 9,
+};
+
+static REASONS: [(IorError, &str); 6] = [
+    (NoPrefix, "no prefix"),
+    (OddDigits, "odd digits"),
+    (BadDigit(12), "bad digit at 12"),
+    (Cdr(FAULT), "interior nul at 9"),
+    (BadMajor, "bad major"),
+    (Memory, "memory"),
+];
+
+#[test]
+fn reasons_are_printed(rt: HostRuntime) {
+    assert_printed(&rt, &REASONS);
+}

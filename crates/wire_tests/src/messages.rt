@@ -1,12 +1,10 @@
 //! Headers and messages written out from the standard's layouts, read and written.
 
-mod bodies;
 mod header;
 mod lent;
 mod printed;
 mod put;
 mod read;
-mod references;
 mod said;
 mod versions;
 mod written_exceptions;

@@ -14,11 +14,6 @@ pub(crate) fn assert_at(rt: &impl Abort, holds: bool, name: &str, at: u64) {
     assert!(rt; holds, "{name} at {at}");
 }
 
-/// Asserts what holds of the octets at a place.
-pub(crate) fn assert_octets(rt: &impl Abort, holds: bool, octets: &[u8], at: u32) {
-    assert!(rt; holds, "{octets:?} at {at}");
-}
-
 /// Whether that is printed so.
 fn is_printed<T: Display + Drop>(alloc: Global, found: T, wanted: &str) -> bool {
     match format!(in alloc; "{found}") {

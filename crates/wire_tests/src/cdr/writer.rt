@@ -2,10 +2,9 @@
 
 ghost use Rattle.std.specs.Prelude.{◌≡◌, ◌≤◌, length};
 
-use super::forms::{Sample, value_of};
 use crate::rows::{assert_at, assert_named};
 use cdr_core::Order::{Big, Little};
-use cdr_core::{Order, Val, Writer, writable};
+use cdr_core::{Order, Val, Writer, are_writable, writable};
 use std::alloc::AllocError;
 use std::process::Abort;
 
@@ -20,8 +19,8 @@ enum Call {
     ULongLong(u64),
     Text(&'static [u8]),
     Octets(&'static [u8]),
-    /// The members of a struct, one after another.
-    Values(Sample),
+    /// Values: an octet, and an unsigned long.
+    Values(u8, u32),
     /// Zeros up to the next place that the number divides: 1, 2, 4 or 8.
     Align(u64),
     /// The next octet stands at this place, and these octets stand before it.
@@ -102,11 +101,7 @@ static ROWS: &[Row] = &[
         Big,
         Some(12),
         &[7],
-        &[
-            Octet(9),
-            Values(Sample::Struct(&[Sample::Octet(1), Sample::ULong(2)])),
-            At(20, &[7, 9, 1, 0, 0, 0, 0, 0, 2]),
-        ],
+        &[Octet(9), Values(1, 2), At(20, &[7, 9, 1, 0, 0, 0, 0, 0, 2])],
     ),
     (
         "an unsigned long long in big order",
@@ -219,18 +214,16 @@ fn text(
     writer.string(text, out)
 }
 
-/// Appends the members of a struct.
+/// Appends values.
 fn values(
-    rt: &(impl Abort + AllocGlobal),
+    rt: &impl Abort,
     writer: &Writer,
-    sample: &Sample,
+    all: &[Val],
     out: &mut Vec<u8>,
 ) -> Result<(), AllocError>
     requires { writer.now.start ≤ length out.old.items }
 {
-    let value = value_of(rt.alloc(), sample)?;
-    assert!(rt; writable(&value));
-    let Val::Struct(all) = &value else { rt.abort() };
+    assert!(rt; are_writable(all));
     writer.values(all, out)
 }
 
@@ -267,7 +260,9 @@ fn append(
         ULongLong(n) => writer.ulonglong(*n, out),
         Text(all) => text(rt, writer, all, out),
         Octets(all) => octets(rt, writer, all, out),
-        Values(sample) => values(rt, writer, sample, out),
+        Values(first, second) => {
+            values(rt, writer, &[Val::Octet(*first), Val::ULong(*second)], out)
+        }
         Align(size) => align(rt, writer, *size, out),
         At(place, all) => {
             assert_at(rt, is_at(writer.place(out), out, *place, all), name, *place);

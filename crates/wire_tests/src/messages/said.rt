@@ -7,6 +7,20 @@ use giop_core::{
 };
 use std::process::Abort;
 
+/// A profile of IIOP 1.2 in big order: host 127.0.0.1, port 2809, key `c`, no components.
+pub(super) const COUNTER: &[u8] = &[
+    0, 1, 2, 0, 0, 0, 0, 10, b'1', b'2', b'7', b'.', b'0', b'.', b'0', b'.', b'1', 0, 0x0a, 0xf9,
+    0, 0, 0, 1, b'c', 0, 0, 0, 0, 0, 0, 0,
+];
+
+/// A profile of IIOP 1.0 in little order: host `h`, port 1, key `key`.
+pub(super) const LITTLE: &[u8] = &[
+    1, 1, 0, 0, 2, 0, 0, 0, b'h', 0, 1, 0, 3, 0, 0, 0, b'k', b'e', b'y',
+];
+
+/// A profile of tag 1, and one of IIOP.
+pub(super) const PAIR: Items = &[(1, &[0xaa, 0xbb]), (0, LITTLE)];
+
 /// Contexts or profiles: the number of each and its octets.
 pub(super) type Items = &'static [(u32, &'static [u8])];
 
@@ -158,7 +172,7 @@ fn is_reference(found: &IorView, type_id: &[u8], profiles: Items) -> bool {
 }
 
 /// Whether a target is that.
-pub(super) fn is_target(found: &Target, wanted: &Aim) -> bool {
+fn is_target(found: &Target, wanted: &Aim) -> bool {
     match (found, wanted) {
         (Target::Key(found), Aim::Key(key)) => found == key,
         (Target::Profile(number, found), Aim::Profile(tag, octets)) => {

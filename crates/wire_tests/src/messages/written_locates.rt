@@ -2,8 +2,7 @@
 //! they read again.
 
 use super::put::{Turned, Values, assert_sent, assert_turned};
-use super::references::{COUNTER, PAIR};
-use super::said::{Aim, Row, Said};
+use super::said::{Aim, COUNTER, PAIR, Row, Said};
 use cdr_core::Order;
 use giop_core::Version;
 
