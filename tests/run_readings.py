@@ -286,21 +286,24 @@ def lines_of(name):
     place = text = None
     with open(os.path.join(HERE, name), encoding="ascii") as lines:
         for number, line in enumerate(lines, 1):
-            if line.startswith(" "):
+            if line.startswith(" ") and text is not None:
                 text += " " + line.strip()
                 continue
             if text is not None:
                 yield place, text
             place, text = f"{name}:{number}", line.strip()
-    yield place, text
+    if text is not None:
+        yield place, text
 
 
-def calls_of(block, word, rest):
+def calls_of(place, block, word, rest):
     """The calls of a row, and the lines that are printed for them."""
+    if word not in SAID and word not in CALLS:
+        sys.exit(f"{place}: no line begins with {word!r}")
     try:
         return list(SAID[word](block, rest) if word in SAID else called(block, word, rest))
     except (AttributeError, TypeError, ValueError) as error:
-        raise ValueError(f"{word} {rest}: {error}") from error
+        sys.exit(f"{place}: not a row, or what it is about does not stand above it: {error}")
 
 
 def rows_of(name):
@@ -313,16 +316,19 @@ def rows_of(name):
             names.update([rest.split(" ", 1)])
         elif word == "":
             block = Block()
-        elif word in SAID or word in CALLS:
-            yield from ((place, given, wanted) for given, wanted in calls_of(block, word, rest))
         elif word != "#" and not take_about(block, word, rest):
-            sys.exit(f"{place}: no line begins with {word!r}")
+            yield from ((place, given, wanted) for given, wanted in calls_of(place, block, word, rest))
 
 
 def main():
     program = os.path.abspath(sys.argv[1])
     names = sys.argv[2:] or sorted(os.listdir(HERE))
-    rows = [row for name in names for row in rows_of(name)]
+    rows = []
+    for name in names:
+        before = len(rows)
+        rows += rows_of(name)
+        if len(rows) == before:
+            sys.exit(f"{name}: no row")
     given = "".join(line + "\n" for _, line, _ in rows)
     run = subprocess.run([program, "lines"], input=given.encode(), capture_output=True, timeout=SECONDS)
     lines = run.stdout.decode().split("\n")[:-1]

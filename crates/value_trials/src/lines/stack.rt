@@ -21,8 +21,8 @@ pub(crate) fn boxed<T: Drop>(alloc: Global, stack: &mut Vec<T>) -> Result<Box<T>
 /// The one that there is.
 pub(crate) fn only<T: Drop>(mut stack: Vec<T>) -> Result<T, Stop> {
     let last = stack.pop().ok_or(Stop::BadLine)?;
-    match stack.is_empty() {
-        true => Ok(last),
-        false => Err(Stop::BadLine),
+    if !stack.is_empty() {
+        return Err(Stop::BadLine);
     }
+    Ok(last)
 }

@@ -4,8 +4,7 @@
 //! type or one case: `boolean`, `char`, `octet`, `short`, `ushort`, `long`, `ulong`, `longlong`,
 //! `ulonglong`; `string:BOUND`, `octets:BOUND` and `enum:NAMES`; `sequence:BOUND` and `array:COUNT` of the
 //! type before; `struct:COUNT` of so many types before; `case:LABEL` of the type before; `union:COUNT` of
-//! the type before and so many cases before, and `default:COUNT` of a discriminator, so many cases and the
-//! default before.
+//! a discriminator and so many cases after it, and `default:COUNT` of these and the default after them.
 
 use super::input::ulong;
 use super::stack::{boxed, only, top};
