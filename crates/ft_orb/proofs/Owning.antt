@@ -1,0 +1,485 @@
+-- An engine after a piece, and after an answer.
+use Rattle.std.proofs.Common.{◌≡◌, ◌==◌, ℕ, ◌+◌, ◌≤◌, ◌<◌, max, Bool, true, false, List, [], ◌∷◌, ◌++◌, length, take, Option, Some, None, Result, Ok, Err, refl, sym, ap, subst, ◌∙◌, arith, append_assoc, length-append}
+use Rattle.std.specs.BTreeMap.{get}
+use Rattle.std.specs.Option.{option_map}
+use Rattle.std.specs.Ordering.{nat_cmp}
+use Rattle.std.proofs.Math.Seq.{take-append_seam}
+use Rattle.std.proofs.lemmas.Bool.{eqb-true}
+use Rattle.std.proofs.lemmas.List.{append-nil, append_cancel_left, length-take, take-take, take_all}
+use Rattle.cdr_core.specs.View.{values_of}
+use Rattle.giop_frames.specs.declared.limits.Limits.{Limits}
+use Rattle.giop_link.specs.Laws.{HearingGrows}
+use Rattle.giop_link.specs.Linking.{LinkStands, Linked}
+use Rattle.ft_log.specs.Kept.{KeptOutcome}
+use Rattle.ft_log.specs.Logged.{logged}
+use Rattle.ft_log.specs.Performed.{Performed}
+use Rattle.ft_log.specs.declared.system_exception.SystemName.{SystemName}
+use Rattle.ft_orb.specs.declared.desk.Step.{Step}
+use Rattle.ft_orb.specs.declared.desk.Step.TheVariants.{Answered, Quiet, Unanswered, Unhandled}
+use Rattle.ft_orb.specs.declared.engine.Engine.{Engine}
+use Rattle.ft_orb.specs.declared.events.Note.{Note}
+use Rattle.ft_orb.specs.declared.events.Note.TheVariants.{Done, Memory}
+use Rattle.ft_orb.specs.declared.keeper.Keeper.{Keeper}
+use Rattle.ft_orb.specs.declared.keeper.Waiting.{Waiting}
+use Rattle.ft_orb.specs.declared.pausing.Pause.{Pause}
+use Rattle.ft_orb.specs.declared.pausing.Pause.TheVariants as pause
+use Rattle.ft_orb.specs.declared.pausing.Pending.{Pending}
+use Rattle.ft_orb.specs.declared.pausing.Place.{Place}
+use Rattle.ft_orb.specs.declared.serving.Cut.{Cut}
+use Rattle.ft_orb.specs.declared.server.Server.{Server}
+use Rattle.ft_orb.specs.Catalogues.{Offer}
+use Rattle.ft_orb.specs.Engines.{Asks, AsksOnce, Awaited, Ends, EndsOnce, IsDue, IsOnce, Keeps, Rests, Resumes, ResumesOnce, Stops, as_server, awaited_of, waits_in}
+use Rattle.ft_orb.specs.ExactlyOnce.{Arrival, ClocksGrow, OneExpiration, Rules, state_of}
+use Rattle.ft_orb.specs.History.{Event, Gone, Line, Piece, Shut, Up, arrivals, arrivals_in, arrivals_on, clock, completed, front_on, line, longer, shortened}
+use Rattle.ft_orb.specs.Interfaces.{AreArgumentsOf}
+use Rattle.ft_orb.specs.Outputs.{Writes, after, output_cut, table_of_past, table_says}
+use Rattle.ft_orb.specs.Owners.{Owner, answered_so_far, made_of, meaning_of, owner_rules, rules_with}
+use Rattle.ft_orb.specs.Pauses.{Breaks, IsServedTo, Paused, Reaches}
+use Rattle.ft_orb.specs.Private.{Served, counted_by, all_answered}
+use Rattle.ft_orb.specs.Renderings.{rendered}
+use Rattle.ft_orb.specs.Replies.{reply_by}
+use Rattle.ft_orb.specs.Requests.{Call, Wanted, asked_of}
+use Rattle.ft_orb.specs.Standing.{IsFor, IsSameBut, Stands, capacity_of, share_of, table_of}
+use Rattle.ft_orb.specs.Table.{AreAlike, Table, table_after, table_answers}
+use Rattle.ft_orb.specs.Waits.{Finishes, call_of}
+use Rattle.ft_orb.proofs.Due.{last-acts, none-acted}
+use Rattle.ft_orb.proofs.Folded.{ClocksGrow-front, folded_step}
+use Rattle.ft_orb.proofs.Going.{front-exact, goes-start, rendered-more, stood-whole}
+use Rattle.ft_orb.proofs.Headline.{event-clocks, event-once, one-front, past-stands, says-agree}
+use Rattle.ft_orb.proofs.Images.{at-first}
+use Rattle.ft_orb.proofs.Law.{run_stands}
+use Rattle.ft_orb.proofs.Pieces.{alike-then, apart-by, fed-err, fed-ok, same-by}
+use Rattle.ft_orb.proofs.Stopping.{reach-breaks, reach-goes, reach-left}
+
+-- where a piece comes, nothing of it is served
+pub start-at : (offer : Offer) (answers : List Call → Call → Performed) (capacity share : ℕ) (limits : Limits) (c now : ℕ) (t : Table (List Call) Performed) (s piece : List ℕ) (link : Linked) (calls : List Call) (entries : List (KeptOutcome Performed)) (out : List ℕ)
+    → LinkStands limits link s → AreAlike now (answered_so_far calls entries) t → IsServedTo offer answers capacity share limits c now t s out piece (record { taken = 0; handled = 0 }) calls link entries out
+start-at offer answers capacity share limits c now t s piece link calls entries out st al =
+    ([], sym (append-nil out), goes-start (owner_rules offer.interface answers capacity share) offer.knows limits c now t s link (answered_so_far calls entries) st al)
+
+-- .. and it is served whole, or up to what waits
+pub whole-is : (offer given : Offer) (answers : List Call → Call → Performed) (capacity share : ℕ) (limits : Limits) (c now : ℕ) (t : Table (List Call) Performed) (s start piece : List ℕ) (calls : List Call) (p : Pause) (link : Linked) (entries : List (KeptOutcome Performed)) (out : List ℕ)
+    → offer ≡ given → p ≡ pause.Whole → Reaches offer answers capacity share limits c now t s start piece calls p link entries out
+    → (written : List ℕ) × (out ≡ start ++ written) × Served (owner_rules given.interface answers capacity share) given.knows limits c now t s piece link (answered_so_far calls entries) written
+whole-is offer given answers capacity share limits c now t s start piece calls p link entries out are is h =
+    subst (λ (o : Offer). Reaches o answers capacity share limits c now t s start piece calls pause.Whole link entries out) are
+    (subst (λ (x : Pause). Reaches offer answers capacity share limits c now t s start piece calls x link entries out) is h)
+
+pub asks-is : (offer given : Offer) (answers : List Call → Call → Performed) (capacity share : ℕ) (limits : Limits) (c now : ℕ) (t : Table (List Call) Performed) (s start piece : List ℕ) (calls : List Call) (p : Pause) (w : Waiting) (place : Place) (link : Linked) (entries : List (KeptOutcome Performed)) (out : List ℕ)
+    → offer ≡ given → p ≡ pause.Asks w place → Reaches offer answers capacity share limits c now t s start piece calls p link entries out
+    → Reaches given answers capacity share limits c now t s start piece calls (pause.Asks w place) link entries out
+asks-is offer given answers capacity share limits c now t s start piece calls p w place link entries out are is h =
+    subst (λ (o : Offer). Reaches o answers capacity share limits c now t s start piece calls (pause.Asks w place) link entries out) are
+    (subst (λ (x : Pause). Reaches offer answers capacity share limits c now t s start piece calls x link entries out) is h)
+
+pub breaks-is : (offer given : Offer) (answers : List Call → Call → Performed) (capacity share : ℕ) (limits : Limits) (c now : ℕ) (t : Table (List Call) Performed) (s start piece : List ℕ) (calls : List Call) (at : Cut) (entries : List (KeptOutcome Performed)) (out : List ℕ)
+    → offer ≡ given → Breaks offer answers capacity share limits c now t s start piece calls at entries out → Breaks given answers capacity share limits c now t s start piece calls at entries out
+breaks-is offer given answers capacity share limits c now t s start piece calls at entries out are h =
+    subst (λ (o : Offer). Breaks o answers capacity share limits c now t s start piece calls at entries out) are h
+
+-- nothing is pending, so nothing waits
+pub idle-by : {o : Option Pending} → o ≡ None → option_map awaited_of o ≡ None
+idle-by is = ap (λ (p : Option Pending). option_map awaited_of p) is
+
+-- a live link stands for a stream
+up-by : (limits : Limits) (l : Line) (link : Linked) → IsFor limits (Some link) l → link.is_closed ≡ false → (s : List ℕ) × (l ≡ Up s) × LinkStands limits link s
+up-by limits Gone link held live = absurd held
+up-by limits Shut link held live = absurd (let k : true ≡ false = sym held.1 ∙ live in cc)
+up-by limits (Up s) link held live = (s, refl, held)
+
+module _ {C : Type 0} (offers : C → Offer) (owner : Owner) where
+  abbrev Theirs : Rules (List Call) Wanted Call Performed
+  Theirs = rules_with owner
+
+  abbrev Says : List Event → Event → List (Result Performed SystemName)
+  Says = table_says (meaning_of owner) (made_of owner)
+
+  abbrev Folded : List Event → Table (List Call) Performed
+  Folded past = table_of_past (meaning_of owner) (made_of owner) past
+
+  pub rests-ends : (calls : List Call) (past : List Event) (e : Event) (note : Note) (new : Engine C) (out grown : List ℕ) → offers new.catalogue ≡ owner.offer → waits_in new ≡ None
+      → ((written : List ℕ) × (grown ≡ out ++ written) × Writes owner.limits owner.offer.knows Says past e written note × Stands (meaning_of owner) (made_of owner) (as_server new calls) (after owner.limits past e note))
+      → Ends offers owner calls past e note new out grown
+  rests-ends calls past e note new out grown are idle x = record { written = x.0; appended = x.1; writes = x.2; rests = record { offer_is = are; idle = idle; stands = x.3 } }
+
+  -- What octets on connection c bring after a past, up to the request that waits.
+  pub record Brings (calls : List Call) (past : List Event) (c moment : ℕ) (octets written : List ℕ) (handled : ℕ) (w : Waiting) : Type 0 where
+    pub front : List (Arrival Wanted)
+    pub last : Arrival Wanted
+    pub completes : completed owner.limits past (Piece c moment octets) ≡ front ++ last ∷ []
+    pub asks : asked_of owner.offer.interface last.content ≡ Ok (call_of w)
+    pub fit : AreArgumentsOf (owner.offer.interface w.object_key.items w.operation.items) (values_of w.arguments.items)
+    pub out : written ≡ output_cut owner.limits owner.offer.knows Says past (Piece c moment octets) (length front)
+    pub count : handled ≡ length front
+    pub first : (n : ℕ) → n < length octets → length (completed owner.limits past (Piece c moment (take n octets))) ≤ length front
+    pub before : (table_after Theirs (Folded past) front).state ≡ calls
+    pub then : (table_after Theirs (Folded past) (front ++ last ∷ [])).state ≡ calls ++ call_of w ∷ []
+
+  brings-at : (past : List Event) (c moment : ℕ) (octets written : List ℕ) (s : List ℕ) (link : Linked) (calls : List Call) (entries : List (KeptOutcome Performed)) (handled : ℕ) (w : Waiting) → line past c ≡ Up s
+      → Paused owner.offer owner.answers owner.capacity owner.share owner.limits c (max (clock past) moment) (Folded past) s octets link calls entries written handled w
+      → Brings calls past c moment octets written handled w
+  brings-at past c moment octets written s link calls entries handled w up p =
+      let now = max (clock past) moment in
+      let on : (xs : List ℕ) → completed owner.limits past (Piece c moment xs) ≡ arrivals_in owner.limits c now s xs = λ xs. ap (λ (l : Line). arrivals_on owner.limits c now l xs) up in
+      let all : completed owner.limits past (Piece c moment octets) ≡ p.before ++ p.a ∷ [] = on octets ∙ p.arrivals in
+      let both = folded_step Theirs now (answered_so_far calls p.old) (Folded past) p.before p.a (subst (λ (i : ℕ). now ≤ i) (sym p.clock) (omega arith)) p.alike in
+      record {
+        front = p.before;
+        last = p.a;
+        completes = all;
+        asks = ap (λ (x : Wanted). asked_of owner.offer.interface x) p.waits.content ∙ p.waits.spells.asks;
+        fit = p.waits.spells.fit;
+        out = p.out ∙ sym (rendered-more Theirs owner.offer.knows (Folded past) p.before (p.a ∷ []))
+            ∙ sym (ap (λ (xs : List (Arrival Wanted)). rendered owner.offer.knows (take (length p.before) xs) (table_answers Theirs (Folded past) xs)) all
+            ∙ ap (λ (xs : List (Arrival Wanted)). rendered owner.offer.knows xs (table_answers Theirs (Folded past) (p.before ++ p.a ∷ []))) (take-append_seam p.before (p.a ∷ [])));
+        count = p.count;
+        first = λ n less. let few = p.first n less in let size = ap (λ (xs : List (Arrival Wanted)). length xs) (on (take n octets)) in omega (arith, few, size);
+        before = sym p.alike.state;
+        then = sym both.1.state ∙ ap (λ (x : Table (List Call) Performed × Result Performed SystemName). x.0.state) p.waits.steps;
+      }
+
+  -- .. as an engine keeps them
+  pub brings-of : (calls : List Call) (engine : Engine C) (past : List Event) (moment : ℕ) (octets written : List ℕ) (p : Pending) → Keeps offers owner calls engine past moment octets written p
+      → Brings calls past p.connection moment octets written p.place.handled p.waiting
+  brings-of calls engine past moment octets written p k =
+      let c = p.connection in
+      let now = engine.keeper.clock in
+      let held : IsFor owner.limits (Some k.was) (line past c) = subst (λ (o : Option Linked). IsFor owner.limits o (line past c)) k.stood (k.stands.lines c) in
+      let up = up-by owner.limits (line past c) k.was held k.live in
+      let paused = k.paused up.0 (Folded past) up.2 (alike-then (meaning_of owner) (made_of owner) k.server k.server past c moment octets k.stands now k.clock) in
+      let at : now ≡ max (clock past) moment = k.clock ∙ ap (λ (n : ℕ). max n moment) k.stands.moment in
+      brings-at past c moment octets written up.0 k.link calls (logged engine.keeper.log).entries p.place.handled p.waiting up.1
+      (at-first (λ a b n. Paused owner.offer owner.answers a b owner.limits c n (Folded past) up.0 octets k.link calls (logged engine.keeper.log).entries written p.place.handled p.waiting) _ _ _ _ _ _ k.stands.capacity_is k.stands.share_is at paused)
+
+  pub asks-of : (calls : List Call) (engine : Engine C) (past : List Event) (moment : ℕ) (octets written : List ℕ) (p : Pending) → Keeps offers owner calls engine past moment octets written p
+      → Asks offers owner calls engine past moment octets written (awaited_of p)
+  asks-of calls engine past moment octets written p k =
+      let b = brings-of calls engine past moment octets written p k in
+      record {
+        waits = ap (λ (o : Option Pending). option_map awaited_of o) k.waits;
+        front = b.front;
+        last = b.last;
+        completes = b.completes;
+        asks = b.asks;
+        fit = b.fit;
+        out = b.out;
+        pending = p;
+        is = refl;
+        keeps = k;
+      }
+
+  -- the octets taken are the shortest front of the piece that completes the request
+  short-of : (calls : List Call) (engine : Engine C) (past : List Event) (c moment : ℕ) (piece : List ℕ) (taken : ℕ) (written : List ℕ) (handled : ℕ) (w : Waiting) (s : List ℕ) (k : ℕ) → line past c ≡ Up s → taken ≤ length piece
+      → Brings calls past c moment (take taken piece) written handled w → k ≡ length (completed owner.limits past (Piece c moment (take taken piece)))
+      → shortened owner.limits past (Piece c moment piece) k ≡ Piece c moment (take taken piece)
+  short-of calls engine past c moment piece taken written handled w s k up within b count =
+      let now = max (clock past) moment in
+      let on : (xs : List ℕ) → completed owner.limits past (Piece c moment xs) ≡ arrivals_in owner.limits c now s xs = λ xs. ap (λ (l : Line). arrivals_on owner.limits c now l xs) up in
+      let size = length-take taken piece in
+      let here = ap (λ (xs : List (Arrival Wanted)). length xs) (on (take taken piece)) in
+      let all = ap (λ (xs : List (Arrival Wanted)). length xs) b.completes in
+      let both = length-append b.front (b.last ∷ []) in
+      let exact = front-exact Theirs owner.offer.knows owner.limits c now (Folded past) s piece taken k within (omega (arith, count, here))
+      (λ m less.
+      let few = b.first m (omega (arith, size, within, less)) in
+      let there = ap (λ (xs : List (Arrival Wanted)). length xs) (on (take m (take taken piece))) in
+      let same = ap (λ (l : List ℕ). length (arrivals_in owner.limits c now s l)) (take-take m taken piece (omega (arith, less))) in
+      omega (arith, few, there, same, all, both, count)) in
+      ap (λ (l : Line). Piece c moment (front_on owner.limits c now l piece k)) up ∙ ap (λ (l : List ℕ). Piece c moment l) exact
+
+  -- a request waits
+  pub stops-now : (calls : List Call) (old new : Engine C) (past : List Event) (c moment : ℕ) (piece : List ℕ) (now : ℕ) (out grown : List ℕ) (was link : Linked) (w : Waiting) (place : Place) (p : Pending) → Rests offers owner calls old past → offers new.catalogue ≡ owner.offer → new.pending ≡ Some p
+      → p ≡ record { connection = c; waiting = w; place = place } → IsSameBut c (as_server old calls) (as_server new calls) → now ≡ max old.keeper.clock moment → new.keeper.clock ≡ now → get nat_cmp old.links c ≡ Some was → get nat_cmp new.links c ≡ Some link → was.is_closed ≡ false
+      → 0 < place.taken → place.taken ≤ length piece
+      → ((s : List ℕ) (t : Table (List Call) Performed) → LinkStands owner.limits was s → AreAlike now (answered_so_far calls (logged old.keeper.log).entries) t
+      → Reaches owner.offer owner.answers (logged old.keeper.log).capacity (logged old.keeper.log).share owner.limits c now t s out piece calls (pause.Asks w place) link (logged new.keeper.log).entries grown)
+      → Stops offers owner calls past c moment piece place.taken new out grown
+  stops-now calls old new past c moment piece now out grown was link w place p h are waits is same at then-at stood held live some within reaches =
+      let server : Server (List Call) = as_server old calls in
+      let line-for : IsFor owner.limits (Some was) (line past c) = subst (λ (o : Option Linked). IsFor owner.limits o (line past c)) stood (h.stands.lines c) in
+      let up = up-by owner.limits (line past c) was line-for live in
+      let first = reaches up.0 (Folded past) up.2 (alike-then (meaning_of owner) (made_of owner) server server past c moment piece h.stands now at) in
+      let x : Pending = record { connection = c; waiting = w; place = place } in
+      let size = length-take place.taken piece in
+      let keeps : Keeps offers owner calls new past moment (take place.taken piece) first.0 x = record {
+        offer_is = are;
+        waits = waits ∙ ap (λ (y : Pending). Some y) is;
+        server = server;
+        answered = refl;
+        was = was;
+        link = link;
+        stands = h.stands;
+        same = same;
+        clock = then-at ∙ at;
+        stood = stood;
+        live = live;
+        held = held;
+        whole = omega (arith, size, within);
+        some = omega (arith, size, within, some);
+        paused = λ s t st al.
+            let al0 : AreAlike now (table_of server.desk) t = subst (λ (n : ℕ). AreAlike n (table_of server.desk) t) then-at al in
+            let r = reaches s t st al0 in
+            let eq : r.0 ≡ first.0 = append_cancel_left out r.0 first.0 (sym r.1 ∙ first.1) in
+            subst (λ (n : ℕ). Paused owner.offer owner.answers (capacity_of server.desk) (share_of server.desk) owner.limits c n t s (take place.taken piece) link calls (logged new.keeper.log).entries first.0 place.handled w) (sym then-at)
+            (subst (λ (l : List ℕ). Paused owner.offer owner.answers (capacity_of server.desk) (share_of server.desk) owner.limits c now t s (take place.taken piece) link calls (logged new.keeper.log).entries l place.handled w) eq r.2);
+      } in
+      stops-by calls new past c moment piece out grown w place up.0 first.0 up.1 within first.1 keeps
+    where
+      stops-by : (calls : List Call) (new : Engine C) (past : List Event) (c moment : ℕ) (piece out grown : List ℕ) (w : Waiting) (place : Place) (s written : List ℕ) → line past c ≡ Up s → place.taken ≤ length piece → grown ≡ out ++ written
+          → Keeps offers owner calls new past moment (take place.taken piece) written (record { connection = c; waiting = w; place = place })
+          → Stops offers owner calls past c moment piece place.taken new out grown
+      stops-by calls new past c moment piece out grown w place s written up within appended keeps =
+          let x : Pending = record { connection = c; waiting = w; place = place } in
+          let a = asks-of calls new past moment (take place.taken piece) written x keeps in
+          let b = brings-of calls new past moment (take place.taken piece) written x keeps in
+          let size = length-append a.front (a.last ∷ []) in
+          let all = ap (λ (xs : List (Arrival Wanted)). length xs) a.completes in
+          record {
+            written = written;
+            appended = appended;
+            call = call_of w;
+            asks = a;
+            short = short-of calls new past c moment piece place.taken written place.handled w s (length a.front + 1) up within b (omega (arith, size, all));
+          }
+
+  -- what `finish` appended, behind what was written before
+  finishes-more : (w : Waiting) (outcome : Performed) (mid new : List (KeptOutcome Performed)) (step : Step) (out grown written : List ℕ) → Finishes w outcome mid step new out grown
+      → (more : List ℕ) × (grown ≡ out ++ more) × Finishes w outcome mid step new written (written ++ more)
+  finishes-more w outcome mid new Quiet out grown written d = absurd d
+  finishes-more w outcome mid new Answered out grown written d = (reply_by w.wish w.version w.request_id outcome, d.1, (d.0, refl))
+  finishes-more w outcome mid new Unanswered out grown written d = ([], d.1 ∙ sym (append-nil out), (d.0, append-nil written, d.2))
+  finishes-more w outcome mid new Unhandled out grown written d = absurd d
+
+  module _ (grow : HearingGrows) (calls : List Call) (old new : Engine C) (past : List Event) (moment : ℕ) (octets written : List ℕ) (p : Pending) (a : Keeps offers owner calls old past moment octets written p) (outcome : Performed)
+      (gave : owner.answers calls (call_of p.waiting) ≡ outcome) (step : Step) (out grown : List ℕ) (r : Result ℕ Cut)
+      (done : Finishes p.waiting outcome (logged old.keeper.log).entries step (logged new.keeper.log).entries out grown) (by : r ≡ counted_by p.place.handled step)
+      (are : new.catalogue ≡ old.catalogue) (idle : waits_in new ≡ None) (same : IsSameBut p.connection (as_server old calls) (as_server new (calls ++ call_of p.waiting ∷ []))) (clock : new.keeper.clock ≡ old.keeper.clock) where
+    abbrev Later : List Call
+    Later = calls ++ call_of p.waiting ∷ []
+
+    here : take p.place.taken octets ≡ octets
+    here = let size = a.whole in take_all p.place.taken octets (omega (arith, size))
+
+    more-written : (more : List ℕ) × (grown ≡ out ++ more) × Finishes p.waiting outcome (logged old.keeper.log).entries step (logged new.keeper.log).entries written (written ++ more)
+    more-written = finishes-more p.waiting outcome (logged old.keeper.log).entries (logged new.keeper.log).entries step out grown written done
+
+    both-same : IsSameBut p.connection a.server (as_server new Later)
+    both-same = record {
+      limits = same.limits ∙ a.same.limits;
+      capacity = same.capacity ∙ a.same.capacity;
+      share = same.share ∙ a.same.share;
+      greatest = same.greatest ∙ a.same.greatest;
+      others = λ q is. same.others q is ∙ a.same.others q is;
+    }
+
+    -- what waited, as it was reached
+    reached : (s : List ℕ) (t : Table (List Call) Performed) → LinkStands owner.limits a.was s → AreAlike old.keeper.clock (table_of a.server.desk) t
+        → Reaches owner.offer owner.answers (capacity_of a.server.desk) (share_of a.server.desk) owner.limits p.connection old.keeper.clock t s [] octets calls (pause.Asks p.waiting p.place) a.link (logged old.keeper.log).entries written
+    reached s t st al = (
+      written,
+      refl,
+      subst (λ (l : List ℕ). Paused owner.offer owner.answers (capacity_of a.server.desk) (share_of a.server.desk) owner.limits p.connection old.keeper.clock t s l a.link calls (logged old.keeper.log).entries written p.place.handled p.waiting) (sym here) (a.paused s t st al),
+    )
+
+    resumes-by : (note : Note)
+        → ((w : List ℕ) × (written ++ more-written.0 ≡ [] ++ w) × Writes owner.limits owner.offer.knows (table_says (meaning_of owner) (made_of owner)) past (Piece p.connection moment octets) w note × Stands (meaning_of owner) (made_of owner) (as_server new Later) (after owner.limits past (Piece p.connection moment octets) note))
+        → Resumes offers owner Later past p.connection moment octets written note new out grown
+    resumes-by note x = record {
+      more = more-written.0;
+      appended = more-written.1;
+      writes = subst (λ (l : List ℕ). Writes owner.limits owner.offer.knows (table_says (meaning_of owner) (made_of owner)) past (Piece p.connection moment octets) l note) (sym x.1) x.2;
+      rests = record { offer_is = ap offers are ∙ a.offer_is; idle = idle; stands = x.3 };
+    }
+
+    -- it is answered ..
+    pub resumes-done : (h : ℕ) → r ≡ Ok h → get nat_cmp new.links p.connection ≡ Some a.link → Resumes offers owner Later past p.connection moment octets written Done new out grown
+    resumes-done h is held =
+        let size = a.whole in
+        resumes-by Done
+        (fed-ok (meaning_of owner) (made_of owner) a.server (as_server new Later) past p.connection moment octets old.keeper.clock [] (written ++ more-written.0) a.was a.link a.stands both-same a.clock clock a.stood held a.live
+        (λ s t st al.
+        stood-whole (owner_rules owner.offer.interface owner.answers (capacity_of a.server.desk) (share_of a.server.desk)) owner.offer.knows owner.limits p.connection old.keeper.clock t s [] octets p.place.taken a.link (answered_so_far Later (logged new.keeper.log).entries) (written ++ more-written.0) h
+        (omega (arith, size))
+        (reach-goes owner.offer owner.answers (capacity_of a.server.desk) (share_of a.server.desk) owner.limits p.connection old.keeper.clock t s [] octets p.place h a.link calls (logged old.keeper.log).entries (logged new.keeper.log).entries written (written ++ more-written.0) p.waiting step r outcome
+        (reached s t st al) gave more-written.2 by is)))
+
+    -- .. or its answer is not appended, and the connection is lost
+    pub resumes-cut : (at : Cut) → r ≡ Err at → get nat_cmp new.links p.connection ≡ None → Resumes offers owner Later past p.connection moment octets written (Memory at.handled at.answered) new out grown
+    resumes-cut at is gone =
+        let size = a.whole in
+        resumes-by (Memory at.handled at.answered)
+        (fed-err (meaning_of owner) (made_of owner) a.server (as_server new Later) past p.connection moment octets old.keeper.clock [] (written ++ more-written.0) a.was at a.stands both-same a.clock clock a.stood gone a.live a.some
+        (λ s t st al.
+        reach-breaks owner.offer owner.answers (capacity_of a.server.desk) (share_of a.server.desk) owner.limits p.connection old.keeper.clock t s [] octets grow p.place at a.link calls (logged old.keeper.log).entries (logged new.keeper.log).entries written (written ++ more-written.0) p.waiting step r outcome
+        (omega (arith, size)) (reached s t st al) gave more-written.2 by is))
+
+  -- what waits is what the engine keeps
+  kept-is : (calls : List Call) (old : Engine C) (past : List Event) (moment : ℕ) (octets written : List ℕ) (x : Pending) (w : Awaited) → old.pending ≡ Some x → (a : Asks offers owner calls old past moment octets written w) → a.pending ≡ x
+  kept-is calls old past moment octets written x w is a = let both : Some a.pending ≡ Some x = sym a.keeps.waits ∙ is in cc
+
+  kept-as : (calls : List Call) (old : Engine C) (past : List Event) (moment : ℕ) (octets written : List ℕ) (x : Pending) (w : Awaited) → old.pending ≡ Some x → Asks offers owner calls old past moment octets written w
+      → Keeps offers owner calls old past moment octets written x × (awaited_of x ≡ w)
+  kept-as calls old past moment octets written x w is a =
+      let one = kept-is calls old past moment octets written x w is a in
+      (subst (λ (y : Pending). Keeps offers owner calls old past moment octets written y) one a.keeps, ap awaited_of (sym one) ∙ a.is)
+
+  pub answered-done : HearingGrows → (calls : List Call) (old new : Engine C) (past : List Event) (moment : ℕ) (octets written : List ℕ) (x : Pending) (w : Awaited) → old.pending ≡ Some x → Asks offers owner calls old past moment octets written w
+      → (outcome : Performed) → owner.answers calls w.call ≡ outcome → (step : Step) (out grown : List ℕ) (r : Result ℕ Cut)
+      → Finishes x.waiting outcome (logged old.keeper.log).entries step (logged new.keeper.log).entries out grown → r ≡ counted_by x.place.handled step
+      → new.catalogue ≡ old.catalogue → waits_in new ≡ None → IsSameBut x.connection (as_server old calls) (as_server new (calls ++ call_of x.waiting ∷ [])) → new.keeper.clock ≡ old.keeper.clock
+      → (h : ℕ) → r ≡ Ok h → new.links ≡ old.links → Resumes offers owner (calls ++ w.call ∷ []) past w.connection moment octets written Done new out grown
+  answered-done grow calls old new past moment octets written x w is a outcome gave step out grown r done by are idle same clock h ok held =
+      let k = kept-as calls old past moment octets written x w is a in
+      let gives : owner.answers calls (call_of x.waiting) ≡ outcome = ap (λ (v : Awaited). owner.answers calls v.call) k.1 ∙ gave in
+      subst (λ (v : Awaited). Resumes offers owner (calls ++ v.call ∷ []) past v.connection moment octets written Done new out grown) k.1
+      (resumes-done grow calls old new past moment octets written x k.0 outcome gives step out grown r done by are idle same clock h ok (ap (λ e. get nat_cmp e x.connection) held ∙ k.0.held))
+
+  pub answered-cut : HearingGrows → (calls : List Call) (old new : Engine C) (past : List Event) (moment : ℕ) (octets written : List ℕ) (x : Pending) (w : Awaited) → old.pending ≡ Some x → Asks offers owner calls old past moment octets written w
+      → (outcome : Performed) → owner.answers calls w.call ≡ outcome → (step : Step) (out grown : List ℕ) (r : Result ℕ Cut)
+      → Finishes x.waiting outcome (logged old.keeper.log).entries step (logged new.keeper.log).entries out grown → r ≡ counted_by x.place.handled step
+      → new.catalogue ≡ old.catalogue → waits_in new ≡ None → IsSameBut x.connection (as_server old calls) (as_server new (calls ++ call_of x.waiting ∷ [])) → new.keeper.clock ≡ old.keeper.clock
+      → (at : Cut) → r ≡ Err at → get nat_cmp new.links x.connection ≡ None → Resumes offers owner (calls ++ w.call ∷ []) past w.connection moment octets written (Memory at.handled at.answered) new out grown
+  answered-cut grow calls old new past moment octets written x w is a outcome gave step out grown r done by are idle same clock at err gone =
+      let k = kept-as calls old past moment octets written x w is a in
+      let gives : owner.answers calls (call_of x.waiting) ≡ outcome = ap (λ (v : Awaited). owner.answers calls v.call) k.1 ∙ gave in
+      subst (λ (v : Awaited). Resumes offers owner (calls ++ v.call ∷ []) past v.connection moment octets written (Memory at.handled at.answered) new out grown) k.1
+      (resumes-cut grow calls old new past moment octets written x k.0 outcome gives step out grown r done by are idle same clock at err gone)
+
+  -- each distinct admissible request is answered once
+  pub ends-once : (calls : List Call) (past : List Event) (e : Event) (note : Note) (new : Engine C) (out grown : List ℕ) → Ends offers owner calls past e note new out grown → EndsOnce offers owner calls past e note out grown
+  ends-once calls past e note new out grown x =
+      event-once (meaning_of owner) (made_of owner) (as_server new calls) past e note out grown (x.written, x.appended, x.writes, x.rests.stands)
+
+  pub resumes-once : (calls : List Call) (past : List Event) (c moment : ℕ) (octets written : List ℕ) (note : Note) (new : Engine C) (out grown : List ℕ) → Resumes offers owner calls past c moment octets written note new out grown
+      → ResumesOnce offers owner calls past c moment octets written note out grown
+  resumes-once calls past c moment octets written note new out grown x =
+      let all = event-once (meaning_of owner) (made_of owner) (as_server new calls) past (Piece c moment octets) note [] (written ++ x.more) (written ++ x.more, refl, x.writes, x.rests.stands) in
+      (x.more, x.appended, subst (λ (l : List ℕ). IsOnce offers owner calls past (Piece c moment octets) note l) (sym all.1) all.2)
+
+  -- and one that waits is the first that acts
+  due-at : (calls : List Call) (past : List Event) (c moment : ℕ) (octets written : List ℕ) (handled : ℕ) (w : Waiting) (b : Brings calls past c moment octets written handled w) → (Folded past).state ≡ calls
+      → OneExpiration (arrivals owner.limits (Piece c moment octets ∷ past)) → IsDue offers owner calls past (Piece c moment octets) b.front b.last written
+  due-at calls past c moment octets written handled w b now one =
+      let e = Piece c moment octets in
+      let xs = arrivals owner.limits past in
+      let all : OneExpiration (xs ++ (b.front ++ b.last ∷ [])) = subst (λ (l : List (Arrival Wanted)). OneExpiration (xs ++ l)) b.completes one in
+      let grow : ClocksGrow (clock past) (b.front ++ b.last ∷ []) = subst (λ (l : List (Arrival Wanted)). ClocksGrow (clock past) l) b.completes (event-clocks owner.limits past e (clock past) (omega arith)).0 in
+      let split = sym (append_assoc xs b.front (b.last ∷ [])) in
+      let one-front-too : OneExpiration (xs ++ b.front) = one-front (xs ++ b.front) (b.last ∷ []) (subst (λ (l : List (Arrival Wanted)). OneExpiration l) split all) in
+      let stands = past-stands (meaning_of owner) (made_of owner) past (one-front xs (b.front ++ b.last ∷ []) all) in
+      let first = (run_stands Theirs [] (clock past) xs b.front (Folded past) one-front-too (ClocksGrow-front (clock past) b.front (b.last ∷ []) grow) stands).1 in
+      let last = (run_stands Theirs [] (clock past) xs (b.front ++ b.last ∷ []) (Folded past) all grow stands).1 in
+      let was : state_of Theirs [] xs ≡ calls = sym stands.state ∙ now in
+      let mid : state_of Theirs [] (xs ++ b.front) ≡ calls = sym first.state ∙ b.before in
+      let then : state_of Theirs [] ((xs ++ b.front) ++ b.last ∷ []) ≡ calls ++ call_of w ∷ [] = ap (λ (l : List (Arrival Wanted)). state_of Theirs [] l) (sym split) ∙ sym last.state ∙ b.then in
+      record {
+        acts_now = last-acts owner (xs ++ b.front) b.last calls (call_of w) mid then;
+        is_first = none-acted owner xs b.front (mid ∙ sym was);
+        calls_are = sym was;
+        out = b.out ∙ ap (λ (answers : List (Result Performed SystemName)). rendered owner.offer.knows (take (length b.front) (completed owner.limits past e)) answers) (says-agree (meaning_of owner) (made_of owner) past e one);
+      }
+
+  keeps-once : (calls : List Call) (engine : Engine C) (past : List Event) (moment : ℕ) (octets written : List ℕ) (p : Pending) (out grown : List ℕ) → Keeps offers owner calls engine past moment octets written p → grown ≡ out ++ written
+      → AsksOnce offers owner calls past p.connection moment octets (waits_in engine) out grown
+  keeps-once calls engine past moment octets written p out grown k appended =
+      let b = brings-of calls engine past moment octets written p k in
+      record {
+        written = written;
+        appended = appended;
+        call = call_of p.waiting;
+        is_awaited = ap (λ (o : Option Pending). option_map awaited_of o) k.waits;
+        front = b.front;
+        last = b.last;
+        completes = b.completes;
+        asks = b.asks;
+        once = due-at calls past p.connection moment octets written p.place.handled p.waiting b (sym k.stands.table.state ∙ k.answered);
+      }
+
+  pub stops-once : (calls : List Call) (past : List Event) (c moment : ℕ) (piece : List ℕ) (taken : ℕ) (engine : Engine C) (out grown : List ℕ) → Stops offers owner calls past c moment piece taken engine out grown
+      → AsksOnce offers owner calls past c moment (take taken piece) (waits_in engine) out grown
+  stops-once calls past c moment piece taken engine out grown x =
+      subst (λ (v : Awaited). AsksOnce offers owner calls past v.connection moment (take taken piece) (waits_in engine) out grown) x.asks.is
+      (keeps-once calls engine past moment (take taken piece) x.written x.asks.pending out grown x.asks.keeps x.appended)
+
+  -- What is held for each connection while a request waits stands for its line, with the octets that came.
+  keeps-lines : (calls : List Call) (engine : Engine C) (past : List Event) (moment : ℕ) (octets written : List ℕ) (p : Pending) → Keeps offers owner calls engine past moment octets written p
+      → (d : ℕ) → IsFor owner.limits (get nat_cmp engine.links d) (line (Piece p.connection moment octets ∷ past) d)
+  keeps-lines calls engine past moment octets written p k d = go (p.connection == d) refl
+    where
+      here : IsFor owner.limits (get nat_cmp engine.links p.connection) (line (Piece p.connection moment octets ∷ past) p.connection)
+      here =
+          let c = p.connection in
+          let held : IsFor owner.limits (Some k.was) (line past c) = subst (λ (o : Option Linked). IsFor owner.limits o (line past c)) k.stood (k.stands.lines c) in
+          let up = up-by owner.limits (line past c) k.was held k.live in
+          let paused = k.paused up.0 (Folded past) up.2 (alike-then (meaning_of owner) (made_of owner) k.server k.server past c moment octets k.stands engine.keeper.clock k.clock) in
+          subst (λ (o : Option Linked). IsFor owner.limits o (line (Piece c moment octets ∷ past) c)) (sym k.held)
+          (subst (λ (l : Line). IsFor owner.limits (Some k.link) l) (sym (same-by c (longer octets (line past c)) (line past c) ∙ ap (longer octets) up.1)) paused.stands)
+
+      go : (b : Bool) → (p.connection == d) ≡ b → IsFor owner.limits (get nat_cmp engine.links d) (line (Piece p.connection moment octets ∷ past) d)
+      go true is = subst (λ (q : ℕ). IsFor owner.limits (get nat_cmp engine.links q) (line (Piece p.connection moment octets ∷ past) q)) (eqb-true p.connection d is) here
+      go false is =
+          subst (λ (l : Line). IsFor owner.limits (get nat_cmp engine.links d) l) (sym (apart-by (p.connection == d) (longer octets (line past d)) (line past d) is))
+          (subst (λ (o : Option Linked). IsFor owner.limits o (line past d)) (sym (k.same.others d is)) (k.stands.lines d))
+
+  pub asks-lines : (calls : List Call) (engine : Engine C) (past : List Event) (moment : ℕ) (octets written : List ℕ) (w : Awaited) → Asks offers owner calls engine past moment octets written w
+      → (d : ℕ) → IsFor owner.limits (get nat_cmp engine.links d) (line (Piece w.connection moment octets ∷ past) d)
+  asks-lines calls engine past moment octets written w a d =
+      subst (λ (v : Awaited). IsFor owner.limits (get nat_cmp engine.links d) (line (Piece v.connection moment octets ∷ past) d)) a.is (keeps-lines calls engine past moment octets written a.pending a.keeps d)
+
+  -- what waited is given up: it counts as not handled, and the connection is lost
+  give-up-cut : HearingGrows → (calls : List Call) (old new : Engine C) (past : List Event) (moment : ℕ) (octets written : List ℕ) (x : Pending) (b : Keeps offers owner calls old past moment octets written x)
+      → IsSameBut x.connection b.server (as_server new calls) → new.keeper ≡ old.keeper → get nat_cmp new.links x.connection ≡ None
+      → (w : List ℕ) × (written ≡ [] ++ w) × Writes owner.limits owner.offer.knows (table_says (meaning_of owner) (made_of owner)) past (Piece x.connection moment octets) w (Memory x.place.handled x.place.handled)
+      × Stands (meaning_of owner) (made_of owner) (as_server new calls) (after owner.limits past (Piece x.connection moment octets) (Memory x.place.handled x.place.handled))
+  give-up-cut grow calls old new past moment octets written x b same kept gone =
+      let size = b.whole in
+      fed-err (meaning_of owner) (made_of owner) b.server (as_server new calls) past x.connection moment octets old.keeper.clock [] written b.was (all_answered x.place.handled) b.stands same
+      b.clock (ap (λ (k : Keeper). k.clock) kept) b.stood gone b.live b.some
+      (λ s t st al.
+      reach-left owner.offer owner.answers (capacity_of b.server.desk) (share_of b.server.desk) owner.limits x.connection old.keeper.clock t s [] octets grow x.place b.link calls (logged old.keeper.log).entries (logged new.keeper.log).entries written x.waiting
+      (omega (arith, size)) (
+        written,
+        refl,
+        subst (λ (l : List ℕ). Paused owner.offer owner.answers (capacity_of b.server.desk) (share_of b.server.desk) owner.limits x.connection old.keeper.clock t s l b.link calls (logged old.keeper.log).entries written x.place.handled x.waiting)
+            (sym (take_all x.place.taken octets (omega (arith, size)))) (b.paused s t st al),
+      )
+      (ap (λ (k : Keeper). (logged k.log).entries) kept))
+
+  gave-up : (calls : List Call) (new : Engine C) (past : List Event) (moment : ℕ) (octets written : List ℕ) (x : Pending) (note : Note) → offers new.catalogue ≡ owner.offer → waits_in new ≡ None
+      → ((w : List ℕ) × (written ≡ [] ++ w) × Writes owner.limits owner.offer.knows (table_says (meaning_of owner) (made_of owner)) past (Piece x.connection moment octets) w note
+      × Stands (meaning_of owner) (made_of owner) (as_server new calls) (after owner.limits past (Piece x.connection moment octets) note))
+      → Resumes offers owner calls past x.connection moment octets written note new [] []
+  gave-up calls new past moment octets written x note are idle r = record {
+    more = [];
+    appended = refl;
+    writes = subst (λ (l : List ℕ). Writes owner.limits owner.offer.knows (table_says (meaning_of owner) (made_of owner)) past (Piece x.connection moment octets) l note) (sym (append-nil written ∙ r.1)) r.2;
+    rests = record { offer_is = are; idle = idle; stands = r.3 };
+  }
+
+  give-up-here : HearingGrows → (calls : List Call) (old new : Engine C) (past : List Event) (moment : ℕ) (octets written : List ℕ) (x : Pending) → Keeps offers owner calls old past moment octets written x
+      → new.catalogue ≡ old.catalogue → waits_in new ≡ None → IsSameBut x.connection (as_server old calls) (as_server new calls) → new.keeper ≡ old.keeper → get nat_cmp new.links x.connection ≡ None
+      → Resumes offers owner calls past x.connection moment octets written (Memory x.place.handled x.place.handled) new [] []
+  give-up-here grow calls old new past moment octets written x b are idle same kept gone =
+      gave-up calls new past moment octets written x (Memory x.place.handled x.place.handled) (ap offers are ∙ b.offer_is) idle
+      (give-up-cut grow calls old new past moment octets written x b
+      (record { limits = same.limits ∙ b.same.limits; capacity = same.capacity ∙ b.same.capacity; share = same.share ∙ b.same.share; greatest = same.greatest ∙ b.same.greatest; others = λ q n. same.others q n ∙ b.same.others q n })
+      kept gone)
+
+  pub given-up : HearingGrows → (calls : List Call) (old new : Engine C) (past : List Event) (moment : ℕ) (octets written : List ℕ) (x : Pending) (w : Awaited) → old.pending ≡ Some x → Asks offers owner calls old past moment octets written w
+      → new.catalogue ≡ old.catalogue → waits_in new ≡ None → IsSameBut x.connection (as_server old calls) (as_server new calls) → new.keeper ≡ old.keeper → get nat_cmp new.links x.connection ≡ None
+      → Resumes offers owner calls past w.connection moment octets written (Memory x.place.handled x.place.handled) new [] []
+  given-up grow calls old new past moment octets written x w is a are idle same kept gone =
+      let k = kept-as calls old past moment octets written x w is a in
+      subst (λ (v : Awaited). Resumes offers owner calls past v.connection moment octets written (Memory x.place.handled x.place.handled) new [] []) k.1
+      (give-up-here grow calls old new past moment octets written x k.0 are idle same kept gone)
+
+  -- how many came before it
+  pub given-count : (calls : List Call) (old : Engine C) (past : List Event) (moment : ℕ) (octets written : List ℕ) (x : Pending) (w : Awaited) → old.pending ≡ Some x → Asks offers owner calls old past moment octets written w
+      → x.place.handled + 1 ≡ length (completed owner.limits past (Piece w.connection moment octets))
+  given-count calls old past moment octets written x w is a =
+      let k = kept-as calls old past moment octets written x w is a in
+      let b = brings-of calls old past moment octets written x k.0 in
+      let all = ap (λ (xs : List (Arrival Wanted)). length xs) b.completes in
+      let size = length-append b.front (b.last ∷ []) in
+      let count = b.count in
+      subst (λ (v : Awaited). x.place.handled + 1 ≡ length (completed owner.limits past (Piece v.connection moment octets))) k.1 (omega (arith, all, size, count))

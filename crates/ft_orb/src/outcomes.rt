@@ -1,0 +1,109 @@
+//! Which outcomes can be sent, and which are those of an operation.
+
+ghost use Rattle.std.specs.Prelude.{◌≡◌, ◌↔◌, ◌+◌, ◌≤◌, IsTrue, length, map};
+ghost use Rattle.std.specs.List.{AllByRecursion};
+ghost use Rattle.cdr_core.specs.Fitting.{AreValid, FitsMembers};
+ghost use Rattle.cdr_core.specs.View.{forms_of, values_of};
+ghost use Rattle.cdr_core.specs.Writing.{AreWritable, octets_of_all};
+ghost use Rattle.cdr_core.specs.declared.order.Order.TheVariants.{Big};
+ghost use Rattle.giop_core.specs.Written.{exception_body};
+ghost use Rattle.ft_log.specs.Performed.{system};
+ghost use Rattle.ft_log.specs.View.{performed_in};
+ghost use Rattle.ft_orb.specs.Interfaces.{IsOutcomeOf, IsRaised, IsValidInterface, interface_of, raise_of};
+ghost use Rattle.ft_orb.specs.Replies.{IsRenderable};
+
+use crate::signature::Lookup;
+use cdr_core::{Ty, Val, are_writable, end_of_list, fits, has_no_nul};
+use ft_log::{Completion, Outcome, SystemName};
+
+/// The place where the body of a Reply begins (CORBA 3.3 Part 2, 9.4.1, 9.4.3).
+const BODY: u64 = 24;
+
+/// The most octets that a body takes.
+const MOST: u64 = 1_048_576;
+
+/// Whether the octets of values that are written from a place on end within the longest body.
+fn ends_in_time(place: u64, values: &[Val]) -> bool
+    ensures { IsTrue result ↔ (place + length (octets_of_all Big (values_of values.now) place) ≤ 1048600) }
+{
+    match end_of_list(place, values) {
+        Some(end) => end <= BODY + MOST,
+        None => false,
+    }
+}
+
+/// Whether the body of an exception can be sent: its repository id, and then its members.
+fn can_raise(id: &[u8], members: &[Val]) -> bool
+    ensures { IsTrue result ↔ (AreWritable (exception_body id.now (values_of members.now)) × (length (octets_of_all Big (exception_body id.now (values_of members.now)) 24) ≤ 1048576)) }
+{
+    let size = id.len() as u64;
+    size <= MOST
+        && has_no_nul(id)
+        && are_writable(members)
+        && ends_in_time(BODY + 5 + size, members)
+}
+
+/// Whether the body of a system exception can be sent.
+fn can_refuse(name: SystemName, minor: u32, completion: Completion) -> bool
+    ensures { IsTrue result ↔ IsRenderable (system name minor completion) }
+{
+    let members = [Val::ULong(minor), Val::Enum(completion.number())];
+    can_raise(name.repository_id(), &members)
+}
+
+/// Whether an outcome can be sent: the body of its Reply can be written, and takes at most 1,048,576 octets.
+pub(crate) fn is_renderable(outcome: &Outcome) -> bool
+    ensures { IsTrue result ↔ IsRenderable (performed_in outcome.now) }
+{
+    match outcome {
+        Outcome::Returned(results) => are_writable(results) && ends_in_time(BODY, results),
+        Outcome::Raised(id, members) => can_raise(id, members),
+        Outcome::System(name, minor, completion) => can_refuse(*name, *minor, *completion),
+    }
+}
+
+/// Whether there are as many values as types, each of its type.
+#[tactic(auto, using(crate::proofs::Calls::members_count))]
+fn are_of(types: &[Ty], values: &[Val]) -> bool
+    requires { AreValid (forms_of types.now) }
+    ensures { IsTrue result ↔ FitsMembers (forms_of types.now) (values_of values.now) }
+{
+    if types.len() != values.len() {
+        return false;
+    }
+    for i in 0..types.len() {
+        if !fits(&types[i], &values[i]) {
+            return false;
+        }
+    }
+    true
+}
+
+/// Whether one of these exceptions has the repository id, and members of these types.
+fn is_raised(raises: &[(Vec<u8>, Vec<Ty>)], id: &[u8], members: &[Val]) -> bool
+    requires { AllByRecursion (λ r. AreValid r.1) (map raise_of raises.now) }
+    ensures { IsTrue result ↔ IsRaised (map raise_of raises.now) id.now (values_of members.now) }
+{
+    for (own, types) in raises {
+        if own.as_slice() == id && are_of(types, members) {
+            return true;
+        }
+    }
+    false
+}
+
+/// Whether an outcome is one of an operation: results of its types, an exception that it declares, or a system
+/// exception.
+pub(crate) fn is_outcome_of(lookup: Lookup<'_>, outcome: &Outcome) -> bool
+    requires { IsValidInterface (interface_of lookup) }
+    ensures { IsTrue result ↔ IsOutcomeOf (interface_of lookup.entry) (performed_in outcome.now) }
+{
+    let Lookup::Operation(signature) = lookup else {
+        return false;
+    };
+    match outcome {
+        Outcome::Returned(results) => are_of(&signature.results, results),
+        Outcome::Raised(id, members) => has_no_nul(id) && is_raised(&signature.raises, id, members),
+        Outcome::System(..) => true,
+    }
+}
