@@ -191,7 +191,9 @@ def symbols_of(crate, function, known):
     if trait:
         trait = re.findall(r"\w+", trait)[-1]
         return [name for name in found if re.search(rf"\b{owner}{trait}|\+{owner}\+{trait}", name)]
-    return [name for name in found if rest[name][0] == owner]
+    # (a method has its name by the module of its type, wherever its impl stands)
+    return [name for name in found if rest[name][0] == owner] or [
+        name for name in known if name.endswith(f"::{owner}::{function.name}")]
 
 
 class Verdict:
