@@ -190,7 +190,11 @@ def symbols_of(crate, function, known):
     owner = re.findall(r"\w+", of if trait else head.split(":")[0])[-1]
     if trait:
         trait = re.findall(r"\w+", trait)[-1]
-        return [name for name in found if re.search(rf"\b{owner}{trait}|\+{owner}\+{trait}", name)]
+        found = [name for name in found if re.search(rf"\b{owner}{trait}|\+{owner}\+{trait}", name)]
+        # (of one trait for several types, as From, the name has the type too)
+        of_type = re.search(rf"{trait}<(?:\w+::)*(\w+)", function.impl)
+        told = [name for name in found if of_type and re.search(rf"{owner}{trait}{of_type[1]}\b", name)]
+        return told if len(found) > 1 and told else found
     # (a method has its name by the module of its type, wherever its impl stands)
     return [name for name in found if rest[name][0] == owner] or [
         name for name in known if name.endswith(f"::{owner}::{function.name}")]
