@@ -8,7 +8,12 @@ use std::test::Fail;
 use uses::{Piece, serve_pieces};
 
 /// Adds the octets in pieces of 30, all at one moment.
-fn add_pieces(alloc: Global, moment: u64, octets: &[u8], pieces: &mut Vec<Piece>) -> Result<(), AllocError> {
+fn add_pieces(
+    alloc: Global,
+    moment: u64,
+    octets: &[u8],
+    pieces: &mut Vec<Piece>,
+) -> Result<(), AllocError> {
     for part in octets.chunks(30) {
         pieces.push(Piece {
             moment,
