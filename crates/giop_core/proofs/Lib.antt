@@ -19,3 +19,4 @@ pub mod Refused
 pub mod ReadFits
 pub mod Carried
 pub mod Sizes
+pub mod OctetsBody

@@ -8,7 +8,7 @@ use Rattle.cdr_core.specs.Numbers.{padding, AreOctets}
 use Rattle.cdr_core.specs.Parts.{short, short_value}
 use Rattle.cdr_core.specs.Spelling.{InTurn, IsClean, Spells}
 use Rattle.cdr_core.specs.Value.{Value, Values, no_values, values}
-use Rattle.cdr_core.specs.Writing.{octets_of_all}
+use Rattle.cdr_core.specs.Writing.{octets_of_all, AreWritable}
 use Rattle.giop_core.specs.declared.error.MessageFault.{MessageFault}
 use Rattle.giop_core.specs.declared.error.MessageFault.TheVariants.{BadAddressing}
 use Rattle.giop_core.specs.declared.header.Header.{Header}
@@ -24,7 +24,7 @@ use Rattle.giop_core.specs.Grammar.{IsMessage, StopsField, StopsMessage}
 use Rattle.giop_core.specs.Headers.{header_octets, header_of, is_possible}
 use Rattle.giop_core.specs.Messages.{message_of, IsBack, OnBody}
 use Rattle.giop_core.specs.Rows.{ft_request, target}
-use Rattle.giop_core.specs.Written.{behind_header, cancel_fields, ft_octets, ft_value_of, locate_reply_fields, locate_request_fields, locate_statuses, reply_fields, reply_statuses, request_fields, CanAddress, CanAsk}
+use Rattle.giop_core.specs.Written.{behind_header, cancel_fields, ft_octets, ft_value_of, locate_reply_fields, locate_request_fields, locate_statuses, octets_body, reply_fields, reply_statuses, request_fields, CanAddress, CanAsk}
 
 -- What is read is a message by the grammar ..
 abbrev pub MessagesAreSpelled : Type 0
@@ -122,6 +122,18 @@ CancelsHaveOneSize = (version : Version) (order : Order) (id : ℕ) → length (
 abbrev pub RequestsHaveOneSize : Type 0
 RequestsHaveOneSize = (version : Version) (order : Order) (id other : ℕ) (wish : ReplyWish) (to : Addressed) (operation : List ℕ) (contexts : List (ℕ × List ℕ)) (body : Values)
     → length (behind_header version Request order (request_fields version id wish to operation contexts) body) ≡ length (behind_header version Request order (request_fields version other wish to operation contexts) body)
+
+-- A body that comes as octets is those octets, at every place and in either order ..
+abbrev pub OctetsBodiesAreOctets : Type 0
+OctetsBodiesAreOctets = (order : Order) (octets : List ℕ) (place : ℕ) → AreOctets octets → octets_of_all order (octets_body octets) place ≡ octets
+
+-- .. has as many, whatever their numbers are ..
+abbrev pub OctetsBodiesAreAsLong : Type 0
+OctetsBodiesAreAsLong = (order : Order) (octets : List ℕ) (place : ℕ) → length (octets_of_all order (octets_body octets) place) ≡ length octets
+
+-- .. and can be written where an unsigned long counts them.
+abbrev pub OctetsBodiesCanBeWritten : Type 0
+OctetsBodiesCanBeWritten = (octets : List ℕ) → length octets < 2 ^ 32 → AreWritable (octets_body octets)
 
 -- What the writer of its kind asks of a message. No writer of this crate has a Fragment; its id is an unsigned long.
 abbrev pub CanBeWritten : Version → Content → Type 0

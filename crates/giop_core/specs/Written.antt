@@ -1,5 +1,5 @@
 -- How a message is written: its fields, its body, and its header; and what each writer asks and does.
-use Rattle.std.specs.Prelude.{◌≡◌, ℕ, ◌+◌, ◌<◌, ◌≤◌, ◌^◌, ℤ, pos, Bool, true, false, List, [], ◌∷◌, ◌++◌, length, replicate, Result, Ok, Err, ⊤}
+use Rattle.std.specs.Prelude.{◌≡◌, ℕ, ◌+◌, ◌<◌, ◌≤◌, ◌^◌, ℤ, pos, Bool, true, false, List, [], ◌∷◌, ◌++◌, length, map, replicate, Result, Ok, Err, ⊤}
 use Rattle.cdr_core.specs.declared.order.Order.{Order}
 use Rattle.cdr_core.specs.Writing.{and_then, octets_of, octets_of_all}
 use Rattle.cdr_core.specs.Encapsulation.{byte_order}
@@ -77,6 +77,10 @@ reply_fields _ id status contexts = list_value contexts ∷ ulong_value id ∷ v
 -- GIOP 9.4.3: the body of a Reply that carries an exception: its repository id, and then its members
 abbrev pub exception_body : List ℕ → Values → Values
 exception_body id members = value.value (value.string id) members
+
+-- GIOP 9.4.3: the body of a Reply that comes as octets: they stand one after another
+abbrev pub octets_body : List ℕ → Values
+octets_body octets = values (value.array (values (map octet_value octets)) ∷ [])
 
 -- GIOP 9.4.4: a CancelRequest
 abbrev pub cancel_fields : ℕ → List Value

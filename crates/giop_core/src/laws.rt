@@ -1,6 +1,6 @@
 //! Laws over the definitions: each is what a function with an empty body ensures.
 
-ghost use Rattle.giop_core.specs.Laws.{AbsentFtIsNowhere, BodiesAreBacks, CancelsHaveOneSize, HeadersAreReadAgain, LocateRepliesHaveOneSize, MessagesAreSpelled, PresentFtIsSpelled, ReadMessagesAreReadAgain, ReadMessagesCanBeWritten, RefusedMessagesStop, RepliesHaveOneSize, RequestsHaveOneSize, SpelledMessagesAreRead, StoppingMessagesAreRefused, UnknownTargetsStop, WrittenCancelIsRead, WrittenFtIsPresent, WrittenLocateReplyIsRead, WrittenLocateRequestIsRead, WrittenReplyIsRead, WrittenRequestCarriesFt, WrittenRequestIsRead};
+ghost use Rattle.giop_core.specs.Laws.{AbsentFtIsNowhere, BodiesAreBacks, CancelsHaveOneSize, HeadersAreReadAgain, LocateRepliesHaveOneSize, MessagesAreSpelled, OctetsBodiesAreAsLong, OctetsBodiesAreOctets, OctetsBodiesCanBeWritten, PresentFtIsSpelled, ReadMessagesAreReadAgain, ReadMessagesCanBeWritten, RefusedMessagesStop, RepliesHaveOneSize, RequestsHaveOneSize, SpelledMessagesAreRead, StoppingMessagesAreRefused, UnknownTargetsStop, WrittenCancelIsRead, WrittenFtIsPresent, WrittenLocateReplyIsRead, WrittenLocateRequestIsRead, WrittenReplyIsRead, WrittenRequestCarriesFt, WrittenRequestIsRead};
 
 /// Reading gives the message that the grammar says the octets are, and gives it wherever there is
 /// one.
@@ -49,6 +49,14 @@ pub fn written_sizes()
     ensures locate_reply { LocateRepliesHaveOneSize }
     ensures cancel { CancelsHaveOneSize }
     ensures request { RequestsHaveOneSize }
+{}
+
+/// A body that comes as octets: what is written of it is those octets at every place and in either order,
+/// as many as there are, and it can be written where there are fewer than 2^32.
+pub fn octets_bodies()
+    ensures read { OctetsBodiesAreOctets }
+    ensures long { OctetsBodiesAreAsLong }
+    ensures writable { OctetsBodiesCanBeWritten }
 {}
 
 /// A message that was read meets what its writer asks, and written again it is read as the same message.

@@ -32,7 +32,7 @@ pub use fragment::Fragment;
 pub use locate::{
     LocateReply, LocateRequest, LocateStatus, write_locate_reply, write_locate_request,
 };
-pub use reply::{Reply, ReplyStatus, write_exception, write_reply};
+pub use reply::{Reply, ReplyStatus, write_exception, write_raw_reply, write_reply};
 pub use request::{ReplyWish, Request, write_request};
 
 // what messages lend

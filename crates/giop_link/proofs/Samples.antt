@@ -1,6 +1,6 @@
 -- Samples: what is heard of messages that are written, on both sides.
 use Rattle.std.proofs.Common.{◌≡◌, [], ◌∷◌, ◌++◌, Some, replicate, refl, lit≤}
-use Rattle.cdr_core.specs.declared.order.Order.TheVariants.{Big}
+use Rattle.cdr_core.specs.declared.order.Order.TheVariants.{Big, Little}
 use Rattle.cdr_core.specs.Parts.{ulong_value}
 use Rattle.cdr_core.specs.Reading.{value_at, whole_at, number_at, part_at, octets_at, length_at, each_at, ordinal_at}
 use Rattle.cdr_core.specs.Value.{no_values, values}
@@ -32,22 +32,26 @@ nothing = record { order = Big; place = 0; octets = [] }
 
 -- a Request of 1.0 of id 5: the operation `a` of the object `k`, with the unsigned long 7
 asking : Outgoing
-asking = record { version = V10; content = content.request 5 wish.Full (by_key (107 ∷ [])) (97 ∷ []) [] nothing; body = values (ulong_value 7 ∷ []) }
+asking = record { version = V10; order = Big; content = content.request 5 wish.Full (by_key (107 ∷ [])) (97 ∷ []) [] nothing; body = values (ulong_value 7 ∷ []) }
 
 -- it is withdrawn
 withdrawing : Outgoing
-withdrawing = record { version = V10; content = content.cancel 5; body = no_values }
+withdrawing = record { version = V10; order = Big; content = content.cancel 5; body = no_values }
 
 closing : Outgoing
-closing = record { version = V10; content = content.close; body = no_values }
+closing = record { version = V10; order = Big; content = content.close; body = no_values }
 
 -- a Reply of 1.2 to it, with the unsigned long 9
 replying : Outgoing
-replying = record { version = V12; content = content.reply 5 0 [] nothing; body = values (ulong_value 9 ∷ []) }
+replying = record { version = V12; order = Big; content = content.reply 5 0 [] nothing; body = values (ulong_value 9 ∷ []) }
+
+-- the same in little order
+replying_in_little : Outgoing
+replying_in_little = record { version = V12; order = Little; content = content.reply 5 0 [] nothing; body = values (ulong_value 9 ∷ []) }
 
 -- one that is longer than 4,096 octets
 replying_at_length : Outgoing
-replying_at_length = record { version = V12; content = content.reply 6 0 [] nothing; body = values (replicate 1025 (ulong_value 1)) }
+replying_at_length = record { version = V12; order = Big; content = content.reply 6 0 [] nothing; body = values (replicate 1025 (ulong_value 1)) }
 
 the_request : Incoming
 the_request = asks (record {
@@ -63,12 +67,15 @@ the_request = asks (record {
 the_reply : Answer
 the_reply = replied 5 (record { status = 0; body = record { order = Big; place = 24; octets = 0 ∷ 0 ∷ 0 ∷ 9 ∷ [] } })
 
+the_little_reply : Answer
+the_little_reply = replied 5 (record { status = 0; body = record { order = Little; place = 24; octets = 9 ∷ 0 ∷ 0 ∷ 0 ∷ [] } })
+
 -- what is written
 the_octets : octets_of_each (withdrawing ∷ closing ∷ []) ≡ (71 ∷ 73 ∷ 79 ∷ 80 ∷ 1 ∷ 0 ∷ 0 ∷ 2 ∷ 0 ∷ 0 ∷ 0 ∷ 4 ∷ 0 ∷ 0 ∷ 0 ∷ 5 ∷ []) ++ close_connection
 unfolding withdrawing closing behind_header
 the_octets = refl
 
-an_error : octets_of (record { version = V10; content = content.error; body = no_values }) ≡ message_octets V10 kind.MessageError Big []
+an_error : octets_of (record { version = V10; order = Big; content = content.error; body = no_values }) ≡ message_octets V10 kind.MessageError Big []
 an_error = refl
 
 -- to a server
@@ -89,6 +96,10 @@ up_to_the_limit : course_to answer_to limits (replying ∷ replying_at_length �
 unfolding limits replying replying_at_length the_reply behind_header nothing
 up_to_the_limit = refl
 
+in_either_order : course_to answer_to limits (replying ∷ replying_in_little ∷ closing ∷ []) ≡ record { heard = the_reply ∷ the_little_reply ∷ []; ending = Some peer_closed }
+unfolding limits replying replying_in_little closing the_reply the_little_reply behind_header nothing
+in_either_order = refl
+
 no_answer : course_to answer_to limits (replying ∷ withdrawing ∷ replying ∷ []) ≡ record { heard = the_reply ∷ []; ending = Some wrong_direction }
 unfolding limits replying withdrawing the_reply behind_header nothing
 no_answer = refl
@@ -96,6 +107,10 @@ no_answer = refl
 heard_by_the_client : client_heard limits (octets_of_each (replying ∷ closing ∷ replying ∷ [])) ≡ the_reply ∷ []
 unfolding limits replying closing the_reply nothing behind_header client_heard messages_of fault_of split sight header_of judged_by judged_as message_of row value_at whole_at number_at part_at octets_at length_at each_at ordinal_at answer_of content.content
 heard_by_the_client = refl
+
+heard_in_either_order : client_heard limits (octets_of_each (replying_in_little ∷ replying ∷ closing ∷ [])) ≡ the_little_reply ∷ the_reply ∷ []
+unfolding limits replying replying_in_little closing the_reply the_little_reply nothing behind_header client_heard messages_of fault_of split sight header_of judged_by judged_as message_of row value_at whole_at number_at part_at octets_at length_at each_at ordinal_at answer_of content.content
+heard_in_either_order = refl
 
 ended_at_the_client : client_ending limits (octets_of_each (replying ∷ closing ∷ replying ∷ [])) ≡ Some peer_closed
 unfolding limits replying closing the_reply nothing behind_header client_ending messages_of fault_of split sight header_of judged_by judged_as message_of row value_at whole_at number_at part_at octets_at length_at each_at ordinal_at answer_of content.content

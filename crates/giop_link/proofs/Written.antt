@@ -1,7 +1,7 @@
 -- What is heard of messages that are written.
 use Rattle.std.proofs.Common.{◌≡◌, ◌≢◌, ℕ, ◌+◌, ◌<◌, ◌^◌, nat_lt, true, false, cond, List, [], ◌∷◌, ◌++◌, length, map, Option, Some, Ok, IsOk, refl, sym, ap, subst, ◌∙◌}
 use Rattle.std.specs.List.{AllByRecursion, cons_option}
-use Rattle.cdr_core.specs.declared.order.Order.TheVariants.{Big}
+use Rattle.cdr_core.specs.declared.order.Order.{Order}
 use Rattle.cdr_core.specs.Value.{Values}
 use Rattle.giop_core.specs.declared.header.MessageKind.{MessageKind}
 use Rattle.giop_core.specs.declared.header.MessageKind.TheVariants as kind
@@ -25,21 +25,21 @@ use Rattle.giop_link.specs.Outgoing.{CanGoOut, IsFront, Outgoing, answer_to, cou
 
 -- a message without fields reads
 
-close-read : (version : Version) → message_of version kind.CloseConnection Big [] ≡ Ok content.close
+close-read : (version : Version) (order : Order) → message_of version kind.CloseConnection order [] ≡ Ok content.close
 unfolding message_of row content.content
-close-read V10 = refl
-close-read V11 = refl
-close-read V12 = refl
+close-read V10 order = refl
+close-read V11 order = refl
+close-read V12 order = refl
 
-error-read : (version : Version) → message_of version kind.MessageError Big [] ≡ Ok content.error
+error-read : (version : Version) (order : Order) → message_of version kind.MessageError order [] ≡ Ok content.error
 unfolding message_of row content.content
-error-read V10 = refl
-error-read V11 = refl
-error-read V12 = refl
+error-read V10 order = refl
+error-read V11 order = refl
+error-read V12 order = refl
 
 -- the message as an assembler's stream has it
 abbrev sent_of : Outgoing → Sent
-sent_of m = record { version = m.version; kind = kind_of m.content; order = Big; body = octets_after m }
+sent_of m = record { version = m.version; kind = kind_of m.content; order = m.order; body = octets_after m }
 
 octets-same : (ms : List Outgoing) → sent_octets (map sent_of ms) ≡ octets_of_each ms
 octets-same [] = refl
@@ -64,22 +64,22 @@ module _ {Heard : Type 0} (to_reader : Version → Content → Sound Heard) wher
 
 module _ (request : WrittenRequestIsRead) (reply : WrittenReplyIsRead) (cancel : WrittenCancelIsRead) (locate_request : WrittenLocateRequestIsRead) (locate_reply : WrittenLocateReplyIsRead) where
   -- what is written is read as what was said
-  read-in : (version : Version) (m : Content) (body : Values) → CanBeWritten version m → kind_of m ≢ kind.Fragment → length (octets_in version m body) < 2 ^ 32
-      → message_of version (kind_of m) Big (octets_in version m body) ≡ Ok (said_in version m body)
-  read-in version (content.request id wish to operation contexts rest) body can whole size = request version Big id wish to operation contexts body can.0 can.1 can.2 can.3 can.4 can.5 size
-  read-in version (content.reply id status contexts rest) body can whole size = reply version Big id status contexts body can.0 can.1 can.2 size
-  read-in version (content.cancel id) body can whole size = cancel version Big id can size
-  read-in version (content.locate_request id to) body can whole size = locate_request version Big id to can.0 can.1 can.2 size
-  read-in version (content.locate_reply id status rest) body can whole size = locate_reply version Big id status body can.0 can.1 size
-  read-in version content.close body can whole size = close-read version
-  read-in version content.error body can whole size = error-read version
-  read-in version (content.fragment id octets) body can whole size = absurd (whole refl)
+  read-in : (version : Version) (order : Order) (m : Content) (body : Values) → CanBeWritten version m → kind_of m ≢ kind.Fragment → length (octets_in version order m body) < 2 ^ 32
+      → message_of version (kind_of m) order (octets_in version order m body) ≡ Ok (said_in version order m body)
+  read-in version order (content.request id wish to operation contexts rest) body can whole size = request version order id wish to operation contexts body can.0 can.1 can.2 can.3 can.4 can.5 size
+  read-in version order (content.reply id status contexts rest) body can whole size = reply version order id status contexts body can.0 can.1 can.2 size
+  read-in version order (content.cancel id) body can whole size = cancel version order id can size
+  read-in version order (content.locate_request id to) body can whole size = locate_request version order id to can.0 can.1 can.2 size
+  read-in version order (content.locate_reply id status rest) body can whole size = locate_reply version order id status body can.0 can.1 size
+  read-in version order content.close body can whole size = close-read version order
+  read-in version order content.error body can whole size = error-read version order
+  read-in version order (content.fragment id octets) body can whole size = absurd (whole refl)
 
   readable : (m : Outgoing) → CanGoOut m → IsReadable (sent_of m)
   readable m can = record {
     kind = can.whole;
     size = can.size;
-    reads = let is = read-in m.version m.content m.body can.takes can.whole can.size in subst IsOk (sym is) refl;
+    reads = let is = read-in m.version m.order m.content m.body can.takes can.whole can.size in subst IsOk (sym is) refl;
   }
 
   all-readable : (ms : List Outgoing) → AllByRecursion CanGoOut ms → AllByRecursion IsReadable (map sent_of ms)
@@ -88,9 +88,9 @@ module _ (request : WrittenRequestIsRead) (reply : WrittenReplyIsRead) (cancel :
 
   -- a reader to whom a frame is what it says
   module _ {Heard : Type 0} (to_reader : Version → Content → Sound Heard) (sound : Frame → Sound Heard)
-      (tells : (version : Version) (k : MessageKind) (octets : List ℕ) (m : Content) → message_of version k Big octets ≡ Ok m → sound (written version k Big octets) ≡ to_reader version m) where
-    means : (m : Outgoing) → CanGoOut m → sound (written m.version (kind_of m.content) Big (octets_after m)) ≡ sound_to to_reader m
-    means m can = tells m.version (kind_of m.content) (octets_after m) (said_in m.version m.content m.body) (read-in m.version m.content m.body can.takes can.whole can.size)
+      (tells : (version : Version) (k : MessageKind) (order : Order) (octets : List ℕ) (m : Content) → message_of version k order octets ≡ Ok m → sound (written version k order octets) ≡ to_reader version m) where
+    means : (m : Outgoing) → CanGoOut m → sound (written m.version (kind_of m.content) m.order (octets_after m)) ≡ sound_to to_reader m
+    means m can = tells m.version (kind_of m.content) m.order (octets_after m) (said_in m.version m.order m.content m.body) (read-in m.version m.order m.content m.body can.takes can.whole can.size)
 
     -- the course of the messages that complete
     course-same : (limits : Limits) (n : ℕ) (ms : List Outgoing) → AllByRecursion CanGoOut ms
@@ -117,7 +117,7 @@ module _ (request : WrittenRequestIsRead) (reply : WrittenReplyIsRead) (cancel :
   module _ (up_to : SentAreReadUpToTheLimit) (nothing : NothingIsClear) where
     to-server : (limits : Limits) (ms : List Outgoing) → AllByRecursion CanGoOut ms → course_of limits (octets_of_each ms) ≡ course_to meaning_in limits ms
     unfolding meaning_of
-    to-server limits ms can = course-written meaning_in meaning_of (λ version k octets m is. ap (meaning_read version) is) up_to nothing limits ms can
+    to-server limits ms can = course-written meaning_in meaning_of (λ version k order octets m is. ap (meaning_read version) is) up_to nothing limits ms can
 
     pub written-heard : WrittenIsHeard
     unfolding heard ending
@@ -130,7 +130,7 @@ module _ (request : WrittenRequestIsRead) (reply : WrittenReplyIsRead) (cancel :
 
     to-client : (limits : Limits) (ms : List Outgoing) → AllByRecursion CanGoOut ms → client_course limits (octets_of_each ms) ≡ course_to answer_to limits ms
     unfolding answer_of
-    to-client limits ms can = course-written answer_to answer_of (λ version k octets m is. ap answer_read is) up_to nothing limits ms can
+    to-client limits ms can = course-written answer_to answer_of (λ version k order octets m is. ap answer_read is) up_to nothing limits ms can
 
     pub answers-heard : WrittenAnswersAreHeard
     unfolding client_heard client_ending

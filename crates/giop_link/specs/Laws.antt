@@ -2,7 +2,7 @@
 use Rattle.std.specs.Prelude.{◌≡◌, ℕ, ◌+◌, ◌^◌, ◌<◌, ℤ, FitsSigned, List, [], ◌++◌, length, Option, Some, None}
 use Rattle.std.specs.Int.{w32}
 use Rattle.std.specs.List.{AllByRecursion}
-use Rattle.cdr_core.specs.declared.order.Order.TheVariants.{Big}
+use Rattle.cdr_core.specs.declared.order.Order.{Order}
 use Rattle.cdr_core.specs.Spelling.{IsClean}
 use Rattle.cdr_core.specs.Value.{Values, no_values}
 use Rattle.cdr_core.specs.Writing.{octets_of_all}
@@ -112,32 +112,32 @@ WrittenAnswersAreHeard = (limits : Limits) (ms : List Outgoing) → AllByRecursi
 abbrev pub AnswersAreMeant : Type 0
 AnswersAreMeant = (limits : Limits) (ms : List Outgoing) → AllByRecursion CanGoOut ms → IsFront (client_heard limits (octets_of_each ms)) (meant answer_to ms)
 
--- Which messages can go out: a Request for an object by its key, with FT_REQUEST as its one context, which it carries; where
--- it is not too long ..
+-- Which messages can go out, in either byte order: a Request for an object by its key, with FT_REQUEST as its one context,
+-- which it carries; where it is not too long ..
 abbrev pub RequestsGoOut : Type 0
-RequestsGoOut = (version : Version) (id : ℕ) (wish : ReplyWish) (key operation client_id : List ℕ) (retention_id : ℤ) (expiration : ℕ) (rest : Rest) (body : Values)
+RequestsGoOut = (version : Version) (order : Order) (id : ℕ) (wish : ReplyWish) (key operation client_id : List ℕ) (retention_id : ℤ) (expiration : ℕ) (rest : Rest) (body : Values)
     → id < 2 ^ 32 → CanAsk version wish → IsClean operation → IsClean client_id → FitsSigned w32 retention_id → expiration < 2 ^ 64
-    → length (octets_in version (content.request id wish (by_key key) operation (ft_alone client_id retention_id expiration) rest) body) < 2 ^ 32
-    → CanGoOut (record { version = version; content = content.request id wish (by_key key) operation (ft_alone client_id retention_id expiration) rest; body = body })
-    × (ft_in (ft_alone client_id retention_id expiration) ≡ present client_id retention_id expiration)
+    → length (octets_in version order (content.request id wish (by_key key) operation (ft_alone order client_id retention_id expiration) rest) body) < 2 ^ 32
+    → CanGoOut (record { version = version; order = order; content = content.request id wish (by_key key) operation (ft_alone order client_id retention_id expiration) rest; body = body })
+    × (ft_in (ft_alone order client_id retention_id expiration) ≡ present client_id retention_id expiration)
 
 -- .. a CancelRequest ..
 abbrev pub CancelsGoOut : Type 0
-CancelsGoOut = (version : Version) (id : ℕ) (body : Values) → id < 2 ^ 32 → CanGoOut (record { version = version; content = content.cancel id; body = body })
+CancelsGoOut = (version : Version) (order : Order) (id : ℕ) (body : Values) → id < 2 ^ 32 → CanGoOut (record { version = version; order = order; content = content.cancel id; body = body })
 
 -- .. a Reply without contexts, whose body is not too long and stands at the place 24 in every version ..
 abbrev pub RepliesGoOut : Type 0
-RepliesGoOut = (version : Version) (id status : ℕ) (rest : Rest) (body : Values)
-    → id < 2 ^ 32 → status < reply_statuses version → 12 + length (octets_of_all Big body 24) < 2 ^ 32
-    → CanGoOut (record { version = version; content = content.reply id status [] rest; body = body })
-    × (said_in version (content.reply id status [] rest) body ≡ content.reply id status [] (record { order = Big; place = 24; octets = octets_of_all Big body 24 }))
+RepliesGoOut = (version : Version) (order : Order) (id status : ℕ) (rest : Rest) (body : Values)
+    → id < 2 ^ 32 → status < reply_statuses version → 12 + length (octets_of_all order body 24) < 2 ^ 32
+    → CanGoOut (record { version = version; order = order; content = content.reply id status [] rest; body = body })
+    × (said_in version order (content.reply id status [] rest) body ≡ content.reply id status [] (record { order = order; place = 24; octets = octets_of_all order body 24 }))
 
 -- .. a LocateReply without a body, which would stand at the place 20 ..
 abbrev pub LocateRepliesGoOut : Type 0
-LocateRepliesGoOut = (version : Version) (id status : ℕ) (rest : Rest) → id < 2 ^ 32 → status < locate_statuses version
-    → CanGoOut (record { version = version; content = content.locate_reply id status rest; body = no_values })
-    × (said_in version (content.locate_reply id status rest) no_values ≡ content.locate_reply id status (record { order = Big; place = 20; octets = [] }))
+LocateRepliesGoOut = (version : Version) (order : Order) (id status : ℕ) (rest : Rest) → id < 2 ^ 32 → status < locate_statuses version
+    → CanGoOut (record { version = version; order = order; content = content.locate_reply id status rest; body = no_values })
+    × (said_in version order (content.locate_reply id status rest) no_values ≡ content.locate_reply id status (record { order = order; place = 20; octets = [] }))
 
 -- .. CloseConnection and MessageError.
 abbrev pub FarewellsGoOut : Type 0
-FarewellsGoOut = (version : Version) (body : Values) → CanGoOut (record { version = version; content = content.close; body = body }) × CanGoOut (record { version = version; content = content.error; body = body })
+FarewellsGoOut = (version : Version) (order : Order) (body : Values) → CanGoOut (record { version = version; order = order; content = content.close; body = body }) × CanGoOut (record { version = version; order = order; content = content.error; body = body })

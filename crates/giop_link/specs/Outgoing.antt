@@ -1,6 +1,6 @@
--- What is written for a reader: messages in big order, one after another, and what the reader hears of them.
+-- What is written for a reader: messages one after another, each in a byte order, and what the reader hears of them.
 use Rattle.std.specs.Prelude.{◌≡◌, ◌≢◌, ℕ, ◌+◌, ◌^◌, ◌<◌, nat_lt, ℤ, List, [], ◌∷◌, ◌++◌, filter_map, flat_map, length, Option, Some, None, if◌then◌else◌}
-use Rattle.cdr_core.specs.declared.order.Order.TheVariants.{Big}
+use Rattle.cdr_core.specs.declared.order.Order.{Order}
 use Rattle.cdr_core.specs.Value.{Values, no_values}
 use Rattle.giop_core.specs.declared.header.MessageKind.{MessageKind}
 use Rattle.giop_core.specs.declared.header.MessageKind.TheVariants as kind
@@ -14,10 +14,11 @@ use Rattle.giop_frames.specs.declared.limits.Limits.{Limits}
 use Rattle.giop_link.specs.Answering.{Answer, answer_in}
 use Rattle.giop_link.specs.Hearing.{Course, Sound, before, ends, faulty, says}
 
--- a message to be written: its version, what it says, and the values of its body, if it has one; the octets of a body in
--- `content` do not count
+-- a message to be written: its version, the byte order in which it is written, what it says, and the values of its body, if it
+-- has one; the octets of a body in `content` do not count
 pub record Outgoing : Type 0 where
   pub version : Version
+  pub order : Order
   pub content : Content
   pub body : Values
 
@@ -40,24 +41,24 @@ values_in (content.locate_reply id status rest) body = body
 values_in m body = no_values
 
 -- what stands after the header
-abbrev pub octets_in : Version → Content → Values → List ℕ
-octets_in version content.close body = []
-octets_in version content.error body = []
-octets_in version m body = behind_header version (kind_of m) Big (written_fields version m) (values_in m body)
+abbrev pub octets_in : Version → Order → Content → Values → List ℕ
+octets_in version order content.close body = []
+octets_in version order content.error body = []
+octets_in version order m body = behind_header version (kind_of m) order (written_fields version m) (values_in m body)
 
 abbrev pub octets_after : Outgoing → List ℕ
-octets_after m = octets_in m.version m.content m.body
+octets_after m = octets_in m.version m.order m.content m.body
 
 -- the octets of a message, and of messages one after another
 abbrev pub octets_of : Outgoing → List ℕ
-octets_of m = message_octets m.version (kind_of m.content) Big (octets_after m)
+octets_of m = message_octets m.version (kind_of m.content) m.order (octets_after m)
 
 abbrev pub octets_of_each : List Outgoing → List ℕ
 octets_of_each ms = flat_map octets_of ms
 
 -- what it says, with the octets of its body in their place
-abbrev pub said_in : Version → Content → Values → Content
-said_in version m body = with_rest m (rest_after version (kind_of m) Big (written_fields version m) (values_in m body))
+abbrev pub said_in : Version → Order → Content → Values → Content
+said_in version order m body = with_rest m (rest_after version (kind_of m) order (written_fields version m) (values_in m body))
 
 -- a writer of its kind takes it, and its size is one that a header can say; no Fragment is written by itself
 pub record CanGoOut (m : Outgoing) : Type 0 where
@@ -65,9 +66,9 @@ pub record CanGoOut (m : Outgoing) : Type 0 where
   pub whole : kind_of m.content ≢ kind.Fragment
   pub size : length (octets_after m) < 2 ^ 32
 
--- FT 23.2.7: FT_REQUEST as the one context of a request
-abbrev pub ft_alone : List ℕ → ℤ → ℕ → List (ℕ × List ℕ)
-ft_alone client_id retention_id expiration = (13, ft_octets Big client_id retention_id expiration) ∷ []
+-- FT 23.2.7: FT_REQUEST, in the byte order of the request, as its one context
+abbrev pub ft_alone : Order → List ℕ → ℤ → ℕ → List (ℕ × List ℕ)
+ft_alone order client_id retention_id expiration = (13, ft_octets order client_id retention_id expiration) ∷ []
 
 -- what is heard, if it is heard
 abbrev pub heard_by : {Heard : Type 0} → Sound Heard → Option Heard
@@ -82,7 +83,7 @@ answer_to version m = answer_in m
 module _ {Heard : Type 0} (to_reader : Version → Content → Sound Heard) where
   -- what a message is
   abbrev pub sound_to : Outgoing → Sound Heard
-  sound_to m = to_reader m.version (said_in m.version m.content m.body)
+  sound_to m = to_reader m.version (said_in m.version m.order m.content m.body)
 
   -- what is heard of messages, and how the stream ends: they count up to the first that ends it or is over the limit
   abbrev pub course_to : Limits → List Outgoing → Course Heard

@@ -81,9 +81,9 @@ pub fn written_answers_are_heard()
     giop_frames::laws::lists_of_messages_are_read_again();
 }
 
-/// Which messages can go out, and so are heard as what they say: of a client Requests with FT_REQUEST as their one
-/// context, which they carry, and CancelRequests; of a server Replies without contexts, LocateReplies without a body,
-/// CloseConnection and MessageError.
+/// Which messages can go out, in either byte order, and so are heard as what they say: of a client Requests with
+/// FT_REQUEST as their one context, which they carry, and CancelRequests; of a server Replies without contexts,
+/// LocateReplies without a body, CloseConnection and MessageError.
 pub fn messages_go_out()
     ensures request { RequestsGoOut }
     ensures cancel { CancelsGoOut }
