@@ -1,6 +1,7 @@
 -- The retention log, Fault Tolerant CORBA 23.2.7: what the contracts of this crate say. Read it in this order.
 --
 --   Exceptions  the names of system exceptions, their repository ids, and the numbers of completion
+--   Statuses    the statuses of a Reply whose body comes as octets
 --   Performed   what performing a request gave
 --   Keys        keys of requests, when two are one, how many a client has, and how many clients
 --   Kept        kept outcomes: which is found for a key, and which are forgotten
@@ -9,6 +10,7 @@
 -- Laws          what the tests of keys say, and of repository ids
 -- Names, Shelf, Dues, Without, Tied      words for the fields of a `Log`; no public contract, definition or law uses them
 pub mod Exceptions
+pub mod Statuses
 pub mod Performed
 pub mod Keys
 pub mod Kept

@@ -21,7 +21,7 @@ mod story;
 mod system_exception;
 
 // what performing a request gave
-pub use outcome::Outcome;
+pub use outcome::{Outcome, RawStatus};
 pub use system_exception::{Completion, SystemName};
 
 // the log

@@ -2,11 +2,39 @@
 
 ghost use Rattle.std.specs.Prelude.{◌≡◌, IfOk};
 ghost use Rattle.cdr_core.specs.View.{values_of};
+ghost use Rattle.ft_log.specs.Statuses.{status_number};
 ghost use Rattle.ft_log.specs.View.{performed_in};
 
 use crate::system_exception::{Completion, SystemName};
-use cdr_core::Val;
+use cdr_core::{Order, Val};
 use std::alloc::{AllocError, Global};
+
+/// The status of a Reply whose body comes as octets: those that every version has (CORBA 3.3 Part 2, 9.4.3).
+#[derive(Clone, Copy, Debug, PartialEq, Eq)]
+pub enum RawStatus {
+    /// The body holds the results.
+    NoException,
+    /// The body holds an exception that the operation declares.
+    UserException,
+    /// The body holds a system exception.
+    SystemException,
+    /// The body holds a reference to ask in place of this one.
+    LocationForward,
+}
+
+impl RawStatus {
+    /// The ordinal of the standard's enumeration: 0 for NoException to 3 for LocationForward.
+    pub fn number(self) -> u32
+        ensures { result ≡ status_number self }
+    {
+        match self {
+            RawStatus::NoException => 0,
+            RawStatus::UserException => 1,
+            RawStatus::SystemException => 2,
+            RawStatus::LocationForward => 3,
+        }
+    }
+}
 
 /// What performing a request gave (CORBA 3.3 Part 2, 9.4.3).
 #[derive(Debug, Drop)]
@@ -17,6 +45,9 @@ pub enum Outcome {
     Raised(Vec<u8>, Vec<Val>),
     /// A system exception: its name, its minor code, and whether the operation was completed.
     System(SystemName, u32, Completion),
+    /// The body of the Reply as octets, with its status and its byte order. It is written for a place divisible
+    /// by 8.
+    Raw(RawStatus, Order, Vec<u8>),
 }
 
 impl Outcome {
@@ -32,6 +63,9 @@ impl Outcome {
             }
             Outcome::System(name, minor, completion) => {
                 Ok(Outcome::System(*name, *minor, *completion))
+            }
+            Outcome::Raw(status, order, body) => {
+                Ok(Outcome::Raw(*status, *order, Vec::from_slice(alloc, body)?))
             }
         }
     }
