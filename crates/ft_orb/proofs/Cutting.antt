@@ -25,7 +25,7 @@ longer-twice x y (Up s) = ap (λ (t : List ℕ). Up t) (append_assoc s x y)
 
 -- as many answers as arrivals
 module _ {S C K O : Type 0} (rules : Rules S C K O) where
-  table_answers-length : (t : Table S O) (xs : List (Arrival C)) → length (table_answers rules t xs) ≡ length xs
+  pub table_answers-length : (t : Table S O) (xs : List (Arrival C)) → length (table_answers rules t xs) ≡ length xs
   table_answers-length t [] = refl
   table_answers-length t (x ∷ xs) = ap suc (table_answers-length (table_step rules t x).0 xs)
 
@@ -33,7 +33,7 @@ module _ {S C K O : Type 0} (rules : Rules S C K O) where
   answers_after-length opening before [] = refl
   answers_after-length opening before (x ∷ xs) = ap suc (answers_after-length opening (before ++ x ∷ []) xs)
 
-rendered-append : (knows : List ℕ → Bool) (xs ys : List (Arrival Wanted)) (ps qs : List (Result Performed SystemName)) → length ps ≡ length xs → rendered knows (xs ++ ys) (ps ++ qs) ≡ rendered knows xs ps ++ rendered knows ys qs
+pub rendered-append : (knows : List ℕ → Bool) (xs ys : List (Arrival Wanted)) (ps qs : List (Result Performed SystemName)) → length ps ≡ length xs → rendered knows (xs ++ ys) (ps ++ qs) ≡ rendered knows xs ps ++ rendered knows ys qs
 rendered-append knows [] ys [] qs h = refl
 rendered-append knows [] ys (p ∷ ps) qs h = absurd (omega (arith, h))
 rendered-append knows (x ∷ xs) ys [] qs h = absurd (omega (arith, h))
@@ -42,26 +42,26 @@ rendered-append knows (x ∷ xs) ys (p ∷ ps) qs h =
     ∙ sym (append_assoc (rendering knows x.content p) (rendered knows xs ps) (rendered knows ys qs))
 
 module _ (limits : Limits) (past : List Event) (c moment : ℕ) (x y : List ℕ) where
-  abbrev First : List Event
+  abbrev pub First : List Event
   First = Piece c moment x ∷ past
 
-  on-cut : HearingGrows → (now : ℕ) (l : Line) → arrivals_on limits c now l (x ++ y) ≡ arrivals_on limits c now l x ++ arrivals_on limits c now (longer x l) y
+  pub on-cut : HearingGrows → (now : ℕ) (l : Line) → arrivals_on limits c now l (x ++ y) ≡ arrivals_on limits c now l x ++ arrivals_on limits c now (longer x l) y
   on-cut grow now Gone = refl
   on-cut grow now Shut = refl
   on-cut grow now (Up s) =
       let g = grow limits (s ++ x) y in
       arrivals_in-message limits c now grow s x y g.0 g.1 ∙ ap (λ (l : List (Arrival Wanted)). arrivals_in limits c now s x ++ l) (sym (arrivals_in-by limits c now (s ++ x) y g.0 g.1))
 
-  now-same : max (clock First) moment ≡ max (clock past) moment
+  pub now-same : max (clock First) moment ≡ max (clock past) moment
   now-same = omega arith
 
-  line-here : line First c ≡ longer x (line past c)
+  pub line-here : line First c ≡ longer x (line past c)
   line-here = same-by c (longer x (line past c)) (line past c)
 
   second-is : completed limits First (Piece c moment y) ≡ arrivals_on limits c (max (clock past) moment) (longer x (line past c)) y
   second-is = λ i. arrivals_on limits c (now-same i) (line-here i) y
 
-  completed-cut : HearingGrows → completed limits past (Piece c moment (x ++ y)) ≡ completed limits past (Piece c moment x) ++ completed limits First (Piece c moment y)
+  pub completed-cut : HearingGrows → completed limits past (Piece c moment (x ++ y)) ≡ completed limits past (Piece c moment x) ++ completed limits First (Piece c moment y)
   completed-cut grow = on-cut grow (max (clock past) moment) (line past c) ∙ ap (λ (l : List (Arrival Wanted)). completed limits past (Piece c moment x) ++ l) (sym second-is)
 
   arrivals-cut : HearingGrows → arrivals limits (Piece c moment y ∷ First) ≡ arrivals limits (Piece c moment (x ++ y) ∷ past)

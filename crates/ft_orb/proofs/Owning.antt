@@ -8,6 +8,8 @@ use Rattle.std.proofs.lemmas.Bool.{eqb-true}
 use Rattle.std.proofs.lemmas.List.{append-nil, append_cancel_left, length-take, take-take, take_all}
 use Rattle.cdr_core.specs.View.{values_of}
 use Rattle.giop_frames.specs.declared.limits.Limits.{Limits}
+use Rattle.giop_link.specs.Hearing as hearing
+use Rattle.giop_link.specs.Hearing.{Question, says}
 use Rattle.giop_link.specs.Laws.{HearingGrows}
 use Rattle.giop_link.specs.Linking.{LinkStands, Linked}
 use Rattle.ft_log.specs.Kept.{KeptOutcome}
@@ -38,7 +40,7 @@ use Rattle.ft_orb.specs.Pauses.{Breaks, IsServedTo, Paused, Reaches}
 use Rattle.ft_orb.specs.Private.{Served, counted_by, all_answered}
 use Rattle.ft_orb.specs.Renderings.{rendered}
 use Rattle.ft_orb.specs.Replies.{reply_by}
-use Rattle.ft_orb.specs.Requests.{Call, Wanted, asked_of}
+use Rattle.ft_orb.specs.Requests.{Call, Wanted, asked_of, asking}
 use Rattle.ft_orb.specs.Standing.{IsFor, IsSameBut, Stands, capacity_of, share_of, table_of}
 use Rattle.ft_orb.specs.Table.{AreAlike, Table, table_after, table_answers}
 use Rattle.ft_orb.specs.Waits.{Finishes, call_of}
@@ -103,7 +105,7 @@ module _ {C : Type 0} (offers : C → Offer) (owner : Owner) where
   rests-ends calls past e note new out grown are idle x = record { written = x.0; appended = x.1; writes = x.2; rests = record { offer_is = are; idle = idle; stands = x.3 } }
 
   -- What octets on connection c bring after a past, up to the request that waits.
-  pub record Brings (calls : List Call) (past : List Event) (c moment : ℕ) (octets written : List ℕ) (handled : ℕ) (w : Waiting) : Type 0 where
+  pub record Brings (calls : List Call) (past : List Event) (c moment : ℕ) (octets written : List ℕ) (handled : ℕ) (w : Waiting) (link : Linked) : Type 0 where
     pub front : List (Arrival Wanted)
     pub last : Arrival Wanted
     pub completes : completed owner.limits past (Piece c moment octets) ≡ front ++ last ∷ []
@@ -114,10 +116,13 @@ module _ {C : Type 0} (offers : C → Offer) (owner : Owner) where
     pub first : (n : ℕ) → n < length octets → length (completed owner.limits past (Piece c moment (take n octets))) ≤ length front
     pub before : (table_after Theirs (Folded past) front).state ≡ calls
     pub then : (table_after Theirs (Folded past) (front ++ last ∷ [])).state ≡ calls ++ call_of w ∷ []
+    pub question : Question
+    pub content : last.content ≡ asking c question
+    pub heard : link.inbound ≡ Some (says (hearing.asks question))
 
   brings-at : (past : List Event) (c moment : ℕ) (octets written : List ℕ) (s : List ℕ) (link : Linked) (calls : List Call) (entries : List (KeptOutcome Performed)) (handled : ℕ) (w : Waiting) → line past c ≡ Up s
       → Paused owner.offer owner.answers owner.capacity owner.share owner.limits c (max (clock past) moment) (Folded past) s octets link calls entries written handled w
-      → Brings calls past c moment octets written handled w
+      → Brings calls past c moment octets written handled w link
   brings-at past c moment octets written s link calls entries handled w up p =
       let now = max (clock past) moment in
       let on : (xs : List ℕ) → completed owner.limits past (Piece c moment xs) ≡ arrivals_in owner.limits c now s xs = λ xs. ap (λ (l : Line). arrivals_on owner.limits c now l xs) up in
@@ -136,11 +141,14 @@ module _ {C : Type 0} (offers : C → Offer) (owner : Owner) where
         first = λ n less. let few = p.first n less in let size = ap (λ (xs : List (Arrival Wanted)). length xs) (on (take n octets)) in omega (arith, few, size);
         before = sym p.alike.state;
         then = sym both.1.state ∙ ap (λ (x : Table (List Call) Performed × Result Performed SystemName). x.0.state) p.waits.steps;
+        question = p.question;
+        content = p.content;
+        heard = p.heard;
       }
 
   -- .. as an engine keeps them
-  pub brings-of : (calls : List Call) (engine : Engine C) (past : List Event) (moment : ℕ) (octets written : List ℕ) (p : Pending) → Keeps offers owner calls engine past moment octets written p
-      → Brings calls past p.connection moment octets written p.place.handled p.waiting
+  pub brings-of : (calls : List Call) (engine : Engine C) (past : List Event) (moment : ℕ) (octets written : List ℕ) (p : Pending) → (k : Keeps offers owner calls engine past moment octets written p)
+      → Brings calls past p.connection moment octets written p.place.handled p.waiting k.link
   brings-of calls engine past moment octets written p k =
       let c = p.connection in
       let now = engine.keeper.clock in
@@ -163,14 +171,19 @@ module _ {C : Type 0} (offers : C → Offer) (owner : Owner) where
         asks = b.asks;
         fit = b.fit;
         out = b.out;
+        question = b.question;
+        content = b.content;
+        link = k.link;
+        held = k.held;
+        heard = b.heard;
         pending = p;
         is = refl;
         keeps = k;
       }
 
   -- the octets taken are the shortest front of the piece that completes the request
-  short-of : (calls : List Call) (engine : Engine C) (past : List Event) (c moment : ℕ) (piece : List ℕ) (taken : ℕ) (written : List ℕ) (handled : ℕ) (w : Waiting) (s : List ℕ) (k : ℕ) → line past c ≡ Up s → taken ≤ length piece
-      → Brings calls past c moment (take taken piece) written handled w → k ≡ length (completed owner.limits past (Piece c moment (take taken piece)))
+  short-of : (calls : List Call) (engine : Engine C) (past : List Event) (c moment : ℕ) (piece : List ℕ) (taken : ℕ) (written : List ℕ) (handled : ℕ) (w : Waiting) (s : List ℕ) (k : ℕ) {link : Linked} → line past c ≡ Up s → taken ≤ length piece
+      → Brings calls past c moment (take taken piece) written handled w link → k ≡ length (completed owner.limits past (Piece c moment (take taken piece)))
       → shortened owner.limits past (Piece c moment piece) k ≡ Piece c moment (take taken piece)
   short-of calls engine past c moment piece taken written handled w s k up within b count =
       let now = max (clock past) moment in
@@ -246,7 +259,7 @@ module _ {C : Type 0} (offers : C → Offer) (owner : Owner) where
   finishes-more : (w : Waiting) (outcome : Performed) (mid new : List (KeptOutcome Performed)) (step : Step) (out grown written : List ℕ) → Finishes w outcome mid step new out grown
       → (more : List ℕ) × (grown ≡ out ++ more) × Finishes w outcome mid step new written (written ++ more)
   finishes-more w outcome mid new Quiet out grown written d = absurd d
-  finishes-more w outcome mid new Answered out grown written d = (reply_by w.wish w.version w.request_id outcome, d.1, (d.0, refl))
+  finishes-more w outcome mid new Answered out grown written d = (reply_by w.asker.wish w.asker.version w.asker.request_id outcome, d.1, (d.0, refl))
   finishes-more w outcome mid new Unanswered out grown written d = ([], d.1 ∙ sym (append-nil out), (d.0, append-nil written, d.2))
   finishes-more w outcome mid new Unhandled out grown written d = absurd d
 
@@ -357,7 +370,7 @@ module _ {C : Type 0} (offers : C → Offer) (owner : Owner) where
       (x.more, x.appended, subst (λ (l : List ℕ). IsOnce offers owner calls past (Piece c moment octets) note l) (sym all.1) all.2)
 
   -- and one that waits is the first that acts
-  due-at : (calls : List Call) (past : List Event) (c moment : ℕ) (octets written : List ℕ) (handled : ℕ) (w : Waiting) (b : Brings calls past c moment octets written handled w) → (Folded past).state ≡ calls
+  due-at : (calls : List Call) (past : List Event) (c moment : ℕ) (octets written : List ℕ) (handled : ℕ) (w : Waiting) {link : Linked} (b : Brings calls past c moment octets written handled w link) → (Folded past).state ≡ calls
       → OneExpiration (arrivals owner.limits (Piece c moment octets ∷ past)) → IsDue offers owner calls past (Piece c moment octets) b.front b.last written
   due-at calls past c moment octets written handled w b now one =
       let e = Piece c moment octets in
@@ -474,12 +487,21 @@ module _ {C : Type 0} (offers : C → Offer) (owner : Owner) where
       (give-up-here grow calls old new past moment octets written x k.0 are idle same kept gone)
 
   -- how many came before it
+  count-of : (calls : List Call) (past : List Event) (c moment : ℕ) (octets written : List ℕ) (handled : ℕ) (w : Waiting) (link : Linked) → Brings calls past c moment octets written handled w link
+      → handled + 1 ≡ length (completed owner.limits past (Piece c moment octets))
+  count-of calls past c moment octets written handled w link b =
+      let all = ap (λ (xs : List (Arrival Wanted)). length xs) b.completes in
+      let size = length-append b.front (b.last ∷ []) in
+      let count = b.count in
+      omega (arith, all, size, count)
+
+  count-at : (calls : List Call) (old : Engine C) (past : List Event) (moment : ℕ) (octets written : List ℕ) (x : Pending) (k : Keeps offers owner calls old past moment octets written x)
+      → x.place.handled + 1 ≡ length (completed owner.limits past (Piece x.connection moment octets))
+  count-at calls old past moment octets written x k =
+      count-of calls past x.connection moment octets written x.place.handled x.waiting k.link (brings-of calls old past moment octets written x k)
+
   pub given-count : (calls : List Call) (old : Engine C) (past : List Event) (moment : ℕ) (octets written : List ℕ) (x : Pending) (w : Awaited) → old.pending ≡ Some x → Asks offers owner calls old past moment octets written w
       → x.place.handled + 1 ≡ length (completed owner.limits past (Piece w.connection moment octets))
   given-count calls old past moment octets written x w is a =
       let k = kept-as calls old past moment octets written x w is a in
-      let b = brings-of calls old past moment octets written x k.0 in
-      let all = ap (λ (xs : List (Arrival Wanted)). length xs) b.completes in
-      let size = length-append b.front (b.last ∷ []) in
-      let count = b.count in
-      subst (λ (v : Awaited). x.place.handled + 1 ≡ length (completed owner.limits past (Piece v.connection moment octets))) k.1 (omega (arith, all, size, count))
+      subst (λ (v : Awaited). x.place.handled + 1 ≡ length (completed owner.limits past (Piece v.connection moment octets))) k.1 (count-at calls old past moment octets written x k.0)

@@ -55,10 +55,12 @@ fn can_refuse(name: SystemName, minor: u32, completion: Completion) -> bool
 pub(crate) fn is_renderable(outcome: &Outcome) -> bool
     ensures { IsTrue result ↔ IsRenderable (performed_in outcome.now) }
 {
+    giop_core::laws::octets_bodies();
     match outcome {
         Outcome::Returned(results) => are_writable(results) && ends_in_time(BODY, results),
         Outcome::Raised(id, members) => can_raise(id, members),
         Outcome::System(name, minor, completion) => can_refuse(*name, *minor, *completion),
+        Outcome::Raw(_, _, body) => body.len() as u64 <= MOST,
     }
 }
 
@@ -93,17 +95,18 @@ fn is_raised(raises: &[(Vec<u8>, Vec<Ty>)], id: &[u8], members: &[Val]) -> bool
 }
 
 /// Whether an outcome is one of an operation: results of its types, an exception that it declares, or a system
-/// exception.
+/// exception; of a raw one octets, or a system exception.
 pub(crate) fn is_outcome_of(lookup: Lookup<'_>, outcome: &Outcome) -> bool
     requires { IsValidInterface (interface_of lookup) }
     ensures { IsTrue result ↔ IsOutcomeOf (interface_of lookup.entry) (performed_in outcome.now) }
 {
-    let Lookup::Operation(signature) = lookup else {
-        return false;
-    };
-    match outcome {
-        Outcome::Returned(results) => are_of(&signature.results, results),
-        Outcome::Raised(id, members) => has_no_nul(id) && is_raised(&signature.raises, id, members),
-        Outcome::System(..) => true,
+    match (lookup, outcome) {
+        (Lookup::Operation(_) | Lookup::Raw, Outcome::System(..)) => true,
+        (Lookup::Operation(types), Outcome::Returned(results)) => are_of(&types.results, results),
+        (Lookup::Operation(types), Outcome::Raised(id, members)) => {
+            has_no_nul(id) && is_raised(&types.raises, id, members)
+        }
+        (Lookup::Raw, Outcome::Raw(..)) => true,
+        _ => false,
     }
 }

@@ -1,0 +1,47 @@
+use Rattle.std.proofs.Common.{[], ◌∷◌, refl}
+use Rattle.ft_log.specs.View.{performed_in}
+use Rattle.ft_orb.specs.declared.events.Note.TheVariants.{Done, Memory}
+use Rattle.ft_orb.specs.Engines.{awaited_lent}
+use Rattle.ft_orb.specs.Standing.{note_of}
+use Rattle.ft_orb.specs.Visits.{calls_with}
+use Rattle.ft_orb.proofs.Handing.{ask-answered, ask-left, ask-resumes, err-not-done, resumed-memory}
+use Rattle.ft_orb.proofs.attending.attend_ask.Goals as goal
+
+pub returns-in_default-perform-clause-table : goal.returns-in_default-perform-clause-table
+returns-in_default-perform-clause-table g c = (
+  [],
+  c.in_default-perform.ensures.answered,
+  λ o calls past moment octets written w a there agrees. (
+    tt,
+    Memory c.give_up.result c.give_up.result,
+    refl,
+    ask-left g.C.Catalogue.offers o calls past w.connection moment octets written (Memory c.give_up.result c.give_up.result) c.give_up.new.self c.args.out.now.items (c.give_up.ensures.table o calls past moment octets written w a),
+  ),
+)
+
+pub returns-in-Ok-clause-table : goal.returns-in-Ok-clause-table
+returns-in-Ok-clause-table g c =
+    let x = awaited_lent c.in-Some.asked in
+    let gave = performed_in c.in-Some-perform.outcome in
+    let handed = performed_in c.fitting-outcome.result in (
+      record { call = x.call; gave = gave; handed = handed } ∷ [],
+      c.in-Some-perform.ensures.answered,
+      λ o calls past moment octets written w a there agrees.
+          let h = ask-answered g.C.Catalogue.offers o c.args.engine.now x gave handed c.in-Some.ensures c.fitting-outcome.ensures.handed calls past moment octets written w a agrees in
+          let r = c.in-Ok.ensures.table o calls past moment octets written w a h.2 in
+          (h.0, Done, refl, ask-resumes g.C.Catalogue.offers o calls past w.connection moment octets written w x gave handed Done c.answer.new.self c.args.out.now.items c.answer.new.out.items h.1 r),
+    )
+
+pub returns-in-Err-clause-table : goal.returns-in-Err-clause-table
+returns-in-Err-clause-table g c =
+    let x = awaited_lent c.in-Some.asked in
+    let gave = performed_in c.in-Some-perform.outcome in
+    let handed = performed_in c.fitting-outcome.result in (
+      record { call = x.call; gave = gave; handed = handed } ∷ [],
+      c.in-Some-perform.ensures.answered,
+      λ o calls past moment octets written w a there agrees.
+          let h = ask-answered g.C.Catalogue.offers o c.args.engine.now x gave handed c.in-Some.ensures c.fitting-outcome.ensures.handed calls past moment octets written w a agrees in
+          let note = note_of c.answer.result in
+          let all = ask-resumes g.C.Catalogue.offers o calls past w.connection moment octets written w x gave handed note c.answer.new.self c.args.out.now.items c.answer.new.out.items h.1 (c.answer.ensures.table o calls past moment octets written w a h.2) in
+          (h.0, note, resumed-memory g.C.Catalogue.offers o (calls_with calls (record { call = x.call; gave = gave; handed = handed } ∷ [])) past w.connection moment octets written note c.answer.new.self c.args.out.now.items c.answer.new.out.items there all (rw c.in-Err.is (err-not-done (Unit {0}) c.in-Err.field-0)), all),
+    )
