@@ -33,8 +33,8 @@ nothing = record { order = Big; place = 0; octets = [] }
 -- what a client says, as messages that are written
 
 abbrev said_out : Said → Outgoing
-said_out (Asked t) = record { version = t.version; content = content.request t.request_id Full (by_key t.call.object_key) t.call.operation (contexts_of t) nothing; body = t.call.arguments }
-said_out (Withdrawn version request_id) = record { version = version; content = content.cancel request_id; body = no_values }
+said_out (Asked t) = record { version = t.version; order = Big; content = content.request t.request_id Full (by_key t.call.object_key) t.call.operation (contexts_of t) nothing; body = t.call.arguments }
+said_out (Withdrawn version request_id) = record { version = version; order = Big; content = content.cancel request_id; body = no_values }
 
 said-octets : (ms : List Said) → octets_of_each (map said_out ms) ≡ stream octets_said ms
 said-octets [] = refl
@@ -57,7 +57,7 @@ fits n small = omega (arith, ints)
 module _ (asked : RequestsGoOut) where
   request : (t : Transmission) → IsFine t → CanGoOut (said_out (Asked t)) × (ft_in (contexts_of t) ≡ present t.client_id (pos t.retention_id) t.call.expiration)
   request t fine =
-      asked t.version t.request_id Full t.call.object_key t.call.operation t.client_id (pos t.retention_id) t.call.expiration nothing t.call.arguments
+      asked t.version Big t.request_id Full t.call.object_key t.call.operation t.client_id (pos t.retention_id) t.call.expiration nothing t.call.arguments
       fine.id (can-ask t.version) fine.call.operation fine.client (fits t.retention_id fine.number) fine.call.expiration fine.size
 
   carried : (t : Transmission) → IsFine t → field_of (contexts_of t) ≡ Present (key_of t) t.call.expiration
@@ -66,7 +66,7 @@ module _ (asked : RequestsGoOut) where
   module _ (withdrawn : CancelsGoOut) (heard_is : HeardIsMeant) where
     said-goes : (m : Said) → IsFineSaid m → CanGoOut (said_out m)
     said-goes (Asked t) fine = (request t fine).0
-    said-goes (Withdrawn version request_id) fine = withdrawn version request_id no_values fine
+    said-goes (Withdrawn version request_id) fine = withdrawn version Big request_id no_values fine
 
     all-said : (ms : List Said) → AllByRecursion IsFineSaid ms → AllByRecursion CanGoOut (map said_out ms)
     all-said [] fine = tt
@@ -80,19 +80,19 @@ module _ (asked : RequestsGoOut) where
 -- what a server says
 
 abbrev told_out : Telling → Outgoing
-told_out (Replied version id status body) = record { version = version; content = content.reply id status [] nothing; body = body }
-told_out (Located version id status) = record { version = version; content = content.locate_reply id status nothing; body = no_values }
-told_out Failed = record { version = V10; content = content.error; body = no_values }
-told_out Closing = record { version = V10; content = content.close; body = no_values }
+told_out (Replied version order id status body) = record { version = version; order = order; content = content.reply id status [] nothing; body = body }
+told_out (Located version id status) = record { version = version; order = Big; content = content.locate_reply id status nothing; body = no_values }
+told_out Failed = record { version = V10; order = Big; content = content.error; body = no_values }
+told_out Closing = record { version = V10; order = Big; content = content.close; body = no_values }
 
 told-octets : (ts : List Telling) → octets_of_each (map told_out ts) ≡ stream octets_told ts
 told-octets [] = refl
-told-octets (Replied version id status body ∷ ts) = ap (λ (xs : List ℕ). octets_told (Replied version id status body) ++ xs) (told-octets ts)
+told-octets (Replied version order id status body ∷ ts) = ap (λ (xs : List ℕ). octets_told (Replied version order id status body) ++ xs) (told-octets ts)
 told-octets (Located version id status ∷ ts) = ap (λ (xs : List ℕ). octets_told (Located version id status) ++ xs) (told-octets ts)
 told-octets (Failed ∷ ts) = ap (λ (xs : List ℕ). octets_told Failed ++ xs) (told-octets ts)
 told-octets (Closing ∷ ts) = ap (λ (xs : List ℕ). octets_told Closing ++ xs) (told-octets ts)
 
-few-statuses : (version : Version) (status : ℕ) → status ≤ 2 → status < reply_statuses version
+few-statuses : (version : Version) (status : ℕ) → status ≤ 3 → status < reply_statuses version
 few-statuses V10 status few = omega arith
 few-statuses V11 status few = omega arith
 few-statuses V12 status few = omega arith
@@ -104,10 +104,10 @@ few-locates V12 status few = omega arith
 
 module _ (replies : RepliesGoOut) (locates : LocateRepliesGoOut) (farewells : FarewellsGoOut) where
   told-goes : (t : Telling) → IsFineTelling t → CanGoOut (told_out t)
-  told-goes (Replied version id status body) fine = (replies version id status nothing body fine.0 (few-statuses version status fine.1) (let few = fine.2 in omega arith)).0
-  told-goes (Located version id status) fine = (locates version id status nothing fine.0 (few-locates version status fine.1)).0
-  told-goes Failed fine = (farewells V10 no_values).1
-  told-goes Closing fine = (farewells V10 no_values).0
+  told-goes (Replied version order id status body) fine = (replies version order id status nothing body fine.0 (few-statuses version status fine.1) (let few = fine.2 in omega arith)).0
+  told-goes (Located version id status) fine = (locates version Big id status nothing fine.0 (few-locates version status fine.1)).0
+  told-goes Failed fine = (farewells V10 Big no_values).1
+  told-goes Closing fine = (farewells V10 Big no_values).0
 
   all-told : (ts : List Telling) → AllByRecursion IsFineTelling ts → AllByRecursion CanGoOut (map told_out ts)
   all-told [] fine = tt
@@ -115,11 +115,11 @@ module _ (replies : RepliesGoOut) (locates : LocateRepliesGoOut) (farewells : Fa
 
   told-meant : (ts : List Telling) → AllByRecursion IsFineTelling ts → meant answer_to (map told_out ts) ≡ filter_map answer_in ts
   told-meant [] fine = refl
-  told-meant (Replied version id status body ∷ ts) fine =
-      let said = (replies version id status nothing body fine.0.0 (few-statuses version status fine.0.1) (let few = fine.0.2 in omega arith)).1 in
-      ap (λ (m : Content). cons_option (heard_by (answer_to version m)) (meant answer_to (map told_out ts))) said ∙ ap (λ (xs : List Answer). cons_option (answer_in (Replied version id status body)) xs) (told-meant ts fine.1)
+  told-meant (Replied version order id status body ∷ ts) fine =
+      let said = (replies version order id status nothing body fine.0.0 (few-statuses version status fine.0.1) (let few = fine.0.2 in omega arith)).1 in
+      ap (λ (m : Content). cons_option (heard_by (answer_to version m)) (meant answer_to (map told_out ts))) said ∙ ap (λ (xs : List Answer). cons_option (answer_in (Replied version order id status body)) xs) (told-meant ts fine.1)
   told-meant (Located version id status ∷ ts) fine =
-      let said = (locates version id status nothing fine.0.0 (few-locates version status fine.0.1)).1 in
+      let said = (locates version Big id status nothing fine.0.0 (few-locates version status fine.0.1)).1 in
       ap (λ (m : Content). cons_option (heard_by (answer_to version m)) (meant answer_to (map told_out ts))) said ∙ ap (λ (xs : List Answer). cons_option (answer_in (Located version id status)) xs) (told-meant ts fine.1)
   told-meant (Failed ∷ ts) fine = told-meant ts fine.1
   told-meant (Closing ∷ ts) fine = told-meant ts fine.1

@@ -1,5 +1,5 @@
 -- Samples over real octets: a counter, and a client that adds 7 to it. A request takes 84 octets, its reply 32, a system exception
--- 72, and CloseConnection 12.
+-- 72, and CloseConnection 12. And a servant whose operations are raw: its reply takes 28.
 use Rattle.std.proofs.Common.{◌≡◌, ℕ, ◌+ℤ◌, bytes_eq, true, if◌then◌else◌, List, [], ◌∷◌, ℤ, pos, refl, lit≤}
 use Rattle.cdr_core.specs.Encapsulation.{encapsulated, order_at}
 use Rattle.cdr_core.specs.Parts.{long, long_value, longlong, longlong_value}
@@ -7,6 +7,7 @@ use Rattle.cdr_core.specs.Reading.{value_at, each_at, boolean_at, string_at, tex
 use Rattle.cdr_core.specs.Value as value
 use Rattle.cdr_core.specs.Value.{Values, values}
 use Rattle.cdr_core.specs.View.{forms}
+use Rattle.cdr_core.specs.declared.order.Order.TheVariants.{Little}
 use Rattle.giop_core.specs.Content.{content}
 use Rattle.giop_core.specs.Ft.{ft_in}
 use Rattle.giop_core.specs.Headers.{header_of}
@@ -15,21 +16,23 @@ use Rattle.giop_core.specs.Messages.{message_of}
 use Rattle.giop_core.specs.Rows.{row}
 use Rattle.giop_core.specs.Written.{behind_header}
 use Rattle.giop_core.specs.declared.header.Version.TheVariants.{V12}
+use Rattle.giop_core.specs.declared.reply.ReplyStatus.TheVariants.{LocationForward}
 use Rattle.giop_frames.specs.Fragments.{judged_as, judged_by}
 use Rattle.giop_frames.specs.Frames.{sight, split}
 use Rattle.giop_frames.specs.Streams.{fault_of, messages_of, rest_of}
 use Rattle.giop_frames.specs.declared.limits.Limits.{Limits}
 use Rattle.giop_link.specs.Answering.{answer_of, client_ending, client_heard}
 use Rattle.giop_link.specs.Hearing.{ending, heard, meaning_of}
-use Rattle.ft_log.specs.Performed.{Performed, returned, system}
+use Rattle.ft_log.specs.Performed.{Performed, raw, returned, system}
+use Rattle.ft_log.specs.declared.outcome.RawStatus.TheVariants as raw_status
 use Rattle.ft_log.specs.declared.system_exception.Completion.TheVariants.{No}
 use Rattle.ft_log.specs.declared.system_exception.SystemName.TheVariants.{BadContext, BadParam}
-use Rattle.ft_client.specs.Clients.{Cancelled, Ended, Expired}
+use Rattle.ft_client.specs.Clients.{Cancelled, Ended, Expired, Told}
 use Rattle.ft_client.specs.Messages.{Call}
 use Rattle.ft_client.specs.Standing.{down}
 use Rattle.ft_orb.specs.ExactlyOnce.{state_of}
 use Rattle.ft_orb.specs.History.{arrivals, arrivals_in, front_in}
-use Rattle.ft_orb.specs.Interfaces.{no_object, no_operation, operation}
+use Rattle.ft_orb.specs.Interfaces.{no_object, no_operation, operation, raw_operation}
 use Rattle.ft_orb.specs.Outputs.{Made}
 use Rattle.ft_orb.specs.Renderings.{rendering}
 use Rattle.ft_orb.specs.Requests.{rules_of}
@@ -66,13 +69,21 @@ made = record { limits = limits; capacity = 1024; share = 1024; opening = pos 0 
 abbrev add : Call
 add = record { object_key = 99 ∷ []; operation = 97 ∷ 100 ∷ 100 ∷ []; arguments = values (long_value (pos 7) ∷ []); expiration = 100 }
 
--- the world where one client, `A`, calls at 50, connects, and then this happens
-abbrev after_call : List Step → World
-after_call steps = world (sides_of counter made down) (record { client_id = 65 ∷ []; version = V12; limits = limits } ∷ []) (CallNow 0 50 add ∷ Connect 0 50 ∷ steps)
+-- the world of a servant where one client, `A`, calls at 50, connects, and then this happens
+abbrev world_of : Meaning ℤ → List Step → World
+world_of meaning steps = world (sides_of meaning made down) (record { client_id = 65 ∷ []; version = V12; limits = limits } ∷ []) (CallNow 0 50 add ∷ Connect 0 50 ∷ steps)
 
--- what completes, and the total
+-- what completes, and the servant's state
+abbrev shown_of : Meaning ℤ → World → List (ℕ × ℕ × Ended) × ℤ
+shown_of meaning w = (w.completions, state_of (rules_of meaning 1024 1024) (pos 0) (arrivals limits w.past))
+
+-- the same of the counter
+
+abbrev after_call : List Step → World
+after_call steps = world_of counter steps
+
 abbrev shown_by : World → List (ℕ × ℕ × Ended) × ℤ
-shown_by w = (w.completions, state_of (rules_of counter 1024 1024) (pos 0) (arrivals limits w.past))
+shown_by w = shown_of counter w
 
 abbrev gives_seven : ℕ × ℕ × Ended
 gives_seven = (0, 1, ended_of (total_is (pos 7)))
@@ -114,3 +125,23 @@ closed = refl
 cancelled : shown_by (after_call (UpTo 0 84 50 ∷ Cancel 0 (pos 1) ∷ Down 0 32 ∷ [])) ≡ ((0, 1, Cancelled) ∷ [], pos 7)
 unfolding arrivals_in front_in rendering heard ending meaning_of client_heard client_ending answer_of content items_in messages_of fault_of rest_of split sight header_of judged_by judged_as message_of row encapsulated order_at ft_in behind_header value_at each_at boolean_at string_at text_at whole_at number_at part_at octets_at length_at ordinal_at
 cancelled = refl
+
+-- a servant of the same object whose operations are raw: it counts its calls, and sends each on with the octets that it brought, as
+-- little-endian ones
+
+abbrev sent_on : Values → Performed
+sent_on (value.value (value.octets octets) rest) = raw raw_status.LocationForward Little octets
+sent_on _ = system BadParam 0 No
+
+abbrev sender : Meaning ℤ
+sender = record {
+  is_state = λ n. true;
+  interface = λ key name. if bytes_eq key (99 ∷ []) then raw_operation else no_object;
+  knows = λ key. bytes_eq key (99 ∷ []);
+  apply = λ total key name arguments. (total +ℤ pos 1, sent_on arguments);
+}
+
+-- the call ends as forwarded, with these octets in their order; it is performed once, also where its first reply is lost
+forwarded : shown_of sender (world_of sender (UpTo 0 84 50 ∷ Cut 0 ∷ Connect 0 60 ∷ UpTo 0 84 60 ∷ Down 0 28 ∷ [])) ≡ ((0, 1, Told LocationForward (record { order = Little; place = 24; octets = 0 ∷ 0 ∷ 0 ∷ 7 ∷ [] })) ∷ [], pos 1)
+unfolding arrivals_in front_in rendering heard ending meaning_of client_heard client_ending answer_of content items_in messages_of fault_of rest_of split sight header_of judged_by judged_as message_of row encapsulated order_at ft_in behind_header value_at each_at boolean_at string_at text_at whole_at number_at part_at octets_at length_at ordinal_at
+forwarded = refl

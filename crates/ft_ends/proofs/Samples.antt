@@ -14,7 +14,7 @@ use Rattle.ft_log.specs.declared.system_exception.SystemName.TheVariants.{BadCon
 use Rattle.ft_client.specs.Clients.{Cancelled, Ended, Expired}
 use Rattle.ft_client.specs.Messages.{Answer, Asked, Call, Said, Withdrawn, replied}
 use Rattle.ft_orb.specs.History.{Close, Event, Gone, Line, Lost, Opened, Piece, Shut as Closed, Up, clock, line}
-use Rattle.ft_orb.specs.Replies.{body_of, status_of}
+use Rattle.ft_orb.specs.Replies.{body_of, order_of, status_of}
 use Rattle.ft_ends.specs.Both.{ended_of}
 use Rattle.ft_ends.specs.Tellings.{Closing, Failed, Located, Replied, Telling, shown_as}
 use Rattle.ft_ends.specs.World.{CallNow, Cancel, Connect, Cut, Down, Shut, Sides, Step, Tick, UpTo, world}
@@ -28,7 +28,7 @@ octets_of_said (Asked t) = message 83 1
 octets_of_said (Withdrawn version id) = message 15 2
 
 abbrev octets_of_telling : Telling → List ℕ
-octets_of_telling (Replied version id status body) = if status == 0 then message 31 1 else message 71 2
+octets_of_telling (Replied version order id status body) = if status == 0 then message 31 1 else message 71 2
 octets_of_telling (Located version id status) = []
 octets_of_telling Failed = []
 octets_of_telling Closing = message 11 3
@@ -41,7 +41,7 @@ abbrev too_late : Performed
 too_late = system BadContext 0 No
 
 abbrev reply_to : Performed → Answer
-reply_to p = replied 1 (shown_as (status_of p) (body_of p))
+reply_to p = replied 1 (shown_as (order_of p) (status_of p) (body_of p))
 
 abbrev heard_in : List ℕ → List Answer
 heard_in [] = []
@@ -62,7 +62,7 @@ answer_at now = if nat_lt 100 now then too_late else seven
 abbrev answered_on : ℕ → Line → List ℕ → List Telling
 answered_on now Gone octets = []
 answered_on now Closed octets = []
-answered_on now (Up s) octets = if is_whole octets then Replied V12 1 (status_of (answer_at now)) (body_of (answer_at now)) ∷ [] else []
+answered_on now (Up s) octets = if is_whole octets then Replied V12 (order_of (answer_at now)) 1 (status_of (answer_at now)) (body_of (answer_at now)) ∷ [] else []
 
 abbrev closed_on : Line → List Telling
 closed_on Gone = []

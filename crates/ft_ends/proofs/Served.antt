@@ -16,7 +16,8 @@ use Rattle.giop_frames.specs.declared.limits.Limits.{Limits}
 use Rattle.giop_link.specs.Hearing.{Ending, Incoming, asks, cancels, ending, faulty, heard, locates, peer_closed, peer_error, wrong_direction}
 use Rattle.giop_link.specs.Laws.{HearingGrows}
 use Rattle.ft_log.specs.Keys.{RequestKey}
-use Rattle.ft_log.specs.Performed.{Performed, raised, returned, system}
+use Rattle.ft_log.specs.Performed.{Performed, raised, raw, returned, system}
+use Rattle.ft_log.specs.declared.outcome.RawStatus.TheVariants as raw_status
 use Rattle.ft_log.specs.declared.system_exception.SystemName.{SystemName}
 use Rattle.ft_client.specs.Clients.{Ended, ended_by}
 use Rattle.ft_client.specs.Directions.{Hearing, stream}
@@ -24,7 +25,7 @@ use Rattle.ft_client.specs.Messages.{Answer, Asked, Call, Said, fields_of, Trans
 use Rattle.ft_orb.specs.ExactlyOnce.{Arrival, Present, answer_of, answers_after}
 use Rattle.ft_orb.specs.History.{Close, Event, Gone, Line, Lost, Opened, Piece, Shut, Up, arrivals, arrivals_in, arrivals_on, completed, connection_of, does_count, heard_after, line, longer, shut}
 use Rattle.ft_orb.specs.Outputs.{Made}
-use Rattle.ft_orb.specs.Replies.{answered_as, body_of, status_of}
+use Rattle.ft_orb.specs.Replies.{answered_as, body_of, order_of, status_of}
 use Rattle.ft_orb.specs.Requests.{Wanted, arrival_of, asking, field_of, rules_of}
 use Rattle.ft_orb.specs.Servants.{Meaning}
 use Rattle.ft_ends.specs.Both.{Answers, Explains, ended_of, key_of}
@@ -162,15 +163,23 @@ plain-from said a from =
 
 -- What is told of what arrived.
 
-ended-by : (p : Performed) → ended_by (shown_as (status_of p) (body_of p)) ≡ ended_of p
+ended-by : (p : Performed) → ended_by (shown_as (order_of p) (status_of p) (body_of p)) ≡ ended_of p
 ended-by (returned results) = refl
 ended-by (raised id members) = refl
 ended-by (system name minor completion) = refl
+ended-by (raw raw_status.NoException order body) = refl
+ended-by (raw raw_status.UserException order body) = refl
+ended-by (raw raw_status.SystemException order body) = refl
+ended-by (raw raw_status.LocationForward order body) = refl
 
-status-low : (p : Performed) → status_of p ≤ 2
+status-low : (p : Performed) → status_of p ≤ 3
 status-low (returned results) = omega arith
 status-low (raised id members) = omega arith
 status-low (system name minor completion) = omega arith
+status-low (raw raw_status.NoException order body) = omega arith
+status-low (raw raw_status.UserException order body) = omega arith
+status-low (raw raw_status.SystemException order body) = omega arith
+status-low (raw raw_status.LocationForward order body) = omega arith
 
 error-each : (P : Answer → Type 0) (e now : Option Ending) → AllByRecursion P (filter_map answer_in (error_told e now))
 error-each P None (Some (faulty e)) = tt

@@ -1,5 +1,5 @@
 -- A servant that keeps its promises gives short answers.
-use Rattle.std.proofs.Common.{◌≡◌, ℕ, ◌<◌, ◌≤◌, Bool, true, false, cond, nat_lt, List, [], ◌∷◌, ◌++◌, length, Option, Some, None, Result, Ok, Err, IsTrue, refl, sym, subst, lit≤}
+use Rattle.std.proofs.Common.{◌≡◌, ℕ, ◌<◌, Bool, true, false, cond, nat_lt, List, [], ◌∷◌, ◌++◌, Option, Some, None, Result, Ok, Err, IsTrue, refl, subst, lit≤}
 use Rattle.std.specs.Option.{unwrap_or}
 use Rattle.std.proofs.lemmas.Option.{none-some, same_Some}
 use Rattle.cdr_core.specs.Fitting.{AreValid, FitsMembers}
@@ -10,29 +10,24 @@ use Rattle.cdr_core.specs.Numbers.{AreOctets}
 use Rattle.cdr_core.specs.Spelling.{SpellsMembers}
 use Rattle.cdr_core.specs.Value as value
 use Rattle.cdr_core.specs.Value.{Values}
-use Rattle.cdr_core.specs.Writing.{octets_of_all}
 use Rattle.cdr_core.specs.declared.order.Order.{Order}
-use Rattle.cdr_core.specs.declared.order.Order.TheVariants.{Big}
+use Rattle.giop_core.specs.Content.{Rest}
 use Rattle.giop_core.specs.Keys.{key_of_addressed}
 use Rattle.ft_log.specs.Keys.{RequestKey}
 use Rattle.ft_log.specs.Performed.{Performed}
 use Rattle.ft_log.specs.declared.system_exception.SystemName.{SystemName}
 use Rattle.ft_log.specs.declared.system_exception.SystemName.TheVariants as name
 use Rattle.ft_orb.specs.ExactlyOnce.{Absent, Arrival, Bad, Field, Present, acts, answer_by_field, has_key, live_keys, new_answer, outcome_kept, outcome_of, performed_after, performed_of, state_after, state_after_call}
-use Rattle.ft_orb.specs.Interfaces.{AreArgumentsOf, Interface, IsValidInterface, operation}
+use Rattle.ft_orb.specs.Interfaces.{AreArgumentsOf, Interface, IsValidInterface, no_object, no_operation, operation, raw_operation}
 use Rattle.ft_orb.specs.Laws.{CallsAreAsked}
 use Rattle.ft_orb.specs.Outputs.{Made}
-use Rattle.ft_orb.specs.Replies.{answered_as, body_of}
-use Rattle.ft_orb.specs.Requests.{Call, Wanted, asked_of, asking, locating, rules_of}
+use Rattle.ft_orb.specs.Replies.{answered_as}
+use Rattle.ft_orb.specs.Requests.{AreGivenBy, Call, Wanted, asked_of, asking, locating, rules_of}
 use Rattle.ft_orb.specs.Servants.{IsServant, Meaning}
-use Rattle.ft_ends.specs.Laws.{AnswersAreShort, ArePlain, IsPlain}
+use Rattle.ft_ends.specs.Laws.{AnswersAreShort, ArePlain, IsPlain, IsShort}
 use Rattle.ft_ends.proofs.Lists.{each-append, each-left}
 
--- the body of an outcome is short
-abbrev IsShort : Performed → Type 0
-IsShort p = length (octets_of_all Big (body_of p) 24) ≤ 1048576
-
--- .. and that of a refusal
+-- the body of a refusal is short
 refusal-short : (n : SystemName) → IsShort (answered_as (Err n))
 refusal-short name.Marshal = lit≤ tt
 refusal-short name.BadContext = lit≤ tt
@@ -52,15 +47,22 @@ members-fit fits form.no_forms order o octets value.no_values valid are spelled 
 members-fit fits form.no_forms order o octets (value.value v vs) valid are spelled = absurd spelled
 members-fit fits (form.form t ts) order o octets vs valid are spelled = fits (form.structure (form.form t ts)) order (value.structure vs) o octets ((λ none. absurd cc), valid) are spelled
 
+-- what a body of octets gives an operation of valid types are arguments of it
+given-fit : SpelledFits → (i : Interface) (body : Rest) (arguments : Values) → IsValidInterface i → AreOctets body.octets → AreGivenBy i body arguments → AreArgumentsOf i arguments
+given-fit fits no_object body arguments valid are given = absurd given
+given-fit fits no_operation body arguments valid are given = absurd given
+given-fit fits (operation t) body arguments valid are given =
+    let own : AreOctets given.front = each-left (λ x. x < 256) given.front given.rest (subst AreOctets given.octets_are are) in
+    members-fit fits t.arguments body.order body.place given.front arguments valid.0 own given.spelled
+given-fit fits raw_operation body arguments valid are given = (body, given)
+
 module _ {State : Type 0} (meaning : Meaning State) (made : Made State) (fits : SpelledFits) (calls : CallsAreAsked) (promises : IsServant meaning) where
   -- what is asked has arguments of its operation
   asked-fit : (w : Wanted) (call : Call) → IsPlain w → asked_of meaning.interface w ≡ Ok call → AreArgumentsOf (meaning.interface call.object_key call.operation) call.arguments
   asked-fit (asking c q) call plain is =
       let asked = (calls meaning.interface q (key_of_addressed q.target) call).0 is in
-      let own : AreOctets asked.front = each-left (λ x. x < 256) asked.front asked.rest (subst AreOctets asked.octets_are plain) in
-      let valid : IsValidInterface (operation asked.types) = subst IsValidInterface asked.known (promises.valid call.object_key q.operation) in
-      let fit = members-fit fits asked.types.arguments q.body.order q.body.place asked.front call.arguments valid.0 own asked.spelled in
-      subst (λ (name : List ℕ). AreArgumentsOf (meaning.interface call.object_key name) call.arguments) asked.operation_is (subst (λ (i : Interface). AreArgumentsOf i call.arguments) (sym asked.known) fit)
+      let fit = given-fit fits (meaning.interface call.object_key q.operation) q.body call.arguments (promises.valid call.object_key q.operation) plain asked.given in
+      subst (λ (name : List ℕ). AreArgumentsOf (meaning.interface call.object_key name) call.arguments) asked.operation_is fit
   asked-fit (locating c version id to) call plain is = absurd cc
 
   call-state : (state : State) (r : Result Call SystemName) → IsTrue (meaning.is_state state) → ((call : Call) → r ≡ Ok call → AreArgumentsOf (meaning.interface call.object_key call.operation) call.arguments)

@@ -8,14 +8,15 @@ use Rattle.giop_core.specs.declared.request.ReplyWish.TheVariants as wish
 use Rattle.giop_frames.specs.declared.limits.Limits.{Limits}
 use Rattle.giop_link.specs.Hearing.{Ending, ending, faulty, peer_closed, peer_error, wrong_direction}
 use Rattle.giop_link.specs.Linking.{close_connection}
-use Rattle.ft_log.specs.Performed.{Performed, raised, returned, system}
+use Rattle.ft_log.specs.Performed.{Performed, raised, raw, returned, system}
+use Rattle.ft_log.specs.declared.outcome.RawStatus.TheVariants as raw_status
 use Rattle.ft_log.specs.declared.system_exception.SystemName.{SystemName}
 use Rattle.ft_client.specs.Directions.{stream}
 use Rattle.ft_orb.specs.ExactlyOnce.{Arrival}
 use Rattle.ft_orb.specs.History.{Close, Event, Gone, Line, Lost, Opened, Piece, Shut, Up, completed, line}
 use Rattle.ft_orb.specs.Outputs.{close_at, close_on, error_at, error_on, farewell, law_says}
 use Rattle.ft_orb.specs.Renderings.{rendered, rendering}
-use Rattle.ft_orb.specs.Replies.{answered_as, body_of, locate_reply, locate_status, message_error, reply, reply_by, status_of}
+use Rattle.ft_orb.specs.Replies.{answered_as, body_of, locate_reply, locate_status, message_error, order_of, reply, reply_by, status_of}
 use Rattle.ft_orb.specs.Requests.{Wanted, asking, locating}
 use Rattle.ft_orb.specs.Servants.{Meaning}
 use Rattle.ft_ends.specs.Laws.{TellingsAreWritten}
@@ -30,7 +31,11 @@ by-written wish.None version id p = refl
 by-written wish.Empty version id (returned results) = append-nil _
 by-written wish.Empty version id (raised name members) = append-nil _
 by-written wish.Empty version id (system name minor completion) = append-nil _
-by-written wish.Full version id p = append-nil (reply version id (status_of p) (body_of p))
+by-written wish.Empty version id (raw raw_status.NoException order body) = append-nil _
+by-written wish.Empty version id (raw raw_status.UserException order body) = append-nil _
+by-written wish.Empty version id (raw raw_status.SystemException order body) = append-nil _
+by-written wish.Empty version id (raw raw_status.LocationForward order body) = append-nil _
+by-written wish.Full version id p = append-nil (reply version (order_of p) id (status_of p) (body_of p))
 
 of-written : (knows : List ℕ → Bool) (w : Wanted) (answer : Result Performed SystemName) → stream octets_told (told_of knows w answer) ≡ rendering knows w answer
 unfolding rendering

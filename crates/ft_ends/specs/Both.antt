@@ -3,11 +3,11 @@ use Rattle.std.specs.Prelude.{◌≡◌, ℕ, ◌≤◌, ◌<◌, ◌==◌, ◌&
 use Rattle.std.specs.Option.{option_map}
 use Rattle.std.specs.List.{AllByRecursion}
 use Rattle.cdr_core.specs.Writing.{octets_of_all}
-use Rattle.cdr_core.specs.declared.order.Order.TheVariants.{Big}
 use Rattle.giop_core.specs.Content.{Rest}
-use Rattle.giop_core.specs.declared.reply.ReplyStatus.TheVariants.{NoException, SystemException, UserException}
+use Rattle.giop_core.specs.declared.reply.ReplyStatus.TheVariants.{LocationForward, NoException, SystemException, UserException}
 use Rattle.ft_log.specs.Keys.{RequestKey}
-use Rattle.ft_log.specs.Performed.{Performed, raised, returned, system}
+use Rattle.ft_log.specs.Performed.{Performed, raised, raw, returned, system}
+use Rattle.ft_log.specs.declared.outcome.RawStatus.TheVariants as raw_status
 use Rattle.ft_log.specs.declared.system_exception.SystemName.{SystemName}
 use Rattle.ft_client.specs.Clients.{Cancelled, Ended, Expired, Told}
 use Rattle.ft_client.specs.Lives.{IsOfCall, call_at, one_if}
@@ -15,7 +15,7 @@ use Rattle.ft_client.specs.Messages.{Transmission, question_of}
 use Rattle.ft_orb.specs.ExactlyOnce.{Arrival, OneExpiration, Present, acts, answer_of, outcome_kept, performed_of}
 use Rattle.ft_orb.specs.History.{Event, arrivals}
 use Rattle.ft_orb.specs.Outputs.{Made}
-use Rattle.ft_orb.specs.Replies.{answered_as, body_of}
+use Rattle.ft_orb.specs.Replies.{answered_as, body_of, order_of}
 use Rattle.ft_orb.specs.Requests.{Wanted, asking, rules_of}
 use Rattle.ft_orb.specs.Servants.{Meaning}
 use Rattle.ft_ends.specs.World.{Member, Newcomer, World}
@@ -43,14 +43,20 @@ abbrev pub AreOnce : List (Arrival Wanted) → Type 0
 AreOnce performed =
     (front between rest : List (Arrival Wanted)) (p q : Arrival Wanted) (key : RequestKey) (early late : ℕ) → performed ≡ front ++ p ∷ between ++ q ∷ rest → p.field ≡ Present key early → q.field ≡ Present key late → ⊥
 
--- what a client's call ends with where this is its outcome: with the body as its reply carries it, in big order at the place 24
+-- what a client's call ends with where this is its outcome: with the body as its reply carries it, in the outcome's byte order at the
+-- place 24
 abbrev pub body_at : Performed → Rest
-body_at p = record { order = Big; place = 24; octets = octets_of_all Big (body_of p) 24 }
+body_at p = record { order = order_of p; place = 24; octets = octets_of_all (order_of p) (body_of p) 24 }
 
+-- .. by its status: a body of octets that forwards ends the call with the reference to ask
 abbrev pub ended_of : Performed → Ended
 ended_of (returned results) = Told NoException (body_at (returned results))
 ended_of (raised id members) = Told UserException (body_at (raised id members))
 ended_of (system name minor completion) = Told SystemException (body_at (system name minor completion))
+ended_of (raw raw_status.NoException order body) = Told NoException (body_at (raw raw_status.NoException order body))
+ended_of (raw raw_status.UserException order body) = Told UserException (body_at (raw raw_status.UserException order body))
+ended_of (raw raw_status.SystemException order body) = Told SystemException (body_at (raw raw_status.SystemException order body))
+ended_of (raw raw_status.LocationForward order body) = Told LocationForward (body_at (raw raw_status.LocationForward order body))
 
 -- an arrival is that of a transmission among these, on a connection, and carries its content, its key and its expiration
 pub record IsSentIn (sent : List (ℕ × Transmission)) (a : Arrival Wanted) : Type 0 where

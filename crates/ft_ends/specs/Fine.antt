@@ -36,9 +36,9 @@ abbrev pub IsFineSaid : Said → Type 0
 IsFineSaid (Asked t) = IsFine t
 IsFineSaid (Withdrawn version id) = id < 2 ^ 32
 
--- the same of what the server says: a reply's status is at most 2, and its body takes at most 1,048,576 octets
+-- the same of what the server says: a reply's status is at most 3, and its body takes at most 1,048,576 octets in its order
 abbrev pub IsFineTelling : Telling → Type 0
-IsFineTelling (Replied version id status body) = (id < 2 ^ 32) × (status ≤ 2) × (length (octets_of_all Big body 24) ≤ 1048576)
+IsFineTelling (Replied version order id status body) = (id < 2 ^ 32) × (status ≤ 3) × (length (octets_of_all order body 24) ≤ 1048576)
 IsFineTelling (Located version id status) = (id < 2 ^ 32) × (status ≤ 1)
 IsFineTelling Failed = Unit {0}
 IsFineTelling Closing = Unit {0}

@@ -4,15 +4,15 @@ use Rattle.std.specs.List.{AllByRecursion}
 use Rattle.cdr_core.specs.Numbers.{AreOctets}
 use Rattle.cdr_core.specs.Spelling.{IsClean}
 use Rattle.cdr_core.specs.Writing.{octets_of_all}
-use Rattle.cdr_core.specs.declared.order.Order.TheVariants.{Big}
 use Rattle.giop_frames.specs.declared.limits.Limits.{Limits}
+use Rattle.ft_log.specs.Performed.{Performed}
 use Rattle.ft_client.specs.Directions.{Hearing, stream}
 use Rattle.ft_client.specs.Messages.{Answer, Call, octets_said}
 use Rattle.ft_client.specs.Standing.{down}
 use Rattle.ft_orb.specs.ExactlyOnce.{Arrival, answer_of}
 use Rattle.ft_orb.specs.History.{Event}
 use Rattle.ft_orb.specs.Outputs.{Made, law_says, output}
-use Rattle.ft_orb.specs.Replies.{answered_as, body_of}
+use Rattle.ft_orb.specs.Replies.{answered_as, body_of, order_of}
 use Rattle.ft_orb.specs.Requests.{Wanted, asking, locating, rules_of}
 use Rattle.ft_orb.specs.Servants.{Meaning}
 use Rattle.ft_ends.specs.Both.{ActsOnce, AreDistinct}
@@ -41,11 +41,15 @@ IsPlain (locating c version id to) = Unit {0}
 abbrev pub ArePlain : List (Arrival Wanted) → Type 0
 ArePlain arrivals = AllByRecursion (λ a. IsPlain a.content) arrivals
 
--- the body of each answer of a server takes at most 1,048,576 octets, in big order at the place 24
+-- the body of an outcome takes at most 1,048,576 octets, in its order at the place 24
+abbrev pub IsShort : Performed → Type 0
+IsShort p = length (octets_of_all (order_of p) (body_of p) 24) ≤ 1048576
+
+-- so does that of each answer of a server
 abbrev pub AreShort : {State : Type 0} → Meaning State → Made State → Type 0
 AreShort meaning made =
     (before : List (Arrival Wanted)) (a : Arrival Wanted) → ArePlain before → IsPlain a.content
-    → length (octets_of_all Big (body_of (answered_as (answer_of (rules_of meaning made.capacity made.share) made.opening before a))) 24) ≤ 1048576
+    → IsShort (answered_as (answer_of (rules_of meaning made.capacity made.share) made.opening before a))
 
 -- A servant that keeps its promises, from one of its states on, gives such answers.
 abbrev pub AnswersAreShort : {State : Type 0} → Meaning State → Type 0

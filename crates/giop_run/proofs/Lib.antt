@@ -3,7 +3,6 @@ pub mod DigitValues
 pub mod Lines
 pub mod Endings
 pub mod Printing
-pub mod Counting
 pub mod Scripts
 pub mod Visits
 pub mod Addresses

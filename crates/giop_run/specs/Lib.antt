@@ -13,8 +13,9 @@ pub mod Settings
 pub mod Script
 pub mod Counter
 pub mod Plays
--- `giop serve`: the counter's reference, moments, and connections that are served one after another
+-- `giop serve`: the counter's reference, its server, moments, and connections that are served one after another
 pub mod Addresses
+pub mod Services
 pub mod Moments
 pub mod Visits
 -- a proof that an `impl` cites

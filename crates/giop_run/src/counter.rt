@@ -1,15 +1,14 @@
 //! The counter: the object that the program serves.
 
 ghost use Rattle.std.specs.Prelude.{◌≡◌, IfOk, OnErr};
-ghost use Rattle.cdr_core.specs.View.{values_of};
-ghost use Rattle.giop_run.specs.Counter.{add_types, get_types, long_in, sum_of, tells};
+ghost use Rattle.giop_run.specs.Counter.{add_types, get_types, sum_of, tells};
 ghost use Rattle.ft_orb.specs.Interfaces.{types_of};
 ghost use Rattle.ft_log.specs.View.{performed_in};
 
 use crate::vector::one;
 use cdr_core::{Ty, Val};
 use ft_log::{Completion, Outcome, SystemName};
-use ft_orb::{Lookup, Servant, Signature};
+use ft_orb::{Lookup, Servant, Signature, long_at};
 use std::alloc::{AllocError, Global};
 use std::marker::Model;
 
@@ -68,19 +67,6 @@ fn telling(alloc: Global, total: i64) -> Result<Outcome, AllocError>
     ensures { IfOk result (λ outcome. performed_in outcome ≡ tells total) }
 {
     Ok(Outcome::Returned(one(alloc, Val::LongLong(total))?))
-}
-
-/// The long that is the one argument, if it is.
-fn long_in(arguments: &[Val]) -> Option<i32>
-    ensures { result ≡ long_in (values_of arguments.now) }
-{
-    let [argument] = arguments else {
-        return None;
-    };
-    match argument {
-        Val::Long(n) => Some(*n),
-        _ => None,
-    }
 }
 
 impl Counter {
@@ -157,7 +143,7 @@ impl Servant for Counter {
         if operation == b"get".as_slice() {
             return telling(alloc, self.total);
         }
-        match long_in(arguments) {
+        match long_at(arguments, 0) {
             Some(n) => self.add(alloc, n),
             None => Ok(Outcome::System(SystemName::BadOperation, 0, Completion::No)),
         }

@@ -24,6 +24,7 @@ mod vector;
 
 // what the program is asked for, and all of it over a reader and writers
 pub use program::run;
+pub use script::{ScriptError, read_script};
 pub use setting::{CAPACITY, LIMIT, PARTIALS, START, Setting};
 
 // the counter, and its server over TCP

@@ -1,6 +1,7 @@
 //! The counter as a service on this machine.
 
-ghost use Rattle.std.specs.Prelude.{◌≤◌};
+ghost use Rattle.std.specs.Prelude.{◌≤◌, IfOk};
+ghost use Rattle.giop_run.specs.Services.{IsNewService};
 
 use crate::address::reference_text;
 use crate::clock::SystemClock;
@@ -11,7 +12,7 @@ use crate::setting::{CAPACITY, START};
 use crate::stop::Stop;
 use ft_orb::Server;
 use giop_frames::Limits;
-use std::alloc::Global;
+use std::alloc::{AllocError, Global};
 use std::hash::RandomState;
 use std::io::Write;
 use std::net::{Ipv4Addr, Net, TcpListener, TcpStream};
@@ -26,6 +27,30 @@ fn print_address<W: Write>(alloc: Global, port: u16, out: &mut W) -> Result<(), 
     Ok(())
 }
 
+/// A new server of a counter, as a play has it where nothing else is asked for.
+fn new_server(alloc: Global, hasher: RandomState) -> Result<Server<Counter>, AllocError>
+    ensures { IfOk result IsNewService }
+{
+    let counter = Counter::new(alloc, START)?;
+    let limits = Limits::default();
+    Ok(Server::new(alloc, counter, limits, CAPACITY, CAPACITY, hasher))
+}
+
+/// Listens, and serves so many connections.
+fn listen<R: Net<Listener = TcpListener, Stream = TcpStream> + rt::Clock>(
+    alloc: Global,
+    rt: &R,
+    port: u16,
+    connections: u32,
+    server: &mut Server<Counter>,
+) -> Result<(), Stop> {
+    let Ok(listener) = TcpListener::bind(rt, (Ipv4Addr::LOCALHOST, port)) else {
+        return Err(Stop::CannotListen);
+    };
+    let mut clock = SystemClock::new(rt);
+    serve_on(alloc, &listener, connections, server, &mut clock).map_err(|_| Stop::CannotAccept)
+}
+
 /// Prints the reference, listens, and serves so many connections.
 fn offer<R: Net<Listener = TcpListener, Stream = TcpStream> + rt::Clock, W: Write>(
     alloc: Global,
@@ -35,15 +60,9 @@ fn offer<R: Net<Listener = TcpListener, Stream = TcpStream> + rt::Clock, W: Writ
     hasher: RandomState,
     out: &mut W,
 ) -> Result<(), Stop> {
-    let counter = Counter::new(alloc, START)?;
-    let limits = Limits::default();
-    let mut server = Server::new(alloc, counter, limits, CAPACITY, CAPACITY, hasher);
-    let mut clock = SystemClock::new(rt);
+    let mut server = new_server(alloc, hasher)?;
     print_address(alloc, port, out)?;
-    let Ok(listener) = TcpListener::bind(rt, (Ipv4Addr::LOCALHOST, port)) else {
-        return Err(Stop::CannotListen);
-    };
-    serve_on(alloc, &listener, connections, &mut server, &mut clock).map_err(|_| Stop::CannotAccept)
+    listen(alloc, rt, port, connections, &mut server)
 }
 
 /// Serves a counter from 0 on 127.0.0.1: prints its reference, listens on the port, serves so many connections

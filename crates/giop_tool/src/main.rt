@@ -4,7 +4,7 @@
 mod help;
 mod settings;
 
-ghost use Rattle.giop_run.specs.Settings.{IsInRange};
+ghost use Rattle.giop_run.specs.Settings.{IsInRange, IsOverStreams};
 
 use giop_run::{Setting, run, serve};
 use settings::{SettingError, settings};
@@ -12,17 +12,45 @@ use std::hash::RandomState;
 use std::process::ExitCode;
 use std::{env, io};
 
+/// Serves on the standard streams, and returns the exit status.
+fn serve_port(rt: &HostRuntime, port: u16, connections: u32, hasher: RandomState) -> u8 {
+    let (mut out, mut err) = (rt.stdout(), rt.stderr());
+    serve(
+        rt.alloc(),
+        rt,
+        port,
+        connections,
+        hasher,
+        &mut out,
+        &mut err,
+    )
+}
+
+/// Does on the standard streams what a setting asks for, unless that is to serve, and returns the exit status.
+fn run_streams(rt: &HostRuntime, setting: &Setting, hasher: RandomState) -> u8
+    requires range { IsInRange setting.now }
+    requires streams { IsOverStreams setting.now }
+{
+    let (mut out, mut err) = (rt.stdout(), rt.stderr());
+    run(
+        rt.alloc(),
+        setting,
+        hasher,
+        &mut rt.stdin(),
+        &mut out,
+        &mut err,
+    )
+}
+
 /// Does what a setting asks for, and returns the exit status.
 fn run_setting(rt: &HostRuntime, setting: &Setting) -> io::Result<u8>
     requires { IsInRange setting.now }
 {
-    let alloc = rt.alloc();
     let hasher = RandomState::new(rt)?;
-    let (mut out, mut err) = (rt.stdout(), rt.stderr());
-    if let Setting::Serve { port, connections } = *setting {
-        return Ok(serve(alloc, rt, port, connections, hasher, &mut out, &mut err));
+    match *setting {
+        Setting::Serve { port, connections } => Ok(serve_port(rt, port, connections, hasher)),
+        _ => Ok(run_streams(rt, setting, hasher)),
     }
-    Ok(run(alloc, setting, hasher, &mut rt.stdin(), &mut out, &mut err))
 }
 
 /// Prints the answer to words without a setting, help among them, and returns the exit status.
