@@ -12,11 +12,14 @@ LAST_TOTAL = (1 << 63) - 1
 CLOSE, ERROR = "close", "error"
 
 
-class Octets:
-    """Octets in big order, each value aligned by its place."""
+BIG, LITTLE = ">", "<"
 
-    def __init__(self, place=0):
-        self.begin = place
+
+class Octets:
+    """Octets in an order, each value aligned by its place."""
+
+    def __init__(self, place=0, order=BIG):
+        self.begin, self.order = place, order
         self.all = b""
 
     def align(self, size):
@@ -24,7 +27,7 @@ class Octets:
 
     def number(self, size, form, number):
         self.align(size)
-        self.all += struct.pack(">" + form, number)
+        self.all += struct.pack(self.order + form, number)
 
     def ulong(self, number):
         self.number(4, "I", number)
@@ -37,10 +40,10 @@ class Octets:
         self.octets(octets + b"\0")
 
 
-def context_of(client_id, number, expiration):
+def context_of(client_id, number, expiration, order=BIG):
     """What the context FT_REQUEST holds."""
-    out = Octets()
-    out.all += b"\0"
+    out = Octets(0, order)
+    out.all += b"\0" if order == BIG else b"\1"
     out.string(client_id)
     out.number(4, "i", number)
     out.number(8, "Q", expiration)
@@ -188,12 +191,15 @@ def returned(total):
     return f"returned big 24 {struct.pack('>q', total).hex()}"
 
 
-def refused(name):
-    """A system exception of minor code 0 and COMPLETED_NO."""
+NO, MAYBE = 1, 2
+
+
+def refused(name, minor=0, completion=NO):
+    """A system exception; of minor code 0 and COMPLETED_NO, if nothing else is said."""
     out = Octets(24)
     out.string(f"IDL:omg.org/CORBA/{name}:1.0".encode())
-    out.ulong(0)
-    out.ulong(1)
+    out.ulong(minor)
+    out.ulong(completion)
     return f"system big 24 {out.all.hex()}"
 
 

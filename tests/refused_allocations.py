@@ -5,6 +5,7 @@ usage: refused_allocations.py PROGRAM            the program `giop`, on the inpu
        refused_allocations.py --calls PROGRAM..    the programs `value_trials` and `stream_trials`, one after
                                                    another, on each call that it lists
        refused_allocations.py --schedules PROGRAM    the program `ends_tests`, on the schedules below
+       refused_allocations.py --engine PROGRAM    the program `engine_trials`, on the scripts below
 
 An allocation is a call of malloc or realloc. With one refused,
 
@@ -17,13 +18,18 @@ An allocation is a call of malloc or realloc. With one refused,
 - a run on a schedule must end as it does with ample memory, or with `memory` as above; or, where the refused
   allocation was one of the play, print `memory after N steps` in place of the total, and before it what it prints for
   the first N steps alone. At least one run of each schedule must do so.
+- a run on a script of the engine must end as it does with ample memory, or with `memory` as above; or, where the
+  refused allocation was one of the engine or its owner, print one line `memory` or `given_up` for a connection, write
+  whole replies alone there, and on each other connection what it writes with ample memory, with the same total. A
+  request is asked again only where it was given up. At least one run of each script must keep an outcome whose reply
+  could not be written, and at least one must give a request up.
 
 A pair is the calls X_once/SAMPLE and X_a_hundred_times/SAMPLE. Both must take the same number of
 allocations, since a call that is repeated keeps the memory that it took. A call whose suite has one of
 these endings must have its other.
 
 The last run, in which nothing is refused, must end as with ample memory. Each input, each call, each
-pair and each schedule counts as one case. The last line is 'N passed, M failed'.
+pair, each schedule and each script counts as one case. The last line is 'N passed, M failed'.
 """
 import itertools
 import os
@@ -92,6 +98,26 @@ SCHEDULES = [
     ("pieces of messages", TWO_CLIENTS, [
         "call 0 50 c add 100 7", "call 0 50 d add 100 7", "connect 0 50", "up 0 20 50", "up 0 80 50", "up 0 90 50",
         "down 0 5", "down 0 40", "down 0 90"]),
+]
+
+# scripts of the engine: a name, how many requests are performed, and the lines. Each request is `add(7)` with a key,
+# and comes again on each connection, so one refused allocation changes no total
+ENGINE_WORDS = ["4", "4", "0", "4096", "1", "asks"]
+OTHER = KEYED.replace("0000004800000005", "0000004800000006").replace("000000000100000000", "000000000200000000")
+REPLY_DIGITS = 64
+
+
+def on_connections(*pieces):
+    """The lines for pieces that come on three connections, one after another."""
+    return [line for c in (1, 2, 3)
+            for line in [f"open {c}", *(f"bytes {c} 50 {piece}" for piece in pieces), f"lost {c}"]]
+
+
+ENGINE_SCRIPTS = [
+    ("a request that comes three times", 1, on_connections(KEYED)),
+    ("two requests in a piece", 2, on_connections(KEYED + OTHER)),
+    ("two requests in pieces", 2, on_connections(KEYED[:30], KEYED[30:] + OTHER[:100], OTHER[100:])),
+    ("a request and its repeat in a piece", 1, on_connections(KEYED + KEYED)),
 ]
 
 # how the names of the two suites of a pair end, and of a suite that takes no memory
@@ -215,6 +241,62 @@ def fault_of_schedule(program, head, steps):
     return None, f"{number - 1} allocations refused in turn, {cut} of them in the play"
 
 
+class Printed:
+    """What `engine_trials` printed: the connections on which requests were asked, the digits on each connection, the
+    total, and the words of the lines that say what was not served."""
+
+    def __init__(self, run):
+        lines = [line.split(" ") for line in run.end[1].decode().splitlines()]
+        self.asks = [words[0] for name, *words in lines if name == "ask"]
+        self.total = [words for name, *words in lines if name == "total"]
+        self.unserved = [words for words in lines if words[0] in ("memory", "given_up")]
+        self.digits = {}
+        for name, *words in lines:
+            if name.isdigit():
+                self.digits[name] = self.digits.get(name, "") + words[0]
+
+    def has_kept(self):
+        """Whether an outcome was taken whose reply was not written."""
+        return any(name == "memory" and len(self.digits.get(lost, "")) < REPLY_DIGITS * self.asks.count(lost)
+                   for name, lost, *_ in self.unserved)
+
+    def is_given_up(self):
+        """Whether a request was given up."""
+        return any(words[0] == "given_up" for words in self.unserved)
+
+    def follows(self, ample, count):
+        """Whether one refused allocation led from what is printed with ample memory to this, where so many requests are
+        performed."""
+        if len(self.unserved) != 1 or self.total != ample.total:
+            return False
+        lost = self.unserved[0][1]
+        written = self.digits.get(lost, "")
+        is_whole = len(written) % REPLY_DIGITS == 0 and ample.digits[lost].startswith(written)
+        are_others = {**self.digits, lost: ""} == {**ample.digits, lost: ""}
+        return is_whole and are_others and count <= len(self.asks) <= count + self.is_given_up()
+
+
+def fault_of_script(program, count, lines):
+    """What is wrong with the runs of one script of the engine, or None; and what was seen."""
+    given = "\n".join([*lines, ""]).encode()
+    ample = program.run(0, ENGINE_WORDS, given)
+    whole = Printed(ample)
+    if ample.end[0] != 0 or ample.end[2] or whole.unserved or len(whole.asks) != count:
+        return f"with nothing refused it ended with {ample.end!r}", ""
+    kept = given_up = 0
+    for number, run in program.runs(ENGINE_WORDS, given):
+        if run.end == ample.end or (run.is_refused and run.is_out_of_memory()):
+            continue
+        printed = Printed(run)
+        kept, given_up = kept + printed.has_kept(), given_up + printed.is_given_up()
+        if not run.is_refused or run.end[0] != 0 or run.end[2] or not printed.follows(whole, count):
+            return f"with allocation {number} refused it ended with {run.end!r}", ""
+    if not kept or not given_up:
+        return f"{kept} outcomes were kept without a reply, and {given_up} requests given up", ""
+    return None, (f"{number - 1} allocations refused in turn, {kept} outcomes kept without a reply, "
+                  f"{given_up} requests given up")
+
+
 def fault_of_pair(_program, once, often, taken):
     """What is wrong with how many allocations the two calls of a pair take, or None; and what was seen."""
     if once not in taken or often not in taken:
@@ -252,6 +334,8 @@ def cases_of(kind, program):
         return cases
     if kind == "--schedules":
         return [(name, fault_of_schedule, (head, steps)) for name, head, steps in SCHEDULES]
+    if kind == "--engine":
+        return [(name, fault_of_script, (count, lines)) for name, count, lines in ENGINE_SCRIPTS]
     return [(name, fault_of_input, (words, given)) for name, words, given in INPUTS]
 
 

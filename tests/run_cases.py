@@ -2,6 +2,7 @@
 """Runs the program on the cases beside this file, and compares what it prints to the octet.
 
 usage: run_cases.py PROGRAM [FOLDER..]
+       run_cases.py --engine PROGRAM     the program `engine_trials`, on the cases of `play` that end well
 
 A case NAME is the files NAME.args (the words after the program's name, one a line), NAME.stdin,
 NAME.status, NAME.stdout and NAME.stderr. Where NAME.stderr is missing, nothing may be printed there;
@@ -11,6 +12,9 @@ where NAME.stdout is missing too, any text may be. The folders are the program's
 A case of `play` that ends well runs once more with each piece cut into pieces of one octet, at the same
 moment on the same connection: what is printed must be the same, where lines of one connection that follow one
 another count as one.
+
+The program `engine_trials` plays the same scripts on an engine whose owner keeps the counter, and must print the same.
+Its words are the numbers that a case's words set, and `giop`'s own where they set none.
 
 The last line is 'N passed, M failed'.
 """
@@ -31,10 +35,29 @@ def content(path):
         return None
 
 
-def run_of(program, base, script):
-    """The program's run with a case's words and this standard input."""
-    words = content(base + ".args").decode().splitlines()
-    return subprocess.run([program] + words, input=script, capture_output=True, timeout=SECONDS)
+def same_words(words):
+    """A case's words as they are."""
+    return words
+
+
+def engine_words(words):
+    """The words of `engine_trials` for the words of a case of `play`: CAPACITY SHARE START LIMIT PARTIALS."""
+    given = dict(zip(words[1::2], words[2::2]))
+    capacity = given.get("--capacity", "1024")
+    return [capacity, given.get("--share", capacity), given.get("--start", "0"), given.get("--limit", "1048576"),
+            given.get("--partials", "8")]
+
+
+class Program:
+    """A program, and what its words are for those of a case."""
+
+    def __init__(self, path, words_of):
+        self.path, self.words_of = os.path.abspath(path), words_of
+
+    def run(self, base, script):
+        """The run with a case's words and this standard input."""
+        words = self.words_of(content(base + ".args").decode().splitlines())
+        return subprocess.run([self.path] + words, input=script, capture_output=True, timeout=SECONDS)
 
 
 def in_octets(script):
@@ -65,7 +88,7 @@ def joined(printed):
 def fault_in_octets(program, base):
     """What differs where each piece comes in single octets, or None."""
     try:
-        run = run_of(program, base, in_octets(content(base + ".stdin")))
+        run = program.run(base, in_octets(content(base + ".stdin")))
     except subprocess.TimeoutExpired:
         return f"in octets: no end after {SECONDS} seconds"
     if run.returncode != 0 or joined(run.stdout) != joined(content(base + ".stdout")):
@@ -76,7 +99,7 @@ def fault_in_octets(program, base):
 def fault_of(program, base):
     """What is wrong with the program's run on a case, or None."""
     try:
-        run = run_of(program, base, content(base + ".stdin") or b"")
+        run = program.run(base, content(base + ".stdin") or b"")
     except subprocess.TimeoutExpired:
         return f"no end after {SECONDS} seconds"
     status = int(content(base + ".status"))
@@ -99,18 +122,25 @@ def names_in(folder):
     return [file[:-len(".args")] for file in files if file.endswith(".args")]
 
 
+def ends_well(base):
+    """Whether a case ends with status 0."""
+    return content(base + ".status").strip() == b"0"
+
+
 def main():
-    program = os.path.abspath(sys.argv[1])
+    words = sys.argv[1:]
+    is_engine = words[0] == "--engine"
+    program = Program(words[1], engine_words) if is_engine else Program(words[0], same_words)
     passed = failed = 0
-    for folder in sys.argv[2:] or sorted(os.listdir(HERE)):
-        names = names_in(folder)
+    for folder in ["play"] if is_engine else words[1:] or sorted(os.listdir(HERE)):
+        names = [name for name in names_in(folder) if not is_engine or ends_well(os.path.join(HERE, folder, name))]
         if not names:
             failed += 1
             print(f"FAILS {folder}: it has no case")
         for name in names:
             base = os.path.join(HERE, folder, name)
             faults = [fault_of(program, base)]
-            if folder == "play" and content(base + ".status").strip() == b"0":
+            if folder == "play" and ends_well(base):
                 faults.append(fault_in_octets(program, base))
             for fault in faults:
                 if fault is None:

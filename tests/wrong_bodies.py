@@ -50,7 +50,7 @@ COSTS = {
     "giop_link": (130, 8),
     "ft_log": (100, 12),
     "ft_client": (120, 12),
-    "ft_orb": (180, 17),
+    "ft_orb": (420, 17),
     "ft_ends": (150, 14),
     "giop_run": (350, 18),
     "uses": (200, 20),
@@ -310,6 +310,10 @@ class Trials:
         seed = self.seed_of(crate)
         again = self.round(crate, rounds[0], seed, jobs)
         left = rounds[1:] + [[edit] for edit in again]
+        if not os.path.isdir(seed) and left:
+            # (an edit of that round did not compile, so that its check kept nothing)
+            self.check(crate, {}, seed, jobs)
+            os.makedirs(seed, exist_ok=True)
 
         def one(edits):
             kept = self.over(seed)

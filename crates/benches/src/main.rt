@@ -1,7 +1,7 @@
 //! The program `benches`: does a kind of work again and again, to be timed, and prints a line.
 //!
-//! The first word is `frames`, `values` or `server`, and the modules of these names say what the others are. The
-//! word `all` does each of the three once, on a small input. Where the words are wrong the program says in a line
+//! The first word is `frames`, `values`, `server` or `engine`, and the modules of these names say what the others are
+//! (of `engine` that of `server`). The word `all` does each of the four once, on a small input. Where the words are wrong the program says in a line
 //! on standard error how they go, and ends with status 2.
 #![tactic(auto)]
 
@@ -9,6 +9,7 @@ mod frames;
 mod messages;
 mod report;
 mod server;
+mod serving;
 mod stop;
 mod values;
 mod words;
@@ -21,13 +22,14 @@ use stop::Stop;
 use words::texts_of;
 
 /// How the words go.
-const USAGE: &str = "usage: benches frames|values|server WORD.. | all";
+const USAGE: &str = "usage: benches frames|values|server|engine WORD.. | all";
 
 /// What `all` does.
-const ALL: [(&str, &[&str]); 3] = [
+const ALL: [(&str, &[&str]); 4] = [
     ("frames", &["10000", "84"]),
     ("values", &["read", "structs", "1"]),
     ("server", &["1000", "4096", "add"]),
+    ("engine", &["1000", "4096", "add"]),
 ];
 
 /// Does the work of a name that the words ask for.
@@ -36,6 +38,7 @@ fn work(rt: &HostRuntime, name: &str, words: &[&str]) -> Result<Report, Stop> {
         "frames" => frames::run(rt.alloc(), words),
         "values" => values::run(rt.alloc(), words),
         "server" => server::run(rt.alloc(), RandomState::new(rt)?, words),
+        "engine" => server::run_owned(rt.alloc(), RandomState::new(rt)?, words),
         _ => Err(Stop::Words(USAGE)),
     }
 }

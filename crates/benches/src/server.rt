@@ -1,4 +1,4 @@
-//! A server of one counter that is fed with a stream of messages.
+//! A server of one counter that is fed with a stream of messages, or an engine whose owner keeps the counter.
 //!
 //! The words are how many messages the stream has, how many octets a piece has, and of what kind the messages
 //! are: `add` without FT_REQUEST (the one where no word is), `repeat` with one key, or `locate`. What it gives is
@@ -11,9 +11,10 @@
 
 use crate::messages::{ADD, LOCATE, REQUEST};
 use crate::report::{Report, mixed};
+use crate::serving::{Owned, Serving};
 use crate::stop::Stop;
 use crate::words::number;
-use ft_orb::Server;
+use ft_orb::{Engine, Server};
 use giop_frames::Limits;
 use giop_run::Counter;
 use std::alloc::{AllocError, Global};
@@ -21,7 +22,7 @@ use std::hash::RandomState;
 
 /// How the words go.
 const USAGE: &str =
-    "usage: benches server COUNT PIECE [add|repeat|locate|rising|scattered [ENTRIES]]";
+    "usage: benches server|engine COUNT PIECE [add|repeat|locate|rising|scattered [ENTRIES]]";
 
 /// A kind of messages.
 #[derive(Clone, Copy)]
@@ -89,9 +90,9 @@ fn put_key(message: &mut [u8; 84], index: u32, expiration: u64) {
 }
 
 /// Feeds `count` messages, each with a key of its own, on connection 1; or only makes them.
-fn drive_keyed(
+fn drive_keyed<S: Serving>(
     alloc: Global,
-    server: &mut Server<Counter>,
+    server: &mut S,
     count: u32,
     entries: u64,
     is_scattered: bool,
@@ -109,7 +110,7 @@ fn drive_keyed(
         );
         if feeds {
             out.clear();
-            server.feed(1, moment, &message, &mut out).ok()?;
+            server.feed(moment, &message, &mut out)?;
             tally = added(tally, &out);
         } else {
             tally = added(tally, &message);
@@ -128,7 +129,7 @@ fn stream_of(alloc: Global, count: u32, message: &[u8]) -> Result<Vec<u8>, Alloc
 }
 
 /// Feeds a stream in pieces of `size` octets, on connection 1 at the moment 50.
-fn drive(alloc: Global, server: &mut Server<Counter>, stream: &[u8], size: usize) -> Option<Tally> {
+fn drive<S: Serving>(alloc: Global, server: &mut S, stream: &[u8], size: usize) -> Option<Tally> {
     let mut tally = Tally { octets: 0, sum: 0 };
     let mut out = Vec::new(alloc);
     let mut left = stream;
@@ -138,7 +139,7 @@ fn drive(alloc: Global, server: &mut Server<Counter>, stream: &[u8], size: usize
         }
         let (piece, others) = left.split_at(size.min(left.len()));
         out.clear();
-        server.feed(1, 50, piece, &mut out).ok()?;
+        server.feed(50, piece, &mut out)?;
         tally = added(tally, &out);
         left = others;
     }
@@ -146,9 +147,9 @@ fn drive(alloc: Global, server: &mut Server<Counter>, stream: &[u8], size: usize
 }
 
 /// Feeds `count` times a message; or only makes the stream.
-fn drive_same(
+fn drive_same<S: Serving>(
     alloc: Global,
-    server: &mut Server<Counter>,
+    server: &mut S,
     count: u32,
     size: u32,
     message: &[u8],
@@ -200,7 +201,7 @@ fn task_of(words: &[&str]) -> Option<Task> {
 }
 
 /// Feeds the messages of a task.
-fn work(alloc: Global, server: &mut Server<Counter>, task: Task) -> Result<Tally, Stop> {
+fn work<S: Serving>(alloc: Global, server: &mut S, task: Task) -> Result<Tally, Stop> {
     let Task {
         count,
         size,
@@ -227,13 +228,34 @@ fn new_server(alloc: Global, hasher: RandomState, entries: u32) -> Result<Server
 }
 
 /// What a task gives on a server.
-fn report(alloc: Global, server: &mut Server<Counter>, task: Task) -> Result<Report, Stop> {
+fn report<S: Serving>(alloc: Global, server: &mut S, task: Task) -> Result<Report, Stop> {
     let tally = work(alloc, server, task)?;
     Ok(Report::Answers {
         octets: tally.octets,
         sum: tally.sum,
-        total: server.servant().total(),
+        total: server.total(),
     })
+}
+
+/// An engine that keeps `entries` outcomes, whose connection 1 is open, and whose owner counts from 0.
+fn new_engine(alloc: Global, hasher: RandomState, entries: u32) -> Result<Owned, Stop> {
+    let catalogue = Counter::new(alloc, 0)?;
+    let mut engine = Engine::new(
+        alloc,
+        catalogue,
+        Limits::default(),
+        entries,
+        entries,
+        hasher,
+    );
+    match engine.connect(1) {
+        Ok(()) => Ok(Owned {
+            alloc,
+            engine,
+            total: 0,
+        }),
+        Err(_) => Err(Stop::Memory),
+    }
 }
 
 /// What a task gives on a new server.
@@ -242,10 +264,28 @@ fn serve(alloc: Global, hasher: RandomState, task: Task) -> Result<Report, Stop>
     report(alloc, &mut server, task)
 }
 
-/// Does what the words ask for.
+/// What a task gives on a new engine.
+fn own(alloc: Global, hasher: RandomState, task: Task) -> Result<Report, Stop> {
+    let mut owned = new_engine(alloc, hasher, task.entries)?;
+    report(alloc, &mut owned, task)
+}
+
+/// Does what the words ask for, on a server.
 pub(crate) fn run(alloc: Global, hasher: RandomState, words: &[&str]) -> Result<Report, Stop> {
     match task_of(words) {
         Some(task) => serve(alloc, hasher, task),
+        None => Err(Stop::Words(USAGE)),
+    }
+}
+
+/// The same on an engine whose owner performs.
+pub(crate) fn run_owned(
+    alloc: Global,
+    hasher: RandomState,
+    words: &[&str],
+) -> Result<Report, Stop> {
+    match task_of(words) {
+        Some(task) => own(alloc, hasher, task),
         None => Err(Stop::Words(USAGE)),
     }
 }

@@ -12,83 +12,77 @@
 //!
 //! There is one space between words, numbers are in decimal digits, and KEY and OPERATION are the octets of the word.
 
-ghost use Rattle.std.specs.Prelude.{IfOk, IfSome, OnOk};
+ghost use Rattle.std.specs.Prelude.{OnOk};
 ghost use Rattle.std.specs.List.{AllByRecursion};
 ghost use Rattle.ft_ends.specs.Playing.{IsCallable};
 
-use crate::playing::play;
-use crate::schedule::Schedule;
+use crate::playing::{play, print_played};
+use crate::schedule::{Schedule, Terms};
 use crate::stop::Stop;
-use crate::words::words_of;
 use std::alloc::Global;
 use std::hash::RandomState;
 use std::io::{BufRead, BufReader, BufWriter, Read, Write};
 
-/// Begins a schedule by the words of its first line.
-fn begin(alloc: Global, hasher: RandomState, name: &str, words: &[&str]) -> Result<Schedule, Stop>
-    ensures { IfOk result (λ s. AllByRecursion IsCallable s.steps.items) }
-{
-    match name {
-        "server" => Schedule::new(alloc, hasher, words),
-        _ => Err(Stop::BadLine),
-    }
-}
-
-/// Takes the words of a line: the schedule that is being read, if there is one, begins, is extended, or ends and is
-/// played.
-fn take_words<W: Write>(
+/// Plays a schedule that was read, prints what comes of it, and leaves it without lines.
+fn play_out<W: Write>(
     alloc: Global,
     hasher: RandomState,
-    name: &str,
-    words: &[&str],
-    reading: &mut Option<Schedule>,
+    terms: Terms,
+    schedule: &mut Schedule,
     out: &mut W,
 ) -> Result<(), Stop>
-    requires { IfSome reading.old (λ s. AllByRecursion IsCallable s.steps.items) }
-    ensures { OnOk result (IfSome reading.new (λ s. AllByRecursion IsCallable s.steps.items)) }
+    requires { AllByRecursion IsCallable schedule.old.steps.items }
+    ensures { OnOk result (AllByRecursion IsCallable schedule.new.steps.items) }
 {
-    let Some(mut schedule) = reading.take() else {
-        *reading = Some(begin(alloc, hasher, name, words)?);
-        return Ok(());
-    };
-    if name == "end" {
-        return play(alloc, schedule, out);
-    }
-    schedule.extend(alloc, name, words)?;
-    *reading = Some(schedule);
-    Ok(())
+    let played = play(alloc, hasher, terms, &mut schedule.clients, &schedule.steps)?;
+    schedule.clear();
+    Ok(print_played(&played, out)?)
 }
 
-/// Takes a line.
+/// Takes a line: the schedule that is being read begins, is extended, or ends and is played.
 fn take_line<W: Write>(
     alloc: Global,
     hasher: RandomState,
     line: &str,
-    reading: &mut Option<Schedule>,
+    reading: &mut Schedule,
     out: &mut W,
 ) -> Result<(), Stop>
-    requires { IfSome reading.old (λ s. AllByRecursion IsCallable s.steps.items) }
-    ensures { OnOk result (IfSome reading.new (λ s. AllByRecursion IsCallable s.steps.items)) }
+    requires { AllByRecursion IsCallable reading.old.steps.items }
+    ensures { OnOk result (AllByRecursion IsCallable reading.new.steps.items) }
 {
-    let words = words_of(alloc, line)?;
-    match words.as_slice() {
-        [] => Err(Stop::BadLine),
-        [name, words @ ..] => take_words(alloc, hasher, name, words, reading, out),
+    match reading.take_line(alloc, line)? {
+        None => Ok(()),
+        Some(terms) => play_out(alloc, hasher, terms, reading, out),
     }
 }
 
-/// Takes the lines of an input, and returns the schedule that none of them ends.
+/// Takes the lines of an input.
 fn take_lines<B: BufRead + Drop, W: Write>(
     alloc: Global,
     hasher: RandomState,
     input: B,
+    reading: &mut Schedule,
     out: &mut W,
-) -> Result<Option<Schedule>, Stop> {
-    let mut reading = None;
+) -> Result<(), Stop>
+    requires { AllByRecursion IsCallable reading.old.steps.items }
+{
     for line in input.lines(alloc) {
-        take_line(alloc, hasher, &line?, &mut reading, out)?;
+        take_line(alloc, hasher, &line?, reading, out)?;
     }
-    Ok(reading)
+    Ok(())
+}
+
+/// Takes the lines that a reader gives, and returns whether the last schedule has ended.
+fn take_all<R: Read, W: Write>(
+    alloc: Global,
+    hasher: RandomState,
+    input: &mut R,
+    out: &mut W,
+) -> Result<bool, Stop> {
+    let input = BufReader::new(alloc, input)?;
+    let mut reading = Schedule::new(alloc);
+    take_lines(alloc, hasher, input, &mut reading, out)?;
+    Ok(reading.terms.is_none())
 }
 
 /// Plays the schedules of an input, and prints what completes.
@@ -99,10 +93,11 @@ pub(crate) fn play_lines<R: Read, W: Write>(
     out: &mut W,
 ) -> Result<(), Stop> {
     let mut out = BufWriter::new(alloc, out)?;
-    let left = take_lines(alloc, hasher, BufReader::new(alloc, input)?, &mut out)?;
+    let has_ended = take_all(alloc, hasher, input, &mut out)?;
     out.flush()?;
-    match left {
-        None => Ok(()),
-        Some(_) => Err(Stop::BadLine),
+    if has_ended {
+        Ok(())
+    } else {
+        Err(Stop::BadLine)
     }
 }

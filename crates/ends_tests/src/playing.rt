@@ -3,13 +3,14 @@
 ghost use Rattle.std.specs.List.{AllByRecursion};
 ghost use Rattle.ft_ends.specs.Playing.{IsCallable};
 
-use crate::schedule::Schedule;
-use crate::stop::Stop;
+use crate::schedule::Terms;
 use cdr_core::Order;
-use ft_client::{Ended, ReplyBody};
-use ft_ends::both_ends;
-use ft_orb::PlayError;
-use std::alloc::Global;
+use ft_client::{Ended, FtClient, ReplyBody};
+use ft_ends::{Step, both_ends};
+use ft_orb::{PlayError, Server};
+use giop_run::Counter;
+use std::alloc::{AllocError, Global};
+use std::hash::RandomState;
 use std::io;
 use std::io::Write;
 
@@ -57,17 +58,44 @@ fn print_end<W: Write>(played: Result<(), PlayError>, total: i64, out: &mut W) -
     writeln!(out, "end")
 }
 
-/// Plays a schedule, and prints what completes, the total or after how many steps memory ran out, and `end`.
-pub(crate) fn play<W: Write>(alloc: Global, schedule: Schedule, out: &mut W) -> Result<(), Stop>
-    requires { AllByRecursion IsCallable schedule.steps.items }
+/// What a schedule comes to.
+#[derive(Drop)]
+pub(crate) struct Played {
+    completions: Vec<(u32, i32, Ended)>,
+    played: Result<(), PlayError>,
+    total: i64,
+}
+
+/// Prints what completed, the total or after how many steps memory ran out, and `end`.
+pub(crate) fn print_played<W: Write>(played: &Played, out: &mut W) -> io::Result<()> {
+    print_completions(&played.completions, out)?;
+    print_end(played.played, played.total, out)
+}
+
+/// Plays the steps of a schedule, with its clients, on a new server.
+pub(crate) fn play(
+    alloc: Global,
+    hasher: RandomState,
+    terms: Terms,
+    clients: &mut Vec<FtClient>,
+    steps: &[Step],
+) -> Result<Played, AllocError>
+    requires { AllByRecursion IsCallable steps.now }
 {
-    let Schedule {
-        mut server,
-        mut clients,
-        steps,
-    } = schedule;
+    let counter = Counter::new(alloc, terms.total)?;
+    let mut server = Server::new(
+        alloc,
+        counter,
+        terms.limits,
+        terms.capacity,
+        terms.share,
+        hasher,
+    );
     let mut completions = Vec::new(alloc);
-    let played = both_ends(alloc, &mut server, &mut clients, &steps, &mut completions);
-    print_completions(&completions, out)?;
-    Ok(print_end(played, server.servant().total(), out)?)
+    let played = both_ends(alloc, &mut server, clients, steps, &mut completions);
+    Ok(Played {
+        completions,
+        played,
+        total: server.servant().total(),
+    })
 }

@@ -10,6 +10,8 @@ mod faults;
 #[cfg(test)]
 mod messages;
 #[cfg(test)]
+mod owners;
+#[cfg(test)]
 mod sockets;
 mod tape;
 #[cfg(test)]

@@ -62,6 +62,22 @@ fn taken_in(alloc: Global, acts: &[Act]) -> Result<Vec<u8>, AllocError> {
     Ok(taken)
 }
 
+/// What came of a connection that ended so.
+pub(crate) fn course_of(
+    alloc: Global,
+    end: StreamEnd,
+    wire: &MemoryWire,
+    total: i64,
+) -> Result<Course, AllocError> {
+    let acts = wire.acts().unwrap_or(&[]);
+    Ok(Course {
+        end,
+        acts: letters(alloc, acts)?,
+        taken: taken_in(alloc, acts)?,
+        total,
+    })
+}
+
 /// Serves a new connection over a wire, with these moments.
 pub(crate) fn visit_at(
     alloc: Global,
@@ -75,13 +91,7 @@ pub(crate) fn visit_at(
     let mut wire = MemoryWire::new(alloc, terms);
     let mut clock = MemoryClock::new(moments);
     let end = serve_stream(alloc, server, connection, &mut wire, &mut clock, max_reads);
-    let acts = wire.acts().unwrap_or(&[]);
-    Ok(Course {
-        end,
-        acts: letters(alloc, acts)?,
-        taken: taken_in(alloc, acts)?,
-        total: server.servant().total(),
-    })
+    Ok(course_of(alloc, end, &wire, server.servant().total())?)
 }
 
 /// Serves a new connection over a wire, with moments that rise from 50.

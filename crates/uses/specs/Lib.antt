@@ -5,9 +5,11 @@ pub mod Hearing
 pub mod Invocation
 pub mod Keeping
 pub mod Tickets
+pub mod Saving
 pub mod Serving
 pub mod Pieces
 pub mod Retrying
 pub mod Cutting
--- a proof that `impl Servant for Tickets` cites
+-- proofs that `impl Servant` cites
 pub mod TicketsFacts
+pub mod SavingFacts

@@ -1,9 +1,10 @@
-//! Twelve uses of the libraries, as a caller writes them: each is one file with one subject, proved, and
+//! Fourteen uses of the libraries, as a caller writes them: each is one file with one subject, proved, and
 //! run by a test of `uses_tests` on octets written out by hand from the standard's layouts (CORBA 3.3 Part 2, 9.3 and 9.4).
 //! docs/GUIDE.md and the pages of `giop_link` and `ft_log` quote them.
 #![tactic(auto)]
 
 mod arguments;
+mod banking;
 mod capture;
 mod cutting;
 mod endpoint;
@@ -13,10 +14,12 @@ mod keeping;
 mod locating;
 mod pieces;
 mod retrying;
+mod saving;
 mod serving;
 mod tickets;
 
 pub use arguments::{DecodeError, first_arguments, publish_types};
+pub use banking::{Bank, BankingError, serve_bank};
 pub use capture::{Capture, read_capture};
 pub use cutting::{AtCut, CuttingError, ticket_at_cut};
 pub use endpoint::first_endpoint;
@@ -26,5 +29,6 @@ pub use keeping::keep_once;
 pub use locating::answer_locate;
 pub use pieces::{Piece, serve_pieces};
 pub use retrying::{RetryingError, next_ticket};
+pub use saving::Savings;
 pub use serving::{ServingError, serve_once};
 pub use tickets::Tickets;

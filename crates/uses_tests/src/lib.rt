@@ -5,6 +5,8 @@
 #[cfg(test)]
 mod arguments;
 #[cfg(test)]
+mod banking;
+#[cfg(test)]
 mod capture;
 #[cfg(test)]
 mod cutting;
@@ -24,5 +26,7 @@ mod octets;
 mod pieces;
 #[cfg(test)]
 mod retrying;
+#[cfg(test)]
+mod saving;
 #[cfg(test)]
 mod serving;
