@@ -1,0 +1,568 @@
+/*
+ * lemonrudder.h: GIOP 1.0, 1.1 and 1.2 over IIOP (OMG CORBA 3.3 Part 2, clause 9) and the FT_REQUEST service context
+ * of Fault Tolerant CORBA, as a library of proved functions. C99 or later, C++11 or later.
+ *
+ * The library opens no socket, reads no clock, starts no thread and calls nobody back. It takes octets and moments, and
+ * gives octets and what is to be done. Nothing in it is global, and no call ends the process.
+ *
+ * Slots.  An object lives in a slot of yours: lr_server, lr_client and so on, each of which is a struct lr_slot. All
+ * zero is an empty slot, so that `lr_server s = LR_INIT;` is right. lr_close empties a slot and frees what it held; on an
+ * empty one it does nothing, so closing twice is harmless. A slot may be moved in memory between calls, if the old place
+ * is not used again. Two calls at once must not use one slot; different slots may be used by different threads.
+ *
+ * Octets.  A pointer and a size lend octets for the time of the call; the library keeps none of your pointers. A size
+ * of 0 lends none, and the pointer may then be NULL. What is written into room of yours is written from its first octet
+ * on. Room must not overlap a slot, or octets that are lent to the same call.
+ *
+ * Results.  Each function answers an int64_t: 0 or more, a count or LR_OK; below 0, an error LR_E_.., and then nothing
+ * has changed, unless the function says otherwise. lr_strerror gives its text.
+ *
+ * Numbers.  Connections are your numbers. A moment counts 100 ns since 15 October 1582, 00:00 UTC, as an expiration of
+ * FT_REQUEST does; lr_moment makes one of seconds and nanoseconds since 1970. A version is its minor number: 0, 1 or 2.
+ */
+#ifndef LEMONRUDDER_H
+#define LEMONRUDDER_H
+
+#include <stddef.h>
+#include <stdint.h>
+
+#ifdef __cplusplus
+extern "C" {
+#endif
+
+/* The version of this header: major, minor and patch. */
+#define LR_VERSION_MAJOR 0
+#define LR_VERSION_MINOR 1
+#define LR_VERSION_PATCH 0
+
+/* The version of the library that is linked: major * 65536 + minor * 256 + patch. */
+uint32_t lr_version(void);
+
+/* ---- slots ---- */
+
+struct lr_slot {
+  uint32_t kind;
+  void *at;
+};
+
+#define LR_INIT {0, NULL}
+
+typedef struct lr_slot lr_catalogue; /* which objects and operations a server has */
+typedef struct lr_slot lr_server;    /* a server of requests that may be sent again */
+typedef struct lr_slot lr_client;    /* a client that sends its calls again */
+typedef struct lr_slot lr_assembler; /* the messages of a stream */
+typedef struct lr_slot lr_ior;       /* a reference to an object */
+
+/* Empties a slot of any kind. */
+void lr_close(struct lr_slot *slot);
+
+/* ---- errors ---- */
+
+enum {
+  LR_OK = 0,
+  LR_E_EMPTY = -1,      /* the slot is empty, or holds an object of another kind */
+  LR_E_OPEN = -2,       /* the slot holds an object already */
+  LR_E_MEMORY = -3,     /* an allocation failed, and nothing has changed */
+  LR_E_RANGE = -4,      /* a number is none of those that are allowed */
+  LR_E_CONNECTION = -5, /* there is no such connection; of lr_server_connect: its number is not greater than each before */
+  LR_E_ASKING = -6,     /* a request waits for its outcome */
+  LR_E_IDLE = -7,       /* no request waits */
+  LR_E_DUE = -8,        /* octets are due that were not taken */
+  LR_E_OUTCOME = -9,    /* no outcome of the operation, or one that can't be sent */
+  LR_E_ROOM = -10,      /* the room is too small */
+  LR_E_SHORT = -11,     /* octets are missing at the end */
+  LR_E_VALUE = -12,     /* the octets are no value of the type */
+  LR_E_TYPES = -13,     /* the codes spell no valid types */
+  LR_E_TEXT = -14,      /* a NUL where none may be, or a name of a length that is not allowed */
+  LR_E_TAKEN = -15,     /* there is an object or operation of that name */
+  LR_E_OBJECT = -16,    /* there is no object of that key */
+  LR_E_RAW = -17,       /* every operation of the object is raw */
+  LR_E_REFERENCE = -18, /* no stringified reference */
+  LR_E_STREAM = -19,    /* the stream has a fault, and is at its end */
+  LR_E_NONE = -20,      /* there is no such part */
+  LR_E_EXPIRED = -21,   /* the moment is past the expiration */
+  LR_E_CALLS = -22,     /* as many calls are pending as a client keeps, or it has given all its numbers */
+  LR_E_LONG = -23,      /* the message would be longer than its size can say */
+  LR_E_LOST = -24       /* an allocation failed, and the connection is gone */
+};
+
+/* The text of an error, with a NUL at its end. */
+const char *lr_strerror(int64_t error);
+
+/* ---- names of numbers ---- */
+
+/* The order of the octets of a number. */
+enum { LR_BIG = 0, LR_LITTLE = 1 };
+
+/* Which reply a request asks for: none, one without results, or a whole one. */
+enum { LR_WISH_NONE = 0, LR_WISH_EMPTY = 1, LR_WISH_FULL = 2 };
+
+/* The status of a Reply (CORBA 3.3 Part 2, 9.4.3.1). */
+enum {
+  LR_NO_EXCEPTION = 0,
+  LR_USER_EXCEPTION = 1,
+  LR_SYSTEM_EXCEPTION = 2,
+  LR_LOCATION_FORWARD = 3,
+  LR_LOCATION_FORWARD_PERM = 4,
+  LR_NEEDS_ADDRESSING_MODE = 5
+};
+
+/* The system exceptions that a server raises (CORBA 3.3 Part 2, A.5). */
+enum {
+  LR_MARSHAL = 0,
+  LR_BAD_CONTEXT = 1,
+  LR_NO_RESOURCES = 2,
+  LR_BAD_OPERATION = 3,
+  LR_OBJECT_NOT_EXIST = 4,
+  LR_UNKNOWN = 5,
+  LR_BAD_PARAM = 6,
+  LR_NO_PERMISSION = 7,
+  LR_IMP_LIMIT = 8,
+  LR_INTERNAL = 9,
+  LR_TRANSIENT = 10
+};
+
+/* Whether an operation was completed before its exception. */
+enum { LR_COMPLETED_YES = 0, LR_COMPLETED_NO = 1, LR_COMPLETED_MAYBE = 2 };
+
+/* Parts that are copied out, by the functions .._part. */
+enum {
+  LR_PART_KEY = 0,       /* the object key */
+  LR_PART_OPERATION = 1, /* the name of the operation */
+  LR_PART_BODY = 2,      /* the arguments, or the body of a reply */
+  LR_PART_CLIENT = 3,    /* the client id of FT_REQUEST */
+  LR_PART_PAYLOAD = 4    /* what a Fragment carries */
+};
+
+/*
+ * Types, as octets.  Each code stands for a type; a code of several parts takes the types before it. So a string, and then
+ * a sequence of longs, are {LR_STRING, LR_LONG, LR_SEQUENCE}, and a struct of these two members
+ * {LR_STRING, LR_LONG, LR_SEQUENCE, LR_STRUCT, 2}. Strings and sequences have no bounds. A sequence of octets is
+ * LR_OCTETS. What has no code, as a union, can be had by raw operations.
+ */
+enum {
+  LR_BOOLEAN = 1,
+  LR_CHAR = 2,
+  LR_OCTET = 3,
+  LR_SHORT = 4,
+  LR_USHORT = 5,
+  LR_LONG = 6,
+  LR_ULONG = 7,
+  LR_LONGLONG = 8,
+  LR_ULONGLONG = 9,
+  LR_STRING = 10,
+  LR_OCTETS = 11,
+  LR_SEQUENCE = 12, /* of the type before it */
+  LR_ENUM = 13,     /* of so many names as the next octet says, 1 to 255 */
+  LR_STRUCT = 14    /* of so many types before it as the next octet says, 1 to 255 */
+};
+
+/* A moment, of seconds and nanoseconds since 1970-01-01 00:00 UTC. The greatest, where it lies beyond. */
+uint64_t lr_moment(uint64_t seconds, uint32_t nanoseconds);
+
+/* ---- which objects a server has ---- */
+
+/* Opens a catalogue without objects. LR_E_OPEN, LR_E_MEMORY. */
+int64_t lr_catalogue_open(lr_catalogue *catalogue);
+
+/* Adds an object without operations. LR_E_EMPTY, LR_E_TAKEN, LR_E_MEMORY. */
+int64_t lr_catalogue_object(lr_catalogue *catalogue, const void *key, size_t key_size);
+
+/* Adds an object whose every operation is raw. LR_E_EMPTY, LR_E_TAKEN, LR_E_MEMORY. */
+int64_t lr_catalogue_raw_object(lr_catalogue *catalogue, const void *key, size_t key_size);
+
+/* Declares an exception of the operation that is added next: its repository id, and the types of its members.
+ * LR_E_EMPTY, LR_E_TYPES, LR_E_MEMORY. */
+int64_t lr_catalogue_exception(lr_catalogue *catalogue, const void *id, size_t id_size,
+                               const uint8_t *members, size_t members_size);
+
+/* Adds an operation: the types of its arguments (the in and inout parameters in order), and of its results (the return
+ * value, and then the inout and out parameters in order). It raises the exceptions that were declared since the last
+ * one was added; where it is refused these are forgotten.
+ * LR_E_EMPTY, LR_E_TYPES, LR_E_TEXT, LR_E_OBJECT, LR_E_RAW, LR_E_TAKEN, LR_E_MEMORY. */
+int64_t lr_catalogue_operation(lr_catalogue *catalogue, const void *key, size_t key_size,
+                               const void *name, size_t name_size,
+                               const uint8_t *arguments, size_t arguments_size,
+                               const uint8_t *results, size_t results_size);
+
+/* Adds an operation that is raw: you read its arguments, and write the bodies of its replies.
+ * LR_E_EMPTY, LR_E_TEXT, LR_E_OBJECT, LR_E_RAW, LR_E_TAKEN, LR_E_MEMORY. */
+int64_t lr_catalogue_raw_operation(lr_catalogue *catalogue, const void *key, size_t key_size,
+                                   const void *name, size_t name_size);
+
+/* Names the repository ids of an object, with a NUL after each: "IDL:Bank:1.0" has one, with the NUL that ends it. The
+ * object has the operations _is_a and _non_existent then, as a checked narrow of an ORB asks for (CORBA 3.3 Part 1, 8.3);
+ * lr_server_identify answers them. LR_E_EMPTY, LR_E_TEXT (the last octet is no NUL), LR_E_OBJECT, LR_E_RAW, LR_E_TAKEN,
+ * LR_E_MEMORY. */
+int64_t lr_catalogue_repository_ids(lr_catalogue *catalogue, const void *key, size_t key_size,
+                                    const void *ids, size_t ids_size);
+
+/* ---- a server of requests that may be sent again ---- */
+
+/*
+ * Octets that come on connections go in by lr_server_feed, up to a request that is to be performed. lr_server_asked says
+ * what it asks for; you perform it, and hand in what came of it by lr_server_answer or one of its like, which keeps it for
+ * repeats and makes the reply. Octets that are due go out by lr_server_output after each call. Repeats are answered from
+ * what was kept; they, and requests that are expired, not valid or refused, never come to you.
+ *
+ * One request waits at a time. While it does, lr_server_feed, lr_server_connect, lr_server_lost and lr_server_farewell answer
+ * LR_E_ASKING. What is due belongs to one connection; until it is taken, lr_server_feed and lr_server_farewell of another
+ * answer LR_E_DUE.
+ */
+
+/* Opens a server of the objects of a catalogue, which is empty afterwards. A message has at most message_limit octets,
+ * 4096 to 16777216; on each connection at most so many messages may be partial at a time, 1 to 16. At most `capacity`
+ * outcomes are kept for repeats, at most `share` of each client. The seeds are random numbers of yours, which no
+ * client can guess. LR_E_OPEN, LR_E_EMPTY (the catalogue), LR_E_RANGE, LR_E_MEMORY; the catalogue is as it was then. */
+int64_t lr_server_open(lr_server *server, lr_catalogue *catalogue, uint32_t message_limit, uint32_t partials,
+                       uint32_t capacity, uint32_t share, uint64_t seed_low, uint64_t seed_high);
+
+/* Opens a connection, whose number is greater than each before.
+ * LR_E_EMPTY, LR_E_ASKING, LR_E_CONNECTION, LR_E_MEMORY. */
+int64_t lr_server_connect(lr_server *server, uint64_t connection);
+
+/* Forgets a connection that is gone, if there is one, and the octets that are due on it. LR_E_EMPTY, LR_E_ASKING. */
+int64_t lr_server_lost(lr_server *server, uint64_t connection);
+
+/* Says goodbye: CloseConnection is due (CORBA 3.3 Part 2, 9.4.7), unless the connection's stream has ended. What comes on
+ * it afterwards has no meaning. LR_E_EMPTY, LR_E_ASKING, LR_E_DUE, LR_E_CONNECTION, LR_E_LOST. */
+int64_t lr_server_farewell(lr_server *server, uint64_t connection);
+
+/* 1 where the connection was never opened, is gone, has ended or was said goodbye to, so that its socket is to be closed
+ * once what is due is sent; else 0. LR_E_EMPTY. */
+int64_t lr_server_is_closed(lr_server *server, uint64_t connection);
+
+/* Takes octets of a connection that came at a moment, and answers how many it took: all of them, or those up to a
+ * request that waits for its outcome. Feed the rest after it is answered, at the same moment.
+ * LR_E_EMPTY, LR_E_ASKING, LR_E_DUE, LR_E_CONNECTION (the clock has moved), and LR_E_LOST, where what was answered
+ * before is due. */
+int64_t lr_server_feed(lr_server *server, uint64_t connection, uint64_t moment, const void *octets, size_t size);
+
+/* A request that waits for its outcome. */
+typedef struct {
+  uint64_t connection;
+  uint64_t key_size;       /* of LR_PART_KEY */
+  uint64_t operation_size; /* of LR_PART_OPERATION */
+  uint64_t body_size;      /* of LR_PART_BODY */
+  uint64_t body_at;        /* the place of the body's first octet, from which it is aligned */
+  uint32_t body_order;     /* LR_BIG or LR_LITTLE */
+  uint32_t is_raw;         /* 1 where the operation is raw */
+  uint32_t request_id;
+  uint32_t version;
+  uint32_t wish;           /* LR_WISH_.. */
+  uint32_t has_client;     /* 1 where it carries FT_REQUEST: what follows is of it, else 0 */
+  int32_t retention_id;
+  uint32_t reserved;
+  uint64_t client_size;    /* of LR_PART_CLIENT */
+  uint64_t expiration;
+} lr_request;
+
+/* Says what waits: 1, or 0 where nothing does, and `request` is as it was. LR_E_EMPTY. */
+int64_t lr_server_asked(lr_server *server, lr_request *request);
+
+/* Copies a part of the request that waits, as much of it as the room has octets, and answers its size. The body of an
+ * operation with types is its arguments, in big order and aligned from place 0; of a raw one the octets as they came.
+ * LR_E_EMPTY, LR_E_IDLE, LR_E_NONE, LR_E_MEMORY. */
+int64_t lr_server_part(lr_server *server, uint32_t part, void *room, size_t size);
+
+/* Answers the request that waits by its results: octets of an order, aligned from place 0. LR_E_EMPTY, LR_E_IDLE, LR_E_RANGE,
+ * LR_E_OUTCOME, LR_E_MEMORY (it waits still), and LR_E_LOST: the outcome counts and is kept, and its reply is lost. */
+int64_t lr_server_answer(lr_server *server, uint32_t order, const void *results, size_t size);
+
+/* Answers by an exception that the operation declares: its repository id, and its members as of lr_server_answer. Errors
+ * as of lr_server_answer. */
+int64_t lr_server_raise(lr_server *server, const void *id, size_t id_size, uint32_t order, const void *members, size_t size);
+
+/* Answers by a system exception, LR_MARSHAL to LR_TRANSIENT, with a minor code and LR_COMPLETED_... Errors as of
+ * lr_server_answer. */
+int64_t lr_server_system(lr_server *server, uint32_t name, uint32_t minor, uint32_t completed);
+
+/* Answers a raw operation by the body of a Reply: its status, LR_NO_EXCEPTION to LR_LOCATION_FORWARD, its order, and at most
+ * 1048576 octets, written for a place divisible by 8. Errors as of lr_server_answer. */
+int64_t lr_server_answer_raw(lr_server *server, uint32_t status, uint32_t order, const void *body, size_t size);
+
+/* Answers _is_a and _non_existent of an object that names its repository ids: 1 where that is what waits, and it is answered; else
+ * 0. Errors as of lr_server_answer. */
+int64_t lr_server_identify(lr_server *server);
+
+/* Gives up the request that waits: you can't perform it now, and have done nothing. Nothing is kept, and its connection is
+ * gone; it is asked again when it comes again. LR_E_EMPTY, LR_E_IDLE. */
+int64_t lr_server_give_up(lr_server *server);
+
+/* Moves octets that are due into the room, as many as it has, and answers how many: 0 where none are left. They belong to
+ * the connection of the last call. LR_E_EMPTY. */
+int64_t lr_server_output(lr_server *server, void *room, size_t size);
+
+/* ---- a client that sends its calls again ---- */
+
+/*
+ * Each call is sent with FT_REQUEST, once on each connection until it is answered or its expiration is past, so that a server
+ * that keeps outcomes performs it once. Octets that are due are moved by lr_client_output after each call.
+ */
+
+/* Opens a client that is not connected. Its id, 1 to 256 octets without a NUL, names it to each server. Limits as of
+ * lr_server_open. LR_E_OPEN, LR_E_RANGE, LR_E_TEXT, LR_E_MEMORY. */
+int64_t lr_client_open(lr_client *client, const void *id, size_t id_size, uint32_t version,
+                       uint32_t message_limit, uint32_t partials);
+
+/* The client is connected anew: what is pending and not past its expiration is due. Octets that were due for the
+ * connection before are dropped. LR_E_EMPTY, LR_E_LOST. */
+int64_t lr_client_connected(lr_client *client, uint64_t now);
+
+/* The connection is lost: what is pending stays so. LR_E_EMPTY. */
+int64_t lr_client_lost(lr_client *client);
+
+/* 1 where it is connected, else 0. LR_E_EMPTY. */
+int64_t lr_client_is_connected(lr_client *client);
+
+/* Calls an operation of an object, and answers the number of the call: 1, 2 and so on. `types` are those of the arguments,
+ * which are octets of an order, aligned from place 0. LR_E_EMPTY, LR_E_RANGE, LR_E_TYPES, LR_E_TEXT, LR_E_SHORT,
+ * LR_E_VALUE, LR_E_EXPIRED, LR_E_CALLS, LR_E_LONG, LR_E_MEMORY. */
+int64_t lr_client_call(lr_client *client, uint64_t now, uint64_t expiration, const void *key, size_t key_size,
+                       const void *operation, size_t operation_size, const uint8_t *types, size_t types_size,
+                       uint32_t order, const void *arguments, size_t arguments_size);
+
+/* Cancels a call: 1, and it completes as cancelled, or 0 where it is not pending. LR_E_EMPTY, LR_E_RANGE, LR_E_MEMORY. */
+int64_t lr_client_cancel(lr_client *client, int64_t call);
+
+/* A moment has come: calls whose expiration is before it complete as expired. LR_E_EMPTY. */
+int64_t lr_client_tick(lr_client *client, uint64_t now);
+
+/* Takes octets that came on the connection. After a fault of the stream, or where the server has said goodbye, the client is
+ * not connected any more. LR_E_EMPTY, LR_E_LOST. */
+int64_t lr_client_feed(lr_client *client, const void *octets, size_t size);
+
+/* How a call ended. */
+enum {
+  LR_ENDED_RETURNED = 0,         /* the body has its results */
+  LR_ENDED_RAISED = 1,           /* the body has an exception: its repository id, and its members */
+  LR_ENDED_SYSTEM = 2,           /* the body has a system exception: its repository id, its minor code, its completion */
+  LR_ENDED_FORWARDED = 3,        /* the body has a reference to ask in place of this one */
+  LR_ENDED_NEEDS_ADDRESSING = 4, /* the server wants another addressing */
+  LR_ENDED_EXPIRED = 5,
+  LR_ENDED_CANCELLED = 6
+};
+
+typedef struct {
+  uint64_t body_size;
+  uint64_t body_at;    /* the place of the body's first octet, from which it is aligned */
+  int32_t call;        /* the number of the call */
+  uint32_t how;        /* LR_ENDED_.. */
+  uint32_t body_order; /* LR_BIG or LR_LITTLE */
+  uint32_t reserved;
+} lr_completion;
+
+/* Takes the next completion: 1, or 0 where there is none, and `completion` is as it was. Its body is lent by lr_client_body
+ * until the next is taken. LR_E_EMPTY. */
+int64_t lr_client_completed(lr_client *client, lr_completion *completion);
+
+/* Copies the body of the completion taken last, as much of it as the room has octets, and answers its size. LR_E_EMPTY,
+ * LR_E_NONE. */
+int64_t lr_client_body(lr_client *client, void *room, size_t size);
+
+/* Moves octets that are due on the connection into the room, as many as it has, and answers how many. LR_E_EMPTY. */
+int64_t lr_client_output(lr_client *client, void *room, size_t size);
+
+/* ---- the messages of a stream ---- */
+
+/* Opens an assembler of a stream of which nothing has come. Limits as of lr_server_open. LR_E_OPEN, LR_E_RANGE, LR_E_MEMORY. */
+int64_t lr_assembler_open(lr_assembler *assembler, uint32_t message_limit, uint32_t partials);
+
+/* Takes octets up to and with the end of the next message, or all of them, and answers how many. Fragments are joined. LR_E_EMPTY,
+ * LR_E_STREAM: the stream is at its end, and lr_assembler_fault says why. */
+int64_t lr_assembler_feed(lr_assembler *assembler, const void *octets, size_t size);
+
+/* The first fault of the stream: 0 where there is none, or LR_FAULT_... LR_E_EMPTY. */
+int64_t lr_assembler_fault(lr_assembler *assembler);
+
+enum {
+  LR_FAULT_MAGIC = 1,
+  LR_FAULT_VERSION = 2,
+  LR_FAULT_FLAGS = 3,
+  LR_FAULT_TYPE = 4,
+  LR_FAULT_CUT = 5,
+  LR_FAULT_TOO_LARGE = 6,
+  LR_FAULT_UNALIGNED_FRAGMENT = 7,
+  LR_FAULT_STRAY_FRAGMENT = 8,
+  LR_FAULT_TWICE_STARTED = 9,
+  LR_FAULT_TOO_MANY_PARTIAL = 10,
+  LR_FAULT_BODY = 11,
+  LR_FAULT_MIXED_ORDER = 12,
+  LR_FAULT_MEMORY = 13
+};
+
+/* The type of a message (CORBA 3.3 Part 2, 9.4.1). */
+enum {
+  LR_REQUEST = 0,
+  LR_REPLY = 1,
+  LR_CANCEL_REQUEST = 2,
+  LR_LOCATE_REQUEST = 3,
+  LR_LOCATE_REPLY = 4,
+  LR_CLOSE_CONNECTION = 5,
+  LR_MESSAGE_ERROR = 6,
+  LR_FRAGMENT = 7
+};
+
+/* A message. What a message of its type does not have is 0. */
+typedef struct {
+  uint64_t key_size;       /* of LR_PART_KEY: of a Request or LocateRequest whose target has one */
+  uint64_t operation_size; /* of LR_PART_OPERATION: of a Request */
+  uint64_t body_size;      /* of LR_PART_BODY: of a Request, Reply or LocateReply */
+  uint64_t body_at;        /* the place of the body's first octet, from which it is aligned */
+  uint64_t payload_size;   /* of LR_PART_PAYLOAD: of a Fragment */
+  uint32_t type;           /* LR_REQUEST to LR_FRAGMENT */
+  uint32_t version;
+  uint32_t order;          /* LR_BIG or LR_LITTLE */
+  uint32_t request_id;
+  uint32_t status;         /* of a Reply or LocateReply */
+  uint32_t wish;           /* of a Request: LR_WISH_.. */
+  uint32_t contexts;       /* how many service contexts a Request or Reply has */
+  uint32_t has_key;        /* 1 where the target has an object key */
+  uint32_t has_client;     /* 1 where a Request carries FT_REQUEST: what follows is of it */
+  int32_t retention_id;
+  uint64_t client_size;    /* of LR_PART_CLIENT */
+  uint64_t expiration;
+} lr_message;
+
+/* The message that the last lr_assembler_feed completed: 1, or 0 where it completed none, and `message` is as it was. LR_E_EMPTY. */
+int64_t lr_assembler_message(lr_assembler *assembler, lr_message *message);
+
+/* Copies a part of that message, as much of it as the room has octets, and answers its size. LR_E_EMPTY, LR_E_NONE. */
+int64_t lr_assembler_part(lr_assembler *assembler, uint32_t part, void *room, size_t size);
+
+/* Copies the data of a service context of that message, counted from 0, as much of it as the room has octets, gives its id, and
+ * answers its size. LR_E_EMPTY, LR_E_NONE. */
+int64_t lr_assembler_context(lr_assembler *assembler, uint32_t index, uint32_t *id, void *room, size_t size);
+
+/* ---- writing messages ---- */
+
+/*
+ * Each writes a whole message into the room, and answers its size. LR_E_ROOM where the room is smaller: nothing is written
+ * then. LR_E_RANGE, LR_E_TEXT, LR_E_LONG, LR_E_MEMORY.
+ */
+
+/* A Request to an object key, with at most one service context, where context_size is not 0 (its id is context_id). The body is
+ * octets, written for a place divisible by 8; it is in the order of the message. */
+int64_t lr_write_request(void *room, size_t size, uint32_t version, uint32_t order, uint32_t request_id, uint32_t wish,
+                         const void *key, size_t key_size, const void *operation, size_t operation_size,
+                         uint32_t context_id, const void *context, size_t context_size, const void *body, size_t body_size);
+
+/* A Reply without service contexts. The body is octets, written for a place divisible by 8, in the order of the message. */
+int64_t lr_write_reply(void *room, size_t size, uint32_t version, uint32_t order, uint32_t request_id, uint32_t status,
+                       const void *body, size_t body_size);
+
+int64_t lr_write_cancel(void *room, size_t size, uint32_t version, uint32_t order, uint32_t request_id);
+
+int64_t lr_write_locate_request(void *room, size_t size, uint32_t version, uint32_t order, uint32_t request_id,
+                                const void *key, size_t key_size);
+
+int64_t lr_write_locate_reply(void *room, size_t size, uint32_t version, uint32_t order, uint32_t request_id, uint32_t status);
+
+int64_t lr_write_close(void *room, size_t size); /* CloseConnection */
+
+int64_t lr_write_error(void *room, size_t size); /* MessageError */
+
+/* The data of an FT_REQUEST context, whose id is LR_FT_REQUEST. The client id has no NUL. */
+#define LR_FT_REQUEST 13
+int64_t lr_write_ft(void *room, size_t size, uint32_t order, const void *client, size_t client_size,
+                    int32_t retention_id, uint64_t expiration);
+
+/* ---- references ---- */
+
+/* Reads a stringified reference, "IOR:" and hexadecimal digits. LR_E_OPEN, LR_E_REFERENCE, LR_E_MEMORY. */
+int64_t lr_ior_parse(lr_ior *ior, const void *text, size_t size);
+
+/* A reference of a type to an object at an address of IIOP 1.minor. LR_E_OPEN, LR_E_RANGE (minor is over 2), LR_E_TEXT (a NUL in the id or the
+ * host), LR_E_MEMORY. */
+int64_t lr_ior_iiop(lr_ior *ior, const void *type_id, size_t type_id_size, uint32_t minor, const void *host, size_t host_size,
+                    uint16_t port, const void *key, size_t key_size);
+
+/* Writes its stringified form, and answers its size. It has no NUL at its end. LR_E_EMPTY, LR_E_ROOM, LR_E_MEMORY. */
+int64_t lr_ior_print(lr_ior *ior, void *room, size_t size);
+
+/* Copies the repository id of its type, as much of it as the room has octets, and answers its size. LR_E_EMPTY. */
+int64_t lr_ior_type_id(lr_ior *ior, void *room, size_t size);
+
+/* How many profiles it has. LR_E_EMPTY. */
+int64_t lr_ior_profiles(lr_ior *ior);
+
+/* A profile. What only IIOP has is 0 where is_iiop is. */
+typedef struct {
+  uint64_t data_size; /* of LR_IOR_DATA */
+  uint64_t host_size; /* of LR_IOR_HOST */
+  uint64_t key_size;  /* of LR_IOR_KEY */
+  uint32_t tag;
+  uint32_t is_iiop;   /* 1 where it is a valid profile of IIOP 1.0 or later */
+  uint32_t minor;
+  uint32_t port;
+  uint32_t components; /* how many tagged components it has */
+  uint32_t reserved;
+} lr_profile;
+
+/* The profile of an index, counted from 0. LR_E_EMPTY, LR_E_NONE, LR_E_MEMORY. */
+int64_t lr_ior_profile(lr_ior *ior, uint32_t index, lr_profile *profile);
+
+enum { LR_IOR_DATA = 0, LR_IOR_HOST = 1, LR_IOR_KEY = 2 };
+
+/* Copies a part of a profile, as much of it as the room has octets, and answers its size. LR_E_EMPTY, LR_E_NONE, LR_E_MEMORY. */
+int64_t lr_ior_part(lr_ior *ior, uint32_t index, uint32_t part, void *room, size_t size);
+
+/* Copies the data of a tagged component of a profile of IIOP, gives its tag, and answers its size. LR_E_EMPTY, LR_E_NONE, LR_E_MEMORY. */
+int64_t lr_ior_component(lr_ior *ior, uint32_t index, uint32_t component, uint32_t *tag, void *room, size_t size);
+
+/* ---- CDR (CORBA 3.3 Part 2, 9.3), without an allocation ---- */
+
+/*
+ * A place says where reading or writing stands: `next` is the index of the next octet, `at` the place of the first octet, from
+ * which numbers are aligned (0 for an encapsulation, body_at for a body), and `order` the order of numbers. Each function moves
+ * `next` past what it read or wrote, padding included. At an error the place is as it was: LR_E_SHORT (reading: octets are
+ * missing), LR_E_ROOM (writing), LR_E_VALUE (no value of the type), LR_E_RANGE (the order, or `next` lies beyond the octets).
+ */
+typedef struct {
+  uint64_t at;
+  uint64_t next;
+  uint32_t order;
+  uint32_t reserved;
+} lr_place;
+
+int64_t lr_get_octet(const void *octets, size_t size, lr_place *place, uint8_t *value);
+int64_t lr_get_char(const void *octets, size_t size, lr_place *place, uint8_t *value);
+int64_t lr_get_boolean(const void *octets, size_t size, lr_place *place, uint8_t *value); /* 0 or 1 */
+int64_t lr_get_short(const void *octets, size_t size, lr_place *place, int16_t *value);
+int64_t lr_get_ushort(const void *octets, size_t size, lr_place *place, uint16_t *value);
+int64_t lr_get_long(const void *octets, size_t size, lr_place *place, int32_t *value);
+int64_t lr_get_ulong(const void *octets, size_t size, lr_place *place, uint32_t *value);
+int64_t lr_get_longlong(const void *octets, size_t size, lr_place *place, int64_t *value);
+int64_t lr_get_ulonglong(const void *octets, size_t size, lr_place *place, uint64_t *value);
+
+/* A string: the index of its first octet and its size, without the NUL. A sequence of octets: the same. */
+int64_t lr_get_string(const void *octets, size_t size, lr_place *place, uint64_t *start, uint64_t *length);
+int64_t lr_get_octets(const void *octets, size_t size, lr_place *place, uint64_t *start, uint64_t *length);
+
+/* Enters an encapsulation, which is a sequence of octets: `inner` stands after its octet of the byte order. Its octets are
+ * those from `start` on, `length` of them: inner counts from `start`. */
+int64_t lr_get_encapsulation(const void *octets, size_t size, lr_place *place, uint64_t *start, uint64_t *length, lr_place *inner);
+
+int64_t lr_put_octet(void *room, size_t size, lr_place *place, uint8_t value);
+int64_t lr_put_char(void *room, size_t size, lr_place *place, uint8_t value);
+int64_t lr_put_boolean(void *room, size_t size, lr_place *place, uint8_t value);
+int64_t lr_put_short(void *room, size_t size, lr_place *place, int16_t value);
+int64_t lr_put_ushort(void *room, size_t size, lr_place *place, uint16_t value);
+int64_t lr_put_long(void *room, size_t size, lr_place *place, int32_t value);
+int64_t lr_put_ulong(void *room, size_t size, lr_place *place, uint32_t value);
+int64_t lr_put_longlong(void *room, size_t size, lr_place *place, int64_t value);
+int64_t lr_put_ulonglong(void *room, size_t size, lr_place *place, uint64_t value);
+int64_t lr_put_string(void *room, size_t size, lr_place *place, const void *text, size_t length);
+int64_t lr_put_octets(void *room, size_t size, lr_place *place, const void *data, size_t length);
+
+/* ---- memory ---- */
+
+/* All memory comes from malloc, realloc and free, unless you give others: allocate and reallocate answer NULL where there is no
+ * memory. Call it before any other function, or not at all. Memory is aligned to 16. */
+void lr_set_heap(void *(*allocate)(size_t), void *(*reallocate)(void *, size_t), void (*release)(void *));
+
+#ifdef __cplusplus
+}
+#endif
+
+#endif
