@@ -55,7 +55,10 @@ impl Place {
     ) -> (u64, u64) {
         self.follow(octets, cursor);
         let length = count_of(read);
-        (self.next.saturating_sub(length + tail), length)
+        (
+            self.next.saturating_sub(length).saturating_sub(tail),
+            length,
+        )
     }
 
     /// The place in an encapsulation after its octet of the byte order.

@@ -95,10 +95,15 @@ impl Refusal {
     }
 }
 
+/// A count as an export answers it. No length of octets is over the greatest.
+pub fn signed(count: u64) -> i64 {
+    i64::try_from(count).unwrap_or(i64::MAX)
+}
+
 /// The number that an export answers: a count, or that of a refusal.
 pub fn number_of(answer: Result<u64, Refusal>) -> i64 {
     match answer {
-        Ok(count) => count as i64,
+        Ok(count) => signed(count),
         Err(refusal) => refusal.number(),
     }
 }
