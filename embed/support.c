@@ -4,10 +4,10 @@
  * The Rattle code trusts these three functions of the heap (crate `libc` of its kit, src/heap.rt). They are called with
  * sizes below 2^63 and alignments that divide 16.
  */
-#include "lemonrudder.h"
-
 #include <stdbool.h>
 #include <stdlib.h>
+
+#include "lemonrudder.h"
 
 static void *(*allocate_octets)(size_t) = malloc;
 static void *(*reallocate_octets)(void *, size_t) = realloc;
@@ -34,10 +34,12 @@ static struct tried tried(void *at) {
   return (struct tried){at != NULL, at != NULL ? at : &nowhere};
 }
 
-/* A size of 0 is asked for as that of one unit of the alignment, since malloc(0) may answer NULL where there is memory. */
+/* A size of 0 is asked for as one unit of the alignment, since malloc(0) may answer NULL where there is memory. */
 static size_t at_least(size_t size, size_t alignment) { return size != 0 ? size : alignment; }
 
-struct tried rattle_alloc(size_t size, size_t alignment) { return tried(allocate_octets(at_least(size, alignment))); }
+struct tried rattle_alloc(size_t size, size_t alignment) {
+  return tried(allocate_octets(at_least(size, alignment)));
+}
 
 struct tried rattle_realloc(void *at, size_t kept, size_t size, size_t alignment) {
   (void)kept;

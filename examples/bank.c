@@ -8,13 +8,13 @@
  * again, on any connection, acts once.
  */
 #define _DEFAULT_SOURCE
-#include "loop.h"
-
 #include <stdbool.h>
 #include <stdio.h>
 #include <stdlib.h>
 #include <string.h>
 #include <unistd.h>
+
+#include "loop.h"
 
 #define KEY "bank"
 #define TYPE "IDL:Bank:1.0"

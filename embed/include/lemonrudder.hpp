@@ -8,8 +8,6 @@
 #ifndef LEMONRUDDER_HPP
 #define LEMONRUDDER_HPP
 
-#include "lemonrudder.h"
-
 #include <array>
 #include <chrono>
 #include <cstddef>
@@ -22,6 +20,8 @@
 #include <type_traits>
 #include <utility>
 #include <vector>
+
+#include "lemonrudder.h"
 
 namespace lemonrudder {
 
@@ -360,8 +360,7 @@ class Server : public Slot {
   }
 
   Done answer(Order order, Octets results) noexcept {
-    return detail::done(
-        lr_server_answer(slot(), static_cast<std::uint32_t>(order), results.data(), results.size()));
+    return detail::done(lr_server_answer(slot(), static_cast<std::uint32_t>(order), results.data(), results.size()));
   }
   Done raise(Octets id, Order order, Octets members) noexcept {
     return detail::done(lr_server_raise(slot(), id.data(), id.size(), static_cast<std::uint32_t>(order), members.data(),
@@ -427,8 +426,7 @@ class Client : public Slot {
   /* The body of the completion that was taken last. */
   Count body(Room room) noexcept { return detail::count(lr_client_body(slot(), room.data(), room.size())); }
   Result<std::vector<std::uint8_t>> body() noexcept {
-    return detail::copied(
-        [&](std::uint8_t* room, std::size_t size) { return lr_client_body(slot(), room, size); });
+    return detail::copied([&](std::uint8_t* room, std::size_t size) { return lr_client_body(slot(), room, size); });
   }
 
   Count output(Room room) noexcept { return detail::count(lr_client_output(slot(), room.data(), room.size())); }
@@ -462,9 +460,7 @@ class Assembler : public Slot {
   }
 
   /* Takes octets up to the end of the next message, and answers how many. */
-  Count feed(Octets octets) noexcept {
-    return detail::count(lr_assembler_feed(slot(), octets.data(), octets.size()));
-  }
+  Count feed(Octets octets) noexcept { return detail::count(lr_assembler_feed(slot(), octets.data(), octets.size())); }
   /* The first fault of the stream: LR_FAULT_.., or 0. */
   Result<std::int64_t> fault() noexcept { return detail::number(lr_assembler_fault(slot())); }
 
@@ -520,8 +516,7 @@ class Ior : public Slot {
   }
 
   Result<std::vector<std::uint8_t>> type_id() noexcept {
-    return detail::copied(
-        [&](std::uint8_t* room, std::size_t size) { return lr_ior_type_id(slot(), room, size); });
+    return detail::copied([&](std::uint8_t* room, std::size_t size) { return lr_ior_type_id(slot(), room, size); });
   }
   Count profiles() noexcept { return detail::count(lr_ior_profiles(slot())); }
 
@@ -579,8 +574,7 @@ class Reader {
     std::uint64_t start = 0;
     std::uint64_t length = 0;
     lr_place inner{};
-    const std::int64_t answer =
-        lr_get_encapsulation(octets_.data(), octets_.size(), &place_, &start, &length, &inner);
+    const std::int64_t answer = lr_get_encapsulation(octets_.data(), octets_.size(), &place_, &start, &length, &inner);
     if (answer < 0) return Error(answer);
     return Reader(octets_.from(start).first(length), inner);
   }
@@ -665,10 +659,10 @@ struct Context {
 /* Each writes a whole message into the room, and answers its size. */
 inline Count write_request(Room room, Head head, Wish wish, Octets key, Octets operation, Octets body,
                            Context context = {}) noexcept {
-  return detail::count(lr_write_request(
-      room.data(), room.size(), head.version, static_cast<std::uint32_t>(head.order), head.request_id,
-      static_cast<std::uint32_t>(wish), key.data(), key.size(), operation.data(), operation.size(), context.id,
-      context.data.data(), context.data.size(), body.data(), body.size()));
+  return detail::count(lr_write_request(room.data(), room.size(), head.version, static_cast<std::uint32_t>(head.order),
+                                        head.request_id, static_cast<std::uint32_t>(wish), key.data(), key.size(),
+                                        operation.data(), operation.size(), context.id, context.data.data(),
+                                        context.data.size(), body.data(), body.size()));
 }
 
 inline Count write_reply(Room room, Head head, std::uint32_t status, Octets body) noexcept {
@@ -677,8 +671,8 @@ inline Count write_reply(Room room, Head head, std::uint32_t status, Octets body
 }
 
 inline Count write_cancel(Room room, Head head) noexcept {
-  return detail::count(lr_write_cancel(room.data(), room.size(), head.version, static_cast<std::uint32_t>(head.order),
-                                       head.request_id));
+  return detail::count(
+      lr_write_cancel(room.data(), room.size(), head.version, static_cast<std::uint32_t>(head.order), head.request_id));
 }
 
 inline Count write_locate_request(Room room, Head head, Octets key) noexcept {

@@ -24,8 +24,6 @@
  *                              closed, and it is forwarded when it comes again.
  */
 #define _DEFAULT_SOURCE
-#include "loop.h"
-
 #include <errno.h>
 #include <netdb.h>
 #include <poll.h>
@@ -35,6 +33,8 @@
 #include <string.h>
 #include <sys/socket.h>
 #include <unistd.h>
+
+#include "loop.h"
 
 enum { LIMIT = 1 << 20, MORE = 64 };
 
