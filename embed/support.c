@@ -7,7 +7,10 @@
 #include <stdbool.h>
 #include <stdlib.h>
 
+/* What the header declares is exported, and nothing else, where this file is compiled with -fvisibility=hidden. */
+#pragma GCC visibility push(default)
 #include "lemonrudder.h"
+#pragma GCC visibility pop
 
 static void *(*allocate_octets)(size_t) = malloc;
 static void *(*reallocate_octets)(void *, size_t) = realloc;
@@ -75,6 +78,7 @@ const char *lr_strerror(int64_t error) {
       [-LR_E_CALLS] = "too many calls are pending, or the client has given all its numbers",
       [-LR_E_LONG] = "the message would be longer than its size can say",
       [-LR_E_LOST] = "an allocation failed, and the connection is gone",
+      [-LR_E_PLACE] = "the body would stand at a place that is not divisible by 8",
   };
   if (error >= 0) return texts[0];
   if (error < -(int64_t)(sizeof texts / sizeof *texts - 1)) return "an unknown error";

@@ -83,7 +83,8 @@ enum {
   LR_E_EXPIRED = -21,   /* the moment is past the expiration */
   LR_E_CALLS = -22,     /* as many calls are pending as a client keeps, or it has given all its numbers */
   LR_E_LONG = -23,      /* the message would be longer than its size can say */
-  LR_E_LOST = -24       /* an allocation failed, and the connection is gone */
+  LR_E_LOST = -24,      /* an allocation failed, and the connection is gone */
+  LR_E_PLACE = -25      /* the body would stand at a place that is not divisible by 8 */
 };
 
 /* The text of an error, with a NUL at its end. */
@@ -438,7 +439,8 @@ int64_t lr_assembler_context(lr_assembler *assembler, uint32_t index, uint32_t *
 
 /*
  * Each writes a whole message into the room, and answers its size. LR_E_ROOM where the room is smaller: nothing is written
- * then. LR_E_RANGE, LR_E_TEXT, LR_E_LONG, LR_E_MEMORY.
+ * then. LR_E_RANGE, LR_E_TEXT, LR_E_LONG, LR_E_MEMORY; and of a Request of 1.0 or 1.1, LR_E_PLACE, where its body would
+ * stand at a place that is not divisible by 8.
  */
 
 /* A Request to an object key, with at most one service context, where context_size is not 0 (its id is context_id). The body is

@@ -41,6 +41,7 @@ class Octets {
       : data_(reinterpret_cast<const std::uint8_t*>(text.data())), size_(text.size()) {}
   Octets(const std::string& text) noexcept : Octets(std::string_view(text)) {}
   Octets(const char* text) noexcept : Octets(std::string_view(text)) {}
+  Octets(const char* text, std::size_t size) noexcept : Octets(std::string_view(text, size)) {}
 
   constexpr const std::uint8_t* data() const noexcept { return data_; }
   constexpr std::size_t size() const noexcept { return size_; }

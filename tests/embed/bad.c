@@ -893,9 +893,9 @@ static void moments_are_counted(void) {
 }
 
 static void errors_have_texts(void) {
-  for (int64_t one = LR_E_LOST; one <= LR_OK; one++) {
+  for (int64_t one = LR_E_PLACE; one <= LR_OK; one++) {
     CHECK(lr_strerror(one) != NULL && lr_strerror(one)[0] != 0);
-    for (int64_t other = LR_E_LOST; other < one; other++) CHECK(strcmp(lr_strerror(one), lr_strerror(other)) != 0);
+    for (int64_t other = LR_E_PLACE; other < one; other++) CHECK(strcmp(lr_strerror(one), lr_strerror(other)) != 0);
   }
   CHECK(strcmp(lr_strerror(5), lr_strerror(LR_OK)) == 0 && strcmp(lr_strerror(INT64_MAX), lr_strerror(LR_OK)) == 0);
   CHECK(strcmp(lr_strerror(-1000), lr_strerror(INT64_MIN)) == 0);

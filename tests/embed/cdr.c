@@ -51,59 +51,31 @@ static const struct row {
   putter *put;
   int64_t value;
   size_t width;
-  unsigned char big[8], little[8];
+  const char *big, *little;
 } rows[] = {
-    {"octet", get_octet, put_octet, 0, 1, {0x00}, {0x00}},
-    {"octet", get_octet, put_octet, 255, 1, {0xff}, {0xff}},
-    {"char", get_char, put_char, 'A', 1, {0x41}, {0x41}},
-    {"char", get_char, put_char, 0xe4, 1, {0xe4}, {0xe4}},
-    {"boolean", get_boolean, put_boolean, 0, 1, {0x00}, {0x00}},
-    {"boolean", get_boolean, put_boolean, 1, 1, {0x01}, {0x01}},
-    {"short", get_short, put_short, 258, 2, {0x01, 0x02}, {0x02, 0x01}},
-    {"short", get_short, put_short, -2, 2, {0xff, 0xfe}, {0xfe, 0xff}},
-    {"short", get_short, put_short, INT16_MIN, 2, {0x80, 0x00}, {0x00, 0x80}},
-    {"unsigned short", get_ushort, put_ushort, 258, 2, {0x01, 0x02}, {0x02, 0x01}},
-    {"unsigned short", get_ushort, put_ushort, 65534, 2, {0xff, 0xfe}, {0xfe, 0xff}},
-    {"long", get_long, put_long, 16909060, 4, {0x01, 0x02, 0x03, 0x04}, {0x04, 0x03, 0x02, 0x01}},
-    {"long", get_long, put_long, -2, 4, {0xff, 0xff, 0xff, 0xfe}, {0xfe, 0xff, 0xff, 0xff}},
-    {"long", get_long, put_long, INT32_MIN, 4, {0x80, 0x00, 0x00, 0x00}, {0x00, 0x00, 0x00, 0x80}},
-    {"unsigned long", get_ulong, put_ulong, 16909060, 4, {0x01, 0x02, 0x03, 0x04}, {0x04, 0x03, 0x02, 0x01}},
-    {"unsigned long", get_ulong, put_ulong, 4294967294, 4, {0xff, 0xff, 0xff, 0xfe}, {0xfe, 0xff, 0xff, 0xff}},
-    {"long long",
-     get_longlong,
-     put_longlong,
-     72623859790382856,
-     8,
-     {0x01, 0x02, 0x03, 0x04, 0x05, 0x06, 0x07, 0x08},
-     {0x08, 0x07, 0x06, 0x05, 0x04, 0x03, 0x02, 0x01}},
-    {"long long",
-     get_longlong,
-     put_longlong,
-     -2,
-     8,
-     {0xff, 0xff, 0xff, 0xff, 0xff, 0xff, 0xff, 0xfe},
-     {0xfe, 0xff, 0xff, 0xff, 0xff, 0xff, 0xff, 0xff}},
-    {"long long",
-     get_longlong,
-     put_longlong,
-     INT64_MIN,
-     8,
-     {0x80, 0x00, 0x00, 0x00, 0x00, 0x00, 0x00, 0x00},
-     {0x00, 0x00, 0x00, 0x00, 0x00, 0x00, 0x00, 0x80}},
-    {"unsigned long long",
-     get_ulonglong,
-     put_ulonglong,
-     72623859790382856,
-     8,
-     {0x01, 0x02, 0x03, 0x04, 0x05, 0x06, 0x07, 0x08},
-     {0x08, 0x07, 0x06, 0x05, 0x04, 0x03, 0x02, 0x01}},
-    {"unsigned long long",
-     get_ulonglong,
-     put_ulonglong,
-     -2,
-     8,
-     {0xff, 0xff, 0xff, 0xff, 0xff, 0xff, 0xff, 0xfe},
-     {0xfe, 0xff, 0xff, 0xff, 0xff, 0xff, 0xff, 0xff}},
+#define ROW(name, value, width, big, little) \
+  { #name, get_##name, put_##name, value, width, big, little }
+    ROW(octet, 0, 1, "\x00", "\x00"),
+    ROW(octet, 255, 1, "\xff", "\xff"),
+    ROW(char, 'A', 1, "\x41", "\x41"),
+    ROW(char, 0xe4, 1, "\xe4", "\xe4"),
+    ROW(boolean, 0, 1, "\x00", "\x00"),
+    ROW(boolean, 1, 1, "\x01", "\x01"),
+    ROW(short, 258, 2, "\x01\x02", "\x02\x01"),
+    ROW(short, -2, 2, "\xff\xfe", "\xfe\xff"),
+    ROW(short, INT16_MIN, 2, "\x80\x00", "\x00\x80"),
+    ROW(ushort, 258, 2, "\x01\x02", "\x02\x01"),
+    ROW(ushort, 65534, 2, "\xff\xfe", "\xfe\xff"),
+    ROW(long, 16909060, 4, "\x01\x02\x03\x04", "\x04\x03\x02\x01"),
+    ROW(long, -2, 4, "\xff\xff\xff\xfe", "\xfe\xff\xff\xff"),
+    ROW(long, INT32_MIN, 4, "\x80\x00\x00\x00", "\x00\x00\x00\x80"),
+    ROW(ulong, 16909060, 4, "\x01\x02\x03\x04", "\x04\x03\x02\x01"),
+    ROW(ulong, 4294967294, 4, "\xff\xff\xff\xfe", "\xfe\xff\xff\xff"),
+    ROW(longlong, 72623859790382856, 8, "\x01\x02\x03\x04\x05\x06\x07\x08", "\x08\x07\x06\x05\x04\x03\x02\x01"),
+    ROW(longlong, -2, 8, "\xff\xff\xff\xff\xff\xff\xff\xfe", "\xfe\xff\xff\xff\xff\xff\xff\xff"),
+    ROW(longlong, INT64_MIN, 8, "\x80\x00\x00\x00\x00\x00\x00\x00", "\x00\x00\x00\x00\x00\x00\x00\x80"),
+    ROW(ulonglong, 72623859790382856, 8, "\x01\x02\x03\x04\x05\x06\x07\x08", "\x08\x07\x06\x05\x04\x03\x02\x01"),
+    ROW(ulonglong, -2, 8, "\xff\xff\xff\xff\xff\xff\xff\xfe", "\xfe\xff\xff\xff\xff\xff\xff\xff"),
 };
 
 /* A place in octets, of which those before `next` are passed. */
@@ -120,7 +92,7 @@ static bool is_all(const unsigned char *octets, size_t size, unsigned char octet
 }
 
 /* Reads a row's value after padding that may hold anything, and from each number of octets that is too small. */
-static bool reads(const struct row *row, const unsigned char *spelled, lr_place from, size_t padding) {
+static bool reads(const struct row *row, const char *spelled, lr_place from, size_t padding) {
   unsigned char octets[ROOM];
   size_t end = from.next + padding + row->width;
   lr_place place = from;
@@ -137,7 +109,7 @@ static bool reads(const struct row *row, const unsigned char *spelled, lr_place 
 }
 
 /* Writes a row's value, and into room that is too small. */
-static bool writes(const struct row *row, const unsigned char *spelled, lr_place from, size_t padding) {
+static bool writes(const struct row *row, const char *spelled, lr_place from, size_t padding) {
   unsigned char room[ROOM];
   size_t start = from.next + padding, end = start + row->width;
   lr_place place;
@@ -161,7 +133,7 @@ static void numbers(void) {
       for (uint64_t at = 0; at < PLACES; at++)
         for (uint64_t next = 0; next < 4; next++) {
           const struct row *row = &rows[index];
-          const unsigned char *spelled = order == LR_BIG ? row->big : row->little;
+          const char *spelled = order == LR_BIG ? row->big : row->little;
           size_t padding = padding_of(row->width, (at + next) % 8);
           bool is_read = reads(row, spelled, place_of(at, next, order), padding);
           bool is_written = writes(row, spelled, place_of(at, next, order), padding);
