@@ -823,6 +823,26 @@ static void messages_are_refused(void) {
   CHECK(memcmp(room, "\0\0\0\0\0\0\0\2A\0\0\0\0\0\0\3\0\0\0\0\0\0\7\xd0", 24) == 0);
 }
 
+/* In 1.0 and 1.1 the body stands where the fields before it end: after those of the key `c` at 44, of `ccccc` at 48. */
+static void places_are_refused(void) {
+  for (uint32_t version = 0; version <= 1; version++) {
+    struct asking asking = {version, LR_BIG, 7, LR_WISH_FULL, "ccccc", "add", NULL, 0, 0};
+    begin_request(&message, &asking, true);
+    put_number(&message, 5, 4);
+    end_message(&message);
+    WANT(write_request_of(version, LR_BIG, LR_WISH_FULL, "add", 3, sizeof room), LR_E_PLACE);
+    WANT(lr_write_request(room, sizeof room, version, LR_BIG, 7, LR_WISH_FULL, "ccccc", 5, "add", 3, 0, NULL, 0,
+                          "\0\0\0\5", 4),
+         52);
+    CHECK(equal(room, 52, &message));
+    asking.key = "c";
+    begin_request(&message, &asking, false);
+    end_message(&message);
+    WANT(lr_write_request(room, 44, version, LR_BIG, 7, LR_WISH_FULL, "c", 1, "add", 3, 0, NULL, 0, NULL, 0), 44);
+    CHECK(equal(room, 44, &message));
+  }
+}
+
 /* ---- references ---- */
 
 static void references_are_refused(void) {
@@ -918,6 +938,7 @@ int main(void) {
   assemblers_refuse();
   faults_are_named();
   messages_are_refused();
+  places_are_refused();
   references_are_refused();
   moments_are_counted();
   errors_have_texts();
