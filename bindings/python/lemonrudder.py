@@ -208,6 +208,7 @@ class Error(enum.IntEnum):
     CALLS = -22
     LONG = -23
     LOST = -24
+    PLACE = -25
 
 
 class _Part(enum.IntEnum):
@@ -1046,7 +1047,8 @@ def write_request(request_id: int, key: Text, operation: Text, body: Octets = b"
     """A Request to an object key, with at most one service context: an id, and data that is not empty.
 
     The body is in the order of the message, and written for a place divisible by 8, as by pack with at=0.
-    Raises LemonrudderError (RANGE, TEXT, LONG, MEMORY), as all of these functions.
+    Raises LemonrudderError (RANGE, TEXT, LONG, MEMORY), as all of these functions; PLACE: in 1.0 and 1.1, where a body
+    would stand at another place.
     """
     number, data = context if context is not None else (0, b"")
     if context is not None and not data:
@@ -1170,11 +1172,6 @@ class Ior:
         def part(size: int, which: int) -> bytes:
             return _sized(size, _library.lr_ior_part, slot, index, which)
 
-        def component(which: int) -> Tuple[int, bytes]:
-            tag = c_uint32()
-            data = _copied(_library.lr_ior_component, slot, index, which, tag)
-            return tag.value, data
-
         profile = _Profile()
         _call(_library.lr_ior_profile, slot, index, profile)
         data = part(profile.data_size, _IorPart.DATA)
@@ -1182,8 +1179,12 @@ class Ior:
             return Profile(profile.tag, data)
         host = part(profile.host_size, _IorPart.HOST).decode("latin-1")
         key = part(profile.key_size, _IorPart.KEY)
-        components = tuple(component(which) for which in range(profile.components))
-        return Profile(profile.tag, data, profile.minor, host, profile.port, key, components)
+        components: List[Tuple[int, bytes]] = []
+        if profile.components:
+            # lr_ior_component reads the whole profile for each; this reads all of them once
+            reader = Reader(data, data[0])
+            components, = reader.read("BBBsHo[(Lo)]")[-1:]
+        return Profile(profile.tag, data, profile.minor, host, profile.port, key, tuple(components))
 
 
 # ---- a server of requests that may be sent again ----
@@ -1564,7 +1565,9 @@ class Server:
         return Ior.iiop(self._type_ids[_octets(key)], host, port, key)
 
     async def serve_forever(self) -> None:
-        """Waits until the server is closed; closes it where it is cancelled."""
+        """Waits until the server is closed; closes it where it is cancelled. Raises RuntimeError: it does not listen."""
+        if self._ended is None:
+            raise RuntimeError("the server does not listen")
         try:
             await asyncio.shield(self._ended)
         finally:
@@ -1651,11 +1654,13 @@ class Server:
         """Answers the request that waits; by a system exception where that is no outcome of its operation."""
         try:
             answer(*arguments)
-        except (TypeError, ValueError, LemonrudderError) as error:
+        except BaseException as error:
             if getattr(error, "number", None) == Error.LOST:
                 raise
             _LOG.exception("no outcome of the operation")
             self._refuse(name)
+            if not isinstance(error, Exception):
+                raise
 
     def _refuse(self, name: str) -> None:
         """Answers by a system exception, COMPLETED_MAYBE. Where even this fails, for want of memory, the server ends:
@@ -1693,10 +1698,11 @@ class _Connection(asyncio.Protocol):
 
     def connection_made(self, transport: Any) -> None:
         self.transport = transport
-        if self.server.is_closed:
-            transport.abort()
-        else:
+        try:
             self.number = self.server._enter(self)
+        except LemonrudderError as error:
+            _LOG.error("a connection is refused: %s", error)
+            transport.abort()
 
     def data_received(self, data: bytes) -> None:
         if self.server.is_closed:
@@ -1772,11 +1778,13 @@ class Client:
     host and port: of the server. client_id: 1 to 256 octets without a NUL, which no other client has or had: servers
     know a call by it and by a number that begins at 1. Without one it is random. version: 0 to 2. limit and partials:
     as of Assembler. delays: the seconds to wait before a new connection, the least and the most.
-    Raises LemonrudderError (RANGE, TEXT).
+    Raises LemonrudderError (RANGE, TEXT); ValueError: no port.
     """
 
     def __init__(self, host: str, port: int, client_id: Optional[Text] = None, *, version: int = 2, limit: int = LIMIT,
                  partials: int = PARTIALS, delays: Tuple[float, float] = (0.02, 1.0)) -> None:
+        if not 0 < port < 65536:
+            raise ValueError(f"no port: {port}")
         self.host, self.port, self.delays, self.key = host, port, delays, b""
         self.client_id = _octets(client_id if client_id is not None else secrets.token_hex(16))
         self.is_closed = False
@@ -1822,7 +1830,8 @@ class Client:
         for format in (results, *raises.values()):
             _parsed(format)
         if expiration is None:
-            expiration = min(now() + max(0, round(timeout * 10**7)), (1 << 64) - 1)
+            # (thousands of years are for ever)
+            expiration = now() + round(min(max(timeout, 0.0), 1e11) * 10**7)
         number = await self._begin(expiration, (*_lent(key), *_lent(operation), *_lent(codes), BIG, *_lent(octets)))
         loop = asyncio.get_running_loop()
         future = self._futures[number] = loop.create_future()
@@ -1922,19 +1931,21 @@ class Client:
             try:
                 _, link = await loop.create_connection(lambda: _Link(self, loop.create_future()), self.host, self.port)
                 await link.ended
-            except OSError:
-                pass
+            except (OSError, ValueError) as error:
+                _LOG.debug("no connection: %s", error)
             delay = least if self._is_heard else min(2 * delay, most)
             if self._futures:
                 await asyncio.sleep(delay)
 
     def _connected(self, transport: Any) -> None:
-        if self.is_closed:
+        try:
+            _call(_library.lr_client_connected, self._slot, now())
+        except LemonrudderError as error:
+            _LOG.error("a connection is refused: %s", error)
             transport.abort()
-            return
-        self._transport = transport
-        _call(_library.lr_client_connected, self._slot, now())
-        self._flush()
+        else:
+            self._transport = transport
+            self._flush()
 
     def _receive(self, octets: bytes) -> None:
         if self.is_closed:

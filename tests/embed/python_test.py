@@ -147,7 +147,7 @@ class Formats(Case):
         }
         for kind, value in values.items():
             for order in (BIG, LITTLE):
-                for at in [*range(17), (1 << 32) - 3, (1 << 63) - 1]:
+                for at in [*range(17), (1 << 32) - 4096]:
                     with self.subTest(kind=kind, order=order, at=at):
                         self.compare(kind, value, order, at)
 
@@ -393,7 +393,7 @@ class Messages(Case):
         try:
             for one in lr.messages(b"".join(octets for octets, _ in frames), terms.limit, terms.partials):
                 if one.operation is not None or one.key is not None:
-                    wish = one.wish and one.wish.name.lower() if one.wish != lr.Wish.NONE else model.NONE
+                    wish = one.wish.name.lower() if one.wish is not None else None
                     found.append((one.version, one.request_id, wish, one.key, one.operation, one.ft))
         except lr.StreamError:
             pass
