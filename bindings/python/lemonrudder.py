@@ -1565,7 +1565,7 @@ class Server:
         return Ior.iiop(self._type_ids[_octets(key)], host, port, key)
 
     async def serve_forever(self) -> None:
-        """Waits until the server is closed; closes it where it is cancelled. Raises RuntimeError: it does not listen."""
+        """Waits until the server is closed, and closes it if this is cancelled. Raises RuntimeError before listen."""
         if self._ended is None:
             raise RuntimeError("the server does not listen")
         try:
