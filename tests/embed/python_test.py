@@ -8,6 +8,7 @@ compared with the rows and cases of `giop show`, with octets that are written he
 tests/engine.py. The last line is 'N passed, M failed', where each script, stream and row counts.
 """
 import asyncio
+import ctypes
 import gc
 import os
 import random
@@ -1401,6 +1402,59 @@ class Captures(Case):
             file.flush()
             run = subprocess.run(example("capture.py", file.name), capture_output=True, text=True, timeout=SECONDS)
         self.assertEqual(run.stdout.split()[-1], "CLOSE_CONNECTION")
+
+
+HEADER = os.path.join(ROOT, "embed", "include", "lemonrudder.h")
+# what stands for the names of the header, by how they begin; of several the first that has the name counts
+ENUMS = [
+    ("LR_E_", lr.Error), ("LR_WISH_", lr.Wish), ("LR_COMPLETED_", lr.Completed), ("LR_PART_", lr._Part),
+    ("LR_FAULT_", lr.Fault), ("LR_ENDED_", lr._Ended), ("LR_IOR_", lr._IorPart), ("LR_", lr.Order),
+    ("LR_", lr.ReplyStatus), ("LR_", lr.SystemName), ("LR_", lr.MessageType), ("LR_", lr._Code),
+]
+STRUCTS = {
+    "lr_slot": lr._Slot, "lr_request": lr._Request, "lr_completion": lr._Completion, "lr_message": lr._Message,
+    "lr_profile": lr._Profile, "lr_place": lr._Place,
+}
+# what the module has no use for
+UNUSED = ["LR_OK", "LR_PART_PAYLOAD"]
+OTHERS = ["lr_version", "lr_strerror", "lr_moment", "lr_close", "lr_set_heap"]
+
+
+class Header(Case):
+    """What the module says of the library, against the header."""
+
+    def setUp(self):
+        with open(HEADER, encoding="ascii") as file:
+            self.text = re.sub(r"/\*.*?\*/", "", file.read(), flags=re.S)
+
+    def test_numbers(self):
+        found = re.findall(r"\b(LR_\w+) = (-?\d+)", self.text)
+        self.assertGreater(len(found), 90)
+        for name, number in found:
+            with self.subTest(name):
+                known = [enum[name[len(prefix):]] for prefix, enum in ENUMS
+                         if name.startswith(prefix) and name[len(prefix):] in enum.__members__]
+                self.assertEqual(known[:1], [int(number)] if name not in UNUSED else [])
+        self.assertEqual(re.findall(r"#define LR_FT_REQUEST (\d+)", self.text), [str(lr.FT_REQUEST)])
+
+    def test_structs(self):
+        for name, struct_type in STRUCTS.items():
+            with self.subTest(name):
+                body, = re.findall(rf"struct {name} {{(.*?)}};", self.text, re.S) or \
+                    re.findall(rf"struct {{([^}}]*)}} {name};", self.text)
+                members = re.findall(r"(\w+) \*?(\w+);", body)
+                self.assertEqual(len(members), len(struct_type._fields_))
+                for (kind, member), field in zip(members, struct_type._fields_):
+                    ctype = ctypes.c_void_p if kind == "void" else getattr(ctypes, "c_" + kind[:-2])
+                    self.assertEqual(field, (member, ctype))
+
+    def test_functions(self):
+        found = re.findall(r"\b(lr_\w+)\(([^;{}]*?)\);", self.text)
+        self.assertEqual({name for name, _ in found}, {*lr._FUNCTIONS, *OTHERS})
+        for name, parameters in found:
+            if name not in OTHERS:
+                with self.subTest(name):
+                    self.assertEqual(len(parameters.split(",")), len(lr._FUNCTIONS[name]))
 
 
 class Library(Case):
