@@ -85,6 +85,8 @@ errors! {
     Long = -23,
     /// An allocation failed, and the connection is gone.
     Lost = -24,
+    /// The body would stand at a place that is not divisible by 8.
+    Place = -25,
 }
 
 impl fmt::Display for Error {
@@ -154,7 +156,7 @@ mod tests {
 
     #[test]
     fn each_code_has_its_error() {
-        for code in -24..=-1 {
+        for code in -25..=-1 {
             let error = Error::of(code);
             assert!(!matches!(error, Error::Unknown(_)));
             assert_eq!(error.code(), code);
@@ -167,7 +169,7 @@ mod tests {
 
     #[test]
     fn an_error_has_the_text_of_the_library() {
-        for code in -24..=-1 {
+        for code in -25..=-1 {
             assert!(!Error::of(code).to_string().is_empty());
         }
         assert_ne!(Error::Memory.to_string(), Error::Lost.to_string());

@@ -1,6 +1,9 @@
 //! Writing messages.
 //!
 //! Each function gives a whole message. Its errors: `Range`, `Text`, `Long`, `Memory`.
+//!
+//! A body is octets that were written for a place divisible by 8, as those of a
+//! [`Writer`](crate::cdr::Writer) are. In 1.2 it stands at such a place.
 
 use crate::error::written;
 use crate::sys;
@@ -33,7 +36,8 @@ pub struct Request<'a> {
     pub body: &'a [u8],
 }
 
-/// A Request.
+/// A Request. Of 1.0 and 1.1 also the error `Place`: its body would stand at a place that is not
+/// divisible by 8.
 pub fn request(request: &Request<'_>) -> Result<Vec<u8>, Error> {
     let Request { key, operation, body, .. } = *request;
     let (context_id, context) = request.context.unwrap_or_default();
