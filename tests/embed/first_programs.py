@@ -11,6 +11,7 @@ import os
 import subprocess
 import sys
 import tempfile
+from functools import partial
 
 HERE = os.path.dirname(os.path.abspath(__file__))
 ROOT = os.path.dirname(os.path.dirname(HERE))
@@ -33,8 +34,14 @@ def run(words, **options):
     return ran.stdout
 
 
+def linked(words, program, environment):
+    """What a program prints that is compiled and linked by these words."""
+    run([*words, "-o", program])
+    return run([program], env=environment)
+
+
 def compiled(prefix, folder):
-    """What each program in C and C++ prints, linked in either way."""
+    """The programs in C and C++, linked in either way, each with how it is run."""
     found = dict(os.environ, PKG_CONFIG_PATH=os.path.join(prefix, "lib", "pkgconfig"))
     flags = run(["pkg-config", "--cflags", "--libs", "lemonrudder"], env=found).split()
     archive = [f"-I{prefix}/include", os.path.join(prefix, "lib", "liblemonrudder.a")]
@@ -43,20 +50,19 @@ def compiled(prefix, folder):
     for compiler, source in COMPILERS:
         for how, libraries, environment in (("shared", flags, shared), ("static", archive, alone)):
             program = os.path.join(folder, f"{how}_{os.path.basename(source)}.out")
-            yield source, how, lambda: (run([*compiler, path(source), *libraries, "-o", program]),
-                                        run([program], env=environment))[1]
+            yield source, how, partial(linked, [*compiler, path(source), *libraries], program, environment)
 
 
 def others(prefix, folder):
-    """What the programs in Python and Rust print."""
+    """The programs in Python and Rust."""
     found = dict(os.environ, PYTHONPATH=path("bindings/python"),
                  LEMONRUDDER_LIBRARY=os.path.join(prefix, "lib", "liblemonrudder.so.0"))
     source = "examples/first.py"
-    yield source, "shared", lambda: run([sys.executable, "-W", "error", path(source)], env=found)
+    yield source, "shared", partial(run, [sys.executable, "-W", "error", path(source)], env=found)
     built = dict(os.environ, LEMONRUDDER_LIB_DIR=os.path.join(prefix, "lib"), CARGO_TARGET_DIR=folder)
     words = ["cargo", "run", "--quiet", "--offline", "--locked", "--example", "first"]
     source = "bindings/rust/examples/first.rs"
-    yield source, "static", lambda: run(words, cwd=path("bindings/rust"), env=built)
+    yield source, "static", partial(run, words, cwd=path("bindings/rust"), env=built)
 
 
 def main():

@@ -240,7 +240,7 @@ impl Writer {
         })
     }
 
-    /// A `string`, whose NUL is written after it. One with a NUL in it is none.
+    /// A `string`, whose NUL is written after it. `Text`, where one is in it.
     pub fn string(&mut self, text: impl AsRef<[u8]>) -> Result<&mut Writer, Error> {
         let text = text.as_ref();
         // SAFETY: the room and the text are lent; they don't overlap.

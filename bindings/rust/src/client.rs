@@ -4,7 +4,7 @@ use crate::cdr::{Reader, Writer};
 use crate::error::{count, done, sure};
 use crate::sys::{self, lr_completion, lr_slot};
 use crate::types::codes_of;
-use crate::{Completed, Ended, Error, Limits, Moment, Order, Type, Version};
+use crate::{Completed, Ended, Error, Ior, Limits, Moment, Order, Type, Version};
 
 /// A call of an operation.
 #[derive(Clone, Copy, Debug)]
@@ -204,6 +204,14 @@ impl<'c> Completion<'c> {
         let mut reader = self.reader();
         let id = reader.string()?;
         Ok(Some((id, reader)))
+    }
+
+    /// The reference that is to be asked in place of this one, if there is one.
+    pub fn forwarded(&self) -> Result<Option<Ior>, Error> {
+        if self.ended != Ended::Forwarded {
+            return Ok(None);
+        }
+        Ior::read(&mut self.reader()).map(Some)
     }
 
     /// The system exception by which it ended, if it ended by one.

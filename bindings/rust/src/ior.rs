@@ -1,5 +1,6 @@
 //! References to objects.
 
+use crate::cdr::{Reader, Writer};
 use crate::error::{copied, done, sure, written};
 use crate::sys::{self, lr_profile, lr_slot};
 use crate::{Error, Version};
@@ -84,6 +85,40 @@ impl Ior {
             )
         })?;
         Ok(Ior { slot })
+    }
+
+    /// Reads a reference as a value of CDR, as the body of a reply that forwards has one. Its
+    /// errors: `Short`, `Value`, `Memory`; the place is as it was then.
+    pub fn read(reader: &mut Reader<'_>) -> Result<Ior, Error> {
+        let mut next = reader.clone();
+        // the stringified form is that of an encapsulation (CORBA 3.3 Part 2, 7.6.9)
+        let mut writer = Writer::encapsulation(next.order());
+        writer.string(next.string()?)?;
+        let count = next.ulong()?;
+        writer.ulong(count)?;
+        for _ in 0..count {
+            writer.ulong(next.ulong()?)?.octets(next.octets()?)?;
+        }
+        let mut text = String::from("IOR:");
+        for octet in writer.as_octets() {
+            text += &format!("{octet:02x}");
+        }
+        let ior = text.parse()?;
+        *reader = next;
+        Ok(ior)
+    }
+
+    /// Writes it as a value of CDR, as the body of a reply that forwards has one. Its error:
+    /// `Memory`; nothing was written then.
+    pub fn write(&mut self, writer: &mut Writer) -> Result<(), Error> {
+        let (type_id, profiles) = (self.type_id()?, self.profiles()?);
+        let mut next = writer.clone();
+        next.string(type_id)?.ulong(profiles.len() as u32)?;
+        for profile in profiles {
+            next.ulong(profile.tag)?.octets(profile.data)?;
+        }
+        *writer = next;
+        Ok(())
     }
 
     /// Its stringified form. Its error: `Memory`.

@@ -73,7 +73,12 @@ impl Default for Settings {
 ///
 /// A server may be given to another thread, but not be used by two at once:
 ///
-/// ```compile_fail
+/// ```
+/// fn is_sent<T: Send>() {}
+/// is_sent::<lemonrudder::Server>();
+/// ```
+///
+/// ```compile_fail,E0277
 /// fn is_shared<T: Sync>() {}
 /// is_shared::<lemonrudder::Server>();
 /// ```
@@ -196,7 +201,7 @@ impl Server {
         connection: u64,
         moment: Moment,
         octets: &[u8],
-        mut perform: impl FnMut(Request<'_>) -> Result<(), Error>,
+        mut perform: impl FnMut(&mut Request<'_>) -> Result<(), Error>,
     ) -> Result<(), Error> {
         let mut left = octets;
         loop {
@@ -218,10 +223,10 @@ impl Server {
     /// any case where it can.
     fn perform(
         &mut self,
-        perform: &mut impl FnMut(Request<'_>) -> Result<(), Error>,
+        perform: &mut impl FnMut(&mut Request<'_>) -> Result<(), Error>,
     ) -> Result<(), Error> {
         let performed = match self.asked() {
-            Ok(Some(request)) => perform(request),
+            Ok(Some(mut request)) => perform(&mut request),
             Ok(None) => Ok(()),
             Err(error) => {
                 self.give_up();
@@ -334,7 +339,7 @@ impl Request<'_> {
 
     /// Answers by results. Its errors: `Outcome`, `Memory` (it waits still), and `Lost`: the
     /// outcome counts and is kept, and its reply is lost.
-    pub fn answer(self, results: &Writer) -> Result<(), Error> {
+    pub fn answer(&mut self, results: &Writer) -> Result<(), Error> {
         let (order, octets) = (results.order().number(), results.as_octets());
         // SAFETY: the octets are lent.
         done(unsafe {
@@ -349,7 +354,7 @@ impl Request<'_> {
 
     /// Answers by an exception that the operation declares: its repository id, and its members.
     /// Errors as of `answer`.
-    pub fn raise(self, id: impl AsRef<[u8]>, members: &Writer) -> Result<(), Error> {
+    pub fn raise(&mut self, id: impl AsRef<[u8]>, members: &Writer) -> Result<(), Error> {
         let (id, order, octets) = (id.as_ref(), members.order().number(), members.as_octets());
         // SAFETY: the id and the octets are lent.
         done(unsafe {
@@ -365,14 +370,19 @@ impl Request<'_> {
     }
 
     /// Answers by a system exception with a minor code. Errors as of `answer`.
-    pub fn system(self, name: SystemName, minor: u32, completed: Completed) -> Result<(), Error> {
+    pub fn system(
+        &mut self,
+        name: SystemName,
+        minor: u32,
+        completed: Completed,
+    ) -> Result<(), Error> {
         let (name, completed) = (name.number(), completed.number());
         done(sys::lr_server_system(&mut self.server.slot, name, minor, completed))
     }
 
     /// Answers a raw operation by the body of a Reply, of at most 1048576 octets: its status is
     /// `NoException` to `LocationForward`. Errors as of `answer`, and `Range`.
-    pub fn answer_raw(self, status: Status, body: &Writer) -> Result<(), Error> {
+    pub fn answer_raw(&mut self, status: Status, body: &Writer) -> Result<(), Error> {
         let (status, order, octets) = (status.number(), body.order().number(), body.as_octets());
         // SAFETY: the octets are lent.
         done(unsafe {
@@ -388,7 +398,7 @@ impl Request<'_> {
 
     /// Gives it up: you can't perform it now, and have done nothing. Nothing is kept, and its
     /// connection is gone; it is asked again when it comes again.
-    pub fn give_up(self) {
+    pub fn give_up(&mut self) {
         self.server.give_up();
     }
 }

@@ -60,6 +60,8 @@ impl Type<'_> {
             Type::ULongLong => codes.push(9),
             Type::String => codes.push(10),
             Type::Octets => codes.push(11),
+            // the same octets, which are kept as one value
+            Type::Sequence(Type::Octet) => codes.push(11),
             Type::Sequence(element) => {
                 element.put(codes)?;
                 codes.push(12);
@@ -96,6 +98,7 @@ mod tests {
         let longs = Type::Sequence(&Type::Long);
         assert_eq!(codes_of(&[Type::String, longs]), Ok(vec![10, 6, 12]));
         assert_eq!(codes_of(&[Type::Struct(&[Type::String, longs])]), Ok(vec![10, 6, 12, 14, 2]));
+        assert_eq!(codes_of(&[Type::Sequence(&Type::Octet), Type::Octets]), Ok(vec![11, 11]));
         assert_eq!(codes_of(&[Type::Enum(3), Type::Boolean]), Ok(vec![13, 3, 1]));
         assert_eq!(codes_of(&[]), Ok(vec![]));
     }

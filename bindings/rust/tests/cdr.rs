@@ -72,13 +72,18 @@ fn numbers_are_aligned_from_the_place() -> Result<(), Error> {
     assert_eq!(reader.long()?, 5);
     let mut reader = Reader::at(b"\0\0\0\x05", Order::Big, 8);
     assert_eq!(reader.long()?, 5);
+    // no message is so long
+    for place in [1 << 32, u64::MAX] {
+        let mut reader = Reader::at(b"\0\0\0\x05", Order::Big, place);
+        assert_eq!((reader.long(), reader.octet()), (Err(Error::Range), Err(Error::Range)));
+    }
     Ok(())
 }
 
 #[test]
 fn a_write_that_fails_writes_nothing() -> Result<(), Error> {
     let mut writer = Writer::new(Order::Big);
-    assert_eq!(writer.octet(1)?.string("a\0b").err(), Some(Error::Value));
+    assert_eq!(writer.octet(1)?.string("a\0b").err(), Some(Error::Text));
     assert_eq!(writer.as_octets(), [1]);
     assert_eq!(writer.octet(2)?.as_octets(), [1, 2]);
     assert_eq!(writer.into_octets(), [1, 2]);

@@ -2,7 +2,7 @@
 
 use lemonrudder::cdr::Writer;
 use lemonrudder::{
-    write, Call, Client, Completed, Ended, Error, Limits, Moment, Order, Status, Type, Version,
+    write, Call, Client, Completed, Ended, Error, Ior, Limits, Moment, Order, Status, Type, Version,
 };
 
 const CALL: Call =
@@ -37,11 +37,25 @@ fn a_call_ends_as_its_reply_says() -> Result<(), Error> {
         let completion = client.completed()?.expect("it has ended");
         assert_eq!((completion.call, completion.ended), (1, ended));
         assert_eq!((completion.raised()?.is_none(), completion.system()?), (true, None));
+        assert_eq!(completion.forwarded().is_err(), ended == Ended::Forwarded);
         if ended != Ended::NeedsAddressing {
             assert_eq!((completion.body, completion.reader().long()?), (&[0, 0, 0, 9][..], 9));
         }
         assert!(client.completed()?.is_none());
     }
+    Ok(())
+}
+
+#[test]
+fn a_forward_has_a_reference() -> Result<(), Error> {
+    let mut body = Writer::new(Order::Big);
+    Ior::iiop("IDL:A:1.0", Version::V12, "host", 9, b"key")?.write(&mut body)?;
+    let mut client = called()?;
+    client.feed(&reply(Status::LocationForward, body.as_octets())?)?;
+    let completion = client.completed()?.expect("it has ended");
+    let address =
+        completion.forwarded()?.expect("it has one").address()?.expect("it has an address");
+    assert_eq!((address.port, &address.key[..]), (9, &b"key"[..]));
     Ok(())
 }
 

@@ -1,6 +1,7 @@
 //! References (CORBA 3.3 Part 2, 7.6 and 9.7).
 
-use lemonrudder::{Address, Error, Ior, Version};
+use lemonrudder::cdr::{Reader, Writer};
+use lemonrudder::{Address, Error, Ior, Order, Version};
 
 const COUNTER: &str = "IOR:000000000000001049444c3a436f756e7465723a312e3000000000010000000000\
     000020000102000000000a3132372e302e302e31000af9000000016300000000000000";
@@ -39,6 +40,25 @@ fn a_reference_of_another_orb_is_read() -> Result<(), Error> {
     assert_eq!((address.port, &address.key[..]), (2809, &b"c"[..]));
     let tags: Vec<_> = address.components.iter().map(|(tag, data)| (*tag, data.len())).collect();
     assert_eq!(tags, [(0, 8), (1, 28)]);
+    Ok(())
+}
+
+#[test]
+fn a_reference_is_a_value() -> Result<(), Error> {
+    for text in [COUNTER, OTHER] {
+        let mut ior: Ior = text.parse()?;
+        let mut writer = Writer::new(Order::Little);
+        ior.write(writer.octet(9)?)?;
+        writer.octet(8)?;
+        let mut reader = Reader::new(writer.as_octets(), Order::Little);
+        assert_eq!(reader.octet()?, 9);
+        let mut read = Ior::read(&mut reader)?;
+        assert_eq!((read.type_id()?, read.profiles()?), (ior.type_id()?, ior.profiles()?));
+        assert_eq!(reader.rest(), [8]);
+    }
+    let mut reader = Reader::new(b"\0\0\0\x01\0\0\0\0\xff\xff\xff\xff", Order::Big);
+    assert_eq!(Ior::read(&mut reader).err(), Some(Error::Short));
+    assert_eq!(reader.rest().len(), 12);
     Ok(())
 }
 

@@ -81,7 +81,7 @@ fn a_request_says_what_it_asks_for() -> Result<(), Error> {
     assert_eq!(server.lost(1), Err(Error::Asking));
     assert_eq!(server.farewell(1), Err(Error::Asking));
 
-    let request = server.asked()?.expect("it waits");
+    let mut request = server.asked()?.expect("it waits");
     assert_eq!((request.connection(), request.request_id()), (1, 5));
     assert_eq!((request.version(), request.wish()), (Version::V12, Wish::Full));
     assert_eq!((request.key(), request.operation()), (&b"bank"[..], &b"deposit"[..]));
@@ -123,14 +123,17 @@ fn an_outcome_of_another_operation_is_refused() -> Result<(), Error> {
     let mut server = connected()?;
     server.feed(1, NOW, &deposit(1, 5)?)?;
     let wrong = Writer::new(Order::Big).long(4)?.clone();
-    assert_eq!(server.asked()?.unwrap().answer(&wrong), Err(Error::Outcome));
-    let raised = server.asked()?.unwrap().raise("IDL:Bank/Other:1.0", &wrong);
-    assert_eq!(raised, Err(Error::Outcome));
-    assert_eq!(server.asked()?.unwrap().raise(OVERDRAWN, &wrong), Err(Error::Outcome));
-    let raw = server.asked()?.unwrap().answer_raw(Status::NoException, &wrong);
-    assert_eq!(raw, Err(Error::Outcome));
+    let long = Writer::new(Order::Big).longlong(4)?.octet(0)?.clone();
+    let mut request = server.asked()?.expect("it waits");
+    assert_eq!(request.answer(&wrong), Err(Error::Outcome));
+    assert_eq!(request.answer(&long), Err(Error::Outcome));
+    assert_eq!(request.raise("IDL:Bank/Other:1.0", &wrong), Err(Error::Outcome));
+    assert_eq!(request.raise(OVERDRAWN, &wrong), Err(Error::Outcome));
+    assert_eq!(request.answer_raw(Status::NoException, &wrong), Err(Error::Outcome));
     assert_eq!(server.take_output(), []);
-    server.asked()?.unwrap().system(SystemName::ImpLimit, 3, Completed::No)?;
+    let mut request = server.asked()?.expect("it waits still");
+    request.system(SystemName::ImpLimit, 3, Completed::No)?;
+    assert_eq!(request.system(SystemName::ImpLimit, 3, Completed::No), Err(Error::Idle));
     assert_eq!(exception_of(&server.take_output())?, (id_of("IMP_LIMIT"), 3, 1));
     Ok(())
 }

@@ -209,7 +209,7 @@ fn each_number_has_the_name_of_the_header() {
         assert_eq!(numbers.remove(&name), Some(code[0].into()), "{name}");
     }
     let composed = [
-        ("SEQUENCE", Type::Sequence(&Type::Octet), 1),
+        ("SEQUENCE", Type::Sequence(&Type::Long), 1),
         ("ENUM", Type::Enum(2), 0),
         ("STRUCT", Type::Struct(&[Type::Octet]), 1),
     ];

@@ -42,28 +42,30 @@ pub struct Bank {
 }
 
 impl Bank {
-    /// Performs a request, and answers it.
-    pub fn perform(&mut self, request: Request<'_>) -> Result<(), Error> {
+    /// Answers a request, and performs it where the answer counts; else nothing was done, and it is
+    /// given up.
+    pub fn perform(&mut self, request: &mut Request<'_>) -> Result<(), Error> {
         let ft = request.ft_request().expect("each carries FT_REQUEST");
-        let caller = (ft.client_id.to_vec(), ft.retention_id);
+        let (client, number) = (ft.client_id.to_vec(), ft.retention_id);
         let mut arguments = request.reader();
         let account = arguments.string()?.to_vec();
         let amount = if request.operation() == b"deposit" { arguments.longlong()? } else { 0 };
         assert!(arguments.rest().is_empty());
 
-        let balance = self.accounts.entry(account).or_default();
-        let outcome = match balance.checked_add(amount) {
-            Some(sum) if sum >= 0 => Ok(sum),
-            _ => Err(*balance),
-        };
-        *balance = outcome.unwrap_or(*balance);
-        self.performed.push((caller.0, caller.1, outcome));
-
+        let balance = self.accounts.get(&account).copied().unwrap_or(0);
+        let sum = balance.checked_add(amount).filter(|sum| *sum >= 0);
         let mut body = Writer::new(Order::NATIVE);
-        match outcome {
-            Ok(balance) => request.answer(body.longlong(balance)?),
-            Err(balance) => request.raise(OVERDRAWN, body.longlong(balance)?),
+        let answered = match sum {
+            Some(sum) => request.answer(body.longlong(sum)?),
+            None => request.raise(OVERDRAWN, body.longlong(balance)?),
+        };
+        if matches!(answered, Ok(()) | Err(Error::Lost)) {
+            self.accounts.insert(account, sum.unwrap_or(balance));
+            self.performed.push((client, number, sum.ok_or(balance)));
+        } else {
+            request.give_up();
         }
+        answered
     }
 }
 
