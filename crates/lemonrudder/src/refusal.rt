@@ -1,5 +1,7 @@
 //! Why a call does nothing: the error numbers of the header.
 
+ghost use Rattle.std.specs.Prelude.{◌≡◌, length};
+
 use cdr_core::{CdrError, Fault, Kind};
 use ft_client::CallError;
 use ft_orb::{ConnectError, InterfacesError, ServeError};
@@ -109,7 +111,9 @@ pub fn number_of(answer: Result<u64, Refusal>) -> i64 {
 }
 
 /// The length of octets, as a count.
-pub fn count_of(octets: &[u8]) -> u64 {
+pub fn count_of(octets: &[u8]) -> u64
+    ensures { result ≡ length octets.now }
+{
     octets.len() as u64
 }
 
