@@ -4,6 +4,7 @@ import shutil
 import subprocess
 
 from scripts.crates import ROOT
+from scripts.kit import are_of_run, load_kit
 
 LIBRARY = "lemonrudder"
 EMBED = os.path.join(ROOT, "embed")
@@ -16,6 +17,22 @@ TOOLS = ("cc", "ar")
 
 def run(*words):
     subprocess.run(words, check=True)
+
+
+def build_over_gate(since):
+    """Builds the archive over the libraries that the gate left which began at a moment; answers whether that succeeded."""
+    kit = load_kit()
+    crate = next(it for it in kit.crates_below(ROOT) if it.name == LIBRARY)
+    if not are_of_run(crate.below(), since):
+        print(f"the gate left no libraries below {LIBRARY}")
+        return False
+    os.makedirs(os.path.dirname(ARCHIVE), exist_ok=True)
+    words = [*crate.words(["--jobs", str(min(4, len(os.sched_getaffinity(0))))], keeps=False), "--toolchain", f"{kit.KIT}/toolchain"]
+    ran = subprocess.run([*kit.guarded(), kit.RATTLE, "build", *words, "--backend", "llvm", "-o", ARCHIVE], cwd=crate.folder,
+                         stdin=subprocess.DEVNULL, stdout=subprocess.PIPE, stderr=subprocess.STDOUT, text=True, errors="replace")
+    if ran.returncode:
+        print("\n".join(ran.stdout.split("\n")[-30:]))
+    return ran.returncode == 0
 
 
 def install(prefix):

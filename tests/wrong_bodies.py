@@ -20,7 +20,6 @@ The last line is 'N passed, M failed'; the status is 0 only where some were trie
 """
 import argparse
 import contextlib
-import importlib.util
 import os
 import re
 import shutil
@@ -33,6 +32,9 @@ from collections import namedtuple
 from concurrent.futures import FIRST_COMPLETED, ThreadPoolExecutor, wait
 
 ROOT = os.path.dirname(os.path.dirname(os.path.abspath(__file__)))
+sys.path.insert(0, ROOT)
+from scripts.kit import are_of_run, load_kit
+
 # the processor time of --turns, in seconds
 BUDGET = 1200
 GROUPS = 8
@@ -72,18 +74,6 @@ FALSE_ANSWER = re.compile(r"(?:\./)?proofs/(\S+)/\w+\.antt:\d+:\d+: error: (.*)"
 OF_NAMES = re.compile(r"has no field|is not in scope|has no `|was not admitted|is no name")
 # a line of a function that has open goals of its own
 OPEN = re.compile(r"not proved|no proof: expected answers in")
-
-
-def load_kit():
-    """The kit's own words for a check: those with which `rt` calls the prover."""
-    found = subprocess.run(["rt", "doc"], stdout=subprocess.PIPE, text=True, check=True).stdout.strip()
-    path = os.path.join(os.path.dirname(found), "bin", "rtlib.py")
-    spec = importlib.util.spec_from_file_location("rtlib", path)
-    kit = importlib.util.module_from_spec(spec)
-    sys.modules["rtlib"] = kit
-    sys.dont_write_bytecode = True
-    spec.loader.exec_module(kit)
-    return kit
 
 
 class Edit:
@@ -489,12 +479,7 @@ def have_libraries(crates, since):
     """Whether the libraries below these crates are built, from the sources as they are."""
     below = {it.name: it for crate in crates for it in crate.below()}
 
-    def is_of_this_run(crate):
-        form = f"{crate.rlib}/format"
-        is_kept = os.path.exists(f"{crate.folder}/out/rlib/stamp")
-        return os.path.isfile(form) and not is_kept and os.stat(form).st_ctime >= since
-
-    if since is not None and all(map(is_of_this_run, below.values())):
+    if since is not None and are_of_run(below.values(), since):
         return True
     for crate in below.values():
         if not crate.is_built():
