@@ -699,6 +699,11 @@ static void clients_refuse(void) {
     CHECK(completion.call == call && completion.how == LR_ENDED_EXPIRED);
   }
   client_works(&client, 67);
+  WANT(call_add(&client), 69);
+  WANT(lr_client_connected(&client, LATER + 1), LR_OK); /* what is past its expiration is not sent again */
+  WANT(lr_client_output(&client, room, sizeof room), 0);
+  WANT(lr_client_connected(&client, LATER), LR_OK);
+  CHECK(lr_client_output(&client, room, sizeof room) > 0);
   lr_close(&client);
 }
 
