@@ -11,6 +11,8 @@
 - Each block of Rust that README.md, docs/GUIDE.md and the pages of giop_core, giop_frames, giop_link and ft_log
   show stands in a file of crates/uses/src or of crates/uses_tests/src.
 - The client that docs/INTEROP.md shows is examples/retry_client.py.
+- The one block of each language that docs/EMBEDDING.md shows is the whole of its first program, and so is the block of
+  the page of the crate for Rust.
 - docs/ARCHITECTURE.md names each crate, with the libraries that it stands on, and each room of the crates
   whose rooms it lists.
 - Each relative link of a document, and each path such as `crates/NAME/..` that it gives between backquotes,
@@ -30,6 +32,16 @@ QUOTING = ["README.md", "docs/GUIDE.md"] + [
 USES = ["crates/uses/src", "crates/uses_tests/src"]
 ARCHITECTURE = "docs/ARCHITECTURE.md"
 INTEROP = "docs/INTEROP.md"
+EMBEDDING = "docs/EMBEDDING.md"
+# the first program of each language
+FIRST = {
+    "c": "examples/first.c",
+    "cpp": "examples/first.cpp",
+    "python": "examples/first.py",
+    "rust": "bindings/rust/examples/first.rs",
+}
+# the pages that show such a program, and in which languages
+SHOWING = [(EMBEDDING, FIRST), ("bindings/rust/README.md", ["rust"])]
 CLIENT = "examples/retry_client.py"
 FOUR = "`cdr_core`, `ior_core`, `giop_core`, `giop_frames`"
 LAST_COLUMN = "Edits that the prover refuses"
@@ -161,6 +173,18 @@ def client():
     yield None if is_there else f"{INTEROP}: its one block of Python does not end {CLIENT}"
 
 
+def first_programs():
+    """A result for each first program that a page shows."""
+    for page, languages in SHOWING:
+        shown = re.findall(r"^```(\w+)\n(.*?)^```$", text_of(page), re.M | re.S)
+        for language in languages:
+            blocks = [block for name, block in shown if name == language]
+            is_there = blocks == [text_of(FIRST[language])]
+            yield None if is_there else f"{page}: its one block of {language} is not {FIRST[language]}"
+        others = {name for name, _ in shown} - set(languages)
+        yield f"{page}: blocks of {' '.join(sorted(others))}" if others else None
+
+
 def crates():
     """A result for each crate of crates.txt: whether its row names it, and each library or 'the four libraries'."""
     rows = re.findall(r"^\| `(\w+)` \|.*\| (.*?) \|$", text_of(ARCHITECTURE), re.M)
@@ -190,7 +214,7 @@ def rooms():
 
 def documents():
     for folder, folders, names in os.walk(ROOT):
-        folders[:] = [f for f in folders if f not in ("out", ".git")]
+        folders[:] = [f for f in folders if f not in ("out", "target", ".git")]
         for name in sorted(names):
             if name.endswith(".md"):
                 yield os.path.relpath(os.path.join(folder, name), ROOT)
@@ -204,7 +228,7 @@ def links():
             if not re.match(r"[a-z]+:|#", target):
                 path = os.path.join(ROOT, os.path.dirname(name), target.split("#")[0])
                 yield None if os.path.exists(path) else f"{name}: the link to {target} leads nowhere"
-        for path in re.findall(r"`((?:crates|tests|docs|examples|bench)/[\w./]+)`", text):
+        for path in re.findall(r"`((?:crates|tests|docs|examples|bench|bindings|embed)/[\w./]+)`", text):
             # (a word in capitals stands for any)
             is_there = re.search(r"/[A-Z]+\b(?!\.)", path) or os.path.exists(os.path.join(ROOT, path))
             yield None if is_there else f"{name}: there is no {path}"
@@ -212,7 +236,7 @@ def links():
 
 def main():
     passed = failed = 0
-    for part in (edits, promises, calls, clauses, quotes, client, crates, rooms, links):
+    for part in (edits, promises, calls, clauses, quotes, client, first_programs, crates, rooms, links):
         results = list(part())
         if not results:
             results = [f"nothing was checked of {part.__name__}"]

@@ -1,0 +1,275 @@
+//! CDR: values as octets (CORBA 3.3 Part 2, 9.3).
+
+use crate::error::done;
+use crate::sys::{self, lr_place};
+use crate::{Error, Order};
+use std::ffi::c_void;
+
+/// Reads values of octets, one after another. What is longer than a number is lent from the octets.
+/// Where a read fails, the place is as it was.
+///
+/// ```
+/// use lemonrudder::cdr::Reader;
+/// use lemonrudder::Order;
+///
+/// let mut reader = Reader::new(b"\0\0\0\x03ab\0\xff\0\0\0\x07", Order::Big);
+/// assert_eq!(reader.text(), Ok("ab"));
+/// assert_eq!(reader.long(), Ok(7));
+/// assert!(reader.rest().is_empty());
+/// ```
+#[derive(Clone, Debug)]
+pub struct Reader<'a> {
+    octets: &'a [u8],
+    place: lr_place,
+}
+
+macro_rules! readers {
+    ($($(#[$doc:meta])* $name:ident: $number:ty = $call:ident;)*) => {$(
+        $(#[$doc])*
+        pub fn $name(&mut self) -> Result<$number, Error> {
+            let mut value = 0;
+            let (octets, size) = (self.octets.as_ptr().cast(), self.octets.len());
+            // SAFETY: the octets are lent.
+            done(unsafe { sys::$call(octets, size, &mut self.place, &mut value) })?;
+            Ok(value)
+        }
+    )*};
+}
+
+impl<'a> Reader<'a> {
+    /// Reads octets of an order, aligned from place 0.
+    pub fn new(octets: &'a [u8], order: Order) -> Reader<'a> {
+        Reader::at(octets, order, 0)
+    }
+
+    /// Reads octets of an order, the first of which stands at a place.
+    pub fn at(octets: &'a [u8], order: Order, place: u64) -> Reader<'a> {
+        let place = lr_place { at: place, order: order.number(), ..lr_place::default() };
+        Reader { octets, place }
+    }
+
+    readers! {
+        /// An `octet`.
+        octet: u8 = lr_get_octet;
+        /// A `char`, as its octet.
+        char: u8 = lr_get_char;
+        /// A `short`.
+        short: i16 = lr_get_short;
+        /// An `unsigned short`.
+        ushort: u16 = lr_get_ushort;
+        /// A `long`.
+        long: i32 = lr_get_long;
+        /// An `unsigned long`, also the ordinal of an `enum`, and the count of a sequence.
+        ulong: u32 = lr_get_ulong;
+        /// A `long long`.
+        longlong: i64 = lr_get_longlong;
+        /// An `unsigned long long`.
+        ulonglong: u64 = lr_get_ulonglong;
+    }
+
+    /// A `boolean`.
+    pub fn boolean(&mut self) -> Result<bool, Error> {
+        let mut value = 0;
+        let (octets, size) = (self.octets.as_ptr().cast(), self.octets.len());
+        // SAFETY: the octets are lent.
+        done(unsafe { sys::lr_get_boolean(octets, size, &mut self.place, &mut value) })?;
+        Ok(value != 0)
+    }
+
+    /// A `string`, without its NUL.
+    pub fn string(&mut self) -> Result<&'a [u8], Error> {
+        let (mut start, mut length) = (0, 0);
+        let (octets, size) = (self.octets.as_ptr().cast(), self.octets.len());
+        // SAFETY: the octets are lent.
+        done(unsafe {
+            sys::lr_get_string(octets, size, &mut self.place, &mut start, &mut length)
+        })?;
+        self.part(start, length)
+    }
+
+    /// A `string` that is UTF-8; `Value` where it is not.
+    pub fn text(&mut self) -> Result<&'a str, Error> {
+        let before = self.place.clone();
+        let text = std::str::from_utf8(self.string()?);
+        text.map_err(|_| {
+            self.place = before;
+            Error::Value
+        })
+    }
+
+    /// A `sequence<octet>`.
+    pub fn octets(&mut self) -> Result<&'a [u8], Error> {
+        let (mut start, mut length) = (0, 0);
+        let (octets, size) = (self.octets.as_ptr().cast(), self.octets.len());
+        // SAFETY: the octets are lent.
+        done(unsafe {
+            sys::lr_get_octets(octets, size, &mut self.place, &mut start, &mut length)
+        })?;
+        self.part(start, length)
+    }
+
+    /// An encapsulation: a reader of what is in it, after its octet of the byte order.
+    pub fn encapsulation(&mut self) -> Result<Reader<'a>, Error> {
+        let (mut start, mut length, mut place) = (0, 0, lr_place::default());
+        let (octets, size) = (self.octets.as_ptr().cast(), self.octets.len());
+        // SAFETY: the octets are lent.
+        let answer = unsafe {
+            sys::lr_get_encapsulation(
+                octets,
+                size,
+                &mut self.place,
+                &mut start,
+                &mut length,
+                &mut place,
+            )
+        };
+        done(answer)?;
+        let octets = self.part(start, length)?;
+        Ok(Reader { octets, place })
+    }
+
+    /// A part of the octets, which the library named.
+    fn part(&self, start: u64, length: u64) -> Result<&'a [u8], Error> {
+        let (start, length) = (start as usize, length as usize);
+        let after = self.octets.get(start..).ok_or(Error::Short)?;
+        after.get(..length).ok_or(Error::Short)
+    }
+
+    /// The octets that are left.
+    pub fn rest(&self) -> &'a [u8] {
+        self.octets.get(self.place.next as usize..).unwrap_or(&[])
+    }
+
+    /// The order of the numbers.
+    pub fn order(&self) -> Order {
+        Order::from_number(self.place.order).unwrap_or(Order::Big)
+    }
+}
+
+/// Writes values one after another, aligned from place 0; padding is zeros. Where a write fails,
+/// nothing was written.
+///
+/// ```
+/// use lemonrudder::cdr::Writer;
+/// use lemonrudder::Order;
+///
+/// let mut writer = Writer::new(Order::Big);
+/// writer.string("ab")?.long(7)?;
+/// assert_eq!(writer.as_octets(), b"\0\0\0\x03ab\0\0\0\0\0\x07");
+/// # Ok::<(), lemonrudder::Error>(())
+/// ```
+#[derive(Clone, Debug)]
+pub struct Writer {
+    octets: Vec<u8>,
+    place: lr_place,
+}
+
+macro_rules! writers {
+    ($($(#[$doc:meta])* $name:ident: $number:ty = $call:ident;)*) => {$(
+        $(#[$doc])*
+        pub fn $name(&mut self, value: $number) -> Result<&mut Writer, Error> {
+            // SAFETY: the room is lent.
+            self.put(0, |room, size, place| unsafe { sys::$call(room, size, place, value) })
+        }
+    )*};
+}
+
+/// What a number takes at most, padding included, and what it takes beside the octets of a string.
+const MOST: usize = 16;
+
+impl Writer {
+    /// Writes in an order.
+    pub const fn new(order: Order) -> Writer {
+        let place = lr_place { at: 0, next: 0, order: order.number(), reserved: 0 };
+        Writer { octets: Vec::new(), place }
+    }
+
+    /// Writes what is in an encapsulation, beginning with its octet of the byte order. It goes into
+    /// another writer, or into a service context, by its octets: `outer.octets(inner.as_octets())`.
+    pub fn encapsulation(order: Order) -> Writer {
+        let mut writer = Writer::new(order);
+        writer.octets.push(order.number() as u8);
+        writer.place.next = 1;
+        writer
+    }
+
+    /// What was written elsewhere in an order, aligned from place 0. More can be written after it.
+    pub fn of(order: Order, octets: Vec<u8>) -> Writer {
+        let mut writer = Writer::new(order);
+        writer.place.next = octets.len() as u64;
+        writer.octets = octets;
+        writer
+    }
+
+    /// Makes room for so many octets and a number, writes into it, and cuts off what is left.
+    fn put(
+        &mut self,
+        size: usize,
+        call: impl FnOnce(*mut c_void, usize, &mut lr_place) -> i64,
+    ) -> Result<&mut Writer, Error> {
+        self.octets.resize(self.octets.len() + size + MOST, 0);
+        let answer = call(self.octets.as_mut_ptr().cast(), self.octets.len(), &mut self.place);
+        self.octets.truncate(self.place.next as usize);
+        done(answer).map(|()| self)
+    }
+
+    writers! {
+        /// An `octet`.
+        octet: u8 = lr_put_octet;
+        /// A `char`, as its octet.
+        char: u8 = lr_put_char;
+        /// A `short`.
+        short: i16 = lr_put_short;
+        /// An `unsigned short`.
+        ushort: u16 = lr_put_ushort;
+        /// A `long`.
+        long: i32 = lr_put_long;
+        /// An `unsigned long`, also the ordinal of an `enum`, and the count of a sequence.
+        ulong: u32 = lr_put_ulong;
+        /// A `long long`.
+        longlong: i64 = lr_put_longlong;
+        /// An `unsigned long long`.
+        ulonglong: u64 = lr_put_ulonglong;
+    }
+
+    /// A `boolean`.
+    pub fn boolean(&mut self, value: bool) -> Result<&mut Writer, Error> {
+        // SAFETY: the room is lent.
+        self.put(0, |room, size, place| unsafe {
+            sys::lr_put_boolean(room, size, place, value.into())
+        })
+    }
+
+    /// A `string`, whose NUL is written after it. `Text`, where one is in it.
+    pub fn string(&mut self, text: impl AsRef<[u8]>) -> Result<&mut Writer, Error> {
+        let text = text.as_ref();
+        // SAFETY: the room and the text are lent; they don't overlap.
+        self.put(text.len(), |room, size, place| unsafe {
+            sys::lr_put_string(room, size, place, text.as_ptr().cast(), text.len())
+        })
+    }
+
+    /// A `sequence<octet>`.
+    pub fn octets(&mut self, octets: impl AsRef<[u8]>) -> Result<&mut Writer, Error> {
+        let data = octets.as_ref();
+        // SAFETY: the room and the octets are lent; they don't overlap.
+        self.put(data.len(), |room, size, place| unsafe {
+            sys::lr_put_octets(room, size, place, data.as_ptr().cast(), data.len())
+        })
+    }
+
+    /// What was written.
+    pub fn as_octets(&self) -> &[u8] {
+        &self.octets
+    }
+
+    /// What was written.
+    pub fn into_octets(self) -> Vec<u8> {
+        self.octets
+    }
+
+    /// The order of the numbers.
+    pub fn order(&self) -> Order {
+        Order::from_number(self.place.order).unwrap_or(Order::Big)
+    }
+}

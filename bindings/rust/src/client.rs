@@ -1,0 +1,228 @@
+//! A client that sends its calls again.
+
+use crate::cdr::{Reader, Writer};
+use crate::error::{count, done, sure};
+use crate::sys::{self, lr_completion, lr_slot};
+use crate::types::codes_of;
+use crate::{Completed, Ended, Error, Ior, Limits, Moment, Order, Type, Version};
+
+/// A call of an operation.
+#[derive(Clone, Copy, Debug)]
+pub struct Call<'a> {
+    /// The key of the object.
+    pub key: &'a [u8],
+    /// The name of the operation.
+    pub operation: &'a str,
+    /// The types of the arguments.
+    pub types: &'a [Type<'a>],
+    /// The arguments.
+    pub arguments: &'a Writer,
+    /// Up to when it may be sent again.
+    pub expiration: Moment,
+}
+
+/// A client that sends its calls again. Each is sent with FT_REQUEST, once on each connection until
+/// it is answered or its expiration is past, so that a server that keeps outcomes performs it once.
+///
+/// ```
+/// use lemonrudder::cdr::Writer;
+/// use lemonrudder::{Call, Client, Limits, Moment, Order, Type, Version};
+/// use std::time::Duration;
+///
+/// let mut client = Client::open("a name of its own", Version::V12, Limits::default())?;
+/// let now = Moment::now();
+/// let number = client.call(now, &Call {
+///     key: b"c",
+///     operation: "add",
+///     types: &[Type::Long],
+///     arguments: Writer::new(Order::Big).long(7)?,
+///     expiration: now + Duration::from_secs(60),
+/// })?;
+/// assert_eq!(number, 1);
+/// client.connected(now)?;
+/// let due = client.take_output();
+/// # assert_eq!(&due[..4], b"GIOP");
+/// # Ok::<(), lemonrudder::Error>(())
+/// ```
+#[derive(Debug)]
+pub struct Client {
+    slot: lr_slot,
+    /// The body of the completion taken last; a buffer that is used again.
+    body: Vec<u8>,
+}
+
+impl Client {
+    /// Opens a client that is not connected. Its id, 1 to 256 octets without a NUL, names it to
+    /// each server. Its errors: `Range`, `Text`, `Memory`.
+    pub fn open(id: impl AsRef<[u8]>, version: Version, limits: Limits) -> Result<Client, Error> {
+        let (mut slot, id) = (lr_slot::empty(), id.as_ref());
+        // SAFETY: the id is lent.
+        done(unsafe {
+            sys::lr_client_open(
+                &mut slot,
+                id.as_ptr().cast(),
+                id.len(),
+                version.number(),
+                limits.message,
+                limits.partials,
+            )
+        })?;
+        Ok(Client { slot, body: Vec::new() })
+    }
+
+    /// It is connected anew: what is pending and not past its expiration is due. Octets that were
+    /// due for the connection before are dropped. Its error: `Lost`.
+    pub fn connected(&mut self, now: Moment) -> Result<(), Error> {
+        done(sys::lr_client_connected(&mut self.slot, now.0))
+    }
+
+    /// The connection is lost: what is pending stays so.
+    pub fn lost(&mut self) {
+        sure(sys::lr_client_lost(&mut self.slot));
+    }
+
+    /// Whether it is connected.
+    pub fn is_connected(&mut self) -> bool {
+        sure(sys::lr_client_is_connected(&mut self.slot)) != 0
+    }
+
+    /// Calls an operation of an object, and answers the number of the call: 1, 2 and so on. Its
+    /// errors: `Types`, `Text`, `Short`, `Value`, `Expired`, `Calls`, `Long`, `Memory`.
+    pub fn call(&mut self, now: Moment, call: &Call<'_>) -> Result<i32, Error> {
+        let types = codes_of(call.types)?;
+        let arguments = call.arguments.as_octets();
+        // SAFETY: the key, the name, the codes and the arguments are lent.
+        let number = count(unsafe {
+            sys::lr_client_call(
+                &mut self.slot,
+                now.0,
+                call.expiration.0,
+                call.key.as_ptr().cast(),
+                call.key.len(),
+                call.operation.as_ptr().cast(),
+                call.operation.len(),
+                types.as_ptr(),
+                types.len(),
+                call.arguments.order().number(),
+                arguments.as_ptr().cast(),
+                arguments.len(),
+            )
+        })?;
+        i32::try_from(number).map_err(|_| Error::Range)
+    }
+
+    /// Cancels a call: whether it was pending, and completes as cancelled. Its errors: `Range`,
+    /// `Memory`.
+    pub fn cancel(&mut self, call: i32) -> Result<bool, Error> {
+        Ok(count(sys::lr_client_cancel(&mut self.slot, call.into()))? != 0)
+    }
+
+    /// A moment has come: calls whose expiration is before it complete as expired.
+    pub fn tick(&mut self, now: Moment) {
+        sure(sys::lr_client_tick(&mut self.slot, now.0));
+    }
+
+    /// Takes octets that came on the connection. After a fault of the stream, or where the server
+    /// has said goodbye, it is not connected any more. Its error: `Lost`.
+    pub fn feed(&mut self, octets: &[u8]) -> Result<(), Error> {
+        // SAFETY: the octets are lent.
+        done(unsafe { sys::lr_client_feed(&mut self.slot, octets.as_ptr().cast(), octets.len()) })
+    }
+
+    /// The next completion, if there is one. Its body is lent until the next is taken.
+    pub fn completed(&mut self) -> Result<Option<Completion<'_>>, Error> {
+        let mut said = lr_completion::default();
+        if count(sys::lr_client_completed(&mut self.slot, &mut said))? == 0 {
+            return Ok(None);
+        }
+        self.body.resize(said.body_size as usize, 0);
+        if !self.body.is_empty() {
+            let (room, size) = (self.body.as_mut_ptr().cast(), self.body.len());
+            // SAFETY: the room is lent.
+            done(unsafe { sys::lr_client_body(&mut self.slot, room, size) })?;
+        }
+        Ok(Some(Completion {
+            call: said.call,
+            ended: Ended::of(said.how)?,
+            body: &self.body,
+            order: Order::of(said.body_order)?,
+            at: said.body_at,
+        }))
+    }
+
+    /// Moves octets that are due on the connection into the room, as many as it has, and answers
+    /// how many.
+    pub fn output(&mut self, room: &mut [u8]) -> usize {
+        // SAFETY: the room is lent.
+        sure(unsafe { sys::lr_client_output(&mut self.slot, room.as_mut_ptr().cast(), room.len()) })
+    }
+
+    /// All octets that are due on the connection.
+    pub fn take_output(&mut self) -> Vec<u8> {
+        crate::all_of(|room| self.output(room))
+    }
+}
+
+/// How a call ended.
+#[derive(Clone, Copy, Debug, PartialEq, Eq)]
+pub struct Completion<'c> {
+    /// The number of the call.
+    pub call: i32,
+    /// How it ended, and so what its body has.
+    pub ended: Ended,
+    /// The body of the reply.
+    pub body: &'c [u8],
+    /// The order of the body's numbers.
+    pub order: Order,
+    /// The place of the body's first octet, from which it is aligned.
+    pub at: u64,
+}
+
+/// A system exception (CORBA 3.3 Part 1, 8.4).
+#[derive(Clone, Copy, Debug, PartialEq, Eq)]
+pub struct SystemException<'c> {
+    /// Its repository id, as `IDL:omg.org/CORBA/TRANSIENT:1.0`.
+    pub id: &'c [u8],
+    /// Its minor code.
+    pub minor: u32,
+    /// Whether the operation was completed.
+    pub completed: Completed,
+}
+
+impl<'c> Completion<'c> {
+    /// Reads the body.
+    pub fn reader(&self) -> Reader<'c> {
+        Reader::at(self.body, self.order, self.at)
+    }
+
+    /// The exception that it raised, if it raised one: its repository id, and a reader of its
+    /// members.
+    pub fn raised(&self) -> Result<Option<(&'c [u8], Reader<'c>)>, Error> {
+        if self.ended != Ended::Raised {
+            return Ok(None);
+        }
+        let mut reader = self.reader();
+        let id = reader.string()?;
+        Ok(Some((id, reader)))
+    }
+
+    /// The reference that is to be asked in place of this one, if there is one.
+    pub fn forwarded(&self) -> Result<Option<Ior>, Error> {
+        if self.ended != Ended::Forwarded {
+            return Ok(None);
+        }
+        Ior::read(&mut self.reader()).map(Some)
+    }
+
+    /// The system exception by which it ended, if it ended by one.
+    pub fn system(&self) -> Result<Option<SystemException<'c>>, Error> {
+        if self.ended != Ended::System {
+            return Ok(None);
+        }
+        let mut reader = self.reader();
+        let id = reader.string()?;
+        let minor = reader.ulong()?;
+        let completed = Completed::from_number(reader.ulong()?).ok_or(Error::Value)?;
+        Ok(Some(SystemException { id, minor, completed }))
+    }
+}

@@ -1,0 +1,194 @@
+//! What a call answers where it fails.
+
+use crate::sys;
+use std::ffi::CStr;
+use std::fmt;
+
+macro_rules! errors {
+    ($($(#[$doc:meta])* $name:ident = $code:literal,)*) => {
+        /// Why a call failed. Nothing has changed then, unless the call says otherwise.
+        #[derive(Clone, Copy, Debug, PartialEq, Eq, Hash)]
+        #[non_exhaustive]
+        pub enum Error {
+            $($(#[$doc])* $name,)*
+            /// An error that this version of the crate has no name for.
+            Unknown(i64),
+        }
+
+        impl Error {
+            /// The number of the error, `LR_E_..` of `lemonrudder.h`.
+            pub const fn code(self) -> i64 {
+                match self {
+                    $(Error::$name => $code,)*
+                    Error::Unknown(code) => code,
+                }
+            }
+
+            /// The error of a number.
+            pub(crate) const fn of(code: i64) -> Error {
+                match code {
+                    $($code => Error::$name,)*
+                    _ => Error::Unknown(code),
+                }
+            }
+        }
+    };
+}
+
+errors! {
+    /// The object was closed, or has become another one.
+    Empty = -1,
+    /// The object is open already.
+    Open = -2,
+    /// An allocation failed, and nothing has changed.
+    Memory = -3,
+    /// A number is none of those that are allowed.
+    Range = -4,
+    /// There is no such connection; of `Server::connect`: its number is not greater than each
+    /// before.
+    Connection = -5,
+    /// A request waits for its outcome.
+    Asking = -6,
+    /// No request waits.
+    Idle = -7,
+    /// Octets are due that were not taken.
+    Due = -8,
+    /// No outcome of the operation, or one that can't be sent.
+    Outcome = -9,
+    /// The room is too small.
+    Room = -10,
+    /// Octets are missing at the end.
+    Short = -11,
+    /// The octets are no value of the type.
+    Value = -12,
+    /// The types are not valid.
+    Types = -13,
+    /// A NUL where none may be, or a name of a length that is not allowed.
+    Text = -14,
+    /// There is an object or operation of that name.
+    Taken = -15,
+    /// There is no object of that key.
+    Object = -16,
+    /// Every operation of the object is raw.
+    Raw = -17,
+    /// No stringified reference.
+    Reference = -18,
+    /// The stream has a fault, and is at its end.
+    Stream = -19,
+    /// There is no such part.
+    NoPart = -20,
+    /// The moment is past the expiration.
+    Expired = -21,
+    /// As many calls are pending as a client keeps, or it has given all its numbers.
+    Calls = -22,
+    /// The message would be longer than its size can say.
+    Long = -23,
+    /// An allocation failed, and the connection is gone.
+    Lost = -24,
+    /// The body would stand at a place that is not divisible by 8.
+    Place = -25,
+}
+
+impl fmt::Display for Error {
+    fn fmt(&self, out: &mut fmt::Formatter<'_>) -> fmt::Result {
+        // SAFETY: the library answers a text with a NUL at its end, which is there as long as the
+        // program.
+        let text = unsafe { CStr::from_ptr(sys::lr_strerror(self.code())) };
+        out.write_str(&text.to_string_lossy())
+    }
+}
+
+impl std::error::Error for Error {}
+
+/// What a function of the library answered: a count, or an error.
+pub(crate) fn count(answer: i64) -> Result<usize, Error> {
+    usize::try_from(answer).map_err(|_| Error::of(answer))
+}
+
+/// What a function of the library answered whose count says nothing.
+pub(crate) fn done(answer: i64) -> Result<(), Error> {
+    count(answer).map(|_| ())
+}
+
+/// The count of a function whose one error is that its slot is empty, which none is here.
+pub(crate) fn sure(answer: i64) -> usize {
+    count(answer).unwrap_or(0)
+}
+
+/// What a function copies that answers how much there is, and copies as much of it as its room has
+/// octets. There are probably so many.
+pub(crate) fn copied(
+    size: usize,
+    mut call: impl FnMut(&mut [u8]) -> i64,
+) -> Result<Vec<u8>, Error> {
+    let mut room = vec![0; size];
+    loop {
+        let size = count(call(&mut room))?;
+        let is_whole = size <= room.len();
+        room.resize(size, 0);
+        if is_whole {
+            return Ok(room);
+        }
+    }
+}
+
+/// What a function writes that answers `Room` where its room is too small. It needs probably at
+/// most so much.
+pub(crate) fn written(
+    size: usize,
+    mut call: impl FnMut(&mut [u8]) -> i64,
+) -> Result<Vec<u8>, Error> {
+    let mut room = vec![0; size];
+    loop {
+        match count(call(&mut room)) {
+            Err(Error::Room) => room.resize(2 * room.len().max(64), 0),
+            answer => {
+                room.truncate(answer?);
+                return Ok(room);
+            }
+        }
+    }
+}
+
+#[cfg(test)]
+mod tests {
+    use super::*;
+
+    #[test]
+    fn each_code_has_its_error() {
+        for code in -25..=-1 {
+            let error = Error::of(code);
+            assert!(!matches!(error, Error::Unknown(_)));
+            assert_eq!(error.code(), code);
+        }
+        assert_eq!(Error::of(-1000), Error::Unknown(-1000));
+        assert_eq!(count(7), Ok(7));
+        assert_eq!(done(7), Ok(()));
+        assert_eq!(done(-7), Err(Error::Idle));
+    }
+
+    #[test]
+    fn an_error_has_the_text_of_the_library() {
+        for code in -25..=-1 {
+            assert!(!Error::of(code).to_string().is_empty());
+        }
+        assert_ne!(Error::Memory.to_string(), Error::Lost.to_string());
+    }
+
+    #[test]
+    fn room_grows_until_it_is_enough() {
+        let whole: Vec<u8> = (0..200).collect();
+        let copy = |room: &mut [u8]| {
+            let size = room.len().min(whole.len());
+            room[..size].copy_from_slice(&whole[..size]);
+            200
+        };
+        let write = |room: &mut [u8]| if room.len() < 200 { -10 } else { copy(room) };
+        for size in [0, 1, 199, 200, 201, 1000] {
+            assert_eq!(copied(size, copy).as_ref(), Ok(&whole));
+            assert_eq!(written(size, write).as_ref(), Ok(&whole));
+        }
+        assert_eq!(copied(5, |_| -20), Err(Error::NoPart));
+        assert_eq!(written(5, |_| -4), Err(Error::Range));
+    }
+}

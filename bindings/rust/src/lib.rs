@@ -1,0 +1,81 @@
+//! GIOP 1.0, 1.1 and 1.2 over IIOP (OMG CORBA 3.3 Part 2, clause 9) and the FT_REQUEST service
+//! context of Fault Tolerant CORBA, by the library `liblemonrudder`, whose every function is
+//! proved.
+//!
+//! A [`Server`] takes octets of connections at moments, says which request is to be performed, and
+//! makes the replies: a request that is sent again acts once. A [`Client`] sends its calls again
+//! until they are answered. An [`Assembler`] makes messages of a stream, [`write`](mod@write)
+//! writes them, [`cdr`] reads and writes values, and [`Ior`] is a reference to an object.
+//!
+//! Nothing here opens a socket, reads a clock (but [`Moment::now`]) or starts a thread. An object
+//! may be given to another thread, but not be used by two at once.
+//!
+//! The functions of the library are proved; this crate over them is tested.
+
+#![deny(missing_docs)]
+
+mod assembler;
+mod catalogue;
+pub mod cdr;
+mod client;
+mod error;
+mod ior;
+mod limits;
+mod moment;
+mod numbers;
+mod server;
+mod sys;
+mod types;
+pub mod write;
+
+pub use assembler::{Assembler, Message};
+pub use catalogue::{Catalogue, Signature};
+pub use client::{Call, Client, Completion, SystemException};
+pub use error::Error;
+pub use ior::{Address, Ior, Profile};
+pub use limits::Limits;
+pub use moment::Moment;
+pub use numbers::{
+    Completed, Ended, Fault, LocateStatus, MessageType, Order, Status, SystemName, Version, Wish,
+};
+pub use server::{FtRequest, Request, Server, Settings};
+pub use types::Type;
+
+use std::ffi::c_void;
+
+/// The version of the library: major, minor and patch.
+pub fn version() -> (u32, u32, u32) {
+    let version = sys::lr_version();
+    (version >> 16, version >> 8 & 0xff, version & 0xff)
+}
+
+/// Has all memory of the library come from these functions in place of `malloc`, `realloc` and
+/// `free`. Each of the first two gives memory aligned to 16, or NULL where there is none.
+///
+/// # Safety
+///
+/// They do what the functions of C do that they stand for, and this is called before any other
+/// function of the crate.
+pub unsafe fn set_heap(
+    allocate: unsafe extern "C" fn(usize) -> *mut c_void,
+    reallocate: unsafe extern "C" fn(*mut c_void, usize) -> *mut c_void,
+    release: unsafe extern "C" fn(*mut c_void),
+) {
+    // SAFETY: as the caller says.
+    unsafe { sys::lr_set_heap(Some(allocate), Some(reallocate), Some(release)) }
+}
+
+/// All octets that calls move into their room, which answer how many: 0 where none are left.
+fn all_of(mut output: impl FnMut(&mut [u8]) -> usize) -> Vec<u8> {
+    const MORE: usize = 4096;
+    let mut all = Vec::new();
+    loop {
+        let size = all.len();
+        all.resize(size + MORE, 0);
+        let moved = output(&mut all[size..]);
+        all.truncate(size + moved);
+        if moved < MORE {
+            return all;
+        }
+    }
+}

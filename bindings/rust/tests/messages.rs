@@ -1,0 +1,155 @@
+//! Messages, compared with octets that were written out by hand (CORBA 3.3 Part 2, 9.4).
+
+use lemonrudder::cdr::Writer;
+use lemonrudder::write::{self, Request};
+use lemonrudder::{
+    Assembler, Error, Fault, FtRequest, Limits, LocateStatus, MessageType, Moment, Order, Status,
+    Version, Wish,
+};
+
+/// `add(7)` of 1.2, with FT_REQUEST: client `A`, its request 1, the last expiration.
+const ADD: &[u8] = b"GIOP\x01\x02\0\0\0\0\0\x48\0\0\0\x05\x03\0\0\0\
+    \0\0\0\0\0\0\0\x01c\0\0\0\0\0\0\x04add\0\
+    \0\0\0\x01\0\0\0\x0d\0\0\0\x18\0\0\0\0\0\0\0\x02A\0\0\0\0\0\0\x01\
+    \xff\xff\xff\xff\xff\xff\xff\xff\0\0\0\0\0\0\0\x07";
+
+const FT: FtRequest = FtRequest { client_id: b"A", retention_id: 1, expiration: Moment(u64::MAX) };
+
+fn add(context: &[u8]) -> Result<Vec<u8>, Error> {
+    write::request(&Request {
+        version: Version::V12,
+        order: Order::Big,
+        request_id: 5,
+        wish: Wish::Full,
+        key: b"c",
+        operation: "add",
+        context: Some((write::FT_REQUEST, context)),
+        body: Writer::new(Order::Big).long(7)?.as_octets(),
+    })
+}
+
+#[test]
+fn a_request_is_written_and_read() -> Result<(), Error> {
+    let octets = add(&write::ft_request(Order::Big, &FT)?)?;
+    assert_eq!(octets, ADD);
+
+    let mut assembler = Assembler::open(Limits::default())?;
+    assert_eq!(assembler.feed(&ADD[..50])?, 50);
+    assert!(assembler.message()?.is_none());
+    assert_eq!(assembler.feed(&[&ADD[50..], b"GIOP"].concat())?, 34);
+    let mut message = assembler.message()?.expect("it is whole");
+    assert_eq!(message.message_type(), MessageType::Request);
+    assert_eq!((message.version(), message.order()), (Version::V12, Order::Big));
+    assert_eq!((message.request_id(), message.wish()), (5, Some(Wish::Full)));
+    assert_eq!((message.key(), message.operation()), (Some(&b"c"[..]), &b"add"[..]));
+    assert_eq!((message.status(), message.locate_status()), (None, None));
+    assert_eq!(message.ft_request(), Some(FT));
+    assert_eq!((message.reader().long()?, message.body()), (7, &[0, 0, 0, 7][..]));
+    assert_eq!(message.payload(), b"");
+    let contexts = message.contexts()?;
+    assert_eq!(contexts, [(13, ADD[48..72].to_vec())]);
+    Ok(())
+}
+
+#[test]
+fn a_long_context_is_copied_whole() -> Result<(), Error> {
+    let context: Vec<u8> = (0..=255).cycle().take(5000).collect();
+    let octets = add(&context)?;
+    let mut assembler = Assembler::open(Limits::default())?;
+    assert_eq!(assembler.feed(&octets)?, octets.len());
+    let mut message = assembler.message()?.expect("it is whole");
+    // it doesn't read as FT_REQUEST
+    assert_eq!(message.ft_request(), None);
+    assert_eq!(message.contexts()?, [(13, context)]);
+    Ok(())
+}
+
+#[test]
+fn replies_are_written_and_read() -> Result<(), Error> {
+    let body = [0, 0, 0, 0, 0, 0, 0, 7];
+    let reply = write::reply(Version::V12, Order::Big, 5, Status::NoException, &body)?;
+    let wanted = b"GIOP\x01\x02\0\x01\0\0\0\x14\0\0\0\x05\0\0\0\0\0\0\0\0\0\0\0\0\0\0\0\x07";
+    assert_eq!(reply, wanted);
+
+    let mut assembler = Assembler::open(Limits::default())?;
+    assembler.feed(&reply)?;
+    let message = assembler.message()?.expect("it is whole");
+    assert_eq!((message.message_type(), message.request_id()), (MessageType::Reply, 5));
+    assert_eq!((message.status(), message.wish()), (Some(Status::NoException), None));
+    assert_eq!((message.reader().longlong()?, message.key()), (7, None));
+    Ok(())
+}
+
+#[test]
+fn other_messages_are_written_and_read() -> Result<(), Error> {
+    let (version, order) = (Version::V10, Order::Little);
+    let stream = [
+        write::cancel_request(version, order, 3)?,
+        write::locate_request(version, order, 4, b"c")?,
+        write::locate_reply(version, order, 4, LocateStatus::ObjectHere)?,
+        write::message_error()?,
+        write::close_connection()?,
+    ];
+    assert_eq!(stream[0], b"GIOP\x01\0\x01\x02\x04\0\0\0\x03\0\0\0");
+    assert_eq!(stream[1], b"GIOP\x01\0\x01\x03\x09\0\0\0\x04\0\0\0\x01\0\0\0c");
+    assert_eq!(stream[2], b"GIOP\x01\0\x01\x04\x08\0\0\0\x04\0\0\0\x01\0\0\0");
+    assert_eq!(stream[3], b"GIOP\x01\0\0\x06\0\0\0\0");
+    assert_eq!(stream[4], b"GIOP\x01\0\0\x05\0\0\0\0");
+
+    let mut assembler = Assembler::open(Limits::default())?;
+    let mut read = Vec::new();
+    let (stream, mut at) = (stream.concat(), 0);
+    while at < stream.len() {
+        at += assembler.feed(&stream[at..])?;
+        let message = assembler.message()?.expect("each is whole");
+        read.push((message.message_type(), message.request_id(), message.locate_status()));
+    }
+    let wanted = [
+        (MessageType::CancelRequest, 3, None),
+        (MessageType::LocateRequest, 4, None),
+        (MessageType::LocateReply, 4, Some(LocateStatus::ObjectHere)),
+        (MessageType::MessageError, 0, None),
+        (MessageType::CloseConnection, 0, None),
+    ];
+    assert_eq!(read, wanted);
+    Ok(())
+}
+
+#[test]
+fn a_stream_ends_by_its_first_fault() -> Result<(), Error> {
+    let mut assembler = Assembler::open(Limits::default())?;
+    assert_eq!(assembler.fault(), None);
+    assert_eq!(assembler.feed(b"GIOP\x01\x03\0\0\0\0\0\0"), Err(Error::Stream));
+    assert_eq!(assembler.fault(), Some(Fault::Version));
+    assert_eq!(assembler.feed(ADD), Err(Error::Stream));
+    assert!(assembler.message()?.is_none());
+    Ok(())
+}
+
+#[test]
+fn what_no_message_can_have_is_refused() -> Result<(), Error> {
+    let mut request = Request {
+        version: Version::V10,
+        order: Order::Big,
+        request_id: 1,
+        wish: Wish::None,
+        key: b"",
+        operation: "ping",
+        context: None,
+        body: b"",
+    };
+    assert!(write::request(&request).is_ok());
+    // 1.2 alone has it
+    request.wish = Wish::Empty;
+    assert_eq!(write::request(&request), Err(Error::Range));
+    request.wish = Wish::None;
+    request.operation = "pi\0ng";
+    assert_eq!(write::request(&request), Err(Error::Text));
+    let forward = Status::LocationForwardPerm;
+    assert_eq!(write::reply(Version::V11, Order::Big, 1, forward, b""), Err(Error::Range));
+    let ft = FtRequest { client_id: b"A\0", ..FT };
+    assert_eq!(write::ft_request(Order::Big, &ft), Err(Error::Text));
+    assert_eq!(Assembler::open(Limits { message: 4095, partials: 1 }).err(), Some(Error::Range));
+    assert_eq!(Assembler::open(Limits { message: 4096, partials: 17 }).err(), Some(Error::Range));
+    Ok(())
+}

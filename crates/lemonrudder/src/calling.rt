@@ -1,0 +1,173 @@
+//! A client, with the octets that are due on its connection, and the completion that was taken last.
+
+use crate::due::Due;
+use crate::named::{limits_of, number_of_order, order_of, version_of};
+use crate::refusal::{Refusal, copied, count_of};
+use crate::types::{types_of, values_of};
+use cdr_core::{are_writable, has_no_nul};
+use ft_client::{Ended, FtClient, ReplyBody};
+use std::alloc::Global;
+
+/// A call that ended: `lr_completion`.
+#[repr(C)]
+#[derive(Clone, Copy, Debug, Drop)]
+pub struct CompletionHead {
+    pub body_size: u64,
+    pub body_at: u64,
+    pub call: i32,
+    pub how: u32,
+    pub body_order: u32,
+    pub reserved: u32,
+}
+
+/// A call: what it asks, and until when.
+#[derive(Clone, Copy)]
+pub struct Call<'c> {
+    pub now: u64,
+    pub expiration: u64,
+    pub key: &'c [u8],
+    pub operation: &'c [u8],
+    pub types: &'c [u8],
+    pub order: u32,
+    pub arguments: &'c [u8],
+}
+
+/// A client, and what is due on its connection.
+#[derive(Drop)]
+pub struct Calling {
+    client: FtClient,
+    alloc: Global,
+    due: Due,
+    ended: Option<Ended>,
+}
+
+/// How a call ended, as a number, and the body of its reply, if one came.
+fn of_ended(ended: &Ended) -> (u32, Option<&ReplyBody>) {
+    match ended {
+        Ended::Returned(body) => (0, Some(body)),
+        Ended::Raised(body) => (1, Some(body)),
+        Ended::System(body) => (2, Some(body)),
+        Ended::Forwarded(body) => (3, Some(body)),
+        Ended::NeedsAddressing => (4, None),
+        Ended::Expired => (5, None),
+        Ended::Cancelled => (6, None),
+    }
+}
+
+impl Calling {
+    /// A client that is not connected.
+    pub fn new(
+        alloc: Global,
+        id: &[u8],
+        version: u32,
+        message: u32,
+        partials: u32,
+    ) -> Result<Calling, Refusal> {
+        let version = version_of(version)?;
+        let limits = limits_of(message, partials)?;
+        if id.is_empty() || id.len() > 256 || !has_no_nul(id) {
+            return Err(Refusal::Text);
+        }
+        Ok(Calling {
+            client: FtClient::new(alloc, id, version, limits)?,
+            alloc,
+            due: Due::new(Vec::new(alloc)),
+            ended: None,
+        })
+    }
+
+    /// The client is connected anew.
+    pub fn connected(&mut self, now: u64) -> Result<u64, Refusal> {
+        self.client.lost();
+        self.due.drop_all();
+        match self.client.connected(now, &mut self.due.octets) {
+            Ok(()) => Ok(0),
+            Err(_) => Err(Refusal::Lost),
+        }
+    }
+
+    /// The connection is lost.
+    pub fn lost(&mut self) -> u64 {
+        self.client.lost();
+        self.due.drop_all();
+        0
+    }
+
+    /// Whether the client is connected.
+    pub fn is_connected(&self) -> u64 {
+        u64::from(self.client.is_connected())
+    }
+
+    /// Takes a call, and answers its number.
+    pub fn call(&mut self, call: &Call<'_>) -> Result<u64, Refusal> {
+        let types = types_of(self.alloc, call.types)?;
+        let arguments = values_of(self.alloc, &types, order_of(call.order)?, call.arguments)?;
+        if !has_no_nul(call.operation) {
+            return Err(Refusal::Text);
+        }
+        if !are_writable(&arguments) {
+            return Err(Refusal::Long);
+        }
+        let number = self.client.call(
+            call.now,
+            call.key,
+            call.operation,
+            &arguments,
+            call.expiration,
+            &mut self.due.octets,
+        )?;
+        Ok(u64::from(number.unsigned_abs()))
+    }
+
+    /// Cancels a call.
+    pub fn cancel(&mut self, call: i64) -> Result<u64, Refusal> {
+        let call = i32::try_from(call).map_err(|_| Refusal::Range)?;
+        Ok(u64::from(self.client.cancel(call, &mut self.due.octets)?))
+    }
+
+    /// A moment has come.
+    pub fn tick(&mut self, now: u64) -> u64 {
+        self.client.tick(now);
+        0
+    }
+
+    /// Takes octets that came on the connection.
+    pub fn feed(&mut self, octets: &[u8]) -> Result<u64, Refusal> {
+        match self.client.feed(octets) {
+            Ok(()) => Ok(count_of(octets)),
+            Err(_) => Err(Refusal::Lost),
+        }
+    }
+
+    /// Takes the next completion.
+    pub fn completed(&mut self, head: &mut CompletionHead) -> u64 {
+        let Some((call, ended)) = self.client.take_completion() else {
+            return 0;
+        };
+        let (how, body) = of_ended(&ended);
+        *head = CompletionHead {
+            body_size: body.map_or(0, |body| count_of(&body.octets)),
+            body_at: body.map_or(0, |body| body.at),
+            call,
+            how,
+            body_order: body.map_or(0, |body| number_of_order(body.order)),
+            reserved: 0,
+        };
+        self.ended = Some(ended);
+        1
+    }
+
+    /// Copies the body of the completion that was taken last.
+    pub fn body(&self, room: &mut [u8]) -> Result<u64, Refusal> {
+        let ended = self.ended.as_ref().ok_or(Refusal::None)?;
+        match of_ended(ended) {
+            (_, Some(body)) => Ok(copied(&body.octets, room)),
+            _ => Err(Refusal::None),
+        }
+    }
+
+    /// Moves octets that are due into a room.
+    pub fn output(&mut self, room: &mut [u8]) -> u64 {
+        self.due.output(room)
+    }
+}

@@ -1,0 +1,128 @@
+//! CDR (CORBA 3.3 Part 2, 9.3) in octets of the caller, without an allocation.
+
+ghost use Rattle.std.specs.Prelude.{◌<◌, ◌≤◌, length};
+
+use crate::named::{number_of_order, order_of};
+use crate::refusal::{Refusal, count_of};
+use cdr_core::{Cursor, Order, has_no_nul};
+
+/// Where reading or writing stands: `lr_place`.
+#[repr(C)]
+#[derive(Clone, Copy, Debug, Drop)]
+pub struct Place {
+    /// The place of the first octet, from which numbers are aligned.
+    pub at: u64,
+    /// The index of the next octet.
+    pub next: u64,
+    pub order: u32,
+    pub reserved: u32,
+}
+
+/// The order of an encapsulation, by its first octet.
+pub fn order_in(octets: &[u8]) -> Result<Order, Refusal> {
+    match octets.first() {
+        Some(octet) if *octet <= 1 => order_of(u32::from(*octet)),
+        Some(_) => Err(Refusal::Value),
+        None => Err(Refusal::Short),
+    }
+}
+
+/// Places are below this.
+const END: u64 = 1 << 32;
+
+impl Place {
+    /// A cursor at the place.
+    pub fn cursor<'o>(&self, octets: &'o [u8]) -> Result<Cursor<'o>, Refusal> {
+        let order = order_of(self.order)?;
+        if self.at >= END || self.next >= END || self.at + self.next >= END {
+            return Err(Refusal::Range);
+        }
+        let rest = octets.get(self.next as usize..).ok_or(Refusal::Range)?;
+        Ok(Cursor::new(rest, order, self.at + self.next))
+    }
+
+    /// Moves to where a cursor in these octets stands.
+    pub fn follow(&mut self, octets: &[u8], cursor: &Cursor<'_>) {
+        self.next = count_of(octets).saturating_sub(count_of(cursor.rest()));
+    }
+
+    /// Moves past a sequence of octets that was read up to there, and says where it lies: its first octet and how
+    /// many there are, the last `tail` of which are left out.
+    pub fn pass(
+        &mut self,
+        octets: &[u8],
+        cursor: &Cursor<'_>,
+        read: &[u8],
+        tail: u64,
+    ) -> (u64, u64) {
+        self.follow(octets, cursor);
+        let length = count_of(read);
+        (
+            self.next.saturating_sub(length).saturating_sub(tail),
+            length,
+        )
+    }
+
+    /// The place in an encapsulation after its octet of the byte order.
+    pub fn inner(order: Order) -> Place {
+        Place {
+            at: 0,
+            next: 1,
+            order: number_of_order(order),
+            reserved: 0,
+        }
+    }
+
+    /// Writes octets at a place divisible by a size, with zeros before.
+    pub fn put(&mut self, room: &mut [u8], size: u64, octets: &[u8]) -> Result<u64, Refusal>
+        requires { (0 < size) × (size ≤ 8) }
+    {
+        if self.at >= END || self.next >= END {
+            return Err(Refusal::Range);
+        }
+        let padding = (size - (self.at + self.next) % size) % size;
+        let (start, length) = (self.next as usize, padding as usize);
+        let left = room.get_mut(start..).ok_or(Refusal::Range)?;
+        let Some(left) = left.get_mut(..length + octets.len()) else {
+            return Err(Refusal::Room);
+        };
+        left[..length].fill(0);
+        left[length..].copy_from_slice(octets);
+        self.next += padding + count_of(octets);
+        Ok(0)
+    }
+
+    /// Writes a length and as many octets, the last of which is a NUL where one is wanted.
+    pub fn put_all(&mut self, room: &mut [u8], octets: &[u8], nul: &[u8]) -> Result<u64, Refusal> {
+        let order = order_of(self.order)?;
+        let length = count_of(octets).saturating_add(count_of(nul));
+        let length = u32::try_from(length).map_err(|_| Refusal::Long)?;
+        let mut place = *self;
+        let mut number = [0; 4];
+        order.put_ulong(length, &mut number);
+        place.put(room, 4, &number)?;
+        place.put(room, 1, octets)?;
+        place.put(room, 1, nul)?;
+        *self = place;
+        Ok(0)
+    }
+
+    /// Writes a string, with its NUL.
+    pub fn put_string(&mut self, room: &mut [u8], text: &[u8]) -> Result<u64, Refusal> {
+        if !has_no_nul(text) {
+            return Err(Refusal::Text);
+        }
+        self.put_all(room, text, b"\0")
+    }
+
+    /// Writes a number of 2, 4 or 8 octets, which are given in both orders.
+    pub fn put_number(&mut self, room: &mut [u8], big: &[u8], little: &[u8]) -> Result<u64, Refusal>
+        requires { (0 < length big.now) × (length big.now ≤ 8) }
+    {
+        let size = count_of(big);
+        match order_of(self.order)? {
+            Order::Big => self.put(room, size, big),
+            Order::Little => self.put(room, size, little),
+        }
+    }
+}

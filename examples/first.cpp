@@ -1,0 +1,59 @@
+/* A client calls a counter, loses the connection with the reply, and calls again: it acts once. */
+#include <cstdio>
+#include <cstdlib>
+#include <lemonrudder.hpp>
+
+namespace lr = lemonrudder;
+
+/* What a function answers, which is no error. */
+template <class T>
+static auto sure(lr::Result<T> result) {
+  if (!result.ok()) {
+    std::fprintf(stderr, "%s\n", result.error().text());
+    std::exit(1);
+  }
+  if constexpr (!std::is_void_v<T>) return std::move(*result);
+}
+
+int main() {
+  auto catalogue = sure(lr::Catalogue::open());
+  sure(catalogue.object("counter"));
+  sure(catalogue.operation("counter", "add", {LR_LONG}, {LR_LONGLONG}));
+  auto server = sure(lr::Server::open(catalogue, {65536, 8}, {1024, 1024}, {1, 2}));  // random seeds in a product
+  auto client = sure(lr::Client::open("client 1", 2, {65536, 8}));
+
+  const auto now = lr::now();
+  const std::uint8_t types[] = {LR_LONG}, seven[] = {0, 0, 0, 7};
+  sure(client.call(now, {"counter", "add", now + 600000000, types, seven}));
+
+  std::int64_t total = 0;
+  for (std::uint64_t connection : {1, 2}) {
+    std::uint8_t room[4096];
+    sure(server.connect(connection));
+    sure(client.connected(now));
+    lr::Octets left(room, sure(client.output(room)));
+    while (!left.empty()) {
+      left = left.from(sure(server.feed(connection, now, left)));
+      if (!sure(server.asked())) continue;
+      const auto body = sure(server.part(lr::Part::body));
+      total += sure(lr::Reader(body).get_long());
+      std::uint8_t results[8];
+      lr::Writer out(results);
+      sure(out.put_longlong(total));
+      sure(server.answer(lr::Order::big, out.octets()));
+    }
+    const auto size = sure(server.output(room));
+    if (connection == 1) {
+      sure(server.lost(connection));
+      sure(client.lost());
+    } else {
+      sure(client.feed({room, size}));
+    }
+  }
+  if (const auto completion = sure(client.completed())) {
+    const auto body = sure(client.body());
+    const auto order = static_cast<lr::Order>(completion->body_order);
+    const auto result = sure(lr::Reader(body, order, completion->body_at).get_longlong());
+    std::printf("add returned %lld, the total is %lld\n", (long long)result, (long long)total);
+  }
+}
