@@ -117,6 +117,7 @@ int loop_listen(const char *address, uint16_t *port) {
   if (bind(fd, (struct sockaddr *)&name, size) != 0 || listen(fd, SOMAXCONN) != 0 ||
       fcntl(fd, F_SETFL, O_NONBLOCK) != 0 || getsockname(fd, (struct sockaddr *)&name, &size) != 0)
     return -1;
+  if (pipe(stop_pipe) != 0 || sigaction(SIGTERM, &(struct sigaction){.sa_handler = on_stop}, NULL) != 0) return -1;
   *port = ntohs(name.sin_port);
   return fd;
 }
@@ -137,7 +138,6 @@ int loop_serve(lr_server *server, int listener, void (*perform)(lr_server *serve
   bool is_stopping = false;
   served = server;
   performs = perform;
-  if (pipe(stop_pipe) != 0 || sigaction(SIGTERM, &(struct sigaction){.sa_handler = on_stop}, NULL) != 0) return -1;
   polls[STOP] = (struct pollfd){stop_pipe[0], POLLIN, 0};
   polls[LISTENER] = (struct pollfd){listener, POLLIN, 0};
   while (!is_stopping || used > FIRST) {

@@ -4,14 +4,15 @@
 
 #include <lemonrudder.h>
 
-/* Listens at an IPv4 address, and answers a socket, or -1. Port 0 becomes one that is free. */
+/* Listens at an IPv4 address, and answers a socket, or -1. Port 0 becomes one that is free. From then on SIGTERM ends
+ * loop_serve, and not the process. */
 int loop_listen(const char *address, uint16_t *port);
 
 /* Prints a line: the reference of an object of a type at an address, IIOP 1.minor. Answers its size, or LR_E_.. */
 int64_t loop_print(const char *type, size_t type_size, uint32_t minor, const char *address, uint16_t port,
                    const void *key, size_t key_size);
 
-/* Serves until SIGTERM, and then says goodbye to all. `perform` answers the request that waits; one that it leaves
+/* Serves until SIGTERM, and says goodbye to all then. `perform` answers the request that waits; one that it leaves
  * waiting is given up, so of that it must have done nothing. Answers 0, or -1 where errno says why. */
 int loop_serve(lr_server *server, int listener, void (*perform)(lr_server *server, const lr_request *asked));
 

@@ -347,23 +347,22 @@ def bank_serves_a_hundred(bank: str) -> None:
 
 def bank_serves_beside_one_that_reads_nothing(bank: str) -> None:
     """One sends requests until it can send no more, and reads nothing meanwhile; another is served; then it reads."""
+    asked = b"".join(balance(index, "ann") for index in range(1000))
+    answers = b"".join(returned(index, 0) for index in range(1000))
     with Serving(bank, "127.0.0.1", "0") as serving, Peer(serving.port) as slow:
-        slow.socket.setsockopt(socket.SOL_SOCKET, socket.SO_RCVBUF, 4096)
-        whole = b"".join(balance(index, "ann") for index in range(200_000))
+        slow.socket.setsockopt(socket.SOL_SOCKET, socket.SO_RCVBUF, 1 << 16)
         slow.socket.settimeout(1)
         sent = 0
         with contextlib.suppress(socket.timeout):
-            while sent < len(whole):
-                sent += slow.socket.send(whole[sent:sent + 65536])
-        if sent == len(whole):
-            raise Wrong("it read all requests while its answers were not taken")
+            while sent < 1 << 26:
+                sent += slow.socket.send(asked[sent % len(asked):])
+            raise Wrong("it reads on while its answers are not taken")
         slow.socket.settimeout(SECONDS)
-        ask(serving.port, deposit(1, "ann", 5), returned(1, 5))
-        complete = sent // len(balance(0, "ann"))
-        got = slow.received(complete * len(returned(0, 0)))
-        want(len(got), complete * len(returned(0, 0)))
-        want(got[:len(returned(0, 0))], returned(0, 0))
-        want(got[-len(returned(0, 0)):], returned(complete - 1, 5))
+        ask(serving.port, deposit(1, "bob", 5), returned(1, 5))
+        complete = sent * 1000 // len(asked)
+        got = slow.received(complete * len(answers) // 1000)
+        if got != (answers * (complete // 1000 + 1))[:len(got)] or len(got) != complete * len(answers) // 1000:
+            raise Wrong(f"of {complete} answers {len(got)} octets came, or others than are wanted")
 
 
 def bank_ends_streams(bank: str) -> None:

@@ -195,7 +195,7 @@ static lr_catalogue given;
   CALL(server_open, SERVER, lr_server_open(slot, &given, LIMIT, PARTIALS, 100, 100, 1, 2)) \
   CALL(client_open, CLIENT, lr_client_open(slot, "A", 1, 2, LIMIT, PARTIALS))              \
   CALL(assembler_open, ASSEMBLER, lr_assembler_open(slot, LIMIT, PARTIALS))                \
-  CALL(ior_parse, IOR, lr_ior_parse(slot, "IOR:00", 6))                                    \
+  CALL(ior_parse, IOR, lr_ior_parse(slot, REFERENCE, SIZE(REFERENCE)))                     \
   CALL(ior_iiop, IOR, lr_ior_iiop(slot, "IDL:C:1.0", 9, 2, "host", 4, 2809, "c", 1))
 
 #define FUNCTION(name, kind, call) \
@@ -699,6 +699,11 @@ static void clients_refuse(void) {
     CHECK(completion.call == call && completion.how == LR_ENDED_EXPIRED);
   }
   client_works(&client, 67);
+  WANT(call_add(&client), 69);
+  WANT(lr_client_connected(&client, LATER + 1), LR_OK); /* what is past its expiration is not sent again */
+  WANT(lr_client_output(&client, room, sizeof room), 0);
+  WANT(lr_client_connected(&client, LATER), LR_OK);
+  CHECK(lr_client_output(&client, room, sizeof room) > 0);
   lr_close(&client);
 }
 

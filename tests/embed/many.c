@@ -30,7 +30,7 @@ static struct sent all[TRANSMISSIONS];
 static struct connection connections[CONNECTIONS];
 static int asked_of[REQUESTS];       /* how many times a request was asked */
 static int64_t outcome_of[REQUESTS]; /* what it gave */
-static char client_of[CLIENTS][16];
+static char client_of[CLIENTS][24];
 static uint64_t last_number;
 static int64_t total;
 static lr_server server = LR_INIT;
@@ -94,7 +94,7 @@ static void scatter(void) {
 /* Performs the request that waits: it gives the number of requests so far. */
 static void perform(const struct connection *at) {
   lr_request asked;
-  unsigned char body[8], client[16], result[8];
+  unsigned char body[8], client[24], result[8];
   lr_place in = {0, 0, LR_BIG, 0}, out = {0, 0, LR_LITTLE, 0};
   int64_t request = -1;
   WANT(lr_server_asked(&server, &asked), 1);
