@@ -506,20 +506,14 @@ def _address(octets: bytes) -> int:
     return ctypes.cast(octets, c_void_p).value or 0
 
 
-def _sized(size: int, function: Any, *arguments: Any) -> bytes:
-    """What a function copies, which has so many octets."""
+def _copied(size: int, function: Any, *arguments: Any) -> bytes:
+    """What a function copies, which has so many octets; or more, and then it is called again."""
     while True:
         room = ctypes.create_string_buffer(size)
         needed = _call(function, *arguments, room, size)
         if needed <= size:
-            return room.raw[:needed]
+            return ctypes.string_at(room, needed)
         size = needed
-
-
-def _copied(function: Any, *arguments: Any) -> bytes:
-    """What a function copies, of whatever size."""
-    size = _call(function, *arguments, None, 0)
-    return _sized(size, function, *arguments) if size else b""
 
 
 def _written(size: int, write: Callable[[Any, int], int]) -> bytes:
@@ -527,7 +521,8 @@ def _written(size: int, write: Callable[[Any, int], int]) -> bytes:
     while True:
         room = ctypes.create_string_buffer(size)
         try:
-            return room.raw[:write(room, size)]
+            written = write(room, size)
+            return ctypes.string_at(room, written)
         except LemonrudderError as error:
             if error.number != Error.ROOM:
                 raise
@@ -1004,11 +999,11 @@ class Assembler(_Held):
                 yield self._message(message)
 
     def _part(self, size: int, part: int) -> bytes:
-        return _sized(size, _library.lr_assembler_part, self._slot, part)
+        return _copied(size, _library.lr_assembler_part, self._slot, part)
 
     def _context(self, index: int) -> Tuple[int, bytes]:
         number = c_uint32()
-        data = _copied(_library.lr_assembler_context, self._slot, index, number)
+        data = _copied(256, _library.lr_assembler_context, self._slot, index, number)
         return number.value, data
 
     def _message(self, message: _Message) -> Message:
@@ -1162,7 +1157,7 @@ class Ior:
 
     @classmethod
     def _of(cls, slot: _Slot) -> Ior:
-        type_id = _copied(_library.lr_ior_type_id, slot).decode("latin-1")
+        type_id = _copied(256, _library.lr_ior_type_id, slot).decode("latin-1")
         profiles = tuple(cls._profile(slot, index) for index in range(_call(_library.lr_ior_profiles, slot)))
         printed = _written(512, lambda room, size: _call(_library.lr_ior_print, slot, room, size))
         return cls(printed.decode("ascii"), type_id, profiles)
@@ -1170,7 +1165,7 @@ class Ior:
     @staticmethod
     def _profile(slot: _Slot, index: int) -> Profile:
         def part(size: int, which: int) -> bytes:
-            return _sized(size, _library.lr_ior_part, slot, index, which)
+            return _copied(size, _library.lr_ior_part, slot, index, which)
 
         profile = _Profile()
         _call(_library.lr_ior_profile, slot, index, profile)
@@ -1446,7 +1441,7 @@ class Engine(_Held):
             parts.append(ctypes.string_at(room, size))
 
     def _part(self, size: int, part: int) -> bytes:
-        return _sized(size, _library.lr_server_part, self._slot, part)
+        return _copied(size, _library.lr_server_part, self._slot, part)
 
     def _waiting(self) -> Signature:
         """The types of the operation that waits."""
@@ -1897,7 +1892,7 @@ class Client:
         while _call(_library.lr_client_completed, self._slot, completion):
             octets = b""
             if completion.how <= _Ended.FORWARDED:
-                octets = _sized(completion.body_size, _library.lr_client_body, self._slot)
+                octets = _copied(completion.body_size, _library.lr_client_body, self._slot)
             body = Body(octets, _named(Order, completion.body_order), completion.body_at)
             self._is_heard = self._is_heard or completion.how <= _Ended.NEEDS_ADDRESSING
             future = self._futures.pop(completion.call, None)

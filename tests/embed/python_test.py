@@ -53,6 +53,13 @@ KINDS = {
 }
 
 
+class Dice(random.Random):
+    """Random numbers by a seed, with what Python 3.8 lacks."""
+
+    def randbytes(self, n):
+        return self.getrandbits(8 * n).to_bytes(n, "little") if n else b""
+
+
 class Case(unittest.TestCase):
     """A test that knows of errors."""
 
@@ -129,7 +136,7 @@ def some_value(dice, kind):
     if kind == "s":
         return "".join(chr(dice.randint(1, 255)) for _ in range(dice.randint(0, 9)))
     if kind == "o":
-        return dice.randbytes(dice.randint(0, 9))
+        return bytes(dice.randrange(256) for _ in range(dice.randint(0, 9)))
     if kind[0] == "enum":
         return dice.randrange(kind[1])
     if kind[0] == "sequence":
@@ -163,7 +170,7 @@ class Formats(Case):
             self.fails(Error.SHORT, lr.unpack, format, out.all[:size], order, at)
 
     def test_random_types_and_values(self):
-        dice = random.Random(SEED)
+        dice = Dice(SEED)
         for number in range(400):
             kinds = [some_kind(dice) for _ in range(dice.randint(1, 5))]
             values = tuple(some_value(dice, kind) for kind in kinds)
@@ -221,11 +228,12 @@ class Formats(Case):
 
     def test_octets_that_are_no_value(self):
         for format, octets in (
-            ("?", b"\2"), ("e3", b"\0\0\0\3"), ("s", b"\0\0\0\0"), ("s", b"\0\0\0\2ab"), ("s", b"\0\0\0\3a\0\0"),
-            ("(l?)", b"\0\0\0\1\xff"), ("[?]", b"\0\0\0\2\1\2"),
+            ("?", b"\2"), ("e3", b"\0\0\0\3"), ("s", b"\0\0\0\2ab"), ("s", b"\0\0\0\3a\0\0"), ("(l?)", b"\0\0\0\1\xff"),
+            ("[?]", b"\0\0\0\2\1\2"),
         ):
             with self.subTest(format=format):
                 self.fails(Error.VALUE, lr.unpack, format, octets)
+        self.assertEqual(lr.unpack("s", bytes(4)), ("",))
         self.fails(Error.SHORT, lr.unpack, "[q]", b"\xff\xff\xff\xff" + bytes(20))
         self.fails(Error.SHORT, lr.unpack, "o", b"\xff\xff\xff\xff" + bytes(20))
 
@@ -370,7 +378,7 @@ class Messages(Case):
                 self.compare(octets, lines)
 
     def test_random_streams(self):
-        dice = random.Random(SEED)
+        dice = Dice(SEED)
         for number in range(100):
             terms, streams, _ = model.Maker(dice).made()
             for connection, frames in streams.items():
@@ -404,30 +412,35 @@ class Messages(Case):
         context = lr.write_ft("client", -5, 1 << 60, LITTLE)
         body = lr.pack("sq", "alice", 5, order=LITTLE)
         for version in (0, 1, 2):
-            octets = lr.write_request(7, b"\0key", "deposit", body, version=version, order=LITTLE,
-                                      wish=lr.Wish.FULL, context=(lr.FT_REQUEST, context))
+            # (in 1.0 and 1.1 the body stands directly after an operation whose size makes its place fit)
+            name = "deposit" if version == 2 else "deposit_four"
+            octets = lr.write_request(7, b"\0key", name, body, version=version, order=LITTLE, wish=lr.Wish.FULL,
+                                      context=(lr.FT_REQUEST, context))
             message, = lr.messages(octets)
             self.assertEqual(
                 (message.type, message.version, message.order, message.request_id, message.status, message.wish),
                 (lr.MessageType.REQUEST, version, LITTLE, 7, None, lr.Wish.FULL))
-            self.assertEqual((message.key, message.operation), (b"\0key", "deposit"))
+            self.assertEqual((message.key, message.operation), (b"\0key", name))
             self.assertEqual(message.contexts, [(13, context)])
             self.assertEqual(message.ft, lr.FtRequest(b"client", -5, 1 << 60))
             self.assertEqual(message.body.order, LITTLE)
-            self.assertEqual(octets[message.body.at:message.body.at + len(message.body.octets)], message.body.octets)
-            if version == 2:
-                self.assertEqual(message.body.octets, body)
-                self.assertEqual(message.body.unpack("sq"), ("alice", 5))
+            self.assertEqual(octets[message.body.at:], body)
+            self.assertEqual(message.body.octets, body)
+            self.assertEqual(message.body.unpack("sq"), ("alice", 5))
 
     def test_bodies_are_aligned_by_their_place(self):
         for version in (0, 1, 2):
-            for size in range(9):
+            for size in range(24):
                 with self.subTest(version=version, size=size):
-                    octets = lr.write_request(1, b"k" * size, "o" * size, lr.pack("Bq", 1, 2), version=version)
-                    message, = lr.messages(octets)
-                    if message.body.at % 8 == 0:
-                        self.assertEqual(message.body.unpack("Bq"), (1, 2))
-                    self.assertEqual(message.body.octets[-16:], lr.pack("Bq", 1, 2))
+                    said, body = {"version": version}, lr.pack("Bq", 1, 2)
+                    head = lr.write_request(1, b"k", "o" * size, **said)
+                    if version < 2 and len(head) % 8:
+                        self.fails(Error.PLACE, lr.write_request, 1, b"k", "o" * size, body, **said)
+                        continue
+                    message, = lr.messages(lr.write_request(1, b"k", "o" * size, body, **said))
+                    self.assertEqual(message.body.at, -(-len(head) // 8) * 8)
+                    self.assertEqual(message.body.unpack("Bq"), (1, 2))
+                    self.assertEqual(message.body.octets, body)
 
     def test_what_is_written(self):
         for version in (0, 1, 2):
@@ -527,7 +540,7 @@ class Fragments(Case):
         return lr.write_request(request_id, b"key", "operation", bytes(range(256)) * (size // 256), order=order)
 
     def test_joined(self):
-        dice = random.Random(SEED)
+        dice = Dice(SEED)
         for number in range(60):
             order = dice.choice([BIG, LITTLE])
             octets = self.request(number, 256 * dice.randint(1, 8), order)
@@ -537,7 +550,7 @@ class Fragments(Case):
                 self.assertEqual(list(lr.messages(b"".join(frames))), list(lr.messages(octets)))
 
     def test_interleaved(self):
-        dice = random.Random(SEED)
+        dice = Dice(SEED)
         for number in range(60):
             count = dice.randint(2, 8)
             whole = [self.request(one, 1024) for one in range(count)]
@@ -554,7 +567,7 @@ class Fragments(Case):
                 self.assertEqual(found, wanted)
 
     def test_of_1_1(self):
-        octets = lr.write_request(3, b"key", "operation", bytes(range(64)), version=1)
+        octets = lr.write_request(3, b"key", "operation_of_16", bytes(range(64)), version=1)
         at = 12 + 8 * 5
         first = octets[:6] + b"\2\0" + struct.pack(">I", at - 12) + octets[12:at]
         last = b"GIOP\1\1\0\7" + struct.pack(">I", len(octets) - at) + octets[at:]
@@ -565,13 +578,13 @@ class Fragments(Case):
         close, request = lr.write_close(), self.request(1, 256)
         first, second, *_ = cut_up(request, [12, 64])
         other = cut_up(self.request(2, 256), [12])[0]
-        mixed = second[:6] + bytes([second[6] | 1]) + second[7:8] + second[11:7:-1] + second[12:]
+        mixed = second[:6] + bytes([second[6] | 1]) + second[7:8] + second[11:7:-1] + second[15:11:-1] + second[16:]
         cases = {
             "MAGIC": b"GIOQ" + close[4:],
             "VERSION": b"GIOP\2" + close[5:],
             "FLAGS": close[:6] + b"\x80" + close[7:],
             "TYPE": close[:7] + b"\x08" + close[8:],
-            "CUT": close[:6] + b"\2" + close[7:],
+            "CUT": b"GIOP\1\2\2\5" + bytes(4),
             "TOO_LARGE": close[:8] + b"\0\x20\0\0",
             "UNALIGNED_FRAGMENT": cut_up(request, [13])[0],
             "STRAY_FRAGMENT": second,
@@ -876,7 +889,7 @@ class Engines(Case):
             self.assertEqual((reply.order, reply.status, reply.body.unpack("l")), (LITTLE, 0, (5,)))
 
     def test_types_go_both_ways(self):
-        dice = random.Random(SEED)
+        dice = Dice(SEED)
         for number in range(100):
             kinds = [[some_kind(dice) for _ in range(dice.randint(0, 4))] for _ in range(3)]
             formats = ["".join(map(format_of, some)) for some in kinds]
@@ -983,7 +996,7 @@ class Scripts(Case):
     """Random events on an engine, against the model of tests/engine.py."""
 
     def test_scripts(self):
-        dice = random.Random(SEED)
+        dice = Dice(SEED)
         for number in range(SCRIPTS):
             terms, streams, events = model.Maker(dice).made()
             for kind, some in (("whole", events), ("in pieces", list(model.in_pieces(dice, events)))):
@@ -1001,24 +1014,33 @@ class Cutter:
     """Passes octets on between clients and a server, and cuts each connection after some, at random."""
 
     def __init__(self, dice, port):
-        self.dice, self.port, self.cuts, self.is_calm = dice, port, 0, False
+        self.dice, self.port, self.is_calm = dice, port, False
+        self.cuts, self.requests, self.tasks = 0, 0, set()
 
     async def listen(self):
         self.listener = await asyncio.start_server(self.serve, "127.0.0.1", 0)
         return self.listener.sockets[0].getsockname()[1]
 
+    async def close(self):
+        self.listener.close()
+        await asyncio.gather(*self.tasks)
+
     async def serve(self, reader, writer):
+        task = asyncio.current_task()
+        self.tasks.add(task)
         try:
             there, back = await asyncio.open_connection("127.0.0.1", self.port)
+            both = [writer, back]
+            asked, _ = await asyncio.gather(self.carry(reader, back, both), self.carry(there, writer, both))
+            self.requests += asked.count(b"deposit\0")
         except OSError:
             writer.transport.abort()
-            return
-        both = [writer, back]
-        await asyncio.gather(self.carry(reader, back, both), self.carry(there, writer, both))
+        self.tasks.discard(task)
 
     async def carry(self, reader, writer, both):
-        """Passes octets one way, in pieces that are cut anywhere, until they end or enough have passed."""
+        """Passes octets one way, in pieces that are cut anywhere, until they end or enough have passed. All of them."""
         left = self.dice.choice([self.dice.randint(0, 60), self.dice.randint(0, 400), self.dice.randint(0, 3000)])
+        passed = b""
         try:
             while self.is_calm or left > 0:
                 piece = await reader.read(self.dice.choice([1, 7, 50, 4096]))
@@ -1026,6 +1048,7 @@ class Cutter:
                     break
                 piece = piece if self.is_calm else piece[:left]
                 left -= len(piece)
+                passed += piece
                 writer.write(piece)
                 await writer.drain()
             else:
@@ -1037,6 +1060,7 @@ class Cutter:
                 one.close()
             else:
                 one.transport.abort()
+        return passed
 
 
 def example(name, *words):
@@ -1078,7 +1102,7 @@ class Ends(Case):
                 self.assertEqual(seen, [()])
                 self.assertEqual(await client.call("k", "two", "s[(lq)]", ("x", [(1, 2), (3, 4)]), "e3?"), (2, True))
                 self.assertEqual(await client.call("k", "one", "(B)", [(7,)], "(sc)"), ("é", "x"))
-                octets = random.Random(SEED).randbytes(300000)
+                octets = bytes(range(256)) * 1200
                 self.assertEqual(await client.call(client.key, "octets", "o", [octets], "o"), octets[::-1])
                 self.assertTrue(await client.call("k", "_is_a", "s", ["IDL:K:1.0"], "?"))
                 self.assertFalse(await client.call("k", "_is_a", "s", ["IDL:L:1.0"], "?"))
@@ -1315,14 +1339,13 @@ class Bank(Case):
                 bank.terminate()
 
     async def play(self, reference):
-        profile, dice = reference.profiles[0], random.Random(SEED)
+        profile, dice = reference.profiles[0], Dice(SEED)
         cutter = Cutter(dice, profile.port)
         port = await cutter.listen()
         clients = [lr.Client(profile.host, port, version=dice.randrange(3), delays=(0.001, 0.02))
                    for _ in range(self.CLIENTS)]
         ended = await asyncio.gather(*(self.trade(dice, client, f"account {number}", profile.key)
                                        for number, client in enumerate(clients)))
-        self.assertGreater(cutter.cuts, self.CLIENTS)
         cutter.is_calm = True
         for number, client in enumerate(clients):
             with self.subTest(client=number):
@@ -1335,7 +1358,12 @@ class Bank(Case):
                 self.assertEqual(max(totals), wanted)
                 self.assertTrue(all(0 <= balance <= wanted for balance in refused))
             await client.close()
-        cutter.listener.close()
+        await cutter.close()
+        # (each client makes a call more for each three deposits)
+        calls = self.CLIENTS * self.DEPOSITS * 4 // 3
+        self.assertGreater(cutter.cuts, self.CLIENTS)
+        self.assertGreater(cutter.requests, calls + self.CLIENTS)
+        print(f"{cutter.requests} requests were sent for {calls} deposits, and there were {cutter.cuts} cuts")
 
     async def trade(self, dice, client, account, key):
         """Deposits powers of two, some at once, and tries to take too much between. The totals, and the balances."""
