@@ -116,7 +116,7 @@ impl Calling {
             call.expiration,
             &mut self.due.octets,
         )?;
-        Ok(number as u64)
+        Ok(u64::from(number.unsigned_abs()))
     }
 
     /// Cancels a call.

@@ -1,5 +1,7 @@
 //! CDR (CORBA 3.3 Part 2, 9.3) in octets of the caller, without an allocation.
 
+ghost use Rattle.std.specs.Prelude.{◌<◌, ◌≤◌, length};
+
 use crate::named::{number_of_order, order_of};
 use crate::refusal::{Refusal, count_of};
 use cdr_core::{Cursor, Order, has_no_nul};
@@ -55,7 +57,10 @@ impl Place {
     ) -> (u64, u64) {
         self.follow(octets, cursor);
         let length = count_of(read);
-        (self.next.saturating_sub(length + tail), length)
+        (
+            self.next.saturating_sub(length).saturating_sub(tail),
+            length,
+        )
     }
 
     /// The place in an encapsulation after its octet of the byte order.
@@ -69,7 +74,9 @@ impl Place {
     }
 
     /// Writes octets at a place divisible by a size, with zeros before.
-    pub fn put(&mut self, room: &mut [u8], size: u64, octets: &[u8]) -> Result<u64, Refusal> {
+    pub fn put(&mut self, room: &mut [u8], size: u64, octets: &[u8]) -> Result<u64, Refusal>
+        requires { (0 < size) × (size ≤ 8) }
+    {
         if self.at >= END || self.next >= END {
             return Err(Refusal::Range);
         }
@@ -88,13 +95,11 @@ impl Place {
     /// Writes a length and as many octets, the last of which is a NUL where one is wanted.
     pub fn put_all(&mut self, room: &mut [u8], octets: &[u8], nul: &[u8]) -> Result<u64, Refusal> {
         let order = order_of(self.order)?;
-        let length = octets.len() + nul.len();
-        if count_of(octets) >= END - 1 {
-            return Err(Refusal::Long);
-        }
+        let length = count_of(octets).saturating_add(count_of(nul));
+        let length = u32::try_from(length).map_err(|_| Refusal::Long)?;
         let mut place = *self;
         let mut number = [0; 4];
-        order.put_ulong(length as u32, &mut number);
+        order.put_ulong(length, &mut number);
         place.put(room, 4, &number)?;
         place.put(room, 1, octets)?;
         place.put(room, 1, nul)?;
@@ -110,27 +115,14 @@ impl Place {
         self.put_all(room, text, b"\0")
     }
 
-    /// Writes a number of two octets.
-    pub fn put_16(&mut self, room: &mut [u8], number: u16) -> Result<u64, Refusal> {
+    /// Writes a number of 2, 4 or 8 octets, which are given in both orders.
+    pub fn put_number(&mut self, room: &mut [u8], big: &[u8], little: &[u8]) -> Result<u64, Refusal>
+        requires { (0 < length big.now) × (length big.now ≤ 8) }
+    {
+        let size = count_of(big);
         match order_of(self.order)? {
-            Order::Big => self.put(room, 2, &number.to_be_bytes()),
-            Order::Little => self.put(room, 2, &number.to_le_bytes()),
-        }
-    }
-
-    /// Writes a number of four octets.
-    pub fn put_32(&mut self, room: &mut [u8], number: u32) -> Result<u64, Refusal> {
-        match order_of(self.order)? {
-            Order::Big => self.put(room, 4, &number.to_be_bytes()),
-            Order::Little => self.put(room, 4, &number.to_le_bytes()),
-        }
-    }
-
-    /// Writes a number of eight octets.
-    pub fn put_64(&mut self, room: &mut [u8], number: u64) -> Result<u64, Refusal> {
-        match order_of(self.order)? {
-            Order::Big => self.put(room, 8, &number.to_be_bytes()),
-            Order::Little => self.put(room, 8, &number.to_le_bytes()),
+            Order::Big => self.put(room, size, big),
+            Order::Little => self.put(room, size, little),
         }
     }
 }

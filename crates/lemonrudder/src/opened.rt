@@ -1,5 +1,8 @@
 //! Opening a slot.
 
+ghost use Rattle.std.specs.Prelude.{◌≡◌, None, Some};
+ghost use Rattle.lemonrudder.specs.Slots.{held_in};
+
 use crate::object::Object;
 use crate::refusal::Refusal;
 use crate::slot::Slot;

@@ -148,7 +148,7 @@ impl Referring {
             found.is_iiop = 1;
             found.minor = u32::from(iiop.minor);
             found.port = u32::from(iiop.port);
-            found.components = iiop.components.len() as u32;
+            found.components = u32::try_from(iiop.components.len()).unwrap_or(u32::MAX);
         }
         *head = found;
         Ok(0)

@@ -1,5 +1,7 @@
 //! Why a call does nothing: the error numbers of the header.
 
+ghost use Rattle.std.specs.Prelude.{◌≡◌, length};
+
 use cdr_core::{CdrError, Fault, Kind};
 use ft_client::CallError;
 use ft_orb::{ConnectError, InterfacesError, ServeError};
@@ -95,16 +97,23 @@ impl Refusal {
     }
 }
 
+/// A count as an export answers it. No length of octets is over the greatest.
+pub fn signed(count: u64) -> i64 {
+    i64::try_from(count).unwrap_or(i64::MAX)
+}
+
 /// The number that an export answers: a count, or that of a refusal.
 pub fn number_of(answer: Result<u64, Refusal>) -> i64 {
     match answer {
-        Ok(count) => count as i64,
+        Ok(count) => signed(count),
         Err(refusal) => refusal.number(),
     }
 }
 
 /// The length of octets, as a count.
-pub fn count_of(octets: &[u8]) -> u64 {
+pub fn count_of(octets: &[u8]) -> u64
+    ensures { result ≡ length octets.now }
+{
     octets.len() as u64
 }
 

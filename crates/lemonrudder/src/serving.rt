@@ -56,6 +56,8 @@ pub struct Serving {
 }
 
 impl Serving {
+    ghost use Rattle.std.specs.Prelude.{◌≡◌};
+
     /// A server to which nothing has happened.
     pub fn new(
         alloc: Global,
@@ -77,16 +79,11 @@ impl Serving {
         }
     }
 
-    /// Refuses where a request waits.
-    fn rests(&self) -> Result<(), Refusal> {
-        if self.engine.is_asking() {
-            return Err(Refusal::Asking);
-        }
-        Ok(())
-    }
-
     /// Makes what is due next that of a connection.
-    fn turn_to(&mut self, connection: u64) -> Result<(), Refusal> {
+    fn turn_to(&mut self, connection: u64) -> Result<(), Refusal>
+        ensures engine { self.new.engine ≡ self.old.engine }
+        ensures due { self.new.due ≡ self.old.due }
+    {
         if self.due.is_some() && self.due_on != connection {
             return Err(Refusal::Due);
         }

@@ -3,7 +3,7 @@
 use crate::assembling::{Assembling, MessageHead};
 use crate::object::Object;
 use crate::opened::open;
-use crate::refusal::{Refusal, number_of};
+use crate::refusal::{number_of, signed};
 use crate::slot::Slot;
 use std::alloc::Global;
 
@@ -45,7 +45,7 @@ pub extern "C" fn lr_assembler_fault(alloc: Global, slot: &mut Slot) -> i64 {
         return EMPTY;
     };
     let answer = match &*object {
-        Object::Assembler(it) => it.fault() as i64,
+        Object::Assembler(it) => signed(it.fault()),
         _ => EMPTY,
     };
     slot.put(object);
@@ -63,7 +63,7 @@ pub extern "C" fn lr_assembler_message(
         return EMPTY;
     };
     let answer = match &*object {
-        Object::Assembler(it) => it.message(message) as i64,
+        Object::Assembler(it) => signed(it.message(message)),
         _ => EMPTY,
     };
     slot.put(object);

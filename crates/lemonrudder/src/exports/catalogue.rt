@@ -3,7 +3,7 @@
 use crate::cataloguing::Cataloguing;
 use crate::object::Object;
 use crate::opened::open;
-use crate::refusal::{Refusal, number_of};
+use crate::refusal::number_of;
 use crate::slot::Slot;
 use std::alloc::Global;
 

@@ -240,37 +240,37 @@ pub extern "C" fn lr_put_char(room: &mut [u8], place: &mut Place, value: u8) -> 
 /// Writes a short.
 #[unsafe(no_mangle)]
 pub extern "C" fn lr_put_short(room: &mut [u8], place: &mut Place, value: i16) -> i64 {
-    number_of(place.put_16(room, value as u16))
+    number_of(place.put_number(room, &value.to_be_bytes(), &value.to_le_bytes()))
 }
 
 /// Writes an unsigned short.
 #[unsafe(no_mangle)]
 pub extern "C" fn lr_put_ushort(room: &mut [u8], place: &mut Place, value: u16) -> i64 {
-    number_of(place.put_16(room, value))
+    number_of(place.put_number(room, &value.to_be_bytes(), &value.to_le_bytes()))
 }
 
 /// Writes a long.
 #[unsafe(no_mangle)]
 pub extern "C" fn lr_put_long(room: &mut [u8], place: &mut Place, value: i32) -> i64 {
-    number_of(place.put_32(room, value as u32))
+    number_of(place.put_number(room, &value.to_be_bytes(), &value.to_le_bytes()))
 }
 
 /// Writes an unsigned long.
 #[unsafe(no_mangle)]
 pub extern "C" fn lr_put_ulong(room: &mut [u8], place: &mut Place, value: u32) -> i64 {
-    number_of(place.put_32(room, value))
+    number_of(place.put_number(room, &value.to_be_bytes(), &value.to_le_bytes()))
 }
 
 /// Writes a long long.
 #[unsafe(no_mangle)]
 pub extern "C" fn lr_put_longlong(room: &mut [u8], place: &mut Place, value: i64) -> i64 {
-    number_of(place.put_64(room, value as u64))
+    number_of(place.put_number(room, &value.to_be_bytes(), &value.to_le_bytes()))
 }
 
 /// Writes an unsigned long long.
 #[unsafe(no_mangle)]
 pub extern "C" fn lr_put_ulonglong(room: &mut [u8], place: &mut Place, value: u64) -> i64 {
-    number_of(place.put_64(room, value))
+    number_of(place.put_number(room, &value.to_be_bytes(), &value.to_le_bytes()))
 }
 
 /// Writes a boolean: 0 or 1.

@@ -3,7 +3,7 @@
 use crate::calling::{Call, Calling, CompletionHead};
 use crate::object::Object;
 use crate::opened::open;
-use crate::refusal::{Refusal, number_of};
+use crate::refusal::{number_of, signed};
 use crate::slot::Slot;
 use std::alloc::Global;
 
@@ -47,7 +47,7 @@ pub extern "C" fn lr_client_lost(alloc: Global, slot: &mut Slot) -> i64 {
         return EMPTY;
     };
     let answer = match &mut *object {
-        Object::Client(it) => it.lost() as i64,
+        Object::Client(it) => signed(it.lost()),
         _ => EMPTY,
     };
     slot.put(object);
@@ -61,7 +61,7 @@ pub extern "C" fn lr_client_is_connected(alloc: Global, slot: &mut Slot) -> i64 
         return EMPTY;
     };
     let answer = match &*object {
-        Object::Client(it) => it.is_connected() as i64,
+        Object::Client(it) => signed(it.is_connected()),
         _ => EMPTY,
     };
     slot.put(object);
@@ -122,7 +122,7 @@ pub extern "C" fn lr_client_tick(alloc: Global, slot: &mut Slot, now: u64) -> i6
         return EMPTY;
     };
     let answer = match &mut *object {
-        Object::Client(it) => it.tick(now) as i64,
+        Object::Client(it) => signed(it.tick(now)),
         _ => EMPTY,
     };
     slot.put(object);
@@ -154,7 +154,7 @@ pub extern "C" fn lr_client_completed(
         return EMPTY;
     };
     let answer = match &mut *object {
-        Object::Client(it) => it.completed(completion) as i64,
+        Object::Client(it) => signed(it.completed(completion)),
         _ => EMPTY,
     };
     slot.put(object);
@@ -182,7 +182,7 @@ pub extern "C" fn lr_client_output(alloc: Global, slot: &mut Slot, room: &mut [u
         return EMPTY;
     };
     let answer = match &mut *object {
-        Object::Client(it) => it.output(room) as i64,
+        Object::Client(it) => signed(it.output(room)),
         _ => EMPTY,
     };
     slot.put(object);

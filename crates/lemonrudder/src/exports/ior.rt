@@ -3,7 +3,7 @@
 use crate::object::Object;
 use crate::opened::open;
 use crate::referring::{Address, ProfileHead, Referring};
-use crate::refusal::{Refusal, number_of};
+use crate::refusal::{number_of, signed};
 use crate::slot::Slot;
 use std::alloc::Global;
 
@@ -63,7 +63,7 @@ pub extern "C" fn lr_ior_type_id(alloc: Global, slot: &mut Slot, room: &mut [u8]
         return EMPTY;
     };
     let answer = match &*object {
-        Object::Reference(it) => it.type_id(room) as i64,
+        Object::Reference(it) => signed(it.type_id(room)),
         _ => EMPTY,
     };
     slot.put(object);
@@ -77,7 +77,7 @@ pub extern "C" fn lr_ior_profiles(alloc: Global, slot: &mut Slot) -> i64 {
         return EMPTY;
     };
     let answer = match &*object {
-        Object::Reference(it) => it.profiles() as i64,
+        Object::Reference(it) => signed(it.profiles()),
         _ => EMPTY,
     };
     slot.put(object);

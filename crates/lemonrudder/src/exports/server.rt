@@ -1,7 +1,7 @@
 //! A server of requests that may be sent again.
 
 use crate::object::Object;
-use crate::refusal::{Refusal, number_of};
+use crate::refusal::{Refusal, number_of, signed};
 use crate::request::RequestHead;
 use crate::seed::Seed;
 use crate::serving::{Serving, Terms};
@@ -111,7 +111,7 @@ pub extern "C" fn lr_server_is_closed(alloc: Global, slot: &mut Slot, connection
         return EMPTY;
     };
     let answer = match &*object {
-        Object::Server(it) => it.is_closed(connection) as i64,
+        Object::Server(it) => signed(it.is_closed(connection)),
         _ => EMPTY,
     };
     slot.put(object);
@@ -149,7 +149,7 @@ pub extern "C" fn lr_server_asked(
         return EMPTY;
     };
     let answer = match &*object {
-        Object::Server(it) => it.asked(request) as i64,
+        Object::Server(it) => signed(it.asked(request)),
         _ => EMPTY,
     };
     slot.put(object);
@@ -289,7 +289,7 @@ pub extern "C" fn lr_server_output(alloc: Global, slot: &mut Slot, room: &mut [u
         return EMPTY;
     };
     let answer = match &mut *object {
-        Object::Server(it) => it.output(room) as i64,
+        Object::Server(it) => signed(it.output(room)),
         _ => EMPTY,
     };
     slot.put(object);

@@ -1,0 +1,703 @@
+/*
+ * lemonrudder.hpp: lemonrudder.h for C++17, in this header alone. What the functions do is said there.
+ *
+ * Objects own what they hold and free it; they are moved, and not copied. A moved-from object is empty, as one that was
+ * made without `open`: its calls answer LR_E_EMPTY. No function throws. What may fail answers a Result, which must be
+ * looked at. Octets that go in are lent for the time of a call; a copy that comes out is a std::vector.
+ */
+#ifndef LEMONRUDDER_HPP
+#define LEMONRUDDER_HPP
+
+#include <array>
+#include <chrono>
+#include <cstddef>
+#include <cstdint>
+#include <initializer_list>
+#include <new>
+#include <optional>
+#include <string>
+#include <string_view>
+#include <type_traits>
+#include <utility>
+#include <vector>
+
+#include "lemonrudder.h"
+
+namespace lemonrudder {
+
+/* ---- octets ---- */
+
+/* Octets that are lent: a pointer and a size. */
+class Octets {
+ public:
+  constexpr Octets() noexcept = default;
+  constexpr Octets(const std::uint8_t* data, std::size_t size) noexcept : data_(data), size_(size) {}
+  template <std::size_t N>
+  constexpr Octets(const std::uint8_t (&octets)[N]) noexcept : data_(octets), size_(N) {}
+  template <std::size_t N>
+  constexpr Octets(const std::array<std::uint8_t, N>& octets) noexcept : data_(octets.data()), size_(N) {}
+  Octets(const std::vector<std::uint8_t>& octets) noexcept : data_(octets.data()), size_(octets.size()) {}
+  Octets(std::string_view text) noexcept
+      : data_(reinterpret_cast<const std::uint8_t*>(text.data())), size_(text.size()) {}
+  Octets(const std::string& text) noexcept : Octets(std::string_view(text)) {}
+  Octets(const char* text) noexcept : Octets(std::string_view(text)) {}
+  Octets(const char* text, std::size_t size) noexcept : Octets(std::string_view(text, size)) {}
+
+  constexpr const std::uint8_t* data() const noexcept { return data_; }
+  constexpr std::size_t size() const noexcept { return size_; }
+  constexpr bool empty() const noexcept { return size_ == 0; }
+  constexpr const std::uint8_t* begin() const noexcept { return data_; }
+  constexpr const std::uint8_t* end() const noexcept { return data_ + size_; }
+  /* The octets from an index on, which is at most the size. */
+  constexpr Octets from(std::size_t index) const noexcept { return {data_ + index, size_ - index}; }
+  /* The first octets, as many as there are at most. */
+  constexpr Octets first(std::size_t count) const noexcept { return {data_, count < size_ ? count : size_}; }
+  /* The same octets as a text. */
+  std::string_view text() const noexcept { return {reinterpret_cast<const char*>(data_), size_}; }
+
+ private:
+  const std::uint8_t* data_ = nullptr;
+  std::size_t size_ = 0;
+};
+
+/* Room for octets: a pointer and a size. */
+class Room {
+ public:
+  constexpr Room() noexcept = default;
+  constexpr Room(std::uint8_t* data, std::size_t size) noexcept : data_(data), size_(size) {}
+  template <std::size_t N>
+  constexpr Room(std::uint8_t (&room)[N]) noexcept : data_(room), size_(N) {}
+  template <std::size_t N>
+  constexpr Room(std::array<std::uint8_t, N>& room) noexcept : data_(room.data()), size_(N) {}
+  Room(std::vector<std::uint8_t>& room) noexcept : data_(room.data()), size_(room.size()) {}
+
+  constexpr std::uint8_t* data() const noexcept { return data_; }
+  constexpr std::size_t size() const noexcept { return size_; }
+
+ private:
+  std::uint8_t* data_ = nullptr;
+  std::size_t size_ = 0;
+};
+
+/* Types, as octets: LR_STRING, LR_LONG and so on. They may be written in place: {LR_STRING, LR_LONG}. */
+using Types = std::initializer_list<std::uint8_t>;
+
+/* ---- results ---- */
+
+/* What an operation may answer in place of a value: LR_E_.. */
+class Error {
+ public:
+  constexpr explicit Error(std::int64_t number) noexcept : number_(number) {}
+  constexpr std::int64_t number() const noexcept { return number_; }
+  const char* text() const noexcept { return lr_strerror(number_); }
+  friend constexpr bool operator==(Error one, std::int64_t number) noexcept { return one.number_ == number; }
+  friend constexpr bool operator!=(Error one, std::int64_t number) noexcept { return one.number_ != number; }
+
+ private:
+  std::int64_t number_;
+};
+
+/* A value, or an error. The value is looked at only where there is one. Of a Result<bool> only ok() says that: as a
+ * condition it could be taken for the value. */
+template <class T>
+class [[nodiscard]] Result {
+ public:
+  Result(T value) noexcept : value_(std::move(value)) {}
+  Result(Error error) noexcept : error_(error) {}
+
+  bool ok() const noexcept { return value_.has_value(); }
+  template <class U = T, std::enable_if_t<!std::is_same_v<U, bool>, int> = 0>
+  explicit operator bool() const noexcept {
+    return ok();
+  }
+  T& operator*() & noexcept { return *value_; }
+  const T& operator*() const& noexcept { return *value_; }
+  T&& operator*() && noexcept { return std::move(*value_); }
+  T* operator->() noexcept { return &*value_; }
+  const T* operator->() const noexcept { return &*value_; }
+  /* The error, or LR_OK. */
+  Error error() const noexcept { return error_; }
+
+ private:
+  std::optional<T> value_;
+  Error error_{LR_OK};
+};
+
+/* Nothing, or an error. */
+template <>
+class [[nodiscard]] Result<void> {
+ public:
+  Result() noexcept = default;
+  Result(Error error) noexcept : error_(error) {}
+
+  bool ok() const noexcept { return error_ == LR_OK; }
+  explicit operator bool() const noexcept { return ok(); }
+  Error error() const noexcept { return error_; }
+
+ private:
+  Error error_{LR_OK};
+};
+
+using Done = Result<void>;
+using Count = Result<std::size_t>;
+
+namespace detail {
+
+inline Done done(std::int64_t answer) noexcept { return answer < 0 ? Done(Error(answer)) : Done(); }
+
+inline Result<bool> truth(std::int64_t answer) noexcept {
+  if (answer < 0) return Error(answer);
+  return answer != 0;
+}
+
+inline Count count(std::int64_t answer) noexcept {
+  if (answer < 0) return Error(answer);
+  return static_cast<std::size_t>(answer);
+}
+
+inline Result<std::int64_t> number(std::int64_t answer) noexcept {
+  if (answer < 0) return Error(answer);
+  return answer;
+}
+
+/* Gives a container a size, and answers whether there was memory. */
+template <class Container>
+bool resize(Container& octets, std::size_t size) noexcept {
+#ifdef __cpp_exceptions
+  try {
+    octets.resize(size);
+  } catch (...) {
+    return false;
+  }
+#else
+  octets.resize(size);
+#endif
+  return true;
+}
+
+/* All octets of what `copy(room, size)` copies and answers the size of. */
+template <class Copy>
+Result<std::vector<std::uint8_t>> copied(Copy copy) noexcept {
+  std::vector<std::uint8_t> octets;
+  std::int64_t size = copy(octets.data(), octets.size());
+  if (size > 0) {
+    if (!resize(octets, static_cast<std::size_t>(size))) return Error(LR_E_MEMORY);
+    size = copy(octets.data(), octets.size());
+  }
+  if (size < 0) return Error(size);
+  return octets;
+}
+
+/* What a call wrote of a struct where it answered 1. */
+template <class T>
+Result<std::optional<T>> found(std::int64_t answer, const T& value) noexcept {
+  if (answer < 0) return Error(answer);
+  return answer == 0 ? std::optional<T>() : std::optional<T>(value);
+}
+
+}  // namespace detail
+
+/* ---- names ---- */
+
+enum class Order : std::uint32_t { big = LR_BIG, little = LR_LITTLE };
+
+enum class Wish : std::uint32_t { none = LR_WISH_NONE, empty = LR_WISH_EMPTY, full = LR_WISH_FULL };
+
+enum class Part : std::uint32_t {
+  key = LR_PART_KEY,
+  operation = LR_PART_OPERATION,
+  body = LR_PART_BODY,
+  client = LR_PART_CLIENT,
+  payload = LR_PART_PAYLOAD
+};
+
+enum class IorPart : std::uint32_t { data = LR_IOR_DATA, host = LR_IOR_HOST, key = LR_IOR_KEY };
+
+/* How long a message may be, and how many may be partial at a time. */
+struct Limits {
+  std::uint32_t message = 1 << 20;
+  std::uint32_t partials = 8;
+};
+
+/* The moment of a time of the system's clock. */
+inline std::uint64_t moment(std::chrono::system_clock::time_point time) noexcept {
+  using std::chrono::duration_cast;
+  const auto since = time.time_since_epoch();
+  const auto seconds = std::chrono::floor<std::chrono::seconds>(since);
+  const auto rest = duration_cast<std::chrono::nanoseconds>(since - seconds);
+  return lr_moment(static_cast<std::uint64_t>(seconds.count()), static_cast<std::uint32_t>(rest.count()));
+}
+
+/* This moment. */
+inline std::uint64_t now() noexcept { return moment(std::chrono::system_clock::now()); }
+
+/* ---- objects ---- */
+
+/* A slot and what it holds. */
+class Slot {
+ public:
+  Slot(const Slot&) = delete;
+  Slot& operator=(const Slot&) = delete;
+
+  bool is_open() const noexcept { return slot_.kind != 0; }
+  void close() noexcept { lr_close(&slot_); }
+  /* The slot itself, for the functions of lemonrudder.h. */
+  lr_slot* slot() noexcept { return &slot_; }
+
+ protected:
+  Slot() noexcept = default;
+  Slot(Slot&& other) noexcept : slot_(std::exchange(other.slot_, lr_slot LR_INIT)) {}
+  Slot& operator=(Slot&& other) noexcept {
+    if (this != &other) {
+      lr_close(&slot_);
+      slot_ = std::exchange(other.slot_, lr_slot LR_INIT);
+    }
+    return *this;
+  }
+  ~Slot() { lr_close(&slot_); }
+
+  /* The object that a call opened, or its error. */
+  template <class T>
+  static Result<T> opened(std::int64_t answer, T& object) noexcept {
+    if (answer < 0) return Error(answer);
+    return std::move(object);
+  }
+
+ private:
+  lr_slot slot_ = LR_INIT;
+};
+
+/* Which objects and operations a server has. */
+class Catalogue : public Slot {
+ public:
+  static Result<Catalogue> open() noexcept {
+    Catalogue made;
+    return opened(lr_catalogue_open(made.slot()), made);
+  }
+
+  Done object(Octets key) noexcept { return detail::done(lr_catalogue_object(slot(), key.data(), key.size())); }
+
+  Done raw_object(Octets key) noexcept { return detail::done(lr_catalogue_raw_object(slot(), key.data(), key.size())); }
+
+  /* Declares an exception of the operation that is added next. */
+  Done exception(Octets id, Octets members) noexcept {
+    return detail::done(lr_catalogue_exception(slot(), id.data(), id.size(), members.data(), members.size()));
+  }
+  Done exception(Octets id, Types members) noexcept { return exception(id, lent(members)); }
+
+  Done operation(Octets key, Octets name, Octets arguments, Octets results) noexcept {
+    return detail::done(lr_catalogue_operation(slot(), key.data(), key.size(), name.data(), name.size(),
+                                               arguments.data(), arguments.size(), results.data(), results.size()));
+  }
+  Done operation(Octets key, Octets name, Types arguments, Types results) noexcept {
+    return operation(key, name, lent(arguments), lent(results));
+  }
+
+  Done raw_operation(Octets key, Octets name) noexcept {
+    return detail::done(lr_catalogue_raw_operation(slot(), key.data(), key.size(), name.data(), name.size()));
+  }
+
+  /* Names one repository id of an object. */
+  Done repository_id(Octets key, const char* id) noexcept {
+    return repository_ids(key, std::string_view(id, std::string_view(id).size() + 1));
+  }
+  /* Names repository ids, with a NUL after each. */
+  Done repository_ids(Octets key, Octets ids) noexcept {
+    return detail::done(lr_catalogue_repository_ids(slot(), key.data(), key.size(), ids.data(), ids.size()));
+  }
+
+ private:
+  static Octets lent(Types types) noexcept { return {types.begin(), types.size()}; }
+};
+
+/* How many outcomes a server keeps for repeats, and how many of each client. */
+struct Keeping {
+  std::uint32_t capacity = 1024;
+  std::uint32_t share = 256;
+};
+
+/* Two random numbers, which no client can guess. */
+struct Seeds {
+  std::uint64_t low;
+  std::uint64_t high;
+};
+
+/* A server of requests that may be sent again. */
+class Server : public Slot {
+ public:
+  /* Opens a server of the objects of a catalogue, which is empty afterwards; at an error it is as it was. */
+  static Result<Server> open(Catalogue& catalogue, Limits limits, Keeping keeping, Seeds seeds) noexcept {
+    Server made;
+    return opened(lr_server_open(made.slot(), catalogue.slot(), limits.message, limits.partials, keeping.capacity,
+                                 keeping.share, seeds.low, seeds.high),
+                  made);
+  }
+
+  Done connect(std::uint64_t connection) noexcept { return detail::done(lr_server_connect(slot(), connection)); }
+  Done lost(std::uint64_t connection) noexcept { return detail::done(lr_server_lost(slot(), connection)); }
+  Done farewell(std::uint64_t connection) noexcept { return detail::done(lr_server_farewell(slot(), connection)); }
+  /* True also of an empty server. */
+  bool is_closed(std::uint64_t connection) noexcept { return lr_server_is_closed(slot(), connection) != 0; }
+
+  /* Takes octets that came at a moment, and answers how many it took. */
+  Count feed(std::uint64_t connection, std::uint64_t moment, Octets octets) noexcept {
+    return detail::count(lr_server_feed(slot(), connection, moment, octets.data(), octets.size()));
+  }
+
+  /* The request that waits for its outcome, if one does. */
+  Result<std::optional<lr_request>> asked() noexcept {
+    lr_request request{};
+    const std::int64_t answer = lr_server_asked(slot(), &request);
+    return detail::found(answer, request);
+  }
+
+  Count part(Part part, Room room) noexcept {
+    return detail::count(lr_server_part(slot(), static_cast<std::uint32_t>(part), room.data(), room.size()));
+  }
+  Result<std::vector<std::uint8_t>> part(Part part) noexcept {
+    return detail::copied([&](std::uint8_t* room, std::size_t size) {
+      return lr_server_part(slot(), static_cast<std::uint32_t>(part), room, size);
+    });
+  }
+
+  Done answer(Order order, Octets results) noexcept {
+    return detail::done(lr_server_answer(slot(), static_cast<std::uint32_t>(order), results.data(), results.size()));
+  }
+  Done raise(Octets id, Order order, Octets members) noexcept {
+    return detail::done(lr_server_raise(slot(), id.data(), id.size(), static_cast<std::uint32_t>(order), members.data(),
+                                        members.size()));
+  }
+  /* Answers by a system exception: LR_MARSHAL to LR_TRANSIENT, and LR_COMPLETED_... */
+  Done system(std::uint32_t name, std::uint32_t minor, std::uint32_t completed) noexcept {
+    return detail::done(lr_server_system(slot(), name, minor, completed));
+  }
+  /* Answers a raw operation by a status, LR_NO_EXCEPTION to LR_LOCATION_FORWARD, and the body of a Reply. */
+  Done answer_raw(std::uint32_t status, Order order, Octets body) noexcept {
+    return detail::done(
+        lr_server_answer_raw(slot(), status, static_cast<std::uint32_t>(order), body.data(), body.size()));
+  }
+  /* Answers _is_a and _non_existent: true where that is what waits. */
+  Result<bool> identify() noexcept { return detail::truth(lr_server_identify(slot())); }
+  Done give_up() noexcept { return detail::done(lr_server_give_up(slot())); }
+
+  /* Moves octets that are due into the room, and answers how many. */
+  Count output(Room room) noexcept { return detail::count(lr_server_output(slot(), room.data(), room.size())); }
+};
+
+/* A call of a client. */
+struct Call {
+  Octets key;
+  Octets operation;
+  std::uint64_t expiration;
+  Octets types;
+  Octets arguments;
+  Order order = Order::big;
+};
+
+/* A client that sends its calls again. */
+class Client : public Slot {
+ public:
+  static Result<Client> open(Octets id, std::uint32_t version, Limits limits) noexcept {
+    Client made;
+    return opened(lr_client_open(made.slot(), id.data(), id.size(), version, limits.message, limits.partials), made);
+  }
+
+  Done connected(std::uint64_t now) noexcept { return detail::done(lr_client_connected(slot(), now)); }
+  Done lost() noexcept { return detail::done(lr_client_lost(slot())); }
+  bool is_connected() noexcept { return lr_client_is_connected(slot()) == 1; }
+
+  /* Calls an operation, and answers the number of the call. */
+  Result<std::int64_t> call(std::uint64_t now, const Call& call) noexcept {
+    return detail::number(lr_client_call(slot(), now, call.expiration, call.key.data(), call.key.size(),
+                                         call.operation.data(), call.operation.size(), call.types.data(),
+                                         call.types.size(), static_cast<std::uint32_t>(call.order),
+                                         call.arguments.data(), call.arguments.size()));
+  }
+  /* Cancels a call, and answers whether it was pending. */
+  Result<bool> cancel(std::int64_t call) noexcept { return detail::truth(lr_client_cancel(slot(), call)); }
+  Done tick(std::uint64_t now) noexcept { return detail::done(lr_client_tick(slot(), now)); }
+  Done feed(Octets octets) noexcept { return detail::done(lr_client_feed(slot(), octets.data(), octets.size())); }
+
+  /* The next completion, if there is one. */
+  Result<std::optional<lr_completion>> completed() noexcept {
+    lr_completion completion{};
+    const std::int64_t answer = lr_client_completed(slot(), &completion);
+    return detail::found(answer, completion);
+  }
+  /* The body of the completion that was taken last. */
+  Count body(Room room) noexcept { return detail::count(lr_client_body(slot(), room.data(), room.size())); }
+  Result<std::vector<std::uint8_t>> body() noexcept {
+    return detail::copied([&](std::uint8_t* room, std::size_t size) { return lr_client_body(slot(), room, size); });
+  }
+
+  Count output(Room room) noexcept { return detail::count(lr_client_output(slot(), room.data(), room.size())); }
+};
+
+/* A service context, or a tagged component: its id or tag, and its data. */
+struct Tagged {
+  std::uint32_t id = 0;
+  std::vector<std::uint8_t> data;
+};
+
+namespace detail {
+
+/* What `copy(id, room, size)` gives. */
+template <class Copy>
+Result<Tagged> tagged(Copy copy) noexcept {
+  std::uint32_t id = 0;
+  auto data = copied([&](std::uint8_t* room, std::size_t size) { return copy(&id, room, size); });
+  if (!data) return data.error();
+  return Tagged{id, std::move(*data)};
+}
+
+}  // namespace detail
+
+/* The messages of a stream. */
+class Assembler : public Slot {
+ public:
+  static Result<Assembler> open(Limits limits) noexcept {
+    Assembler made;
+    return opened(lr_assembler_open(made.slot(), limits.message, limits.partials), made);
+  }
+
+  /* Takes octets up to the end of the next message, and answers how many. */
+  Count feed(Octets octets) noexcept { return detail::count(lr_assembler_feed(slot(), octets.data(), octets.size())); }
+  /* The first fault of the stream: LR_FAULT_.., or 0. */
+  Result<std::int64_t> fault() noexcept { return detail::number(lr_assembler_fault(slot())); }
+
+  /* The message that was completed last, if one was. */
+  Result<std::optional<lr_message>> message() noexcept {
+    lr_message message{};
+    const std::int64_t answer = lr_assembler_message(slot(), &message);
+    return detail::found(answer, message);
+  }
+
+  Count part(Part part, Room room) noexcept {
+    return detail::count(lr_assembler_part(slot(), static_cast<std::uint32_t>(part), room.data(), room.size()));
+  }
+  Result<std::vector<std::uint8_t>> part(Part part) noexcept {
+    return detail::copied([&](std::uint8_t* room, std::size_t size) {
+      return lr_assembler_part(slot(), static_cast<std::uint32_t>(part), room, size);
+    });
+  }
+  /* A service context of that message, counted from 0. */
+  Result<Tagged> context(std::uint32_t index) noexcept {
+    return detail::tagged([&](std::uint32_t* id, std::uint8_t* room, std::size_t size) {
+      return lr_assembler_context(slot(), index, id, room, size);
+    });
+  }
+};
+
+/* A reference to an object. */
+class Ior : public Slot {
+ public:
+  static Result<Ior> parse(std::string_view text) noexcept {
+    Ior made;
+    return opened(lr_ior_parse(made.slot(), text.data(), text.size()), made);
+  }
+
+  static Result<Ior> iiop(Octets type_id, std::uint32_t minor, Octets host, std::uint16_t port, Octets key) noexcept {
+    Ior made;
+    return opened(lr_ior_iiop(made.slot(), type_id.data(), type_id.size(), minor, host.data(), host.size(), port,
+                              key.data(), key.size()),
+                  made);
+  }
+
+  /* The stringified form. */
+  Result<std::string> print() noexcept {
+    std::string text;
+    for (std::size_t size = 1024;; size *= 2) {
+      if (!detail::resize(text, size)) return Error(LR_E_MEMORY);
+      const std::int64_t answer = lr_ior_print(slot(), text.data(), text.size());
+      if (answer == LR_E_ROOM) continue;
+      if (answer < 0) return Error(answer);
+      text.resize(static_cast<std::size_t>(answer));
+      return text;
+    }
+  }
+
+  Result<std::vector<std::uint8_t>> type_id() noexcept {
+    return detail::copied([&](std::uint8_t* room, std::size_t size) { return lr_ior_type_id(slot(), room, size); });
+  }
+  Count profiles() noexcept { return detail::count(lr_ior_profiles(slot())); }
+
+  Result<lr_profile> profile(std::uint32_t index) noexcept {
+    lr_profile profile{};
+    const std::int64_t answer = lr_ior_profile(slot(), index, &profile);
+    if (answer < 0) return Error(answer);
+    return profile;
+  }
+  Result<std::vector<std::uint8_t>> part(std::uint32_t index, IorPart part) noexcept {
+    return detail::copied([&](std::uint8_t* room, std::size_t size) {
+      return lr_ior_part(slot(), index, static_cast<std::uint32_t>(part), room, size);
+    });
+  }
+  Result<Tagged> component(std::uint32_t index, std::uint32_t component) noexcept {
+    return detail::tagged([&](std::uint32_t* tag, std::uint8_t* room, std::size_t size) {
+      return lr_ior_component(slot(), index, component, tag, room, size);
+    });
+  }
+};
+
+/* ---- CDR ---- */
+
+/* Reads values one after another. At an error it stands where it stood. It owns nothing, and may be copied. */
+class Reader {
+ public:
+  /* Numbers are aligned from `at`, the place of the first octet: 0 for an encapsulation, body_at for a body. */
+  explicit Reader(Octets octets, Order order = Order::big, std::uint64_t at = 0) noexcept
+      : octets_(octets), place_{at, 0, static_cast<std::uint32_t>(order), 0} {}
+  /* A vector that is gone before it is read. */
+  explicit Reader(std::vector<std::uint8_t>&& octets, Order order = Order::big, std::uint64_t at = 0) = delete;
+
+  Result<std::uint8_t> get_octet() noexcept { return get<std::uint8_t>(lr_get_octet); }
+  Result<std::uint8_t> get_char() noexcept { return get<std::uint8_t>(lr_get_char); }
+  Result<std::int16_t> get_short() noexcept { return get<std::int16_t>(lr_get_short); }
+  Result<std::uint16_t> get_ushort() noexcept { return get<std::uint16_t>(lr_get_ushort); }
+  Result<std::int32_t> get_long() noexcept { return get<std::int32_t>(lr_get_long); }
+  Result<std::uint32_t> get_ulong() noexcept { return get<std::uint32_t>(lr_get_ulong); }
+  Result<std::int64_t> get_longlong() noexcept { return get<std::int64_t>(lr_get_longlong); }
+  Result<std::uint64_t> get_ulonglong() noexcept { return get<std::uint64_t>(lr_get_ulonglong); }
+  Result<bool> get_boolean() noexcept {
+    const auto value = get<std::uint8_t>(lr_get_boolean);
+    return value ? Result<bool>(*value != 0) : value.error();
+  }
+
+  /* A string without its NUL, and a sequence of octets: both are lent from what is read. */
+  Result<std::string_view> get_string() noexcept {
+    const auto found = lent(lr_get_string);
+    return found ? Result<std::string_view>(found->text()) : found.error();
+  }
+  Result<Octets> get_octets() noexcept { return lent(lr_get_octets); }
+
+  /* A reader of the octets of an encapsulation. */
+  Result<Reader> get_encapsulation() noexcept {
+    std::uint64_t start = 0;
+    std::uint64_t length = 0;
+    lr_place inner{};
+    const std::int64_t answer = lr_get_encapsulation(octets_.data(), octets_.size(), &place_, &start, &length, &inner);
+    if (answer < 0) return Error(answer);
+    return Reader(octets_.from(start).first(length), inner);
+  }
+
+  /* What was not read. */
+  Octets rest() const noexcept { return octets_.from(place_.next); }
+
+ private:
+  Reader(Octets octets, lr_place place) noexcept : octets_(octets), place_(place) {}
+
+  template <class T, class Get>
+  Result<T> get(Get of_octets) noexcept {
+    T value{};
+    const std::int64_t answer = of_octets(octets_.data(), octets_.size(), &place_, &value);
+    if (answer < 0) return Error(answer);
+    return value;
+  }
+
+  template <class Get>
+  Result<Octets> lent(Get of_octets) noexcept {
+    std::uint64_t start = 0;
+    std::uint64_t length = 0;
+    const std::int64_t answer = of_octets(octets_.data(), octets_.size(), &place_, &start, &length);
+    if (answer < 0) return Error(answer);
+    return octets_.from(start).first(length);
+  }
+
+  Octets octets_;
+  lr_place place_;
+};
+
+/* Writes values one after another into room. At an error it stands where it stood. */
+class Writer {
+ public:
+  explicit Writer(Room room, Order order = Order::big, std::uint64_t at = 0) noexcept
+      : room_(room), place_{at, 0, static_cast<std::uint32_t>(order), 0} {}
+
+  Done put_octet(std::uint8_t value) noexcept { return put(lr_put_octet, value); }
+  Done put_char(std::uint8_t value) noexcept { return put(lr_put_char, value); }
+  Done put_boolean(bool value) noexcept { return put(lr_put_boolean, static_cast<std::uint8_t>(value)); }
+  Done put_short(std::int16_t value) noexcept { return put(lr_put_short, value); }
+  Done put_ushort(std::uint16_t value) noexcept { return put(lr_put_ushort, value); }
+  Done put_long(std::int32_t value) noexcept { return put(lr_put_long, value); }
+  Done put_ulong(std::uint32_t value) noexcept { return put(lr_put_ulong, value); }
+  Done put_longlong(std::int64_t value) noexcept { return put(lr_put_longlong, value); }
+  Done put_ulonglong(std::uint64_t value) noexcept { return put(lr_put_ulonglong, value); }
+  Done put_string(std::string_view text) noexcept {
+    return detail::done(lr_put_string(room_.data(), room_.size(), &place_, text.data(), text.size()));
+  }
+  Done put_octets(Octets data) noexcept {
+    return detail::done(lr_put_octets(room_.data(), room_.size(), &place_, data.data(), data.size()));
+  }
+
+  /* What was written. */
+  Octets octets() const noexcept { return {room_.data(), static_cast<std::size_t>(place_.next)}; }
+
+ private:
+  template <class Put, class T>
+  Done put(Put into_room, T value) noexcept {
+    return detail::done(into_room(room_.data(), room_.size(), &place_, value));
+  }
+
+  Room room_;
+  lr_place place_;
+};
+
+/* ---- writing messages ---- */
+
+/* What stands at the head of a message. */
+struct Head {
+  std::uint32_t version = 2;
+  Order order = Order::big;
+  std::uint32_t request_id = 0;
+};
+
+/* A service context that is written. */
+struct Context {
+  std::uint32_t id = 0;
+  Octets data;
+};
+
+/* Each writes a whole message into the room, and answers its size. */
+inline Count write_request(Room room, Head head, Wish wish, Octets key, Octets operation, Octets body,
+                           Context context = {}) noexcept {
+  return detail::count(lr_write_request(room.data(), room.size(), head.version, static_cast<std::uint32_t>(head.order),
+                                        head.request_id, static_cast<std::uint32_t>(wish), key.data(), key.size(),
+                                        operation.data(), operation.size(), context.id, context.data.data(),
+                                        context.data.size(), body.data(), body.size()));
+}
+
+inline Count write_reply(Room room, Head head, std::uint32_t status, Octets body) noexcept {
+  return detail::count(lr_write_reply(room.data(), room.size(), head.version, static_cast<std::uint32_t>(head.order),
+                                      head.request_id, status, body.data(), body.size()));
+}
+
+inline Count write_cancel(Room room, Head head) noexcept {
+  return detail::count(
+      lr_write_cancel(room.data(), room.size(), head.version, static_cast<std::uint32_t>(head.order), head.request_id));
+}
+
+inline Count write_locate_request(Room room, Head head, Octets key) noexcept {
+  return detail::count(lr_write_locate_request(room.data(), room.size(), head.version,
+                                               static_cast<std::uint32_t>(head.order), head.request_id, key.data(),
+                                               key.size()));
+}
+
+inline Count write_locate_reply(Room room, Head head, std::uint32_t status) noexcept {
+  return detail::count(lr_write_locate_reply(room.data(), room.size(), head.version,
+                                             static_cast<std::uint32_t>(head.order), head.request_id, status));
+}
+
+inline Count write_close(Room room) noexcept { return detail::count(lr_write_close(room.data(), room.size())); }
+
+inline Count write_error(Room room) noexcept { return detail::count(lr_write_error(room.data(), room.size())); }
+
+/* The data of an FT_REQUEST context. */
+inline Count write_ft(Room room, Order order, Octets client, std::int32_t retention_id,
+                      std::uint64_t expiration) noexcept {
+  return detail::count(lr_write_ft(room.data(), room.size(), static_cast<std::uint32_t>(order), client.data(),
+                                   client.size(), retention_id, expiration));
+}
+
+}  // namespace lemonrudder
+
+#endif

@@ -1,0 +1,946 @@
+/*
+ * Calls that the header refuses, and others at the edge of what it takes: each answers its error, and after it
+ * everything is as it was, which a good call shows. Where more than one error could be meant, no call is made.
+ */
+#include <stdlib.h>
+
+#include "check.h"
+
+enum { LIMIT = 1 << 21, PARTIALS = 8, NOW = 1000, LATER = 2000 };
+
+static unsigned char room[LIMIT + 64];
+static struct octets message, wanted;
+
+/* ---- objects that work ---- */
+
+static const uint8_t one_long[] = {LR_LONG}, one_boolean[] = {LR_BOOLEAN};
+
+#define OVERFLOW_ID "IDL:Counter/Overflow:1.0"
+
+/* A catalogue of the object `c` with the operation add(long) -> long, which raises Overflow { long }, and is(long) ->
+ * boolean; of `raw`, whose every operation is raw; and of `one`, with one raw operation, `do`. */
+static void open_catalogue(lr_catalogue *catalogue) {
+  WANT(lr_catalogue_open(catalogue), LR_OK);
+  WANT(lr_catalogue_object(catalogue, "c", 1), LR_OK);
+  WANT(lr_catalogue_exception(catalogue, OVERFLOW_ID, SIZE(OVERFLOW_ID), one_long, 1), LR_OK);
+  WANT(lr_catalogue_operation(catalogue, "c", 1, "add", 3, one_long, 1, one_long, 1), LR_OK);
+  WANT(lr_catalogue_operation(catalogue, "c", 1, "is", 2, one_long, 1, one_boolean, 1), LR_OK);
+  WANT(lr_catalogue_raw_object(catalogue, "raw", 3), LR_OK);
+  WANT(lr_catalogue_object(catalogue, "one", 3), LR_OK);
+  WANT(lr_catalogue_raw_operation(catalogue, "one", 3, "do", 2), LR_OK);
+}
+
+static void open_server(lr_server *server) {
+  lr_catalogue catalogue = LR_INIT;
+  open_catalogue(&catalogue);
+  WANT(lr_server_open(server, &catalogue, LIMIT, PARTIALS, 100, 100, 1, 2), LR_OK);
+  CHECK(catalogue.kind == 0);
+}
+
+/* A request of 1.2 with one long. Without a client it may act again. */
+static void make_request(uint32_t request_id, const char *key, const char *operation, const char *client,
+                         int32_t retention_id, uint32_t argument) {
+  struct asking asking = {2, LR_BIG, request_id, LR_WISH_FULL, key, operation, client, retention_id, LATER};
+  begin_request(&message, &asking, true);
+  put_number(&message, argument, 4);
+  end_message(&message);
+}
+
+static void make_reply(uint32_t request_id, uint32_t result) {
+  begin_reply(&wanted, 2, LR_BIG, request_id, LR_NO_EXCEPTION);
+  put_number(&wanted, result, 4);
+  end_message(&wanted);
+}
+
+/* Whether exactly the octets that are wanted are due. */
+static bool is_due(lr_server *server) {
+  return equal(room, (size_t)lr_server_output(server, room, sizeof room), &wanted);
+}
+
+/* Feeds the message, which is to be asked. */
+static void ask(lr_server *server, uint64_t connection) {
+  lr_request request;
+  WANT(lr_server_feed(server, connection, NOW, message.all, message.size), (int64_t)message.size);
+  WANT(lr_server_asked(server, &request), 1);
+}
+
+/* A server answers a request on a new connection. */
+static void server_works(lr_server *server, uint64_t connection) {
+  lr_request request;
+  WANT(lr_server_connect(server, connection), LR_OK);
+  make_request(7, "c", "add", NULL, 0, 5);
+  ask(server, connection);
+  WANT(lr_server_asked(server, &request), 1);
+  CHECK(request.connection == connection && request.key_size == 1 && request.operation_size == 3);
+  CHECK(request.body_size == 4 && request.body_at == 0 && request.body_order == LR_BIG && request.is_raw == 0);
+  CHECK(request.request_id == 7 && request.version == 2 && request.wish == LR_WISH_FULL && request.has_client == 0);
+  CHECK(request.retention_id == 0 && request.client_size == 0 && request.expiration == 0);
+  WANT(lr_server_part(server, LR_PART_BODY, room, sizeof room), 4);
+  CHECK(memcmp(room, "\0\0\0\5", 4) == 0);
+  WANT(lr_server_answer(server, LR_BIG, "\0\0\0\6", 4), LR_OK);
+  make_reply(7, 6);
+  CHECK(is_due(server));
+}
+
+static void catalogue_works(lr_catalogue *catalogue) {
+  lr_server server = LR_INIT;
+  WANT(lr_server_open(&server, catalogue, LIMIT, PARTIALS, 100, 100, 1, 2), LR_OK);
+  server_works(&server, 1);
+  lr_close(&server);
+}
+
+static int64_t call_add(lr_client *client) {
+  return lr_client_call(client, NOW, LATER, "c", 1, "add", 3, one_long, 1, LR_BIG, "\0\0\0\5", 4);
+}
+
+/* A client that has made `calls` calls makes one more, which is answered. */
+static void client_works(lr_client *client, int64_t calls) {
+  lr_completion completion;
+  WANT(lr_client_connected(client, NOW), LR_OK);
+  lr_client_output(client, room, sizeof room);
+  WANT(call_add(client), calls + 1);
+  CHECK(lr_client_output(client, room, sizeof room) > 0);
+  uint32_t id = (uint32_t)room[12] << 24 | (uint32_t)room[13] << 16 | (uint32_t)room[14] << 8 | room[15];
+  make_reply(id, 6);
+  CHECK(lr_client_feed(client, wanted.all, wanted.size) >= 0);
+  WANT(lr_client_completed(client, &completion), 1);
+  CHECK(completion.call == calls + 1 && completion.how == LR_ENDED_RETURNED && completion.body_size == 4);
+  WANT(lr_client_body(client, room, sizeof room), 4);
+  CHECK(memcmp(room, "\0\0\0\6", 4) == 0);
+}
+
+static void assembler_works(lr_assembler *assembler) {
+  lr_message head;
+  make_request(7, "c", "add", "A", 3, 5);
+  WANT(lr_assembler_feed(assembler, message.all, message.size), (int64_t)message.size);
+  WANT(lr_assembler_message(assembler, &head), 1);
+  CHECK(head.type == LR_REQUEST && head.version == 2 && head.order == LR_BIG && head.request_id == 7);
+  CHECK(head.wish == LR_WISH_FULL && head.contexts == 1 && head.has_key == 1 && head.key_size == 1);
+  CHECK(head.operation_size == 3 && head.body_size == 4 && head.body_at % 8 == 0 && head.has_client == 1);
+  CHECK(head.retention_id == 3 && head.client_size == 1 && head.expiration == LATER && head.payload_size == 0);
+  WANT(lr_assembler_part(assembler, LR_PART_OPERATION, room, sizeof room), 3);
+  CHECK(memcmp(room, "add", 3) == 0);
+}
+
+static void open_ior(lr_ior *ior) { WANT(lr_ior_iiop(ior, "IDL:C:1.0", 9, 2, "host", 4, 2809, "c", 1), LR_OK); }
+
+static void ior_works(lr_ior *ior) {
+  lr_profile profile;
+  WANT(lr_ior_profiles(ior), 1);
+  WANT(lr_ior_profile(ior, 0, &profile), LR_OK);
+  CHECK(profile.is_iiop == 1 && profile.minor == 2 && profile.port == 2809 && profile.tag == 0);
+  CHECK(profile.host_size == 4 && profile.key_size == 1 && profile.components == 0);
+  WANT(lr_ior_part(ior, 0, LR_IOR_HOST, room, sizeof room), 4);
+  CHECK(memcmp(room, "host", 4) == 0);
+}
+
+/* ---- slots ---- */
+
+enum kind { CATALOGUE, SERVER, CLIENT, ASSEMBLER, IOR, KINDS };
+
+static lr_request got_request;
+static lr_completion got_completion;
+static lr_message got_message;
+static lr_profile got_profile;
+static uint32_t got_id;
+static lr_catalogue given;
+
+/* Every function that takes an object: its name, the kind, and a call that would be right. */
+#define CALLS(CALL)                                                                                     \
+  CALL(catalogue_object, CATALOGUE, lr_catalogue_object(slot, "k", 1))                                  \
+  CALL(catalogue_raw_object, CATALOGUE, lr_catalogue_raw_object(slot, "k", 1))                          \
+  CALL(catalogue_exception, CATALOGUE, lr_catalogue_exception(slot, "IDL:E:1.0", 9, one_long, 1))       \
+  CALL(catalogue_operation, CATALOGUE, lr_catalogue_operation(slot, "c", 1, "o", 1, NULL, 0, NULL, 0))  \
+  CALL(catalogue_raw_operation, CATALOGUE, lr_catalogue_raw_operation(slot, "c", 1, "o", 1))            \
+  CALL(catalogue_repository_ids, CATALOGUE, lr_catalogue_repository_ids(slot, "c", 1, "IDL:C:1.0", 10)) \
+  CALL(server_connect, SERVER, lr_server_connect(slot, 1))                                              \
+  CALL(server_lost, SERVER, lr_server_lost(slot, 1))                                                    \
+  CALL(server_farewell, SERVER, lr_server_farewell(slot, 1))                                            \
+  CALL(server_is_closed, SERVER, lr_server_is_closed(slot, 1))                                          \
+  CALL(server_feed, SERVER, lr_server_feed(slot, 1, NOW, "G", 1))                                       \
+  CALL(server_asked, SERVER, lr_server_asked(slot, &got_request))                                       \
+  CALL(server_part, SERVER, lr_server_part(slot, LR_PART_KEY, room, sizeof room))                       \
+  CALL(server_answer, SERVER, lr_server_answer(slot, LR_BIG, "\0\0\0\1", 4))                            \
+  CALL(server_raise, SERVER, lr_server_raise(slot, "IDL:E:1.0", 9, LR_BIG, NULL, 0))                    \
+  CALL(server_system, SERVER, lr_server_system(slot, LR_UNKNOWN, 0, LR_COMPLETED_NO))                   \
+  CALL(server_answer_raw, SERVER, lr_server_answer_raw(slot, LR_NO_EXCEPTION, LR_BIG, NULL, 0))         \
+  CALL(server_identify, SERVER, lr_server_identify(slot))                                               \
+  CALL(server_give_up, SERVER, lr_server_give_up(slot))                                                 \
+  CALL(server_output, SERVER, lr_server_output(slot, room, sizeof room))                                \
+  CALL(client_connected, CLIENT, lr_client_connected(slot, NOW))                                        \
+  CALL(client_lost, CLIENT, lr_client_lost(slot))                                                       \
+  CALL(client_is_connected, CLIENT, lr_client_is_connected(slot))                                       \
+  CALL(client_call, CLIENT, call_add(slot))                                                             \
+  CALL(client_cancel, CLIENT, lr_client_cancel(slot, 1))                                                \
+  CALL(client_tick, CLIENT, lr_client_tick(slot, NOW))                                                  \
+  CALL(client_feed, CLIENT, lr_client_feed(slot, "G", 1))                                               \
+  CALL(client_completed, CLIENT, lr_client_completed(slot, &got_completion))                            \
+  CALL(client_body, CLIENT, lr_client_body(slot, room, sizeof room))                                    \
+  CALL(client_output, CLIENT, lr_client_output(slot, room, sizeof room))                                \
+  CALL(assembler_feed, ASSEMBLER, lr_assembler_feed(slot, "G", 1))                                      \
+  CALL(assembler_fault, ASSEMBLER, lr_assembler_fault(slot))                                            \
+  CALL(assembler_message, ASSEMBLER, lr_assembler_message(slot, &got_message))                          \
+  CALL(assembler_part, ASSEMBLER, lr_assembler_part(slot, LR_PART_KEY, room, sizeof room))              \
+  CALL(assembler_context, ASSEMBLER, lr_assembler_context(slot, 0, &got_id, room, sizeof room))         \
+  CALL(ior_print, IOR, lr_ior_print(slot, room, sizeof room))                                           \
+  CALL(ior_type_id, IOR, lr_ior_type_id(slot, room, sizeof room))                                       \
+  CALL(ior_profiles, IOR, lr_ior_profiles(slot))                                                        \
+  CALL(ior_profile, IOR, lr_ior_profile(slot, 0, &got_profile))                                         \
+  CALL(ior_part, IOR, lr_ior_part(slot, 0, LR_IOR_KEY, room, sizeof room))                              \
+  CALL(ior_component, IOR, lr_ior_component(slot, 0, 0, &got_id, room, sizeof room))
+
+/* Every function that opens a slot. */
+#define OPENINGS(CALL)                                                                     \
+  CALL(catalogue_open, CATALOGUE, lr_catalogue_open(slot))                                 \
+  CALL(server_open, SERVER, lr_server_open(slot, &given, LIMIT, PARTIALS, 100, 100, 1, 2)) \
+  CALL(client_open, CLIENT, lr_client_open(slot, "A", 1, 2, LIMIT, PARTIALS))              \
+  CALL(assembler_open, ASSEMBLER, lr_assembler_open(slot, LIMIT, PARTIALS))                \
+  CALL(ior_parse, IOR, lr_ior_parse(slot, "IOR:00", 6))                                    \
+  CALL(ior_iiop, IOR, lr_ior_iiop(slot, "IDL:C:1.0", 9, 2, "host", 4, 2809, "c", 1))
+
+#define FUNCTION(name, kind, call) \
+  static int64_t try_##name(struct lr_slot *slot) { return call; }
+CALLS(FUNCTION)
+OPENINGS(FUNCTION)
+
+struct trial {
+  const char *name;
+  enum kind kind;
+  int64_t (*call)(struct lr_slot *slot);
+};
+#define ROW(name, kind, call) {#name, kind, try_##name},
+static const struct trial calls[] = {CALLS(ROW)}, openings[] = {OPENINGS(ROW)};
+#define COUNT(table) (sizeof table / sizeof *table)
+
+static void open_each(struct lr_slot slots[KINDS]) {
+  open_catalogue(&slots[CATALOGUE]);
+  open_server(&slots[SERVER]);
+  WANT(lr_client_open(&slots[CLIENT], "A", 1, 2, LIMIT, PARTIALS), LR_OK);
+  WANT(lr_assembler_open(&slots[ASSEMBLER], LIMIT, PARTIALS), LR_OK);
+  open_ior(&slots[IOR]);
+}
+
+static void each_works(struct lr_slot slots[KINDS]) {
+  catalogue_works(&slots[CATALOGUE]);
+  server_works(&slots[SERVER], 1);
+  client_works(&slots[CLIENT], 0);
+  assembler_works(&slots[ASSEMBLER]);
+  ior_works(&slots[IOR]);
+}
+
+/* Empty slots, slots of another kind, and slots that are open. */
+static void slots_are_refused(void) {
+  struct lr_slot slots[KINDS] = {LR_INIT}, empty = LR_INIT, moved[KINDS];
+  open_each(slots);
+  for (size_t index = 0; index < COUNT(calls); index++) {
+    if (!WANT(calls[index].call(&empty), LR_E_EMPTY)) printf("%s, empty\n", calls[index].name);
+    for (enum kind kind = CATALOGUE; kind < KINDS; kind++)
+      if (kind != calls[index].kind && !WANT(calls[index].call(&slots[kind]), LR_E_EMPTY))
+        printf("%s, of kind %d\n", calls[index].name, (int)kind);
+  }
+  open_catalogue(&given);
+  for (size_t index = 0; index < COUNT(openings); index++)
+    for (enum kind kind = CATALOGUE; kind < KINDS; kind++)
+      if (!WANT(openings[index].call(&slots[kind]), LR_E_OPEN))
+        printf("%s, of kind %d\n", openings[index].name, (int)kind);
+  CHECK(empty.kind == 0 && given.kind != 0);
+  memcpy(moved, slots, sizeof slots); /* a slot may be moved */
+  memset(slots, 0xee, sizeof slots);
+  each_works(moved);
+  for (enum kind kind = CATALOGUE; kind < KINDS; kind++) {
+    lr_close(&moved[kind]);
+    CHECK(moved[kind].kind == 0);
+    lr_close(&moved[kind]);
+  }
+  for (size_t index = 0; index < COUNT(calls); index++) WANT(calls[index].call(&moved[calls[index].kind]), LR_E_EMPTY);
+  catalogue_works(&given);
+  lr_close(&given);
+}
+
+/* A server is opened of a catalogue, which has to be one. */
+static void servers_want_a_catalogue(void) {
+  lr_server server = LR_INIT;
+  lr_catalogue empty = LR_INIT;
+  lr_ior ior = LR_INIT;
+  open_ior(&ior);
+  WANT(lr_server_open(&server, &empty, LIMIT, PARTIALS, 100, 100, 1, 2), LR_E_EMPTY);
+  WANT(lr_server_open(&server, &ior, LIMIT, PARTIALS, 100, 100, 1, 2), LR_E_EMPTY);
+  CHECK(server.kind == 0);
+  ior_works(&ior);
+  lr_close(&ior);
+}
+
+/* ---- numbers, names and types ---- */
+
+/* Limits that are none, and the nearest that are. */
+static const struct {
+  uint32_t message, partials;
+  bool is_right;
+} limits[] = {
+    {4096, 1, true},        {16777216, 16, true}, {4095, 8, false},  {16777217, 8, false}, {0, 8, false},
+    {UINT32_MAX, 8, false}, {4096, 0, false},     {4096, 17, false}, {4096, 257, false},   {4096, UINT32_MAX, false},
+};
+
+static void limits_are_refused(void) {
+  for (size_t index = 0; index < COUNT(limits); index++) {
+    lr_catalogue catalogue = LR_INIT;
+    lr_server server = LR_INIT;
+    lr_client client = LR_INIT;
+    lr_assembler assembler = LR_INIT;
+    uint32_t most = limits[index].message, partials = limits[index].partials;
+    int64_t answer = limits[index].is_right ? LR_OK : LR_E_RANGE;
+    open_catalogue(&catalogue);
+    WANT(lr_server_open(&server, &catalogue, most, partials, 1, 1, 1, 2), answer);
+    WANT(lr_client_open(&client, "A", 1, 2, most, partials), answer);
+    WANT(lr_assembler_open(&assembler, most, partials), answer);
+    CHECK((server.kind == 0) == (answer != LR_OK) && (catalogue.kind == 0) == (answer == LR_OK));
+    if (answer != LR_OK) catalogue_works(&catalogue);
+    lr_close(&server);
+    lr_close(&client);
+    lr_close(&assembler);
+  }
+}
+
+/* Types that are none, and some that are. */
+static const struct {
+  size_t size;
+  uint8_t codes[8];
+  bool is_right;
+} types[] = {
+    {0, {0}, true},
+    {1, {LR_BOOLEAN}, true},
+    {1, {LR_OCTETS}, true},
+    {2, {LR_LONG, LR_SEQUENCE}, true},
+    {3, {LR_LONG, LR_SEQUENCE, LR_SEQUENCE}, true},
+    {5, {LR_STRING, LR_LONG, LR_SEQUENCE, LR_STRUCT, 2}, true},
+    {2, {LR_ENUM, 1}, true},
+    {2, {LR_ENUM, 255}, true},
+    {4, {LR_STRING, LR_STRUCT, 1, LR_LONG}, true},
+    {1, {0}, false},
+    {1, {15}, false},
+    {1, {255}, false},
+    {1, {LR_SEQUENCE}, false},
+    {1, {LR_ENUM}, false},
+    {2, {LR_ENUM, 0}, false},
+    {2, {LR_LONG, LR_STRUCT}, false},
+    {3, {LR_LONG, LR_STRUCT, 0}, false},
+    {2, {LR_STRUCT, 1}, false},
+    {3, {LR_LONG, LR_STRUCT, 2}, false},
+    {3, {LR_LONG, LR_STRUCT, 255}, false},
+};
+
+static void types_are_refused(void) {
+  lr_catalogue catalogue = LR_INIT;
+  lr_client client = LR_INIT;
+  open_catalogue(&catalogue);
+  WANT(lr_client_open(&client, "A", 1, 2, LIMIT, PARTIALS), LR_OK);
+  for (size_t index = 0; index < COUNT(types); index++) {
+    const uint8_t *codes = types[index].codes;
+    size_t size = types[index].size;
+    bool is_right = types[index].is_right;
+    char one[] = {'1', (char)('a' + index)}, other[] = {'2', (char)('a' + index)};
+    WANT(lr_catalogue_operation(&catalogue, "c", 1, one, 2, codes, size, NULL, 0), is_right ? LR_OK : LR_E_TYPES);
+    WANT(lr_catalogue_operation(&catalogue, "c", 1, other, 2, NULL, 0, codes, size), is_right ? LR_OK : LR_E_TYPES);
+    WANT(lr_catalogue_exception(&catalogue, "IDL:E:1.0", 9, codes, size), is_right ? LR_OK : LR_E_TYPES);
+    if (!is_right) WANT(lr_client_call(&client, NOW, LATER, "c", 1, "x", 1, codes, size, LR_BIG, NULL, 0), LR_E_TYPES);
+  }
+  catalogue_works(&catalogue);
+  client_works(&client, 0);
+  lr_close(&client);
+}
+
+static void catalogues_refuse(void) {
+  lr_catalogue catalogue = LR_INIT;
+  open_catalogue(&catalogue);
+  WANT(lr_catalogue_object(&catalogue, "c", 1), LR_E_TAKEN);
+  WANT(lr_catalogue_raw_object(&catalogue, "c", 1), LR_E_TAKEN);
+  WANT(lr_catalogue_object(&catalogue, "raw", 3), LR_E_TAKEN);
+  WANT(lr_catalogue_raw_object(&catalogue, "raw", 3), LR_E_TAKEN);
+  WANT(lr_catalogue_operation(&catalogue, "d", 1, "o", 1, NULL, 0, NULL, 0), LR_E_OBJECT);
+  WANT(lr_catalogue_raw_operation(&catalogue, "d", 1, "o", 1), LR_E_OBJECT);
+  WANT(lr_catalogue_repository_ids(&catalogue, "d", 1, "IDL:D:1.0", 10), LR_E_OBJECT);
+  WANT(lr_catalogue_operation(&catalogue, "raw", 3, "o", 1, NULL, 0, NULL, 0), LR_E_RAW);
+  WANT(lr_catalogue_raw_operation(&catalogue, "raw", 3, "o", 1), LR_E_RAW);
+  WANT(lr_catalogue_repository_ids(&catalogue, "raw", 3, "IDL:D:1.0", 10), LR_E_RAW);
+  WANT(lr_catalogue_operation(&catalogue, "c", 1, "add", 3, NULL, 0, NULL, 0), LR_E_TAKEN);
+  WANT(lr_catalogue_raw_operation(&catalogue, "c", 1, "add", 3), LR_E_TAKEN);
+  WANT(lr_catalogue_operation(&catalogue, "c", 1, "a\0b", 3, NULL, 0, NULL, 0), LR_E_TEXT);
+  WANT(lr_catalogue_raw_operation(&catalogue, "c", 1, "a\0b", 3), LR_E_TEXT);
+  WANT(lr_catalogue_repository_ids(&catalogue, "c", 1, "IDL:C:1.0", 9), LR_E_TEXT);
+  WANT(lr_catalogue_repository_ids(&catalogue, "c", 1, NULL, 0), LR_E_TEXT);
+  WANT(lr_catalogue_repository_ids(&catalogue, "c", 1, "IDL:C:1.0", 10), LR_OK);
+  WANT(lr_catalogue_repository_ids(&catalogue, "c", 1, "IDL:C:1.0", 10), LR_E_TAKEN);
+  WANT(lr_catalogue_operation(&catalogue, "c", 1, "_is_a", 5, NULL, 0, NULL, 0), LR_E_TAKEN);
+  WANT(lr_catalogue_raw_operation(&catalogue, "one", 3, "_non_existent", 13), LR_OK);
+  WANT(lr_catalogue_repository_ids(&catalogue, "one", 3, "IDL:C:1.0", 10), LR_E_TAKEN);
+  WANT(lr_catalogue_object(&catalogue, NULL, 0), LR_OK); /* a key of no octets is a key */
+  WANT(lr_catalogue_object(&catalogue, NULL, 0), LR_E_TAKEN);
+  catalogue_works(&catalogue);
+}
+
+/* Exceptions are those of the next operation, and are forgotten where it is refused. */
+static void exceptions_are_of_the_next_operation(void) {
+  static const char id[] = "IDL:E:1.0";
+  lr_catalogue catalogue = LR_INIT;
+  lr_server server = LR_INIT;
+  open_catalogue(&catalogue);
+  WANT(lr_catalogue_exception(&catalogue, id, SIZE(id), NULL, 0), LR_OK);
+  WANT(lr_catalogue_operation(&catalogue, "c", 1, "add", 3, NULL, 0, NULL, 0), LR_E_TAKEN);
+  WANT(lr_catalogue_operation(&catalogue, "c", 1, "after", 5, one_long, 1, NULL, 0), LR_OK);
+  WANT(lr_catalogue_exception(&catalogue, id, SIZE(id), NULL, 0), LR_OK);
+  WANT(lr_catalogue_operation(&catalogue, "c", 1, "raises", 6, one_long, 1, NULL, 0), LR_OK);
+  WANT(lr_catalogue_operation(&catalogue, "c", 1, "quiet", 5, one_long, 1, NULL, 0), LR_OK);
+  WANT(lr_server_open(&server, &catalogue, LIMIT, PARTIALS, 100, 100, 1, 2), LR_OK);
+  WANT(lr_server_connect(&server, 1), LR_OK);
+  make_request(1, "c", "after", NULL, 0, 5);
+  ask(&server, 1);
+  WANT(lr_server_raise(&server, id, SIZE(id), LR_BIG, NULL, 0), LR_E_OUTCOME);
+  WANT(lr_server_answer(&server, LR_BIG, NULL, 0), LR_OK);
+  make_request(2, "c", "quiet", NULL, 0, 5);
+  ask(&server, 1);
+  WANT(lr_server_raise(&server, id, SIZE(id), LR_BIG, NULL, 0), LR_E_OUTCOME);
+  WANT(lr_server_answer(&server, LR_BIG, NULL, 0), LR_OK);
+  lr_server_output(&server, room, sizeof room);
+  make_request(3, "c", "raises", NULL, 0, 5);
+  ask(&server, 1);
+  WANT(lr_server_raise(&server, id, SIZE(id), LR_BIG, NULL, 0), LR_OK);
+  begin_reply(&wanted, 2, LR_BIG, 3, LR_USER_EXCEPTION);
+  put_text(&wanted, id);
+  end_message(&wanted);
+  CHECK(is_due(&server));
+  lr_close(&server);
+}
+
+/* ---- servers ---- */
+
+/* Nothing waits. */
+static void idle_servers_refuse(lr_server *server) {
+  lr_request request;
+  memset(&request, 0xee, sizeof request);
+  lr_request before = request;
+  WANT(lr_server_asked(server, &request), 0);
+  CHECK(memcmp(&request, &before, sizeof request) == 0);
+  for (uint32_t part = LR_PART_KEY; part <= LR_PART_CLIENT; part++)
+    WANT(lr_server_part(server, part, room, sizeof room), LR_E_IDLE);
+  WANT(lr_server_answer(server, LR_BIG, "\0\0\0\1", 4), LR_E_IDLE);
+  WANT(lr_server_raise(server, OVERFLOW_ID, SIZE(OVERFLOW_ID), LR_BIG, "\0\0\0\1", 4), LR_E_IDLE);
+  WANT(lr_server_system(server, LR_UNKNOWN, 0, LR_COMPLETED_NO), LR_E_IDLE);
+  WANT(lr_server_answer_raw(server, LR_NO_EXCEPTION, LR_BIG, NULL, 0), LR_E_IDLE);
+  WANT(lr_server_identify(server), LR_E_IDLE);
+  WANT(lr_server_give_up(server), LR_E_IDLE);
+}
+
+/* A request waits: nothing else is taken, and no outcome that is none. */
+static void asking_servers_refuse(lr_server *server) {
+  WANT(lr_server_feed(server, 1, NOW, message.all, message.size), LR_E_ASKING);
+  WANT(lr_server_feed(server, 1, NOW, NULL, 0), LR_E_ASKING);
+  WANT(lr_server_connect(server, 99), LR_E_ASKING);
+  WANT(lr_server_lost(server, 1), LR_E_ASKING);
+  WANT(lr_server_farewell(server, 1), LR_E_ASKING);
+  WANT(lr_server_is_closed(server, 1), 0);
+  WANT(lr_server_part(server, LR_PART_CLIENT, room, sizeof room), LR_E_NONE);
+  WANT(lr_server_part(server, LR_PART_PAYLOAD, room, sizeof room), LR_E_NONE);
+  WANT(lr_server_part(server, 5, room, sizeof room), LR_E_NONE);
+  WANT(lr_server_part(server, UINT32_MAX, room, sizeof room), LR_E_NONE);
+  WANT(lr_server_system(server, LR_TRANSIENT + 1, 0, LR_COMPLETED_NO), LR_E_RANGE);
+  WANT(lr_server_system(server, UINT32_MAX, 0, LR_COMPLETED_NO), LR_E_RANGE);
+  WANT(lr_server_system(server, LR_UNKNOWN, 0, 3), LR_E_RANGE);
+  WANT(lr_server_identify(server), 0);
+}
+
+/* Outcomes of the operation add(long) -> long, raises Overflow { long }, that are none. */
+static void typed_outcomes_are_refused(lr_server *server) {
+  WANT(lr_server_answer(server, 2, "\0\0\0\1", 4), LR_E_RANGE);
+  WANT(lr_server_answer(server, UINT32_MAX, "\0\0\0\1", 4), LR_E_RANGE);
+  WANT(lr_server_answer(server, LR_BIG, "\0\0\0", 3), LR_E_OUTCOME);
+  WANT(lr_server_answer(server, LR_BIG, "\0\0\0\1\0", 5), LR_E_OUTCOME);
+  WANT(lr_server_answer(server, LR_BIG, NULL, 0), LR_E_OUTCOME);
+  WANT(lr_server_answer_raw(server, LR_NO_EXCEPTION, LR_BIG, "\0\0\0\1", 4), LR_E_OUTCOME);
+  WANT(lr_server_raise(server, "IDL:Other:1.0", 13, LR_BIG, "\0\0\0\1", 4), LR_E_OUTCOME);
+  WANT(lr_server_raise(server, NULL, 0, LR_BIG, "\0\0\0\1", 4), LR_E_OUTCOME);
+  WANT(lr_server_raise(server, OVERFLOW_ID, SIZE(OVERFLOW_ID), LR_BIG, "\0\0\0", 3), LR_E_OUTCOME);
+  WANT(lr_server_raise(server, OVERFLOW_ID, SIZE(OVERFLOW_ID), LR_BIG, NULL, 0), LR_E_OUTCOME);
+  WANT(lr_server_raise(server, OVERFLOW_ID, SIZE(OVERFLOW_ID), 2, "\0\0\0\1", 4), LR_E_RANGE);
+}
+
+/* The same of a raw operation. */
+static void raw_outcomes_are_refused(lr_server *server) {
+  static unsigned char body[1048577];
+  WANT(lr_server_answer(server, LR_BIG, "\0\0\0\1", 4), LR_E_OUTCOME);
+  WANT(lr_server_answer(server, LR_BIG, NULL, 0), LR_E_OUTCOME);
+  WANT(lr_server_raise(server, OVERFLOW_ID, SIZE(OVERFLOW_ID), LR_BIG, "\0\0\0\1", 4), LR_E_OUTCOME);
+  WANT(lr_server_answer_raw(server, LR_LOCATION_FORWARD + 1, LR_BIG, NULL, 0), LR_E_RANGE);
+  WANT(lr_server_answer_raw(server, UINT32_MAX, LR_BIG, NULL, 0), LR_E_RANGE);
+  WANT(lr_server_answer_raw(server, LR_NO_EXCEPTION, 2, NULL, 0), LR_E_RANGE);
+  WANT(lr_server_answer_raw(server, LR_NO_EXCEPTION, LR_BIG, body, sizeof body), LR_E_OUTCOME);
+}
+
+static void servers_refuse(void) {
+  static unsigned char body[1048576];
+  lr_server server = LR_INIT;
+  open_server(&server);
+  idle_servers_refuse(&server);
+  WANT(lr_server_connect(&server, 1), LR_OK);
+  make_request(1, "c", "add", NULL, 0, 5);
+  ask(&server, 1);
+  asking_servers_refuse(&server);
+  typed_outcomes_are_refused(&server);
+  WANT(lr_server_answer(&server, LR_LITTLE, "\6\0\0\0", 4), LR_OK);
+  make_reply(1, 6);
+  CHECK(is_due(&server));
+  idle_servers_refuse(&server);
+  make_request(2, "c", "add", NULL, 0, 5);
+  ask(&server, 1);
+  WANT(lr_server_raise(&server, OVERFLOW_ID, SIZE(OVERFLOW_ID), LR_LITTLE, "\6\0\0\0", 4), LR_OK);
+  begin_reply(&wanted, 2, LR_BIG, 2, LR_USER_EXCEPTION);
+  put_text(&wanted, OVERFLOW_ID);
+  put_number(&wanted, 6, 4);
+  end_message(&wanted);
+  CHECK(is_due(&server));
+  make_request(3, "c", "is", NULL, 0, 5);
+  ask(&server, 1);
+  WANT(lr_server_answer(&server, LR_BIG, "\2", 1), LR_E_OUTCOME); /* no boolean */
+  WANT(lr_server_system(&server, LR_TRANSIENT, 0, LR_COMPLETED_MAYBE), LR_OK);
+  system_reply(&wanted, 2, 3, "IDL:omg.org/CORBA/TRANSIENT:1.0", LR_COMPLETED_MAYBE);
+  CHECK(is_due(&server));
+  make_request(4, "one", "do", NULL, 0, 5);
+  ask(&server, 1);
+  asking_servers_refuse(&server);
+  raw_outcomes_are_refused(&server);
+  WANT(lr_server_answer_raw(&server, LR_LOCATION_FORWARD, LR_LITTLE, body, sizeof body), LR_OK);
+  CHECK(lr_server_output(&server, room, sizeof room) == 24 + (int64_t)sizeof body && room[6] == LR_LITTLE);
+  make_request(5, "raw", "anything", NULL, 0, 5);
+  ask(&server, 1);
+  raw_outcomes_are_refused(&server);
+  WANT(lr_server_answer_raw(&server, LR_NO_EXCEPTION, LR_BIG, NULL, 0), LR_OK);
+  begin_reply(&wanted, 2, LR_BIG, 5, LR_NO_EXCEPTION);
+  end_message(&wanted);
+  CHECK(is_due(&server));
+  server_works(&server, 2);
+  lr_close(&server);
+}
+
+/* What a raw request is said to be, in little order. */
+static void raw_requests_are_as_they_came(void) {
+  struct asking asking = {2, LR_LITTLE, 9, LR_WISH_EMPTY, "raw", "any", "client", -5, LATER};
+  lr_server server = LR_INIT;
+  lr_request request;
+  open_server(&server);
+  WANT(lr_server_connect(&server, 3), LR_OK);
+  begin_request(&message, &asking, true);
+  put_octets(&message, "\1\2\3", 3);
+  end_message(&message);
+  ask(&server, 3);
+  WANT(lr_server_asked(&server, &request), 1);
+  CHECK(request.connection == 3 && request.key_size == 3 && request.operation_size == 3 && request.is_raw == 1);
+  CHECK(request.body_size == 3 && request.body_order == LR_LITTLE && request.body_at == message.size - 3);
+  CHECK(request.request_id == 9 && request.version == 2 && request.wish == LR_WISH_EMPTY);
+  CHECK(request.has_client == 1 && request.retention_id == -5 && request.client_size == 6);
+  CHECK(request.expiration == LATER);
+  memset(room, 0xee, 16);
+  WANT(lr_server_part(&server, LR_PART_BODY, room, 2), 3); /* as much as the room has */
+  CHECK(memcmp(room, "\1\2\xee", 3) == 0);
+  WANT(lr_server_part(&server, LR_PART_KEY, NULL, 0), 3);
+  WANT(lr_server_part(&server, LR_PART_OPERATION, room, sizeof room), 3);
+  CHECK(memcmp(room, "any", 3) == 0);
+  WANT(lr_server_part(&server, LR_PART_CLIENT, room, sizeof room), 6);
+  CHECK(memcmp(room, "client", 6) == 0);
+  WANT(lr_server_give_up(&server), LR_OK);
+  WANT(lr_server_is_closed(&server, 3), 1);
+  WANT(lr_server_output(&server, room, sizeof room), 0);
+  WANT(lr_server_connect(&server, 4), LR_OK); /* it was given up, so it is asked again */
+  ask(&server, 4);
+  WANT(lr_server_answer_raw(&server, LR_NO_EXCEPTION, LR_BIG, "\1", 1), LR_OK);
+  begin_reply(&wanted, 2, LR_BIG, 9, LR_NO_EXCEPTION); /* an empty reply was wished for */
+  end_message(&wanted);
+  CHECK(is_due(&server));
+  lr_close(&server);
+}
+
+/* Numbers of connections, and octets that are due. */
+static void connections_are_refused(void) {
+  static const unsigned char locate[] = {'G', 'I', 'O', 'P', 1, 0, 0, 3, 0, 0, 0, 9, 0, 0, 0, 5, 0, 0, 0, 1, 'c'},
+                             here[] = {'G', 'I', 'O', 'P', 1, 0, 0, 4, 0, 0, 0, 8, 0, 0, 0, 5, 0, 0, 0, 1},
+                             goodbye[] = {'G', 'I', 'O', 'P', 1, 0, 0, 5, 0, 0, 0, 0};
+  lr_server server = LR_INIT;
+  open_server(&server);
+  WANT(lr_server_is_closed(&server, 5), 1);
+  WANT(lr_server_feed(&server, 5, NOW, "G", 1), LR_E_CONNECTION);
+  WANT(lr_server_farewell(&server, 5), LR_E_CONNECTION);
+  WANT(lr_server_lost(&server, 5), LR_OK);
+  WANT(lr_server_connect(&server, 5), LR_OK);
+  WANT(lr_server_connect(&server, 5), LR_E_CONNECTION);
+  WANT(lr_server_connect(&server, 4), LR_E_CONNECTION);
+  WANT(lr_server_connect(&server, 0), LR_E_CONNECTION);
+  WANT(lr_server_is_closed(&server, 5), 0);
+  WANT(lr_server_connect(&server, UINT64_MAX), LR_OK);
+  WANT(lr_server_connect(&server, UINT64_MAX), LR_E_CONNECTION);
+  WANT(lr_server_feed(&server, 5, NOW, NULL, 0), 0);
+  WANT(lr_server_feed(&server, 5, NOW, locate, sizeof locate), sizeof locate);
+  WANT(lr_server_feed(&server, UINT64_MAX, NOW, locate, sizeof locate), LR_E_DUE);
+  WANT(lr_server_farewell(&server, UINT64_MAX), LR_E_DUE);
+  WANT(lr_server_output(&server, NULL, 0), 0);
+  for (size_t index = 0; index < sizeof here; index++) {
+    WANT(lr_server_output(&server, room, 1), 1);
+    CHECK(room[0] == here[index]);
+  }
+  WANT(lr_server_output(&server, room, sizeof room), 0);
+  WANT(lr_server_feed(&server, UINT64_MAX, NOW, locate, sizeof locate), sizeof locate);
+  WANT(lr_server_lost(&server, UINT64_MAX), LR_OK); /* what is due goes with it */
+  WANT(lr_server_output(&server, room, sizeof room), 0);
+  WANT(lr_server_feed(&server, 5, NOW, locate, sizeof locate), sizeof locate);
+  WANT(lr_server_farewell(&server, 5), LR_OK); /* of the same connection, and after what is due */
+  WANT(lr_server_is_closed(&server, 5), 1);
+  WANT(lr_server_output(&server, room, sizeof room), sizeof here + sizeof goodbye);
+  CHECK(memcmp(room, here, sizeof here) == 0 && memcmp(room + sizeof here, goodbye, sizeof goodbye) == 0);
+  WANT(lr_server_farewell(&server, 5), LR_OK); /* once only */
+  WANT(lr_server_output(&server, room, sizeof room), 0);
+  lr_close(&server);
+}
+
+/* _is_a and _non_existent. */
+static void objects_are_identified(void) {
+  static const struct {
+    const char *operation, *id;
+    unsigned char answer;
+  } asked[] = {{"_is_a", "IDL:C:1.0", 1},
+               {"_is_a", "IDL:D:1.0", 1},
+               {"_is_a", "IDL:E:1.0", 0},
+               {"_is_a", "IDL:omg.org/CORBA/Object:1.0", 1},
+               {"_non_existent", NULL, 0}};
+  lr_catalogue catalogue = LR_INIT;
+  lr_server server = LR_INIT;
+  open_catalogue(&catalogue);
+  WANT(lr_catalogue_repository_ids(&catalogue, "c", 1, "IDL:C:1.0\0IDL:D:1.0", 20), LR_OK);
+  WANT(lr_server_open(&server, &catalogue, LIMIT, PARTIALS, 100, 100, 1, 2), LR_OK);
+  WANT(lr_server_connect(&server, 1), LR_OK);
+  for (uint32_t index = 0; index < COUNT(asked); index++) {
+    struct asking asking = {2, LR_BIG, index, LR_WISH_FULL, "c", asked[index].operation, NULL, 0, 0};
+    begin_request(&message, &asking, asked[index].id != NULL);
+    if (asked[index].id != NULL) put_text(&message, asked[index].id);
+    end_message(&message);
+    ask(&server, 1);
+    WANT(lr_server_identify(&server), 1);
+    WANT(lr_server_identify(&server), LR_E_IDLE);
+    begin_reply(&wanted, 2, LR_BIG, index, LR_NO_EXCEPTION);
+    put_number(&wanted, asked[index].answer, 1);
+    end_message(&wanted);
+    CHECK(is_due(&server));
+  }
+  lr_close(&server);
+}
+
+/* ---- clients ---- */
+
+static void client_names_are_refused(void) {
+  char name[257];
+  lr_client client = LR_INIT;
+  memset(name, 'x', sizeof name);
+  WANT(lr_client_open(&client, NULL, 0, 2, LIMIT, PARTIALS), LR_E_TEXT);
+  WANT(lr_client_open(&client, name, 257, 2, LIMIT, PARTIALS), LR_E_TEXT);
+  WANT(lr_client_open(&client, "a\0b", 3, 2, LIMIT, PARTIALS), LR_E_TEXT);
+  WANT(lr_client_open(&client, "A", 1, 3, LIMIT, PARTIALS), LR_E_RANGE);
+  WANT(lr_client_open(&client, "A", 1, UINT32_MAX, LIMIT, PARTIALS), LR_E_RANGE);
+  CHECK(client.kind == 0);
+  WANT(lr_client_open(&client, name, 256, 0, LIMIT, PARTIALS), LR_OK);
+  lr_close(&client);
+}
+
+static void calls_are_refused(lr_client *client) {
+  static const uint8_t text[] = {LR_STRING};
+  WANT(lr_client_call(client, NOW, LATER, "c", 1, "x", 1, one_long, 1, 2, "\0\0\0\1", 4), LR_E_RANGE);
+  WANT(lr_client_call(client, NOW, LATER, "c", 1, "x", 1, one_long, 1, LR_BIG, "\0\0\0", 3), LR_E_SHORT);
+  WANT(lr_client_call(client, NOW, LATER, "c", 1, "x", 1, one_long, 1, LR_BIG, NULL, 0), LR_E_SHORT);
+  WANT(lr_client_call(client, NOW, LATER, "c", 1, "x", 1, one_long, 1, LR_BIG, "\0\0\0\1\0", 5), LR_E_VALUE);
+  WANT(lr_client_call(client, NOW, LATER, "c", 1, "x", 1, NULL, 0, LR_BIG, "\0", 1), LR_E_VALUE);
+  WANT(lr_client_call(client, NOW, LATER, "c", 1, "x", 1, one_boolean, 1, LR_BIG, "\2", 1), LR_E_VALUE);
+  WANT(lr_client_call(client, NOW, LATER, "c", 1, "x", 1, text, 1, LR_BIG, "\0\0\0\2ab", 6), LR_E_VALUE);
+  WANT(lr_client_call(client, NOW, LATER, "c", 1, "x\0", 2, one_long, 1, LR_BIG, "\0\0\0\1", 4), LR_E_TEXT);
+  WANT(lr_client_call(client, NOW, NOW - 1, "c", 1, "x", 1, one_long, 1, LR_BIG, "\0\0\0\1", 4), LR_E_EXPIRED);
+  WANT(lr_client_cancel(client, INT64_MAX), LR_E_RANGE);
+  WANT(lr_client_cancel(client, INT64_MIN), LR_E_RANGE);
+  WANT(lr_client_cancel(client, (INT64_C(1) << 32) + 1), LR_E_RANGE);
+  WANT(lr_client_cancel(client, 1), 0);
+}
+
+static void clients_refuse(void) {
+  lr_client client = LR_INIT;
+  lr_completion completion;
+  memset(&completion, 0xee, sizeof completion);
+  lr_completion before = completion;
+  WANT(lr_client_open(&client, "A", 1, 2, LIMIT, PARTIALS), LR_OK);
+  calls_are_refused(&client);
+  WANT(lr_client_is_connected(&client), 0);
+  WANT(lr_client_output(&client, room, sizeof room), 0);
+  WANT(lr_client_completed(&client, &completion), 0);
+  CHECK(memcmp(&completion, &before, sizeof completion) == 0);
+  WANT(lr_client_body(&client, room, sizeof room), LR_E_NONE);
+  client_works(&client, 0);
+  calls_are_refused(&client);
+  client_works(&client, 1);
+  WANT(lr_client_is_connected(&client), 1);
+  WANT(lr_client_feed(&client, NULL, 0) >= 0, 1);
+  WANT(lr_client_output(&client, NULL, 0), 0);
+  WANT(lr_client_lost(&client), LR_OK);
+  WANT(lr_client_is_connected(&client), 0);
+  for (int64_t call = 3; call < 3 + 64; call++) WANT(call_add(&client), call);
+  WANT(call_add(&client), LR_E_CALLS);
+  WANT(lr_client_cancel(&client, 3), 1);
+  WANT(lr_client_cancel(&client, 3), 0);
+  WANT(lr_client_completed(&client, &completion), 1);
+  CHECK(completion.call == 3 && completion.how == LR_ENDED_CANCELLED && completion.body_size == 0);
+  WANT(lr_client_body(&client, room, sizeof room), LR_E_NONE);
+  client_works(&client, 66);
+  WANT(lr_client_tick(&client, LATER), LR_OK);
+  WANT(lr_client_completed(&client, &completion), 0);
+  WANT(lr_client_tick(&client, LATER + 1), LR_OK);
+  for (int64_t call = 4; call < 3 + 64; call++) {
+    WANT(lr_client_completed(&client, &completion), 1);
+    CHECK(completion.call == call && completion.how == LR_ENDED_EXPIRED);
+  }
+  client_works(&client, 67);
+  lr_close(&client);
+}
+
+/* ---- streams and messages ---- */
+
+static void assemblers_refuse(void) {
+  static const unsigned char goodbye[] = {'G', 'I', 'O', 'P', 1, 2, 0, 5, 0, 0, 0, 0};
+  lr_assembler assembler = LR_INIT;
+  lr_message head;
+  memset(&head, 0xee, sizeof head);
+  lr_message before = head;
+  uint32_t id = 77;
+  WANT(lr_assembler_open(&assembler, LIMIT, PARTIALS), LR_OK);
+  WANT(lr_assembler_message(&assembler, &head), 0);
+  CHECK(memcmp(&head, &before, sizeof head) == 0);
+  WANT(lr_assembler_part(&assembler, LR_PART_KEY, room, sizeof room), LR_E_NONE);
+  WANT(lr_assembler_context(&assembler, 0, &id, room, sizeof room), LR_E_NONE);
+  WANT(lr_assembler_feed(&assembler, NULL, 0), 0);
+  WANT(lr_assembler_fault(&assembler), 0);
+  assembler_works(&assembler);
+  WANT(lr_assembler_part(&assembler, LR_PART_PAYLOAD, room, sizeof room), LR_E_NONE);
+  WANT(lr_assembler_part(&assembler, 5, room, sizeof room), LR_E_NONE);
+  WANT(lr_assembler_part(&assembler, LR_PART_CLIENT, NULL, 0), 1);
+  WANT(lr_assembler_context(&assembler, 1, &id, room, sizeof room), LR_E_NONE);
+  WANT(lr_assembler_context(&assembler, UINT32_MAX, &id, room, sizeof room), LR_E_NONE);
+  CHECK(id == 77);
+  CHECK(lr_assembler_context(&assembler, 0, &id, NULL, 0) > 0 && id == LR_FT_REQUEST);
+  WANT(lr_assembler_feed(&assembler, goodbye, sizeof goodbye), sizeof goodbye);
+  WANT(lr_assembler_message(&assembler, &head), 1);
+  CHECK(head.type == LR_CLOSE_CONNECTION && head.key_size == 0 && head.body_size == 0 && head.has_key == 0);
+  for (uint32_t part = LR_PART_KEY; part <= LR_PART_PAYLOAD; part++)
+    WANT(lr_assembler_part(&assembler, part, room, sizeof room), LR_E_NONE);
+  WANT(lr_assembler_context(&assembler, 0, &id, room, sizeof room), LR_E_NONE);
+  assembler_works(&assembler);
+  WANT(lr_assembler_feed(&assembler, "GIOQ\1\2\0\0\0\0\0\0", 12), LR_E_STREAM);
+  WANT(lr_assembler_fault(&assembler), LR_FAULT_MAGIC);
+  WANT(lr_assembler_feed(&assembler, message.all, message.size), LR_E_STREAM);
+  WANT(lr_assembler_fault(&assembler), LR_FAULT_MAGIC);
+  lr_close(&assembler);
+}
+
+/* Faults of a stream, by what comes first. */
+static void faults_are_named(void) {
+  static const struct {
+    int64_t fault;
+    size_t size;
+    unsigned char octets[32];
+  } rows[] = {
+      {LR_FAULT_MAGIC, 12, "XIOP\1\2\0\0\0\0\0\0"},
+      {LR_FAULT_VERSION, 12, "GIOP\1\3\0\0\0\0\0\0"},
+      {LR_FAULT_VERSION, 12, "GIOP\2\0\0\0\0\0\0\0"},
+      {LR_FAULT_FLAGS, 12, "GIOP\1\0\2\0\0\0\0\0"},
+      {LR_FAULT_TYPE, 12, "GIOP\1\2\0\10\0\0\0\0"},
+      {LR_FAULT_TOO_LARGE, 12, "GIOP\1\2\0\0\0\0\x0f\xf5"},
+      {LR_FAULT_STRAY_FRAGMENT, 16, "GIOP\1\2\0\7\0\0\0\4\0\0\0\5"},
+      {LR_FAULT_BODY, 15, "GIOP\1\2\0\2\0\0\0\3\0\0\0"},
+  };
+  for (size_t index = 0; index < COUNT(rows); index++) {
+    lr_assembler assembler = LR_INIT;
+    WANT(lr_assembler_open(&assembler, 4096, 1), LR_OK);
+    WANT(lr_assembler_feed(&assembler, rows[index].octets, rows[index].size), LR_E_STREAM);
+    if (!WANT(lr_assembler_fault(&assembler), rows[index].fault)) printf("row %d\n", (int)index);
+    lr_close(&assembler);
+  }
+}
+
+static int64_t write_request_of(uint32_t version, uint32_t order, uint32_t wish, const char *operation,
+                                size_t operation_size, size_t size) {
+  return lr_write_request(room, size, version, order, 7, wish, "c", 1, operation, operation_size, 0, NULL, 0,
+                          "\0\0\0\5", 4);
+}
+
+static void messages_are_refused(void) {
+  make_request(7, "c", "add", NULL, 0, 5);
+  make_reply(7, 6);
+  WANT(write_request_of(3, LR_BIG, LR_WISH_FULL, "add", 3, sizeof room), LR_E_RANGE);
+  WANT(write_request_of(2, 2, LR_WISH_FULL, "add", 3, sizeof room), LR_E_RANGE);
+  WANT(write_request_of(2, LR_BIG, 3, "add", 3, sizeof room), LR_E_RANGE);
+  WANT(write_request_of(0, LR_BIG, LR_WISH_EMPTY, "add", 3, sizeof room), LR_E_RANGE);
+  WANT(write_request_of(1, LR_BIG, LR_WISH_EMPTY, "add", 3, sizeof room), LR_E_RANGE);
+  WANT(write_request_of(2, LR_BIG, LR_WISH_FULL, "a\0d", 3, sizeof room), LR_E_TEXT);
+  memset(room, 0xee, message.size);
+  WANT(write_request_of(2, LR_BIG, LR_WISH_FULL, "add", 3, message.size - 1), LR_E_ROOM);
+  CHECK(room[0] == 0xee && memcmp(room, room + 1, message.size - 1) == 0);
+  WANT(write_request_of(2, LR_BIG, LR_WISH_FULL, "add", 3, message.size), (int64_t)message.size);
+  CHECK(equal(room, message.size, &message));
+  WANT(lr_write_request(NULL, 0, 2, LR_BIG, 7, LR_WISH_FULL, NULL, 0, NULL, 0, 0, NULL, 0, NULL, 0), LR_E_ROOM);
+  WANT(lr_write_reply(room, sizeof room, 3, LR_BIG, 7, LR_NO_EXCEPTION, NULL, 0), LR_E_RANGE);
+  WANT(lr_write_reply(room, sizeof room, 2, 2, 7, LR_NO_EXCEPTION, NULL, 0), LR_E_RANGE);
+  WANT(lr_write_reply(room, sizeof room, 2, LR_BIG, 7, LR_NEEDS_ADDRESSING_MODE + 1, NULL, 0), LR_E_RANGE);
+  WANT(lr_write_reply(room, sizeof room, 0, LR_BIG, 7, LR_LOCATION_FORWARD_PERM, NULL, 0), LR_E_RANGE);
+  WANT(lr_write_reply(room, wanted.size - 1, 2, LR_BIG, 7, LR_NO_EXCEPTION, "\0\0\0\6", 4), LR_E_ROOM);
+  WANT(lr_write_reply(room, wanted.size, 2, LR_BIG, 7, LR_NO_EXCEPTION, "\0\0\0\6", 4), (int64_t)wanted.size);
+  CHECK(equal(room, wanted.size, &wanted));
+  WANT(lr_write_cancel(room, sizeof room, 3, LR_BIG, 7), LR_E_RANGE);
+  WANT(lr_write_cancel(room, sizeof room, 2, 2, 7), LR_E_RANGE);
+  WANT(lr_write_cancel(room, 15, 2, LR_BIG, 7), LR_E_ROOM);
+  WANT(lr_write_cancel(room, 16, 2, LR_BIG, 7), 16);
+  CHECK(memcmp(room, "GIOP\1\2\0\2\0\0\0\4\0\0\0\7", 16) == 0);
+  WANT(lr_write_locate_request(room, sizeof room, 3, LR_BIG, 7, "c", 1), LR_E_RANGE);
+  WANT(lr_write_locate_request(room, sizeof room, 2, 2, 7, "c", 1), LR_E_RANGE);
+  WANT(lr_write_locate_request(room, 20, 0, LR_BIG, 7, "c", 1), LR_E_ROOM);
+  WANT(lr_write_locate_request(room, 21, 0, LR_BIG, 7, "c", 1), 21);
+  CHECK(memcmp(room, "GIOP\1\0\0\3\0\0\0\11\0\0\0\7\0\0\0\1c", 21) == 0);
+  WANT(lr_write_locate_reply(room, sizeof room, 3, LR_BIG, 7, 1), LR_E_RANGE);
+  WANT(lr_write_locate_reply(room, sizeof room, 2, 2, 7, 1), LR_E_RANGE);
+  WANT(lr_write_locate_reply(room, sizeof room, 2, LR_BIG, 7, 6), LR_E_RANGE);
+  WANT(lr_write_locate_reply(room, sizeof room, 0, LR_BIG, 7, 3), LR_E_RANGE);
+  WANT(lr_write_locate_reply(room, 19, 2, LR_BIG, 7, 1), LR_E_ROOM);
+  WANT(lr_write_locate_reply(room, 20, 2, LR_BIG, 7, 1), 20);
+  CHECK(memcmp(room, "GIOP\1\2\0\4\0\0\0\10\0\0\0\7\0\0\0\1", 20) == 0);
+  WANT(lr_write_close(room, 11), LR_E_ROOM);
+  WANT(lr_write_close(room, 12), 12);
+  CHECK(memcmp(room, "GIOP\1\0\0\5\0\0\0\0", 12) == 0);
+  WANT(lr_write_error(room, 11), LR_E_ROOM);
+  WANT(lr_write_error(room, 12), 12);
+  CHECK(memcmp(room, "GIOP\1\0\0\6\0\0\0\0", 12) == 0);
+  WANT(lr_write_ft(room, sizeof room, 2, "A", 1, 3, LATER), LR_E_RANGE);
+  WANT(lr_write_ft(room, sizeof room, LR_BIG, "a\0b", 3, 3, LATER), LR_E_TEXT);
+  WANT(lr_write_ft(room, 23, LR_BIG, "A", 1, 3, 2000), LR_E_ROOM);
+  WANT(lr_write_ft(room, 24, LR_BIG, "A", 1, 3, 2000), 24);
+  CHECK(memcmp(room, "\0\0\0\0\0\0\0\2A\0\0\0\0\0\0\3\0\0\0\0\0\0\7\xd0", 24) == 0);
+}
+
+/* In 1.0 and 1.1 the body stands where the fields before it end: after those of the key `c` at 44, of `ccccc` at 48. */
+static void places_are_refused(void) {
+  for (uint32_t version = 0; version <= 1; version++) {
+    struct asking asking = {version, LR_BIG, 7, LR_WISH_FULL, "ccccc", "add", NULL, 0, 0};
+    begin_request(&message, &asking, true);
+    put_number(&message, 5, 4);
+    end_message(&message);
+    WANT(write_request_of(version, LR_BIG, LR_WISH_FULL, "add", 3, sizeof room), LR_E_PLACE);
+    WANT(lr_write_request(room, sizeof room, version, LR_BIG, 7, LR_WISH_FULL, "ccccc", 5, "add", 3, 0, NULL, 0,
+                          "\0\0\0\5", 4),
+         52);
+    CHECK(equal(room, 52, &message));
+    asking.key = "c";
+    begin_request(&message, &asking, false);
+    end_message(&message);
+    WANT(lr_write_request(room, 44, version, LR_BIG, 7, LR_WISH_FULL, "c", 1, "add", 3, 0, NULL, 0, NULL, 0), 44);
+    CHECK(equal(room, 44, &message));
+  }
+}
+
+/* ---- references ---- */
+
+static void references_are_refused(void) {
+  static const char *const texts[] = {
+      "", "I", "IOR", "IOR:", "IOR:0", "IOR:zz", "IOR:00", "JOR:00", "corbaloc::host:2809/c", "IOR:0000000000000000 "};
+  lr_ior ior = LR_INIT, other = LR_INIT;
+  lr_profile profile;
+  memset(&profile, 0xee, sizeof profile);
+  lr_profile before = profile;
+  uint32_t tag = 77;
+  WANT(lr_ior_parse(&ior, NULL, 0), LR_E_REFERENCE);
+  for (size_t index = 0; index < COUNT(texts); index++)
+    if (!WANT(lr_ior_parse(&ior, texts[index], strlen(texts[index])), LR_E_REFERENCE)) printf("%s\n", texts[index]);
+  WANT(lr_ior_iiop(&ior, "IDL:C:1.0", 9, 3, "host", 4, 2809, "c", 1), LR_E_RANGE);
+  WANT(lr_ior_iiop(&ior, "IDL:C:1.0", 9, 258, "host", 4, 2809, "c", 1), LR_E_RANGE);
+  WANT(lr_ior_iiop(&ior, "a\0b", 3, 2, "host", 4, 2809, "c", 1), LR_E_TEXT);
+  WANT(lr_ior_iiop(&ior, "IDL:C:1.0", 9, 2, "a\0b", 3, 2809, "c", 1), LR_E_TEXT);
+  CHECK(ior.kind == 0);
+  open_ior(&ior);
+  WANT(lr_ior_profile(&ior, 1, &profile), LR_E_NONE);
+  WANT(lr_ior_profile(&ior, UINT32_MAX, &profile), LR_E_NONE);
+  CHECK(memcmp(&profile, &before, sizeof profile) == 0);
+  WANT(lr_ior_part(&ior, 1, LR_IOR_DATA, room, sizeof room), LR_E_NONE);
+  WANT(lr_ior_part(&ior, 0, 3, room, sizeof room), LR_E_NONE);
+  WANT(lr_ior_part(&ior, 0, UINT32_MAX, room, sizeof room), LR_E_NONE);
+  WANT(lr_ior_component(&ior, 0, 0, &tag, room, sizeof room), LR_E_NONE);
+  WANT(lr_ior_component(&ior, 1, 0, &tag, room, sizeof room), LR_E_NONE);
+  CHECK(tag == 77);
+  WANT(lr_ior_type_id(&ior, NULL, 0), 9);
+  WANT(lr_ior_part(&ior, 0, LR_IOR_KEY, NULL, 0), 1);
+  WANT(lr_ior_print(&ior, NULL, 0), LR_E_ROOM);
+  int64_t size = lr_ior_print(&ior, room, sizeof room);
+  CHECK(size > 4 && memcmp(room, "IOR:000000000000000a49444c3a433a312e3000", 40) == 0);
+  if (size > 0) WANT(lr_ior_print(&ior, room, (size_t)size - 1), LR_E_ROOM);
+  if (size > 0) WANT(lr_ior_parse(&other, room, (size_t)size), LR_OK);
+  ior_works(&other);
+  ior_works(&ior);
+  lr_close(&other);
+  WANT(lr_ior_parse(&other, REFERENCE, SIZE(REFERENCE)), LR_OK);
+  WANT(lr_ior_profile(&other, 0, &profile), LR_OK);
+  CHECK(profile.tag == 0 && profile.is_iiop == 1 && profile.minor == 2 && profile.port == 2809);
+  CHECK(profile.data_size == 40 && profile.host_size == 4 && profile.key_size == 1 && profile.components == 1);
+  WANT(lr_ior_component(&other, 0, 0, &tag, room, sizeof room), 4);
+  CHECK(tag == 1 && memcmp(room, "\1\2\3\4", 4) == 0);
+  WANT(lr_ior_component(&other, 0, 1, &tag, room, sizeof room), LR_E_NONE);
+  WANT(lr_ior_print(&other, room, sizeof room), (int64_t)SIZE(REFERENCE));
+  CHECK(memcmp(room, REFERENCE, SIZE(REFERENCE)) == 0);
+  lr_close(&other);
+  WANT(lr_ior_iiop(&other, NULL, 0, 0, NULL, 0, 65535, NULL, 0), LR_OK);
+  lr_close(&other);
+  lr_close(&ior);
+}
+
+/* ---- what stands alone ---- */
+
+static void moments_are_counted(void) {
+  static const uint64_t epoch = UINT64_C(122192928000000000);
+  CHECK(lr_moment(0, 0) == epoch);
+  CHECK(lr_moment(0, 99) == epoch);
+  CHECK(lr_moment(0, 100) == epoch + 1);
+  CHECK(lr_moment(1, 999999999) == epoch + 19999999);
+  CHECK(lr_moment(1700000000, 0) == epoch + UINT64_C(17000000000000000));
+  CHECK(lr_moment(UINT64_MAX, 0) == UINT64_MAX);
+  CHECK(lr_moment(UINT64_MAX, UINT32_MAX) == UINT64_MAX);
+  CHECK(lr_moment(UINT64_C(1832455114570), 955161500) == UINT64_MAX);
+  CHECK(lr_moment(UINT64_C(1832455114570), 955161400) == UINT64_MAX - 1);
+  CHECK(lr_moment(UINT64_C(1832455114571), 0) == UINT64_MAX);
+}
+
+static void errors_have_texts(void) {
+  for (int64_t one = LR_E_PLACE; one <= LR_OK; one++) {
+    CHECK(lr_strerror(one) != NULL && lr_strerror(one)[0] != 0);
+    for (int64_t other = LR_E_PLACE; other < one; other++) CHECK(strcmp(lr_strerror(one), lr_strerror(other)) != 0);
+  }
+  CHECK(strcmp(lr_strerror(5), lr_strerror(LR_OK)) == 0 && strcmp(lr_strerror(INT64_MAX), lr_strerror(LR_OK)) == 0);
+  CHECK(strcmp(lr_strerror(-1000), lr_strerror(INT64_MIN)) == 0);
+}
+
+int main(void) {
+  WANT(lr_version(), LR_VERSION_MAJOR * 65536 + LR_VERSION_MINOR * 256 + LR_VERSION_PATCH);
+  slots_are_refused();
+  servers_want_a_catalogue();
+  limits_are_refused();
+  types_are_refused();
+  catalogues_refuse();
+  exceptions_are_of_the_next_operation();
+  servers_refuse();
+  raw_requests_are_as_they_came();
+  connections_are_refused();
+  objects_are_identified();
+  client_names_are_refused();
+  clients_refuse();
+  assemblers_refuse();
+  faults_are_named();
+  messages_are_refused();
+  places_are_refused();
+  references_are_refused();
+  moments_are_counted();
+  errors_have_texts();
+  return check_end();
+}

@@ -1,0 +1,1532 @@
+#!/usr/bin/env python3
+"""Tests bindings/python/lemonrudder.py and its examples.
+
+usage: python_test.py LIBRARY [NAME..]
+
+LIBRARY is the shared library. With names only those tests run, as `Formats` or `Formats.test_faults`. What is read is
+compared with the rows and cases of `giop show`, with octets that are written here a second time, and with the models of
+tests/engine.py. The last line is 'N passed, M failed', where each script, stream and row counts.
+"""
+import asyncio
+import ctypes
+import gc
+import os
+import random
+import re
+import struct
+import subprocess
+import sys
+import tempfile
+import unittest
+
+HERE = os.path.dirname(os.path.abspath(__file__))
+ROOT = os.path.dirname(os.path.dirname(HERE))
+if __name__ == "__main__":
+    if len(sys.argv) < 2:
+        sys.exit("usage: python_test.py LIBRARY [NAME..]")
+    os.environ["LEMONRUDDER_LIBRARY"] = os.path.abspath(sys.argv[1])
+sys.path[:0] = [os.path.join(ROOT, "bindings", "python"), os.path.join(ROOT, "tests")]
+
+import engine as model  # noqa: E402
+import lemonrudder as lr  # noqa: E402
+import run_rows  # noqa: E402
+from ends_model import Octets  # noqa: E402
+from lemonrudder import BIG, LITTLE, Error, Signature  # noqa: E402
+
+SEED = 31
+SCRIPTS = 300
+SECONDS = 120
+LONG_AGO = 1000
+FAR = (1 << 64) - 1
+OVERDRAWN = "IDL:Bank/Overdrawn:1.0"
+OVERFLOW = "IDL:Counter/Overflow:1.0"
+# the words of `giop show` for faults
+FAULTS = {
+    "bad magic": "MAGIC", "bad version": "VERSION", "bad flags": "FLAGS", "bad type": "TYPE", "bad cut": "CUT",
+    "too large": "TOO_LARGE", "unaligned fragment": "UNALIGNED_FRAGMENT", "stray fragment": "STRAY_FRAGMENT",
+    "twice started": "TWICE_STARTED", "too many partial": "TOO_MANY_PARTIAL", "mixed order": "MIXED_ORDER",
+    "body": "BODY",
+}
+KINDS = {
+    "REQUEST": "Request", "REPLY": "Reply", "CANCEL_REQUEST": "CancelRequest", "LOCATE_REQUEST": "LocateRequest",
+    "LOCATE_REPLY": "LocateReply", "CLOSE_CONNECTION": "CloseConnection", "MESSAGE_ERROR": "MessageError",
+}
+
+
+class Case(unittest.TestCase):
+    """A test that knows of errors."""
+
+    def fails(self, number, call, *arguments, **others):
+        """Calls, and expects an error of the library."""
+        with self.assertRaises(lr.LemonrudderError) as caught:
+            call(*arguments, **others)
+        self.assertIs(caught.exception.number, number)
+        self.assertTrue(caught.exception.text)
+        return caught.exception
+
+
+# ---- CDR ----
+
+
+SIZES = {"B": 1, "h": 2, "H": 2, "l": 4, "L": 4, "i": 4, "I": 4, "q": 8, "Q": 8}
+ORDERS = {BIG: ">", LITTLE: "<"}
+
+
+def spelled(out, kind, value):
+    """Appends the octets of a value of a type, which is a letter of a format or a tuple."""
+    if kind in ("?", "c"):
+        out.all += bytes([value]) if kind == "?" else value.encode("latin-1")
+    elif kind in SIZES:
+        out.number(SIZES[kind], kind.replace("l", "i").replace("L", "I"), value)
+    elif kind == "s":
+        out.string(value.encode("latin-1"))
+    elif kind == "o":
+        out.octets(value)
+    elif kind[0] == "enum":
+        out.ulong(value)
+    elif kind[0] == "sequence":
+        out.ulong(len(value))
+        for one in value:
+            spelled(out, kind[1], one)
+    else:
+        for member, one in zip(kind[1:], value):
+            spelled(out, member, one)
+
+
+def format_of(kind):
+    """The format of a type."""
+    if isinstance(kind, str):
+        return kind
+    if kind[0] == "enum":
+        return f"e{kind[1]}"
+    if kind[0] == "sequence":
+        return f"[{format_of(kind[1])}]"
+    return "(" + " ".join(map(format_of, kind[1:])) + ")"
+
+
+def some_kind(dice, depth=3):
+    """A type at random."""
+    chance = dice.random()
+    if depth and chance < 0.2:
+        return ("sequence", some_kind(dice, depth - 1))
+    if depth and chance < 0.4:
+        return ("struct", *(some_kind(dice, depth - 1) for _ in range(dice.randint(1, 4))))
+    if chance < 0.5:
+        return ("enum", dice.randint(1, 255))
+    return dice.choice("?cBhHlLqQsoiI")
+
+
+def some_value(dice, kind):
+    """A value of a type at random."""
+    if kind == "?":
+        return dice.random() < 0.5
+    if kind == "c":
+        return chr(dice.randrange(256))
+    if kind in SIZES:
+        bits = 8 * SIZES[kind]
+        least = -(1 << bits - 1) if kind.islower() else 0
+        return dice.choice([least, least + (1 << bits) - 1, least + dice.randrange(1 << bits), 0])
+    if kind == "s":
+        return "".join(chr(dice.randint(1, 255)) for _ in range(dice.randint(0, 9)))
+    if kind == "o":
+        return dice.randbytes(dice.randint(0, 9))
+    if kind[0] == "enum":
+        return dice.randrange(kind[1])
+    if kind[0] == "sequence":
+        return [some_value(dice, kind[1]) for _ in range(dice.randint(0, 4))]
+    return tuple(some_value(dice, member) for member in kind[1:])
+
+
+class Formats(Case):
+    """Values of CDR by a format."""
+
+    def test_each_type_in_both_orders_at_each_place(self):
+        values = {
+            "?": True, "c": "\xe9", "B": 255, "h": -2, "H": 65534, "l": -3, "L": 0xfffffffd, "q": -4,
+            "Q": 0xfffffffffffffffc, "s": "ab\xff", "o": b"\0\1\2", ("enum", 5): 4, ("sequence", "q"): [1, -1],
+            ("sequence", "B"): [1, 2, 3], ("struct", "B", "q", "s"): (7, 1 << 40, ""),
+        }
+        for kind, value in values.items():
+            for order in (BIG, LITTLE):
+                for at in [*range(17), (1 << 32) - 4096]:
+                    with self.subTest(kind=kind, order=order, at=at):
+                        self.compare(kind, value, order, at)
+
+    def compare(self, kind, value, order, at):
+        """A value is written as its rules say, and read again."""
+        out, format = Octets(at, ORDERS[order]), format_of(kind)
+        spelled(out, kind, value)
+        self.assertEqual(lr.pack(format, value, order=order, at=at), out.all)
+        self.assertEqual(lr.unpack(format, out.all, order, at), (value,))
+        self.assertEqual(lr.unpack(format, out.all + b"more", order, at), (value,))
+        for size in range(len(out.all)):
+            self.fails(Error.SHORT, lr.unpack, format, out.all[:size], order, at)
+
+    def test_random_types_and_values(self):
+        dice = random.Random(SEED)
+        for number in range(400):
+            kinds = [some_kind(dice) for _ in range(dice.randint(1, 5))]
+            values = tuple(some_value(dice, kind) for kind in kinds)
+            order, at = dice.choice([BIG, LITTLE]), dice.randrange(16)
+            format = dice.choice(["", " "]).join(map(format_of, kinds))
+            out = Octets(at, ORDERS[order])
+            for kind, value in zip(kinds, values):
+                spelled(out, kind, value)
+            with self.subTest(number=number, format=format):
+                self.assertEqual(lr.pack(format, *values, order=order, at=at), out.all)
+                self.assertEqual(lr.unpack(format, out.all, order, at), values)
+                for _ in range(3):
+                    cut = out.all[:dice.randrange(len(out.all))]
+                    self.fails(Error.SHORT, lr.unpack, format, cut, order, at)
+
+    def test_padding_is_not_looked_at(self):
+        self.assertEqual(lr.unpack("Bl", b"\1\xee\xee\xee\0\0\0\2"), (1, 2))
+
+    def test_codes(self):
+        self.assertEqual(lr.type_codes("?cBhHlLqQso"), bytes(range(1, 12)))
+        self.assertEqual(lr.type_codes(" iI "), lr.type_codes("lL"))
+        self.assertEqual(lr.type_codes("s[l]"), bytes([10, 6, 12]))
+        self.assertEqual(lr.type_codes("(s[l])"), bytes([10, 6, 12, 14, 2]))
+        self.assertEqual(lr.type_codes("e7 [e255]"), bytes([13, 7, 13, 255, 12]))
+        self.assertEqual(lr.type_codes("[B] [[B]]"), bytes([11, 11, 12]))
+        self.assertEqual(lr.type_codes(f"({'l' * 255})"), bytes([6] * 255 + [14, 255]))
+
+    def test_what_is_no_format(self):
+        for format in ("x", "2l", "[", "]", "[]", "[ll]", "(", ")", "()", "(l]", "[l", "e", "e0", "e256", "l)",
+                       f"({'l' * 256})", "s\0"):
+            with self.subTest(format=format):
+                for call in (lr.type_codes, lambda format: lr.unpack(format, b""), lr.pack):
+                    with self.assertRaises(ValueError):
+                        call(format)
+
+    def test_what_is_no_value(self):
+        for format, value, error in (
+            ("?", 1, TypeError), ("?", None, TypeError), ("c", "", ValueError), ("c", "ab", ValueError),
+            ("c", 7, TypeError), ("B", 256, ValueError), ("B", -1, ValueError), ("h", 32768, ValueError),
+            ("H", -1, ValueError), ("l", 1 << 31, ValueError), ("L", 1 << 32, ValueError), ("q", 1 << 63, ValueError),
+            ("Q", -1, ValueError), ("q", 1.0, TypeError), ("q", "1", TypeError), ("s", "a\0", ValueError),
+            ("s", b"\0", ValueError), ("s", "\u20ac", ValueError), ("s", 5, TypeError), ("o", "a", TypeError),
+            ("o", [1], TypeError), ("e3", 3, ValueError), ("e3", -1, ValueError), ("[l]", 3, TypeError),
+            ("[l]", ["a"], TypeError), ("(ll)", (1,), ValueError), ("(ll)", (1, 2, 3), ValueError),
+        ):
+            with self.subTest(format=format, value=value):
+                with self.assertRaises(error):
+                    lr.pack(format, value)
+        for values in ((), (1, 2)):
+            with self.assertRaises(ValueError):
+                lr.pack("l", *values)
+        for order, at in ((2, 0), (-1, 0), (0, -1), (0, 1 << 64)):
+            with self.assertRaises(ValueError):
+                lr.unpack("l", bytes(9), order, at)
+
+    def test_octets_that_are_no_value(self):
+        for format, octets in (
+            ("?", b"\2"), ("e3", b"\0\0\0\3"), ("s", b"\0\0\0\0"), ("s", b"\0\0\0\2ab"), ("s", b"\0\0\0\3a\0\0"),
+            ("(l?)", b"\0\0\0\1\xff"), ("[?]", b"\0\0\0\2\1\2"),
+        ):
+            with self.subTest(format=format):
+                self.fails(Error.VALUE, lr.unpack, format, octets)
+        self.fails(Error.SHORT, lr.unpack, "[q]", b"\xff\xff\xff\xff" + bytes(20))
+        self.fails(Error.SHORT, lr.unpack, "o", b"\xff\xff\xff\xff" + bytes(20))
+
+    def test_other_kinds_of_octets(self):
+        self.assertEqual(lr.unpack("H", bytearray(b"\1\2")), (258,))
+        self.assertEqual(lr.unpack("H", memoryview(b"\1\2\3")[:2]), (258,))
+        self.assertEqual(lr.pack("so", "\u20ac".encode(), bytearray(b"a")), b"\0\0\0\4\xe2\x82\xac\0\0\0\0\1a")
+
+    def test_a_reader_goes_on(self):
+        reader = lr.Reader(lr.pack("Bs", 1, "id", at=3) + b"\0\0\0\7", BIG, 3)
+        self.assertEqual(reader.read("Bs"), (1, "id"))
+        before = reader.next
+        self.fails(Error.SHORT, reader.read, "Bq")
+        self.assertEqual(reader.next, before)
+
+    def test_a_writer_goes_on(self):
+        writer = lr.Writer(LITTLE, 2)
+        writer.write("B", 1)
+        before = writer.octets
+        with self.assertRaises(ValueError):
+            writer.write("lB", 5, 256)
+        self.assertEqual(writer.octets, before)
+        writer.write("ho", 2, bytes(100000))
+        self.assertEqual(writer.octets, b"\1\0\2\0\0\0" + struct.pack("<I", 100000) + bytes(100000))
+
+    def test_encapsulations(self):
+        for order in (BIG, LITTLE):
+            inner = lr.pack("Bq", order, 77, order=order)
+            reader = lr.Reader(lr.pack("Bol", 9, inner, -1, at=5), BIG, 5)
+            self.assertEqual(reader.read("B"), (9,))
+            self.assertEqual(reader.encapsulation().read("q"), (77,))
+            self.assertEqual(reader.read("l"), (-1,))
+        self.fails(Error.SHORT, lr.Reader(b"\0\0\0\5\0").encapsulation)
+
+
+# ---- messages ----
+
+
+def word(octets):
+    """Octets as `giop show` prints them."""
+    return octets.hex() or "-"
+
+
+def text(octets):
+    """Octets as text, as `giop show` prints them."""
+    return "".join(chr(one) if 32 <= one < 127 and one != 92 else f"\\x{one:02x}" for one in octets)
+
+
+def lines_of_message(message):
+    """A message as `giop show` prints it, where its target is a key."""
+    words = [f"1.{message.version} {message.order.name.lower()} {KINDS[message.type.name]}"]
+    if message.request_id is not None:
+        words.append(f"id {message.request_id}")
+    if message.wish is not None:
+        words.append(f"reply {message.wish.name.lower()}")
+    if message.type in (lr.MessageType.REQUEST, lr.MessageType.LOCATE_REQUEST):
+        words.append(f"key {word(message.key)}" if message.key is not None else "no key")
+    if message.operation is not None:
+        words.append(f"operation {text(message.operation.encode('latin-1'))}")
+    if message.status is not None:
+        words.append(f"status {message.status.name}")
+    if message.body is not None:
+        words.append(f"body {word(message.body.octets)}")
+    yield " ".join(words)
+    for number, data in message.contexts:
+        yield f"  context {number} {word(data)}"
+    if message.ft is not None:
+        ft = message.ft
+        yield f"  ft client {text(ft.client)} retention {ft.retention_id} expiration {ft.expiration}"
+
+
+def lines_of_stream(pieces):
+    """A stream as `giop show` prints it: what is left over at its end is not said."""
+    with lr.Assembler() as assembler:
+        found = []
+        try:
+            for piece in pieces:
+                found += assembler.feed(piece)
+            end = ["end"]
+        except lr.StreamError as error:
+            found += error.messages
+            end = [f"fault after {len(found)} messages: {error.fault.name}"]
+    return [line for message in found for line in lines_of_message(message)] + end
+
+
+def wanted_of(lines):
+    """The lines of `giop show`, without what the library does not say."""
+    for line in lines:
+        fault = re.fullmatch(r"fault after (\d+) messages: ([a-z ]+).*", line)
+        if fault:
+            yield f"fault after {fault.group(1)} messages: {FAULTS[fault.group(2)]}"
+        elif line.startswith(("end ", "rest ")):
+            yield "end"
+        elif line != "  ft bad":
+            yield line
+
+
+def without_targets(lines):
+    """The lines, where targets by a profile or a reference are left out."""
+    return [re.sub(r" (profile \d+ \S+|reference \d+)", " TARGET", line) for line in lines]
+
+
+def like(lines, wanted):
+    """The lines, where those that are wanted of another target than a key say so."""
+    return [re.sub(r" (key \S+|no key)", " TARGET", line) if " TARGET" in want else line
+            for line, want in zip(lines, wanted)] + lines[len(wanted):]
+
+
+def shown_cases():
+    """The cases of `giop show`: a name, the octets, and the lines."""
+    folder = os.path.join(ROOT, "tests", "cases", "show")
+    for name in sorted(os.listdir(folder)):
+        if not name.endswith(".stdout"):
+            continue
+        with open(os.path.join(folder, name)) as file:
+            lines = file.read().splitlines()
+        with open(os.path.join(folder, name.replace(".stdout", ".stdin")), encoding="latin-1") as file:
+            digits = file.read()
+        if lines:
+            yield name, bytes.fromhex("".join(digits.split())), lines
+
+
+class Messages(Case):
+    """The messages of streams."""
+
+    def compare(self, octets, lines):
+        wanted = without_targets(wanted_of(lines))
+        for pieces in ([octets], [octets[at:at + 1] for at in range(len(octets))], [octets[:13], b"", octets[13:]]):
+            self.assertEqual(like(lines_of_stream(pieces), wanted), wanted)
+
+    def test_rows(self):
+        for name in sorted(os.listdir(run_rows.HERE)):
+            for row in run_rows.rows_of(name):
+                for place, octets, wanted in run_rows.streams_of(row):
+                    if wanted:
+                        with self.subTest(place):
+                            self.compare(octets, wanted)
+
+    def test_cases(self):
+        for name, octets, lines in shown_cases():
+            with self.subTest(name):
+                self.compare(octets, lines)
+
+    def test_random_streams(self):
+        dice = random.Random(SEED)
+        for number in range(100):
+            terms, streams, _ = model.Maker(dice).made()
+            for connection, frames in streams.items():
+                with self.subTest(number=number, connection=connection):
+                    self.assertEqual(*self.said(terms, frames))
+
+    def said(self, terms, frames):
+        """What a stream of requests and locates says up to its end, and what it is read as."""
+        wanted = []
+        for octets, said in frames:
+            if said in (model.CLOSE, model.ERROR) or terms.limit < len(octets):
+                break
+            if isinstance(said, model.Asked):
+                ft = said.field if isinstance(said.field, tuple) else None
+                ft = ft and lr.FtRequest(*ft, said.call.expiration)
+                wanted.append((int(said.version[2]), said.request_id, said.wish, said.call.key,
+                               said.call.operation.decode(), ft))
+            if isinstance(said, model.Sought):
+                wanted.append((int(said.version[2]), said.request_id, None, said.key.encode(), None, None))
+        found = []
+        try:
+            for one in lr.messages(b"".join(octets for octets, _ in frames), terms.limit, terms.partials):
+                if one.operation is not None or one.key is not None:
+                    wish = one.wish.name.lower() if one.wish is not None else None
+                    found.append((one.version, one.request_id, wish, one.key, one.operation, one.ft))
+        except lr.StreamError:
+            pass
+        return found[:len(wanted)], wanted
+
+    def test_a_request_in_full(self):
+        context = lr.write_ft("client", -5, 1 << 60, LITTLE)
+        body = lr.pack("sq", "alice", 5, order=LITTLE)
+        for version in (0, 1, 2):
+            octets = lr.write_request(7, b"\0key", "deposit", body, version=version, order=LITTLE,
+                                      wish=lr.Wish.FULL, context=(lr.FT_REQUEST, context))
+            message, = lr.messages(octets)
+            self.assertEqual(
+                (message.type, message.version, message.order, message.request_id, message.status, message.wish),
+                (lr.MessageType.REQUEST, version, LITTLE, 7, None, lr.Wish.FULL))
+            self.assertEqual((message.key, message.operation), (b"\0key", "deposit"))
+            self.assertEqual(message.contexts, [(13, context)])
+            self.assertEqual(message.ft, lr.FtRequest(b"client", -5, 1 << 60))
+            self.assertEqual(message.body.order, LITTLE)
+            self.assertEqual(octets[message.body.at:message.body.at + len(message.body.octets)], message.body.octets)
+            if version == 2:
+                self.assertEqual(message.body.octets, body)
+                self.assertEqual(message.body.unpack("sq"), ("alice", 5))
+
+    def test_bodies_are_aligned_by_their_place(self):
+        for version in (0, 1, 2):
+            for size in range(9):
+                with self.subTest(version=version, size=size):
+                    octets = lr.write_request(1, b"k" * size, "o" * size, lr.pack("Bq", 1, 2), version=version)
+                    message, = lr.messages(octets)
+                    if message.body.at % 8 == 0:
+                        self.assertEqual(message.body.unpack("Bq"), (1, 2))
+                    self.assertEqual(message.body.octets[-16:], lr.pack("Bq", 1, 2))
+
+    def test_what_is_written(self):
+        for version in (0, 1, 2):
+            for order in (BIG, LITTLE):
+                with self.subTest(version=version, order=order):
+                    said = {"version": version, "order": order}
+                    self.compare_written(lr.write_reply(9, b"12345678", status=1, **said), "REPLY",
+                                         status=lr.ReplyStatus.USER_EXCEPTION)
+                    self.compare_written(lr.write_cancel(9, **said), "CANCEL_REQUEST")
+                    self.compare_written(lr.write_locate_request(9, "key", **said), "LOCATE_REQUEST", key=b"key")
+                    self.compare_written(lr.write_locate_reply(9, 1, **said), "LOCATE_REPLY",
+                                         status=lr.LocateStatus.OBJECT_HERE)
+        self.assertEqual(lr.write_close()[:5] + lr.write_close()[7:], b"GIOP\1\5" + bytes(4))
+        self.assertEqual(lr.write_error()[:5] + lr.write_error()[7:], b"GIOP\1\6" + bytes(4))
+        self.assertEqual(len(lr.write_request(1, bytes(300000), "operation", bytes(200000))) // 1000, 500)
+
+    def compare_written(self, octets, name, **parts):
+        message, = lr.messages(octets)
+        self.assertEqual((message.type.name, message.request_id), (name, 9))
+        for part, value in parts.items():
+            self.assertEqual(getattr(message, part), value)
+
+    def test_what_is_not_written(self):
+        self.fails(Error.RANGE, lr.write_request, 1, b"k", "o", version=3)
+        self.fails(Error.RANGE, lr.write_request, 1, b"k", "o", order=2)
+        self.fails(Error.RANGE, lr.write_request, 1, b"k", "o", wish=3)
+        self.fails(Error.RANGE, lr.write_request, 1, b"k", "o", context=(1, b""))
+        self.fails(Error.TEXT, lr.write_request, 1, b"k", "o\0")
+        self.fails(Error.TEXT, lr.write_ft, "a\0", 1, 1)
+        self.fails(Error.RANGE, lr.write_reply, 1, status=6)
+        for number in (-1, 1 << 32):
+            with self.assertRaises(ValueError):
+                lr.write_cancel(number)
+
+    def test_limits(self):
+        for limit, partials in ((4095, 8), (16777217, 8), (4096, 0), (4096, 17)):
+            self.fails(Error.RANGE, lr.Assembler, limit, partials)
+        with self.assertRaises(ValueError):
+            lr.Assembler((1 << 32) + 4096)
+        octets = lr.write_request(1, bytes(4096 - 64), "o")
+        self.assertEqual(len(list(lr.messages(octets + lr.write_close()))), 2)
+        more = lr.write_request(1, bytes(4096), "o")
+        with self.assertRaises(lr.StreamError) as caught:
+            list(lr.messages(octets + more, 4096))
+        self.assertIs(caught.exception.fault, lr.Fault.TOO_LARGE)
+
+    def test_after_a_fault(self):
+        assembler, request = lr.Assembler(), lr.write_request(1, b"k", "o")
+        with self.assertRaises(lr.StreamError) as caught:
+            assembler.feed(request + request + b"GIOQ" + bytes(8) + request)
+        self.assertEqual([one.operation for one in caught.exception.messages], ["o", "o"])
+        self.assertIs(caught.exception.number, Error.STREAM)
+        self.assertIn("MAGIC", str(caught.exception))
+        self.assertIs(assembler.fault, lr.Fault.MAGIC)
+        with self.assertRaises(lr.StreamError) as caught:
+            assembler.feed(request)
+        self.assertEqual(caught.exception.messages, [])
+        self.assertIs(caught.exception.fault, lr.Fault.MAGIC)
+
+    def test_messages_come_before_the_fault(self):
+        found = lr.messages(lr.write_close() + b"GIOQ" + bytes(8))
+        self.assertIs(next(found).type, lr.MessageType.CLOSE_CONNECTION)
+        with self.assertRaises(lr.StreamError):
+            next(found)
+
+    def test_closed(self):
+        assembler = lr.Assembler()
+        assembler.close()
+        assembler.close()
+        self.fails(Error.EMPTY, assembler.feed, b"GIOP")
+        with lr.Assembler() as assembler:
+            self.assertEqual(assembler.feed(b""), [])
+            self.assertIsNone(assembler.fault)
+        self.fails(Error.EMPTY, assembler.feed, b"GIOP")
+
+
+def cut_up(octets, sizes):
+    """A message of 1.2 in fragments: so many octets of its body in each frame before the last."""
+    order, kind, request_id = ">" if octets[6] == 0 else "<", octets[7], octets[12:16]
+    frames, at, more = [], 12, 2
+    for size in [*sizes, len(octets)]:
+        part = octets[at:at + size]
+        at += size
+        more = 2 if at < len(octets) else 0
+        head = b"" if not frames else request_id
+        flags = bytes([octets[6] | more, kind if not frames else 7])
+        frames.append(b"GIOP\1\2" + flags + struct.pack(order + "I", len(head + part)) + head + part)
+        if not more:
+            return frames
+    return frames
+
+
+class Fragments(Case):
+    """Messages that are cut, and the faults of streams by name."""
+
+    def request(self, request_id, size, order=BIG):
+        return lr.write_request(request_id, b"key", "operation", bytes(range(256)) * (size // 256), order=order)
+
+    def test_joined(self):
+        dice = random.Random(SEED)
+        for number in range(60):
+            order = dice.choice([BIG, LITTLE])
+            octets = self.request(number, 256 * dice.randint(1, 8), order)
+            sizes = [4 + 8 * dice.randint(1, 20)]
+            frames = cut_up(octets, sizes + [8 * dice.randint(0, 20) for _ in range(9)])
+            with self.subTest(number=number):
+                self.assertEqual(list(lr.messages(b"".join(frames))), list(lr.messages(octets)))
+
+    def test_interleaved(self):
+        dice = random.Random(SEED)
+        for number in range(60):
+            count = dice.randint(2, 8)
+            whole = [self.request(one, 1024) for one in range(count)]
+            left = [cut_up(octets, [12] + [8 * dice.randint(1, 20) for _ in range(9)]) for octets in whole]
+            stream, order = b"", []
+            while any(left):
+                one = dice.choice([one for one in range(count) if left[one]])
+                stream += left[one].pop(0)
+                order += [] if left[one] else [one]
+            with self.subTest(number=number):
+                found = list(lr.messages(stream, partials=count))
+                self.assertEqual([message.request_id for message in found], order)
+                wanted = [next(lr.messages(whole[one])) for one in order]
+                self.assertEqual(found, wanted)
+
+    def test_of_1_1(self):
+        octets = lr.write_request(3, b"key", "operation", bytes(range(64)), version=1)
+        at = 12 + 8 * 5
+        first = octets[:6] + b"\2\0" + struct.pack(">I", at - 12) + octets[12:at]
+        last = b"GIOP\1\1\0\7" + struct.pack(">I", len(octets) - at) + octets[at:]
+        self.assertEqual(len(first) % 8, 4)
+        self.assertEqual(list(lr.messages(first + last)), list(lr.messages(octets)))
+
+    def test_faults_by_name(self):
+        close, request = lr.write_close(), self.request(1, 256)
+        first, second, *_ = cut_up(request, [12, 64])
+        other = cut_up(self.request(2, 256), [12])[0]
+        mixed = second[:6] + bytes([second[6] | 1]) + second[7:8] + second[11:7:-1] + second[12:]
+        cases = {
+            "MAGIC": b"GIOQ" + close[4:],
+            "VERSION": b"GIOP\2" + close[5:],
+            "FLAGS": close[:6] + b"\x80" + close[7:],
+            "TYPE": close[:7] + b"\x08" + close[8:],
+            "CUT": close[:6] + b"\2" + close[7:],
+            "TOO_LARGE": close[:8] + b"\0\x20\0\0",
+            "UNALIGNED_FRAGMENT": cut_up(request, [13])[0],
+            "STRAY_FRAGMENT": second,
+            "TWICE_STARTED": first + request,
+            "TOO_MANY_PARTIAL": first + other,
+            "BODY": b"GIOP\1\2\0\0" + bytes(4),
+            "MIXED_ORDER": first + mixed,
+        }
+        for name, octets in cases.items():
+            with self.subTest(name):
+                with self.assertRaises(lr.StreamError) as caught:
+                    list(lr.messages(octets, partials=1))
+                self.assertEqual(caught.exception.fault.name, name)
+
+
+# ---- references ----
+
+
+COUNTER = ("IOR:000000000000001049444c3a436f756e7465723a312e3000000000010000000000000020000102000000000a3132372e302e30"
+           "2e31000af9000000016300000000000000")
+
+
+class References(Case):
+    """References to objects."""
+
+    def test_written_and_read(self):
+        for minor in (0, 1, 2):
+            for host, port, key in (("127.0.0.1", 2809, b"c"), ("::1", 0, b""), ("h", 65535, bytes(range(256)))):
+                with self.subTest(minor=minor, host=host):
+                    made = lr.Ior.iiop("IDL:Counter:1.0", host, port, key, minor)
+                    self.assertEqual(made.type_id, "IDL:Counter:1.0")
+                    profile, = made.profiles
+                    self.assertEqual((profile.tag, profile.minor, profile.is_iiop), (0, minor, True))
+                    self.assertEqual((profile.host, profile.port, profile.key), (host, port, key))
+                    self.assertEqual(profile.components, ())
+                    self.assertEqual(lr.Ior.parse(str(made)), made)
+        self.assertEqual(str(lr.Ior.iiop("IDL:Counter:1.0", "127.0.0.1", 2809, "c")), COUNTER)
+
+    def test_parsed(self):
+        self.assertEqual(lr.Ior.parse("  IOR:" + COUNTER[4:].upper() + "\n").profiles[0].port, 2809)
+        self.assertEqual(lr.Ior.parse(COUNTER.encode()), lr.Ior.parse(COUNTER))
+        self.assertEqual(len({lr.Ior.parse(COUNTER), lr.Ior.parse(COUNTER)}), 1)
+
+    def test_components_in_both_orders(self):
+        for order in (BIG, LITTLE):
+            components = [(0, b"\1\2"), (1, b""), (0xffffffff, bytes(300))]
+            data = lr.pack("BBBsHo[(Lo)]", order, 1, 2, "host", 7, b"key", components, order=order)
+            profiles = [(0, data), (9, b"other"), (0, b"\0\1"), (0, data)]
+            ior = lr.Ior.parse("IOR:" + lr.pack("Bs[(Lo)]", order, "IDL:X:1.0", profiles, order=order).hex())
+            self.assertEqual([(one.tag, one.data) for one in ior.profiles], profiles)
+            self.assertEqual([one.is_iiop for one in ior.profiles], [True, False, False, True])
+            self.assertEqual(ior.profiles[3].components, tuple(components))
+            self.assertEqual((ior.profiles[1].host, ior.profiles[1].key, ior.profiles[1].port), (None, None, None))
+            self.assertEqual(lr.Ior.parse(str(ior)).profiles, ior.profiles)
+            body = lr.pack("Bs[(Lo)]", 0, "IDL:X:1.0", profiles, order=order, at=3)
+            reader = lr.Reader(body, order, 3)
+            reader.read("B")
+            self.assertEqual(lr.Ior.read(reader).profiles, ior.profiles)
+
+    def test_nil(self):
+        nil = lr.Ior.parse("IOR:" + lr.pack("Bs[(Lo)]", 0, "", []).hex())
+        self.assertEqual((nil.type_id, nil.profiles), ("", ()))
+
+    def test_what_is_none(self):
+        for bad in ("", "IOR", "IOR:", "IOR:0", "IOR:0g", "corbaloc::h/k", COUNTER[:-20], "IOR:\u20ac", COUNTER[4:]):
+            with self.subTest(bad):
+                self.fails(Error.REFERENCE, lr.Ior.parse, bad)
+        self.fails(Error.RANGE, lr.Ior.iiop, "IDL:X:1.0", "h", 1, b"k", 3)
+        self.fails(Error.TEXT, lr.Ior.iiop, "IDL:X:1.0\0", "h", 1, b"k")
+        self.fails(Error.TEXT, lr.Ior.iiop, "IDL:X:1.0", "h\0", 1, b"k")
+        for port in (-1, 65536):
+            with self.assertRaises(ValueError):
+                lr.Ior.iiop("IDL:X:1.0", "h", port, b"k")
+
+
+# ---- the engine ----
+
+
+def counting():
+    """A catalogue with the counter of the models."""
+    catalogue = lr.Catalogue()
+    catalogue.add_object(b"c")
+    catalogue.add_operation(b"c", "add", Signature("l", "q", {OVERFLOW: ""}))
+    catalogue.add_operation(b"c", "get", Signature("", "q"))
+    return catalogue
+
+
+def asked_for(number, operation, body=b"", key=b"c", client="A", retention=None, expiration=FAR, order=BIG):
+    """A Request, with FT_REQUEST unless its number in the retention is None."""
+    context = None
+    if retention is not None:
+        context = (lr.FT_REQUEST, lr.write_ft(client, retention, expiration))
+    return lr.write_request(number, key, operation, body, context=context, order=order)
+
+
+class Engines(Case):
+    """Catalogues and an engine, call by call."""
+
+    def engine(self, catalogue=None, *terms):
+        engine = lr.Engine(catalogue or counting(), *terms)
+        engine.connect(1)
+        return engine
+
+    def reply(self, engine):
+        """The one message that is due."""
+        message, = lr.messages(engine.output())
+        return message
+
+    def test_catalogues(self):
+        catalogue = counting()
+        self.fails(Error.TAKEN, catalogue.add_object, b"c")
+        self.fails(Error.TAKEN, catalogue.add_raw_object, b"c")
+        self.fails(Error.TAKEN, catalogue.add_operation, b"c", "add")
+        self.fails(Error.OBJECT, catalogue.add_operation, b"d", "add")
+        self.fails(Error.TEXT, catalogue.add_operation, b"c", "a\0")
+        catalogue.add_raw_object(b"r")
+        self.fails(Error.RAW, catalogue.add_operation, b"r", "add")
+        self.fails(Error.RAW, catalogue.add_raw_operation, b"r", "add")
+        self.fails(Error.RAW, catalogue.add_repository_ids, b"r", "IDL:R:1.0")
+        self.fails(Error.TEXT, catalogue.add_repository_ids, b"c", "IDL:R:1.0\0IDL:S:1.0")
+        catalogue.add_repository_ids(b"c", "IDL:R:1.0", "IDL:S:1.0")
+        self.fails(Error.TAKEN, catalogue.add_repository_ids, b"c", "IDL:R:1.0")
+        with self.assertRaises(ValueError):
+            catalogue.add_operation(b"c", "bad", Signature("x"))
+        engine = self.engine(catalogue)
+        self.fails(Error.EMPTY, catalogue.add_object, b"x")
+        self.fails(Error.EMPTY, lr.Engine, catalogue)
+        self.assertFalse(engine.is_closed(1))
+
+    def test_terms(self):
+        for terms in ((4095,), (16777217,), (4096, 0), (4096, 17)):
+            catalogue = counting()
+            self.fails(Error.RANGE, lr.Engine, catalogue, *terms)
+            lr.Engine(catalogue).close()
+        with self.assertRaises(ValueError):
+            lr.Engine(counting(), capacity=1 << 32)
+
+    def test_a_request_in_full(self):
+        engine, octets = self.engine(), asked_for(5, "add", lr.pack("l", 7), retention=3, client="me", expiration=99)
+        self.assertIsNone(engine.asked())
+        self.assertEqual(engine.feed(1, octets + octets, 50), len(octets))
+        asked = engine.asked()
+        self.assertEqual(asked, engine.asked())
+        self.assertEqual((asked.connection, asked.key, asked.operation, asked.arguments), (1, b"c", "add", (7,)))
+        self.assertEqual((asked.request_id, asked.version, asked.wish, asked.is_raw), (5, 2, lr.Wish.FULL, False))
+        self.assertEqual(asked.ft, lr.FtRequest(b"me", 3, 99))
+        self.assertEqual(asked.body.unpack("l"), (7,))
+        self.assertEqual(engine.output(), b"")
+        engine.answer(7)
+        reply = self.reply(engine)
+        self.assertEqual((reply.request_id, reply.status, reply.body.unpack("q")), (5, 0, (7,)))
+        self.assertEqual(engine.feed(1, octets + octets, 50, len(octets)), 2 * len(octets))
+        self.assertIsNone(engine.asked())
+        self.assertEqual(self.reply(engine).body.unpack("q"), (7,))
+
+    def test_arguments_in_little_order(self):
+        engine = self.engine()
+        engine.feed(1, asked_for(5, "add", lr.pack("l", -7, order=LITTLE), order=LITTLE), LONG_AGO)
+        self.assertEqual(engine.asked().arguments, (-7,))
+        self.assertEqual(engine.asked().body.unpack("l"), (-7,))
+        self.assertIsNone(engine.asked().ft)
+
+    def test_while_a_request_waits(self):
+        engine = self.engine()
+        self.fails(Error.IDLE, engine.answer, 1)
+        self.fails(Error.IDLE, engine.answer_octets, bytes(8))
+        self.fails(Error.IDLE, engine.raise_system, "UNKNOWN")
+        self.fails(Error.IDLE, engine.give_up)
+        engine.feed(1, asked_for(1, "get"), LONG_AGO)
+        for call, arguments in ((engine.feed, (1, b"", LONG_AGO)), (engine.connect, (2,)), (engine.lost, (1,)),
+                                (engine.farewell, (1,))):
+            self.fails(Error.ASKING, call, *arguments)
+        self.assertFalse(engine.identify())
+        engine.answer(1)
+        self.fails(Error.IDLE, engine.answer, 1)
+        self.reply(engine)
+        self.fails(Error.CONNECTION, engine.connect, 1)
+        self.fails(Error.CONNECTION, engine.feed, 2, b"", LONG_AGO)
+        self.fails(Error.CONNECTION, engine.farewell, 2)
+        engine.lost(2)
+
+    def test_what_is_due(self):
+        engine = self.engine()
+        engine.connect(2)
+        engine.feed(1, asked_for(1, "none"), LONG_AGO)
+        self.fails(Error.DUE, engine.feed, 2, asked_for(1, "get"), LONG_AGO)
+        self.fails(Error.DUE, engine.farewell, 2)
+        engine.feed(1, asked_for(2, "none"), LONG_AGO)
+        self.assertEqual([one.request_id for one in lr.messages(engine.output())], [1, 2])
+        self.assertEqual(engine.output(), b"")
+        engine.feed(1, asked_for(3, "none"), LONG_AGO)
+        engine.lost(1)
+        self.assertEqual(engine.output(), b"")
+        engine.feed(2, asked_for(1, "get"), LONG_AGO)
+
+    def test_outcomes_that_are_none(self):
+        engine = self.engine()
+        engine.feed(1, asked_for(1, "add", lr.pack("l", 7)), LONG_AGO)
+        for octets in (b"", bytes(4), bytes(7), bytes(9), bytes(16)):
+            with self.subTest(size=len(octets)):
+                self.fails(Error.OUTCOME, engine.answer_octets, octets)
+        for wrong in ((), (1, 2), (1 << 63,)):
+            with self.assertRaises(ValueError):
+                engine.answer(*wrong)
+        with self.assertRaises(TypeError):
+            engine.answer("7")
+        self.fails(Error.OUTCOME, engine.raise_user, "IDL:Other:1.0")
+        self.fails(Error.OUTCOME, engine.answer_raw, bytes(8))
+        self.fails(Error.RANGE, engine.answer_octets, bytes(8), 2)
+        self.fails(Error.RANGE, engine.raise_system, 11)
+        self.fails(Error.RANGE, engine.raise_system, "UNKNOWN", 0, 3)
+        with self.assertRaises(KeyError):
+            engine.raise_system("OTHER")
+        engine.answer(7)
+        self.assertEqual(self.reply(engine).body.unpack("q"), (7,))
+
+    def test_exceptions(self):
+        engine = self.engine()
+        engine.feed(1, asked_for(1, "add", lr.pack("l", 7)), LONG_AGO)
+        engine.raise_user(OVERFLOW)
+        reply = self.reply(engine)
+        self.assertEqual((reply.status, reply.body.unpack("s")), (lr.ReplyStatus.USER_EXCEPTION, (OVERFLOW,)))
+        for name in lr.SystemName:
+            engine.feed(1, asked_for(2, "get"), LONG_AGO)
+            engine.raise_system(name.name, 0xffffffff, lr.Completed.YES)
+            reply = self.reply(engine)
+            self.assertIs(reply.status, lr.ReplyStatus.SYSTEM_EXCEPTION)
+            self.assertEqual(reply.body.unpack("sLL"), (f"IDL:omg.org/CORBA/{name.name}:1.0", 0xffffffff, 0))
+
+    def test_refusals_never_come(self):
+        engine = self.engine()
+        for name, octets in (
+            ("OBJECT_NOT_EXIST", asked_for(1, "get", key=b"d")), ("BAD_OPERATION", asked_for(1, "sub")),
+            ("MARSHAL", asked_for(1, "add", b"\0\0")),
+            ("BAD_CONTEXT", asked_for(1, "get", retention=1, expiration=LONG_AGO - 1)),
+        ):
+            self.assertEqual(engine.feed(1, octets, LONG_AGO), len(octets))
+            self.assertIsNone(engine.asked())
+            self.assertEqual(self.reply(engine).body.unpack("sLL"), (f"IDL:omg.org/CORBA/{name}:1.0", 0, 1))
+
+    def test_given_up(self):
+        engine, octets = self.engine(), asked_for(1, "get", retention=1)
+        engine.feed(1, octets, LONG_AGO)
+        engine.give_up()
+        self.assertEqual(engine.output(), b"")
+        self.assertTrue(engine.is_closed(1))
+        engine.connect(2)
+        engine.feed(2, octets, LONG_AGO)
+        self.assertEqual(engine.asked().operation, "get")
+        engine.answer(5)
+        self.assertEqual(self.reply(engine).body.unpack("q"), (5,))
+
+    def test_farewell(self):
+        engine = self.engine()
+        engine.farewell(1)
+        self.assertEqual(self.reply(engine).type, lr.MessageType.CLOSE_CONNECTION)
+        self.assertTrue(engine.is_closed(1))
+        engine.farewell(1)
+        self.assertEqual(engine.output(), b"")
+        octets = asked_for(1, "get")
+        self.assertEqual(engine.feed(1, octets, LONG_AGO), len(octets))
+        self.assertIsNone(engine.asked())
+
+    def test_the_end_of_a_stream(self):
+        engine = self.engine()
+        engine.feed(1, b"GIOQ" + bytes(8), LONG_AGO)
+        self.assertEqual(self.reply(engine).type, lr.MessageType.MESSAGE_ERROR)
+        self.assertTrue(engine.is_closed(1))
+        self.assertTrue(engine.is_closed(7))
+
+    def test_identity(self):
+        catalogue = counting()
+        catalogue.add_repository_ids(b"c", "IDL:Counter:1.0", "IDL:Base:1.0")
+        engine = self.engine(catalogue)
+        for id, wanted in (("IDL:Counter:1.0", True), ("IDL:Base:1.0", True), ("IDL:Other:1.0", False),
+                           ("IDL:omg.org/CORBA/Object:1.0", True), ("IDL:Counter:1.0 ", False)):
+            engine.feed(1, asked_for(1, "_is_a", lr.pack("s", id)), LONG_AGO)
+            self.assertEqual(engine.asked().arguments, (id,))
+            self.assertTrue(engine.identify())
+            self.assertEqual(self.reply(engine).body.unpack("?"), (wanted,))
+        engine.feed(1, asked_for(1, "_non_existent"), LONG_AGO)
+        self.assertTrue(engine.identify())
+        self.assertEqual(self.reply(engine).body.unpack("?"), (False,))
+
+    def test_raw(self):
+        catalogue = counting()
+        catalogue.add_raw_operation(b"c", "raw")
+        catalogue.add_raw_object(b"r")
+        engine = self.engine(catalogue)
+        for key, operation in ((b"c", "raw"), (b"r", "anything")):
+            engine.feed(1, asked_for(1, operation, b"\1\2\3", key, order=LITTLE), LONG_AGO)
+            asked = engine.asked()
+            self.assertTrue(asked.is_raw)
+            self.assertIsNone(asked.arguments)
+            self.assertEqual((asked.operation, asked.body.octets, asked.body.order), (operation, b"\1\2\3", LITTLE))
+            self.assertEqual(asked.body.at % 8, 0)
+            self.fails(Error.OUTCOME, engine.answer, 1)
+            self.fails(Error.RANGE, engine.answer_raw, b"", BIG, 4)
+            self.fails(Error.OUTCOME, engine.answer_raw, bytes(1048577))
+            engine.answer_raw(lr.pack("l", 5, order=LITTLE), LITTLE)
+            reply = self.reply(engine)
+            self.assertEqual((reply.order, reply.status, reply.body.unpack("l")), (LITTLE, 0, (5,)))
+
+    def test_types_go_both_ways(self):
+        dice = random.Random(SEED)
+        for number in range(100):
+            kinds = [[some_kind(dice) for _ in range(dice.randint(0, 4))] for _ in range(3)]
+            formats = ["".join(map(format_of, some)) for some in kinds]
+            values = [tuple(some_value(dice, kind) for kind in some) for some in kinds]
+            catalogue = counting()
+            catalogue.add_operation(b"c", "op", Signature(formats[0], formats[1], {"IDL:X:1.0": formats[2]}))
+            with self.subTest(number=number, formats=formats):
+                engine, order = self.engine(catalogue), dice.choice([BIG, LITTLE])
+                octets = asked_for(1, "op", lr.pack(formats[0], *values[0], order=order), order=order)
+                engine.feed(1, octets, LONG_AGO)
+                self.assertEqual(engine.asked().arguments, values[0])
+                engine.answer_octets(lr.pack(formats[1], *values[1], order=order), order)
+                self.assertEqual(self.reply(engine).body.unpack(formats[1]), values[1])
+                engine.feed(1, octets, LONG_AGO)
+                engine.raise_user("IDL:X:1.0", *values[2])
+                self.assertEqual(self.reply(engine).body.unpack("s" + formats[2]), ("IDL:X:1.0", *values[2]))
+
+    def test_closed(self):
+        engine = self.engine()
+        engine.close()
+        self.fails(Error.EMPTY, engine.connect, 2)
+        self.fails(Error.EMPTY, engine.output)
+        del engine
+        gc.collect()
+
+
+class Player:
+    """Plays a script on an engine, whose owner keeps a counter, and notes what the model of tests/engine.py prints."""
+
+    def __init__(self, terms, dice):
+        self.engine = lr.Engine(counting(), terms.limit, terms.partials, terms.capacity, terms.share)
+        self.total, self.manner, self.dice, self.lines = terms.total, "performs", dice, []
+
+    def answer(self, asked):
+        """Answers what waits, in either order of octets, and returns whether it did."""
+        if self.manner == "mistypes":
+            try:
+                self.engine.answer_octets(self.dice.choice([b"", bytes(4), bytes(7), bytes(9)]))
+            except lr.LemonrudderError as error:
+                assert error.number == Error.OUTCOME, error
+        if self.manner in ("gives_up", "mistypes"):
+            return False
+        if self.manner == "performs":
+            total = self.total + (asked.arguments[0] if asked.operation == "add" else 0)
+            if not -1 << 63 <= total < 1 << 63:
+                self.engine.raise_user(OVERFLOW)
+                return True
+            self.total, order = total, self.dice.choice([BIG, LITTLE])
+            self.engine.answer_octets(lr.pack("q", total, order=order), order)
+            return True
+        _, name, minor = self.manner.split(" ")
+        self.engine.raise_system(name, int(minor), lr.Completed.MAYBE)
+        return True
+
+    def feed(self, number, moment, octets):
+        """Feeds a piece: the lines of what is asked, the octets that are due, and whether a request was given up."""
+        asks, due, at = [], b"", 0
+        while at < len(octets):
+            at = self.engine.feed(number, octets, moment, at)
+            due += self.engine.output()
+            asked = self.engine.asked()
+            if asked is None:
+                continue
+            asks.append(f"ask {asked.connection} {asked.key.decode()} {asked.operation}")
+            if not self.answer(asked):
+                self.engine.give_up()
+                return asks, due, True
+            due += self.engine.output()
+        return asks, due, False
+
+    def step(self, name, number, moment=0, octets=b""):
+        """Takes an event on a connection, and notes its lines."""
+        asks, due, is_given_up = [], b"", False
+        try:
+            if name == "open":
+                self.engine.connect(number)
+            elif name == "lost":
+                self.engine.lost(number)
+            elif name == "close":
+                self.engine.farewell(number)
+                due = self.engine.output()
+            else:
+                asks, due, is_given_up = self.feed(number, moment, octets)
+        except lr.LemonrudderError as error:
+            if error.number != Error.CONNECTION:
+                raise
+        self.lines += asks
+        if due:
+            self.lines.append(f"{number} {due.hex()}")
+        if is_given_up:
+            self.lines.append(f"given_up {number}")
+
+    def play(self, events):
+        for name, *words in events:
+            if name == "owner":
+                self.manner = words[0]
+            else:
+                self.step(name, *words)
+        self.engine.close()
+        return [*self.lines, f"total {self.total}"]
+
+
+class Scripts(Case):
+    """Random events on an engine, against the model of tests/engine.py."""
+
+    def test_scripts(self):
+        dice = random.Random(SEED)
+        for number in range(SCRIPTS):
+            terms, streams, events = model.Maker(dice).made()
+            for kind, some in (("whole", events), ("in pieces", list(model.in_pieces(dice, events)))):
+                with self.subTest(number=number, kind=kind):
+                    # how many requests came before one that was given up is not told here
+                    wanted = [re.sub(r"^(given_up \d+) \d+$", r"\1", line)
+                              for line in model.lines_of(terms, streams, some)]
+                    self.assertEqual(Player(terms, dice).play(some), wanted)
+
+
+# ---- both ends over asyncio ----
+
+
+class Cutter:
+    """Passes octets on between clients and a server, and cuts each connection after some, at random."""
+
+    def __init__(self, dice, port):
+        self.dice, self.port, self.cuts, self.is_calm = dice, port, 0, False
+
+    async def listen(self):
+        self.listener = await asyncio.start_server(self.serve, "127.0.0.1", 0)
+        return self.listener.sockets[0].getsockname()[1]
+
+    async def serve(self, reader, writer):
+        try:
+            there, back = await asyncio.open_connection("127.0.0.1", self.port)
+        except OSError:
+            writer.transport.abort()
+            return
+        both = [writer, back]
+        await asyncio.gather(self.carry(reader, back, both), self.carry(there, writer, both))
+
+    async def carry(self, reader, writer, both):
+        """Passes octets one way, in pieces that are cut anywhere, until they end or enough have passed."""
+        left = self.dice.choice([self.dice.randint(0, 60), self.dice.randint(0, 400), self.dice.randint(0, 3000)])
+        try:
+            while self.is_calm or left > 0:
+                piece = await reader.read(self.dice.choice([1, 7, 50, 4096]))
+                if not piece:
+                    break
+                piece = piece if self.is_calm else piece[:left]
+                left -= len(piece)
+                writer.write(piece)
+                await writer.drain()
+            else:
+                self.cuts += 1
+        except OSError:
+            pass
+        for one in both:
+            if self.dice.random() < 0.5:
+                one.close()
+            else:
+                one.transport.abort()
+
+
+def example(name, *words):
+    """The words that start an example."""
+    return [sys.executable, os.path.join(ROOT, "examples", name), *words]
+
+
+class Ends(Case):
+    """A server and clients over loopback."""
+
+    def run_async(self, coroutine):
+        async def bounded():
+            await asyncio.wait_for(coroutine, SECONDS)
+        asyncio.run(bounded())
+
+    async def pair(self, operations, raises=None, servant=None, **terms):
+        """A server of one object of the key `k`, and a client of it."""
+        server = lr.Server(**terms)
+        server.add("k", "IDL:K:1.0", operations, raises, servant)
+        await server.listen()
+        return server, lr.Client.of(server.reference("k"), delays=(0.001, 0.01))
+
+    def test_values(self):
+        async def main():
+            seen = []
+
+            def note(*values):
+                seen.append(values)
+
+            operations = {
+                "none": ("", "", note),
+                "two": ("s[(lq)]", "e3?", lambda name, pairs: (len(pairs), name == "x")),
+                "one": ("(B)", "(sc)", lambda pair: ("é", "x")),
+                "octets": ("o", "o", lambda octets: octets[::-1]),
+            }
+            server, client = await self.pair(operations)
+            async with server, client:
+                self.assertIsNone(await client.call("k", "none"))
+                self.assertEqual(seen, [()])
+                self.assertEqual(await client.call("k", "two", "s[(lq)]", ("x", [(1, 2), (3, 4)]), "e3?"), (2, True))
+                self.assertEqual(await client.call("k", "one", "(B)", [(7,)], "(sc)"), ("é", "x"))
+                octets = random.Random(SEED).randbytes(300000)
+                self.assertEqual(await client.call(client.key, "octets", "o", [octets], "o"), octets[::-1])
+                self.assertTrue(await client.call("k", "_is_a", "s", ["IDL:K:1.0"], "?"))
+                self.assertFalse(await client.call("k", "_is_a", "s", ["IDL:L:1.0"], "?"))
+                self.assertFalse(await client.call("k", "_non_existent", "", (), "?"))
+        self.run_async(main())
+
+    def test_exceptions(self):
+        def raising(error):
+            def function():
+                raise error
+            return "", "q", function
+
+        async def main():
+            operations = {
+                "user": raising(lr.UserException("IDL:X:1.0", ["a", 5])),
+                "other": raising(lr.UserException("IDL:Y:1.0")),
+                "members": raising(lr.UserException("IDL:X:1.0", ["a"])),
+                "system": raising(lr.SystemException("NO_PERMISSION", 77, lr.Completed.NO)),
+                "unknown": raising(lr.SystemException("TIMEOUT", 5, lr.Completed.YES)),
+                "minor": raising(lr.SystemException("INTERNAL", -1)),
+                "error": raising(ZeroDivisionError()),
+                "wrong": ("", "q", lambda: "text"),
+                "missing": ("", "qq", lambda: (1,)),
+                "surplus": ("", "", lambda: 5),
+            }
+            raises = {name: {"IDL:X:1.0": "sl"} for name in ("user", "other", "members")}
+            server, client = await self.pair(operations, raises)
+            wanted = {
+                "other": ("UNKNOWN", 0, 2), "members": ("UNKNOWN", 0, 2), "system": ("NO_PERMISSION", 77, 1),
+                "unknown": ("UNKNOWN", 5, 0), "minor": ("UNKNOWN", 0, 2), "error": ("UNKNOWN", 0, 2),
+                "wrong": ("INTERNAL", 0, 2), "missing": ("INTERNAL", 0, 2), "surplus": ("INTERNAL", 0, 2),
+                "nothing": ("BAD_OPERATION", 0, 1),
+            }
+            async with server, client:
+                for name, parts in wanted.items():
+                    with self.subTest(name), self.assertRaises(lr.SystemException) as caught:
+                        await client.call("k", name, results="q")
+                    raised = caught.exception
+                    self.assertEqual((raised.name, raised.minor, raised.completed), parts)
+                with self.assertRaises(lr.UserException) as caught:
+                    await client.call("k", "user", results="q", raises={"IDL:X:1.0": "sl"})
+                self.assertEqual((caught.exception.id, caught.exception.values), ("IDL:X:1.0", ("a", 5)))
+                with self.assertRaises(lr.UserException) as caught:
+                    await client.call("k", "user", results="q")
+                self.assertEqual(caught.exception.body.unpack("sl"), ("a", 5))
+                with self.assertRaises(lr.LemonrudderError):
+                    await client.call("k", "_non_existent", results="q")
+        with self.assertLogs("lemonrudder"):
+            self.run_async(main())
+
+    def test_what_is_no_object(self):
+        async def slow():
+            pass
+
+        server = lr.Server()
+        with self.assertRaises(TypeError):
+            server.add("k", "IDL:K:1.0", {"slow": ("", "", slow)})
+        with self.assertRaises(TypeError):
+            server.add("k", "IDL:K:1.0", {"none": ("", "", None)})
+        with self.assertRaises(AttributeError):
+            server.add("k", "IDL:K:1.0", {"none": ("", "")}, servant=object())
+        with self.assertRaises(ValueError):
+            server.add("k", "IDL:K:1.0", {"bad": ("x", "", print)})
+        with self.assertRaises(ValueError):
+            server.add("k", "IDL:K:1.0", {}, raises={"other": {}})
+        with self.assertRaises(ValueError):
+            server.add("k", "IDL:K:1.0", {"raw": print}, raises={"raw": {}})
+        server.add("k", ["IDL:K:1.0"], {})
+        self.fails(Error.TAKEN, server.add, "k", "IDL:K:1.0", {})
+        with self.assertRaises(ValueError):
+            server.reference("k")
+
+    def test_raw_operations_and_forwards(self):
+        there = lr.Ior.iiop("IDL:K:1.0", "elsewhere", 7, "key")
+
+        def forward(body):
+            profiles = [(profile.tag, profile.data) for profile in there.profiles]
+            octets = lr.pack("s[(Lo)]", there.type_id, profiles, order=LITTLE)
+            return lr.RawReply(octets, LITTLE, lr.ReplyStatus.LOCATION_FORWARD)
+
+        def twice(body):
+            number, = body.unpack("l")
+            return lr.pack("l", 2 * number)
+
+        async def main():
+            server, client = await self.pair({"forward": forward, "twice": twice, "wrong": lambda body: 5})
+            async with server, client:
+                self.assertEqual(await client.call("k", "twice", "l", [21], "l"), 42)
+                with self.assertRaises(lr.ForwardRequest) as caught:
+                    await client.call("k", "forward", "s", ["x"])
+                self.assertEqual(caught.exception.ior, there)
+                with self.assertRaises(lr.SystemException) as caught:
+                    await client.call("k", "wrong")
+                self.assertEqual(caught.exception.name, "INTERNAL")
+        with self.assertLogs("lemonrudder"):
+            self.run_async(main())
+
+    def test_given_up_and_asked_again(self):
+        async def main():
+            asked = []
+
+            def function(number):
+                asked.append(number)
+                if len(asked) < 4:
+                    raise lr.GiveUp
+                return number
+
+            server, client = await self.pair({"op": ("l", "l", function)})
+            async with server, client:
+                self.assertEqual(await client.call("k", "op", "l", [5], "l"), 5)
+                self.assertEqual(asked, [5] * 4)
+        self.run_async(main())
+
+    def test_many_calls_at_once(self):
+        async def main():
+            server, client = await self.pair({"twice": ("l", "l", lambda number: 2 * number)})
+            async with server, client:
+                calls = [client.call("k", "twice", "l", [number], "l") for number in range(300)]
+                self.assertEqual(await asyncio.gather(*calls), [2 * number for number in range(300)])
+        self.run_async(main())
+
+    def test_expirations(self):
+        async def main():
+            async with lr.Client("127.0.0.1", 9, delays=(0.001, 0.01)) as client:
+                began = asyncio.get_running_loop().time()
+                with self.assertRaises(lr.Expired):
+                    await client.call("k", "op", timeout=0.2)
+                self.assertLess(asyncio.get_running_loop().time() - began, 5)
+                with self.assertRaises(lr.Expired):
+                    await client.call("k", "op", expiration=lr.now() - 1)
+                with self.assertRaises(TimeoutError):
+                    await client.call("k", "op", timeout=0)
+        self.run_async(main())
+
+    def test_cancelled(self):
+        async def main():
+            got = asyncio.get_running_loop().create_future()
+
+            async def serve(reader, writer):
+                octets = b""
+                while lr.write_cancel(1)[:8] not in octets:
+                    octets += await reader.read(4096)
+                got.set_result(octets)
+                writer.close()
+
+            listener = await asyncio.start_server(serve, "127.0.0.1", 0)
+            async with lr.Client("127.0.0.1", listener.sockets[0].getsockname()[1]) as client:
+                call = asyncio.ensure_future(client.call("k", "op"))
+                await asyncio.sleep(0.2)
+                call.cancel()
+                octets = await got
+                with self.assertRaises(asyncio.CancelledError):
+                    await call
+            kinds = [message.type.name for message in lr.messages(octets)]
+            self.assertEqual(kinds, ["REQUEST", "CANCEL_REQUEST"])
+            listener.close()
+        self.run_async(main())
+
+    def test_closed_ends(self):
+        async def main():
+            async with lr.Client("127.0.0.1", 9) as client:
+                call = asyncio.ensure_future(client.call("k", "op"))
+                await asyncio.sleep(0.05)
+            with self.assertRaises(ConnectionError):
+                await call
+            with self.assertRaises(ConnectionError):
+                await client.call("k", "op")
+            await client.close()
+        self.run_async(main())
+
+    def test_a_server_that_comes_back(self):
+        async def main():
+            operations = {"get": ("", "l", lambda: 1)}
+            server, client = await self.pair(operations)
+            port = client.port
+            async with client:
+                self.assertEqual(await client.call("k", "get", results="l"), 1)
+                await server.close()
+                call = asyncio.ensure_future(client.call("k", "get", results="l"))
+                await asyncio.sleep(0.1)
+                server = lr.Server()
+                server.add("k", "IDL:K:1.0", {"get": ("", "l", lambda: 2)})
+                async with server:
+                    await server.listen("127.0.0.1", port)
+                    self.assertEqual(await call, 2)
+        self.run_async(main())
+
+    def test_serve_forever(self):
+        async def main():
+            server, client = await self.pair({"get": ("", "l", lambda: 1)})
+            serving = asyncio.ensure_future(server.serve_forever())
+            async with client:
+                self.assertEqual(await client.call("k", "get", results="l"), 1)
+                serving.cancel()
+                with self.assertRaises(asyncio.CancelledError):
+                    await serving
+                self.assertTrue(server.is_closed)
+        self.run_async(main())
+
+    def test_capacity(self):
+        async def main():
+            server, client = await self.pair({"get": ("", "l", lambda: 1)}, capacity=2, share=2)
+            async with server, client:
+                for _ in range(2):
+                    await client.call("k", "get", results="l")
+                with self.assertRaises(lr.SystemException) as caught:
+                    await client.call("k", "get", results="l")
+                self.assertEqual(caught.exception.name, "NO_RESOURCES")
+        self.run_async(main())
+
+    def test_a_hostile_peer(self):
+        async def main():
+            server, client = await self.pair({"get": ("", "l", lambda: 1)})
+            async with server, client:
+                reader, writer = await asyncio.open_connection(client.host, client.port)
+                writer.write(b"nonsense, and more of it")
+                message, = lr.messages(await reader.read())
+                self.assertIs(message.type, lr.MessageType.MESSAGE_ERROR)
+                writer.close()
+                self.assertEqual(await client.call("k", "get", results="l"), 1)
+        self.run_async(main())
+
+
+class Bank(Case):
+    """The bank of the examples, whose clients lose their connections."""
+
+    CLIENTS, DEPOSITS = 50, 12
+
+    def test_each_deposit_acts_once(self):
+        with subprocess.Popen(example("bank.py"), stdout=subprocess.PIPE, text=True) as bank:
+            try:
+                asyncio.run(asyncio.wait_for(self.play(lr.Ior.parse(bank.stdout.readline())), SECONDS))
+            finally:
+                bank.terminate()
+
+    async def play(self, reference):
+        profile, dice = reference.profiles[0], random.Random(SEED)
+        cutter = Cutter(dice, profile.port)
+        port = await cutter.listen()
+        clients = [lr.Client(profile.host, port, version=dice.randrange(3), delays=(0.001, 0.02))
+                   for _ in range(self.CLIENTS)]
+        ended = await asyncio.gather(*(self.trade(dice, client, f"account {number}", profile.key)
+                                       for number, client in enumerate(clients)))
+        self.assertGreater(cutter.cuts, self.CLIENTS)
+        cutter.is_calm = True
+        for number, client in enumerate(clients):
+            with self.subTest(client=number):
+                wanted = (1 << self.DEPOSITS) - 1
+                account = f"account {number}"
+                self.assertEqual(await client.call(profile.key, "balance", "s", [account], "q"), wanted)
+                totals, refused = ended[number]
+                # each deposit is another power of two, so that each total says which came before it
+                self.assertEqual(sorted(bin(total).count("1") for total in totals), list(range(1, self.DEPOSITS + 1)))
+                self.assertEqual(max(totals), wanted)
+                self.assertTrue(all(0 <= balance <= wanted for balance in refused))
+            await client.close()
+        cutter.listener.close()
+
+    async def trade(self, dice, client, account, key):
+        """Deposits powers of two, some at once, and tries to take too much between. The totals, and the balances."""
+        amounts = [1 << bit for bit in range(self.DEPOSITS)]
+        dice.shuffle(amounts)
+        totals, refused = [], []
+        while amounts:
+            some, amounts = amounts[:3], amounts[3:]
+            calls = [client.call(key, "deposit", "sq", (account, cents), "q") for cents in some]
+            totals += await asyncio.gather(*calls)
+            try:
+                await client.call(key, "deposit", "sq", (account, -1 << 40), "q", {OVERDRAWN: "q"})
+            except lr.UserException as raised:
+                refused += raised.values
+        self.assertEqual(len(refused), len(totals) // 3)
+        return totals, refused
+
+
+FOLLOW = """
+===================================================================
+Follow: tcp,raw
+Filter: tcp.stream eq 0
+Node 0: 127.0.0.1:40000
+Node 1: 127.0.0.1:2809
+{}
+\t{}
+{}
+===================================================================
+"""
+
+
+class Captures(Case):
+    """The example that decodes a capture."""
+
+    def shown(self, capture):
+        run = subprocess.run(example("capture.py"), input=capture, capture_output=True, text=True, timeout=SECONDS)
+        self.assertEqual((run.returncode, run.stderr), (0, ""))
+        return run.stdout.splitlines()
+
+    def test_octets(self):
+        with open(os.path.join(ROOT, "examples", "omniorb_retry.hex")) as file:
+            lines = self.shown(file.read())
+        self.assertEqual(len(lines), 3)
+        self.assertTrue(lines[0].startswith("> 1.2 little REQUEST id 2 reply full key 63 operation add context 13 "))
+        self.assertTrue(lines[0].endswith(" client A retention 1 expiration 200000000000000000 body 07000000"))
+        self.assertEqual(lines[2], "> 1.2 little CLOSE_CONNECTION")
+
+    def test_both_sides(self):
+        request, reply = lr.write_request(1, b"k", "op", b"12345678"), lr.write_reply(1, b"1234")
+        lines = self.shown(FOLLOW.format(request[:20].hex(), reply.hex(), request[20:].hex()))
+        self.assertEqual(lines, [
+            "< 1.2 big REPLY id 1 status NO_EXCEPTION body 31323334",
+            "> 1.2 big REQUEST id 1 reply full key 6b operation op body 3132333435363738"])
+
+    def test_a_fault(self):
+        close = lr.write_close()
+        lines = self.shown(FOLLOW.format(close.hex() + "00" * 12, close.hex(), close.hex()))
+        self.assertEqual([line[:2] + line.split()[-1] for line in lines],
+                         ["> CLOSE_CONNECTION", "> MAGIC", "< CLOSE_CONNECTION"])
+
+    def test_a_file(self):
+        with tempfile.NamedTemporaryFile("w", suffix=".txt") as file:
+            file.write(lr.write_close().hex())
+            file.flush()
+            run = subprocess.run(example("capture.py", file.name), capture_output=True, text=True, timeout=SECONDS)
+        self.assertEqual(run.stdout.split()[-1], "CLOSE_CONNECTION")
+
+
+HEADER = os.path.join(ROOT, "embed", "include", "lemonrudder.h")
+# what stands for the names of the header, by how they begin; of several the first that has the name counts
+ENUMS = [
+    ("LR_E_", lr.Error), ("LR_WISH_", lr.Wish), ("LR_COMPLETED_", lr.Completed), ("LR_PART_", lr._Part),
+    ("LR_FAULT_", lr.Fault), ("LR_ENDED_", lr._Ended), ("LR_IOR_", lr._IorPart), ("LR_", lr.Order),
+    ("LR_", lr.ReplyStatus), ("LR_", lr.SystemName), ("LR_", lr.MessageType), ("LR_", lr._Code),
+]
+STRUCTS = {
+    "lr_slot": lr._Slot, "lr_request": lr._Request, "lr_completion": lr._Completion, "lr_message": lr._Message,
+    "lr_profile": lr._Profile, "lr_place": lr._Place,
+}
+# what the module has no use for
+UNUSED = ["LR_OK", "LR_PART_PAYLOAD"]
+OTHERS = ["lr_version", "lr_strerror", "lr_moment", "lr_close", "lr_set_heap"]
+
+
+class Header(Case):
+    """What the module says of the library, against the header."""
+
+    def setUp(self):
+        with open(HEADER, encoding="ascii") as file:
+            self.text = re.sub(r"/\*.*?\*/", "", file.read(), flags=re.S)
+
+    def test_numbers(self):
+        found = re.findall(r"\b(LR_\w+) = (-?\d+)", self.text)
+        self.assertGreater(len(found), 90)
+        for name, number in found:
+            with self.subTest(name):
+                known = [enum[name[len(prefix):]] for prefix, enum in ENUMS
+                         if name.startswith(prefix) and name[len(prefix):] in enum.__members__]
+                self.assertEqual(known[:1], [int(number)] if name not in UNUSED else [])
+        self.assertEqual(re.findall(r"#define LR_FT_REQUEST (\d+)", self.text), [str(lr.FT_REQUEST)])
+
+    def test_structs(self):
+        for name, struct_type in STRUCTS.items():
+            with self.subTest(name):
+                body, = re.findall(rf"struct {name} {{(.*?)}};", self.text, re.S) or \
+                    re.findall(rf"struct {{([^}}]*)}} {name};", self.text)
+                members = re.findall(r"(\w+) \*?(\w+);", body)
+                self.assertEqual(len(members), len(struct_type._fields_))
+                for (kind, member), field in zip(members, struct_type._fields_):
+                    ctype = ctypes.c_void_p if kind == "void" else getattr(ctypes, "c_" + kind[:-2])
+                    self.assertEqual(field, (member, ctype))
+
+    def test_functions(self):
+        found = re.findall(r"\b(lr_\w+)\(([^;{}]*?)\);", self.text)
+        self.assertEqual({name for name, _ in found}, {*lr._FUNCTIONS, *OTHERS})
+        for name, parameters in found:
+            if name not in OTHERS:
+                with self.subTest(name):
+                    self.assertEqual(len(parameters.split(",")), len(lr._FUNCTIONS[name]))
+
+
+class Library(Case):
+    """How the library is found, and what it says."""
+
+    def test_errors_have_texts(self):
+        texts = {lr.LemonrudderError(number).text for number in Error}
+        self.assertEqual(len(texts), len(Error))
+        error = lr.LemonrudderError(-10)
+        self.assertIs(error.number, Error.ROOM)
+        self.assertIn("LR_E_ROOM", str(error))
+
+    def test_moments(self):
+        self.assertEqual(lr.moment_of(0), 122192928000000000)
+        self.assertEqual(lr.moment_of(1234567899), 122192928000000000 + 12345678)
+        self.assertEqual(lr.moment_of(10**9 << 63), FAR)
+        with self.assertRaises(ValueError):
+            lr.moment_of(-1)
+        self.assertLess(abs(lr.now() - lr.now()), 10**7)
+
+    def test_the_path(self):
+        for path, text in (("/nowhere/liblemonrudder.so", "can't be loaded"), ("", None)):
+            words = [sys.executable, "-c", "import lemonrudder"]
+            given = {**os.environ, "LEMONRUDDER_LIBRARY": path,
+                     "PYTHONPATH": os.path.join(ROOT, "bindings", "python")}
+            run = subprocess.run(words, env=given, capture_output=True, text=True, timeout=SECONDS)
+            if text:
+                self.assertIn(text, run.stderr)
+                self.assertIn("ImportError", run.stderr)
+
+    def test_beside_the_module(self):
+        with tempfile.TemporaryDirectory() as folder:
+            module = os.path.join(ROOT, "bindings", "python", "lemonrudder.py")
+            os.symlink(module, os.path.join(folder, "lemonrudder.py"))
+            os.symlink(os.environ["LEMONRUDDER_LIBRARY"], os.path.join(folder, "liblemonrudder.so"))
+            words = [sys.executable, "-c", "import lemonrudder; print(lemonrudder.type_codes('l'))"]
+            given = {name: value for name, value in os.environ.items() if name != "LEMONRUDDER_LIBRARY"}
+            run = subprocess.run(words, env={**given, "PYTHONPATH": folder}, capture_output=True, text=True)
+            self.assertEqual((run.stdout, run.stderr), ("b'\\x06'\n", ""))
+
+
+class Counted(unittest.TextTestResult):
+    """Counts what passed, subtests among it."""
+
+    passed = failed = 0
+
+    def addSuccess(self, test):
+        super().addSuccess(test)
+        self.passed += 1
+
+    def addError(self, test, err):
+        super().addError(test, err)
+        self.failed += 1
+
+    def addFailure(self, test, err):
+        super().addFailure(test, err)
+        self.failed += 1
+
+    def addSubTest(self, test, subtest, err):
+        super().addSubTest(test, subtest, err)
+        self.passed += err is None
+        self.failed += err is not None
+
+
+def main():
+    loader = unittest.TestLoader()
+    this = sys.modules[__name__]
+    tests = loader.loadTestsFromNames(sys.argv[2:], this) if sys.argv[2:] else loader.loadTestsFromModule(this)
+    result = unittest.TextTestRunner(sys.stdout, resultclass=Counted, verbosity=0).run(tests)
+    print(f"{result.passed} passed, {result.failed} failed")
+    return 1 if result.failed or not result.passed else 0
+
+
+if __name__ == "__main__":
+    sys.exit(main())
