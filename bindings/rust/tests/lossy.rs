@@ -204,8 +204,8 @@ impl World {
 
 #[test]
 fn each_call_acts_once() -> Result<(), Error> {
-    for seed in 1..=20 {
-        let mut random = Random(seed * 0x9e37_79b9_7f4a_7c15);
+    for seed in 1_u64..=20 {
+        let mut random = Random(seed.wrapping_mul(0x9e37_79b9_7f4a_7c15));
         let mut world = World::new()?;
         for _ in 0..4000 {
             world.step(&mut random)?;

@@ -47,7 +47,8 @@ fn a_request_is_written_and_read() -> Result<(), Error> {
     assert_eq!((message.reader().long()?, message.body()), (7, &[0, 0, 0, 7][..]));
     assert_eq!(message.payload(), b"");
     let contexts = message.contexts()?;
-    assert_eq!(contexts, [(13, ADD[48..72].to_vec())]);
+    // after the header and 40 octets of fields, which end by the context's length
+    assert_eq!(contexts, [(13, ADD[52..76].to_vec())]);
     Ok(())
 }
 
@@ -96,12 +97,23 @@ fn other_messages_are_written_and_read() -> Result<(), Error> {
     assert_eq!(stream[3], b"GIOP\x01\0\0\x06\0\0\0\0");
     assert_eq!(stream[4], b"GIOP\x01\0\0\x05\0\0\0\0");
 
+    // a Request comes first, and none of its parts is seen afterwards
     let mut assembler = Assembler::open(Limits::default())?;
+    assert_eq!(assembler.feed(ADD)?, ADD.len());
+    assert_eq!(assembler.message()?.expect("it is whole").operation(), b"add");
     let mut read = Vec::new();
     let (stream, mut at) = (stream.concat(), 0);
     while at < stream.len() {
         at += assembler.feed(&stream[at..])?;
-        let message = assembler.message()?.expect("each is whole");
+        let mut message = assembler.message()?.expect("each is whole");
+        let key = (message.message_type() == MessageType::LocateRequest).then_some(&b"c"[..]);
+        assert_eq!(message.key(), key);
+        assert_eq!(
+            (message.operation(), message.body(), message.payload()),
+            (&[][..], &[][..], &[][..])
+        );
+        assert_eq!((message.ft_request(), message.wish(), message.status()), (None, None, None));
+        assert_eq!(message.contexts()?, []);
         read.push((message.message_type(), message.request_id(), message.locate_status()));
     }
     let wanted = [
@@ -112,6 +124,29 @@ fn other_messages_are_written_and_read() -> Result<(), Error> {
         (MessageType::CloseConnection, 0, None),
     ];
     assert_eq!(read, wanted);
+    Ok(())
+}
+
+#[test]
+fn fragments_are_joined() -> Result<(), Error> {
+    // the Request of 84 octets as a first frame of 64, a whole message between, and a Fragment
+    let mut first = ADD[..64].to_vec();
+    first[6] = 2;
+    first[8..12].copy_from_slice(&[0, 0, 0, 52]);
+    let rest = [b"GIOP\x01\x02\0\x07\0\0\0\x18\0\0\0\x05", &ADD[64..]].concat();
+    let between = write::cancel_request(Version::V12, Order::Big, 6)?;
+
+    let mut assembler = Assembler::open(Limits::default())?;
+    assert_eq!(assembler.feed(&first)?, 64);
+    assert!(assembler.message()?.is_none());
+    assert_eq!(assembler.feed(&between)?, between.len());
+    let message = assembler.message()?.expect("it is whole");
+    assert_eq!(message.message_type(), MessageType::CancelRequest);
+    assert_eq!(assembler.feed(&rest)?, rest.len());
+    let message = assembler.message()?.expect("it is joined");
+    assert_eq!((message.message_type(), message.request_id()), (MessageType::Request, 5));
+    assert_eq!((message.operation(), message.reader().long()?), (&b"add"[..], 7));
+    assert_eq!(message.ft_request(), Some(FT));
     Ok(())
 }
 

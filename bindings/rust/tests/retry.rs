@@ -7,8 +7,9 @@ use lemonrudder::{Error, Ior, Moment, Version};
 use std::io::{Read, Write};
 use std::net::{TcpListener, TcpStream};
 use std::path::PathBuf;
-use std::process::Command;
+use std::process::{Command, Output, Stdio};
 use std::sync::mpsc::{channel, Receiver};
+use std::time::{Duration, Instant};
 use std::{env, thread};
 
 /// What the bank has done when it is closed: the connections that were cut, and the bank.
@@ -77,7 +78,9 @@ fn bank_on_a_port(seed: u64) -> (u16, Receiver<Result<Served, Error>>) {
 fn example() -> PathBuf {
     let here = env::current_exe().expect("a test has a path");
     let folder = here.ancestors().nth(2).expect("it stands in deps");
-    folder.join("examples/retry")
+    let example = folder.join("examples").join(format!("retry{}", env::consts::EXE_SUFFIX));
+    assert!(example.is_file(), "run cargo build --examples first: no {}", example.display());
+    example
 }
 
 /// What the example prints of calls that each act once.
@@ -94,10 +97,26 @@ fn expected() -> String {
     lines + &format!("call 31: the balance is {balance}\n")
 }
 
+/// What the example prints, which has to end in time.
+fn output_of(words: Vec<String>) -> Output {
+    let mut command = Command::new(example());
+    command.args(words).stdout(Stdio::piped()).stderr(Stdio::piped());
+    let mut child = command.spawn().expect("it runs");
+    let begun = Instant::now();
+    while child.try_wait().expect("it is a child").is_none() {
+        if begun.elapsed() > Duration::from_secs(60) {
+            child.kill().expect("it is killed");
+            panic!("the example does not end");
+        }
+        thread::sleep(Duration::from_millis(5));
+    }
+    child.wait_with_output().expect("it has ended")
+}
+
 /// Runs the example on a bank.
 fn run(seed: u64, words: impl FnOnce(u16) -> Vec<String>) {
     let (port, served) = bank_on_a_port(seed);
-    let output = Command::new(example()).args(words(port)).output().expect("it runs");
+    let output = output_of(words(port));
     assert!(output.status.success(), "{}", String::from_utf8_lossy(&output.stderr));
     let printed = String::from_utf8(output.stdout).expect("it prints text");
     let mut lines: Vec<&str> = printed.lines().collect();
