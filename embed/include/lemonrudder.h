@@ -2,23 +2,27 @@
  * lemonrudder.h: GIOP 1.0, 1.1 and 1.2 over IIOP (OMG CORBA 3.3 Part 2, clause 9) and the FT_REQUEST service context
  * of Fault Tolerant CORBA, as a library of proved functions. C99 or later, C++11 or later.
  *
- * The library opens no socket, reads no clock, starts no thread and calls nobody back. It takes octets and moments, and
- * gives octets and what is to be done. Nothing in it is global, and no call ends the process.
+ * The library opens no socket, reads no clock, starts no thread and calls nobody back. It takes octets and moments,
+ * and gives octets and what is to be done. Nothing in it is global but
+ * the heap (lr_set_heap), and no call ends the process.
  *
  * Slots.  An object lives in a slot of yours: lr_server, lr_client and so on, each of which is a struct lr_slot. All
- * zero is an empty slot, so that `lr_server s = LR_INIT;` is right. lr_close empties a slot and frees what it held; on an
- * empty one it does nothing, so closing twice is harmless. A slot may be moved in memory between calls, if the old place
- * is not used again. Two calls at once must not use one slot; different slots may be used by different threads.
+ * zero is an empty slot, so that `lr_server s = LR_INIT;` is right. lr_close empties a slot and frees what it held;
+ * on an empty one it does nothing, so closing twice is harmless. A slot may be moved in memory between calls, if the
+ * old place is not used again. Two calls at once must not use one slot; different slots may be used by different
+ * threads.
  *
  * Octets.  A pointer and a size lend octets for the time of the call; the library keeps none of your pointers. A size
- * of 0 lends none, and the pointer may then be NULL. What is written into room of yours is written from its first octet
- * on. Room must not overlap a slot, or octets that are lent to the same call.
+ * of 0 lends none, and the pointer may then be NULL. What is written into room of yours is written from its first
+ * octet on. Room must not overlap a slot, or octets that are lent to the same call.
  *
- * Results.  Each function answers an int64_t: 0 or more, a count or LR_OK; below 0, an error LR_E_.., and then nothing
- * has changed, unless the function says otherwise. lr_strerror gives its text.
+ * Results.  Each function answers an int64_t: 0 or more, a count where the function says so and else LR_OK, which is
+ * 0; below 0, an error LR_E_.., and then nothing has changed, unless the function says otherwise. lr_strerror gives
+ * its text.
  *
- * Numbers.  Connections are your numbers. A moment counts 100 ns since 15 October 1582, 00:00 UTC, as an expiration of
- * FT_REQUEST does; lr_moment makes one of seconds and nanoseconds since 1970. A version is its minor number: 0, 1 or 2.
+ * Numbers.  Connections are your numbers. A moment counts 100 ns since 15 October 1582, 00:00 UTC, as an expiration
+ * of FT_REQUEST does; lr_moment makes one of seconds and nanoseconds since 1970. A version is its minor number: 0, 1
+ * or 2.
  */
 #ifndef LEMONRUDDER_H
 #define LEMONRUDDER_H
@@ -64,7 +68,7 @@ enum {
   LR_E_OPEN = -2,       /* the slot holds an object already */
   LR_E_MEMORY = -3,     /* an allocation failed, and nothing has changed */
   LR_E_RANGE = -4,      /* a number is none of those that are allowed */
-  LR_E_CONNECTION = -5, /* there is no such connection; of lr_server_connect: its number is not greater than each before */
+  LR_E_CONNECTION = -5, /* there is no such connection; of lr_server_connect: its number is not a greater one */
   LR_E_ASKING = -6,     /* a request waits for its outcome */
   LR_E_IDLE = -7,       /* no request waits */
   LR_E_DUE = -8,        /* octets are due that were not taken */
@@ -136,10 +140,10 @@ enum {
 };
 
 /*
- * Types, as octets.  Each code stands for a type; a code of several parts takes the types before it. So a string, and then
- * a sequence of longs, are {LR_STRING, LR_LONG, LR_SEQUENCE}, and a struct of these two members
- * {LR_STRING, LR_LONG, LR_SEQUENCE, LR_STRUCT, 2}. Strings and sequences have no bounds. A sequence of octets is
- * LR_OCTETS. What has no code, as a union, can be had by raw operations.
+ * Types, as octets.  Each code stands for a type; a code of several parts takes the types before it. So a string, and
+ * then a sequence of longs, are {LR_STRING, LR_LONG, LR_SEQUENCE}, and a struct of these two members {LR_STRING,
+ * LR_LONG, LR_SEQUENCE, LR_STRUCT, 2}. Strings and sequences have no bounds. A sequence of octets is LR_OCTETS. What
+ * has no code, as a union, can be had by raw operations.
  */
 enum {
   LR_BOOLEAN = 1,
@@ -179,7 +183,7 @@ int64_t lr_catalogue_exception(lr_catalogue *catalogue, const void *id, size_t i
 
 /* Adds an operation: the types of its arguments (the in and inout parameters in order), and of its results (the return
  * value, and then the inout and out parameters in order). It raises the exceptions that were declared since the last
- * one was added; where it is refused these are forgotten.
+ * one was added; where it is refused, for memory too, these are forgotten.
  * LR_E_EMPTY, LR_E_TYPES, LR_E_TEXT, LR_E_OBJECT, LR_E_RAW, LR_E_TAKEN, LR_E_MEMORY. */
 int64_t lr_catalogue_operation(lr_catalogue *catalogue, const void *key, size_t key_size,
                                const void *name, size_t name_size,
@@ -191,24 +195,24 @@ int64_t lr_catalogue_operation(lr_catalogue *catalogue, const void *key, size_t 
 int64_t lr_catalogue_raw_operation(lr_catalogue *catalogue, const void *key, size_t key_size,
                                    const void *name, size_t name_size);
 
-/* Names the repository ids of an object, with a NUL after each: "IDL:Bank:1.0" has one, with the NUL that ends it. The
- * object has the operations _is_a and _non_existent then, as a checked narrow of an ORB asks for (CORBA 3.3 Part 1, 8.3);
- * lr_server_identify answers them. LR_E_EMPTY, LR_E_TEXT (the last octet is no NUL), LR_E_OBJECT, LR_E_RAW, LR_E_TAKEN,
- * LR_E_MEMORY. */
+/* Names the repository ids of an object, with a NUL after each: "IDL:Bank:1.0" has one, with the NUL that ends it.
+ * The object has the operations _is_a and _non_existent then, as a checked narrow of an ORB asks for (CORBA 3.3 Part
+ * 1, 8.3); lr_server_identify answers them. LR_E_EMPTY, LR_E_TEXT (the last octet is no NUL), LR_E_OBJECT, LR_E_RAW,
+ * LR_E_TAKEN, LR_E_MEMORY. */
 int64_t lr_catalogue_repository_ids(lr_catalogue *catalogue, const void *key, size_t key_size,
                                     const void *ids, size_t ids_size);
 
 /* ---- a server of requests that may be sent again ---- */
 
 /*
- * Octets that come on connections go in by lr_server_feed, up to a request that is to be performed. lr_server_asked says
- * what it asks for; you perform it, and hand in what came of it by lr_server_answer or one of its like, which keeps it for
- * repeats and makes the reply. Octets that are due go out by lr_server_output after each call. Repeats are answered from
- * what was kept; they, and requests that are expired, not valid or refused, never come to you.
+ * Octets that come on connections go in by lr_server_feed, up to a request that is to be performed. lr_server_asked
+ * says what it asks for; you perform it, and hand in what came of it by lr_server_answer or one of its like, which
+ * keeps it for repeats and makes the reply. Octets that are due go out by lr_server_output after each call. Repeats
+ * are answered from what was kept; they, and requests that are expired, not valid or refused, never come to you.
  *
- * One request waits at a time. While it does, lr_server_feed, lr_server_connect, lr_server_lost and lr_server_farewell answer
- * LR_E_ASKING. What is due belongs to one connection; until it is taken, lr_server_feed and lr_server_farewell of another
- * answer LR_E_DUE.
+ * One request waits at a time. While it does, lr_server_feed, lr_server_connect, lr_server_lost and
+ * lr_server_farewell answer LR_E_ASKING. What is due belongs to one connection; until it is taken, lr_server_feed and
+ * lr_server_farewell of another answer LR_E_DUE.
  */
 
 /* Opens a server of the objects of a catalogue, which is empty afterwards. A message has at most message_limit octets,
@@ -225,12 +229,12 @@ int64_t lr_server_connect(lr_server *server, uint64_t connection);
 /* Forgets a connection that is gone, if there is one, and the octets that are due on it. LR_E_EMPTY, LR_E_ASKING. */
 int64_t lr_server_lost(lr_server *server, uint64_t connection);
 
-/* Says goodbye: CloseConnection is due (CORBA 3.3 Part 2, 9.4.7), unless the connection's stream has ended. What comes on
- * it afterwards has no meaning. LR_E_EMPTY, LR_E_ASKING, LR_E_DUE, LR_E_CONNECTION, LR_E_LOST. */
+/* Says goodbye: CloseConnection is due (CORBA 3.3 Part 2, 9.4.7), unless the connection's stream has ended. What
+ * comes on it afterwards has no meaning. LR_E_EMPTY, LR_E_ASKING, LR_E_DUE, LR_E_CONNECTION, LR_E_LOST. */
 int64_t lr_server_farewell(lr_server *server, uint64_t connection);
 
-/* 1 where the connection was never opened, is gone, has ended or was said goodbye to, so that its socket is to be closed
- * once what is due is sent; else 0. LR_E_EMPTY. */
+/* 1 where the connection was never opened, is gone, has ended or was said goodbye to, so that its socket is to be
+ * closed once what is due is sent; else 0. LR_E_EMPTY. */
 int64_t lr_server_is_closed(lr_server *server, uint64_t connection);
 
 /* Takes octets of a connection that came at a moment, and answers how many it took: all of them, or those up to a
@@ -266,39 +270,41 @@ int64_t lr_server_asked(lr_server *server, lr_request *request);
  * LR_E_EMPTY, LR_E_IDLE, LR_E_NONE, LR_E_MEMORY. */
 int64_t lr_server_part(lr_server *server, uint32_t part, void *room, size_t size);
 
-/* Answers the request that waits by its results: octets of an order, aligned from place 0. LR_E_EMPTY, LR_E_IDLE, LR_E_RANGE,
- * LR_E_OUTCOME, LR_E_MEMORY (it waits still), and LR_E_LOST: the outcome counts and is kept, and its reply is lost. */
+/* Answers the request that waits by its results: octets of an order, aligned from place 0, and none left over.
+ * LR_E_EMPTY, LR_E_IDLE, LR_E_RANGE, LR_E_OUTCOME, LR_E_MEMORY (it waits still), and LR_E_LOST: the outcome counts
+ * and is kept, and its reply is lost. */
 int64_t lr_server_answer(lr_server *server, uint32_t order, const void *results, size_t size);
 
-/* Answers by an exception that the operation declares: its repository id, and its members as of lr_server_answer. Errors
- * as of lr_server_answer. */
-int64_t lr_server_raise(lr_server *server, const void *id, size_t id_size, uint32_t order, const void *members, size_t size);
+/* Answers by an exception that the operation declares: its repository id, and its members as of lr_server_answer.
+ * Errors as of lr_server_answer. */
+int64_t lr_server_raise(lr_server *server, const void *id, size_t id_size, uint32_t order,
+                        const void *members, size_t size);
 
 /* Answers by a system exception, LR_MARSHAL to LR_TRANSIENT, with a minor code and LR_COMPLETED_... Errors as of
  * lr_server_answer. */
 int64_t lr_server_system(lr_server *server, uint32_t name, uint32_t minor, uint32_t completed);
 
-/* Answers a raw operation by the body of a Reply: its status, LR_NO_EXCEPTION to LR_LOCATION_FORWARD, its order, and at most
- * 1048576 octets, written for a place divisible by 8. Errors as of lr_server_answer. */
+/* Answers a raw operation by the body of a Reply: its status, LR_NO_EXCEPTION to LR_LOCATION_FORWARD, its order, and
+ * at most 1048576 octets, written for a place divisible by 8. Errors as of lr_server_answer. */
 int64_t lr_server_answer_raw(lr_server *server, uint32_t status, uint32_t order, const void *body, size_t size);
 
-/* Answers _is_a and _non_existent of an object that names its repository ids: 1 where that is what waits, and it is answered; else
- * 0. Errors as of lr_server_answer. */
+/* Answers _is_a and _non_existent of an object that names its repository ids: 1 where that is what waits, and it is
+ * answered; else 0. Errors as of lr_server_answer. */
 int64_t lr_server_identify(lr_server *server);
 
-/* Gives up the request that waits: you can't perform it now, and have done nothing. Nothing is kept, and its connection is
- * gone; it is asked again when it comes again. LR_E_EMPTY, LR_E_IDLE. */
+/* Gives up the request that waits: you can't perform it now, and have done nothing. Nothing is kept, and its
+ * connection is gone; it is asked again when it comes again. LR_E_EMPTY, LR_E_IDLE. */
 int64_t lr_server_give_up(lr_server *server);
 
-/* Moves octets that are due into the room, as many as it has, and answers how many: 0 where none are left. They belong to
- * the connection of the last call. LR_E_EMPTY. */
+/* Moves octets that are due into the room, as many as it has, and answers how many: 0 where none are left. They
+ * belong to the connection of the last call. LR_E_EMPTY. */
 int64_t lr_server_output(lr_server *server, void *room, size_t size);
 
 /* ---- a client that sends its calls again ---- */
 
 /*
- * Each call is sent with FT_REQUEST, once on each connection until it is answered or its expiration is past, so that a server
- * that keeps outcomes performs it once. Octets that are due are moved by lr_client_output after each call.
+ * Each call is sent with FT_REQUEST, once on each connection until it is answered or its expiration is past, so that
+ * a server that keeps outcomes performs it once. Octets that are due are moved by lr_client_output after each call.
  */
 
 /* Opens a client that is not connected. Its id, 1 to 256 octets without a NUL, names it to each server. Limits as of
@@ -316,28 +322,29 @@ int64_t lr_client_lost(lr_client *client);
 /* 1 where it is connected, else 0. LR_E_EMPTY. */
 int64_t lr_client_is_connected(lr_client *client);
 
-/* Calls an operation of an object, and answers the number of the call: 1, 2 and so on. `types` are those of the arguments,
- * which are octets of an order, aligned from place 0. LR_E_EMPTY, LR_E_RANGE, LR_E_TYPES, LR_E_TEXT, LR_E_SHORT,
- * LR_E_VALUE, LR_E_EXPIRED, LR_E_CALLS, LR_E_LONG, LR_E_MEMORY. */
+/* Calls an operation of an object, and answers the number of the call: 1, 2 and so on. `types` are those of the
+ * arguments, which are octets of an order, aligned from place 0, and none left over. LR_E_EMPTY, LR_E_RANGE,
+ * LR_E_TYPES, LR_E_TEXT, LR_E_SHORT, LR_E_VALUE, LR_E_EXPIRED, LR_E_CALLS, LR_E_LONG, LR_E_MEMORY. */
 int64_t lr_client_call(lr_client *client, uint64_t now, uint64_t expiration, const void *key, size_t key_size,
                        const void *operation, size_t operation_size, const uint8_t *types, size_t types_size,
                        uint32_t order, const void *arguments, size_t arguments_size);
 
-/* Cancels a call: 1, and it completes as cancelled, or 0 where it is not pending. LR_E_EMPTY, LR_E_RANGE, LR_E_MEMORY. */
+/* Cancels a call: 1, and it completes as cancelled, or 0 where it is not pending. LR_E_EMPTY, LR_E_RANGE (no number
+ * of 32 bits with a sign), LR_E_MEMORY. */
 int64_t lr_client_cancel(lr_client *client, int64_t call);
 
 /* A moment has come: calls whose expiration is before it complete as expired. LR_E_EMPTY. */
 int64_t lr_client_tick(lr_client *client, uint64_t now);
 
-/* Takes octets that came on the connection. After a fault of the stream, or where the server has said goodbye, the client is
- * not connected any more. LR_E_EMPTY, LR_E_LOST. */
+/* Takes octets that came on the connection, and answers how many: all of them. After a fault of the stream, or where
+ * the server has said goodbye, the client is not connected any more. LR_E_EMPTY, LR_E_LOST. */
 int64_t lr_client_feed(lr_client *client, const void *octets, size_t size);
 
 /* How a call ended. */
 enum {
   LR_ENDED_RETURNED = 0,         /* the body has its results */
   LR_ENDED_RAISED = 1,           /* the body has an exception: its repository id, and its members */
-  LR_ENDED_SYSTEM = 2,           /* the body has a system exception: its repository id, its minor code, its completion */
+  LR_ENDED_SYSTEM = 2,           /* the body has a system exception: its id, its minor code, its completion */
   LR_ENDED_FORWARDED = 3,        /* the body has a reference to ask in place of this one */
   LR_ENDED_NEEDS_ADDRESSING = 4, /* the server wants another addressing */
   LR_ENDED_EXPIRED = 5,
@@ -353,8 +360,8 @@ typedef struct {
   uint32_t reserved;
 } lr_completion;
 
-/* Takes the next completion: 1, or 0 where there is none, and `completion` is as it was. Its body is lent by lr_client_body
- * until the next is taken. LR_E_EMPTY. */
+/* Takes the next completion: 1, or 0 where there is none, and `completion` is as it was. Its body is lent by
+ * lr_client_body until the next is taken. LR_E_EMPTY. */
 int64_t lr_client_completed(lr_client *client, lr_completion *completion);
 
 /* Copies the body of the completion taken last, as much of it as the room has octets, and answers its size. LR_E_EMPTY,
@@ -366,11 +373,12 @@ int64_t lr_client_output(lr_client *client, void *room, size_t size);
 
 /* ---- the messages of a stream ---- */
 
-/* Opens an assembler of a stream of which nothing has come. Limits as of lr_server_open. LR_E_OPEN, LR_E_RANGE, LR_E_MEMORY. */
+/* Opens an assembler of a stream of which nothing has come. Limits as of lr_server_open. LR_E_OPEN, LR_E_RANGE,
+ * LR_E_MEMORY. */
 int64_t lr_assembler_open(lr_assembler *assembler, uint32_t message_limit, uint32_t partials);
 
-/* Takes octets up to and with the end of the next message, or all of them, and answers how many. Fragments are joined. LR_E_EMPTY,
- * LR_E_STREAM: the stream is at its end, and lr_assembler_fault says why. */
+/* Takes octets up to and with the end of the next message, or all of them, and answers how many. Fragments are
+ * joined. LR_E_EMPTY, LR_E_STREAM: the stream is at its end, and lr_assembler_fault says why. */
 int64_t lr_assembler_feed(lr_assembler *assembler, const void *octets, size_t size);
 
 /* The first fault of the stream: 0 where there is none, or LR_FAULT_... LR_E_EMPTY. */
@@ -425,31 +433,34 @@ typedef struct {
   uint64_t expiration;
 } lr_message;
 
-/* The message that the last lr_assembler_feed completed: 1, or 0 where it completed none, and `message` is as it was. LR_E_EMPTY. */
+/* The message that the last lr_assembler_feed completed: 1, or 0 where it completed none, and `message` is as it was.
+ * LR_E_EMPTY. */
 int64_t lr_assembler_message(lr_assembler *assembler, lr_message *message);
 
 /* Copies a part of that message, as much of it as the room has octets, and answers its size. LR_E_EMPTY, LR_E_NONE. */
 int64_t lr_assembler_part(lr_assembler *assembler, uint32_t part, void *room, size_t size);
 
-/* Copies the data of a service context of that message, counted from 0, as much of it as the room has octets, gives its id, and
- * answers its size. LR_E_EMPTY, LR_E_NONE. */
+/* Copies the data of a service context of that message, counted from 0, as much of it as the room has octets, gives
+ * its id, and answers its size. LR_E_EMPTY, LR_E_NONE. */
 int64_t lr_assembler_context(lr_assembler *assembler, uint32_t index, uint32_t *id, void *room, size_t size);
 
 /* ---- writing messages ---- */
 
 /*
- * Each writes a whole message into the room, and answers its size. LR_E_ROOM where the room is smaller: nothing is written
- * then. LR_E_RANGE, LR_E_TEXT, LR_E_LONG, LR_E_MEMORY; and of a Request of 1.0 or 1.1, LR_E_PLACE, where its body would
- * stand at a place that is not divisible by 8.
+ * Each writes a whole message into the room, and answers its size. LR_E_ROOM where the room is smaller: nothing is
+ * written then. LR_E_RANGE, LR_E_TEXT, LR_E_LONG, LR_E_MEMORY; and of a Request of 1.0 or 1.1, LR_E_PLACE, where its
+ * body would stand at a place that is not divisible by 8.
  */
 
-/* A Request to an object key, with at most one service context, where context_size is not 0 (its id is context_id). The body is
- * octets, written for a place divisible by 8; it is in the order of the message. */
+/* A Request to an object key, with at most one service context, where context_size is not 0 (its id is context_id).
+ * The body is octets, written for a place divisible by 8; it is in the order of the message. */
 int64_t lr_write_request(void *room, size_t size, uint32_t version, uint32_t order, uint32_t request_id, uint32_t wish,
                          const void *key, size_t key_size, const void *operation, size_t operation_size,
-                         uint32_t context_id, const void *context, size_t context_size, const void *body, size_t body_size);
+                         uint32_t context_id, const void *context, size_t context_size,
+                         const void *body, size_t body_size);
 
-/* A Reply without service contexts. The body is octets, written for a place divisible by 8, in the order of the message. */
+/* A Reply without service contexts. The body is octets, written for a place divisible by 8, in the order of the
+ * message. */
 int64_t lr_write_reply(void *room, size_t size, uint32_t version, uint32_t order, uint32_t request_id, uint32_t status,
                        const void *body, size_t body_size);
 
@@ -458,7 +469,8 @@ int64_t lr_write_cancel(void *room, size_t size, uint32_t version, uint32_t orde
 int64_t lr_write_locate_request(void *room, size_t size, uint32_t version, uint32_t order, uint32_t request_id,
                                 const void *key, size_t key_size);
 
-int64_t lr_write_locate_reply(void *room, size_t size, uint32_t version, uint32_t order, uint32_t request_id, uint32_t status);
+int64_t lr_write_locate_reply(void *room, size_t size, uint32_t version, uint32_t order, uint32_t request_id,
+                              uint32_t status);
 
 int64_t lr_write_close(void *room, size_t size); /* CloseConnection */
 
@@ -474,10 +486,10 @@ int64_t lr_write_ft(void *room, size_t size, uint32_t order, const void *client,
 /* Reads a stringified reference, "IOR:" and hexadecimal digits. LR_E_OPEN, LR_E_REFERENCE, LR_E_MEMORY. */
 int64_t lr_ior_parse(lr_ior *ior, const void *text, size_t size);
 
-/* A reference of a type to an object at an address of IIOP 1.minor. LR_E_OPEN, LR_E_RANGE (minor is over 2), LR_E_TEXT (a NUL in the id or the
- * host), LR_E_MEMORY. */
-int64_t lr_ior_iiop(lr_ior *ior, const void *type_id, size_t type_id_size, uint32_t minor, const void *host, size_t host_size,
-                    uint16_t port, const void *key, size_t key_size);
+/* A reference of a type to an object at an address of IIOP 1.minor. LR_E_OPEN, LR_E_RANGE (minor is over 2),
+ * LR_E_TEXT (a NUL in the id or the host), LR_E_MEMORY. */
+int64_t lr_ior_iiop(lr_ior *ior, const void *type_id, size_t type_id_size, uint32_t minor,
+                    const void *host, size_t host_size, uint16_t port, const void *key, size_t key_size);
 
 /* Writes its stringified form, and answers its size. It has no NUL at its end. LR_E_EMPTY, LR_E_ROOM, LR_E_MEMORY. */
 int64_t lr_ior_print(lr_ior *ior, void *room, size_t size);
@@ -506,19 +518,23 @@ int64_t lr_ior_profile(lr_ior *ior, uint32_t index, lr_profile *profile);
 
 enum { LR_IOR_DATA = 0, LR_IOR_HOST = 1, LR_IOR_KEY = 2 };
 
-/* Copies a part of a profile, as much of it as the room has octets, and answers its size. LR_E_EMPTY, LR_E_NONE, LR_E_MEMORY. */
+/* Copies a part of a profile, as much of it as the room has octets, and answers its size. LR_E_EMPTY, LR_E_NONE,
+ * LR_E_MEMORY. */
 int64_t lr_ior_part(lr_ior *ior, uint32_t index, uint32_t part, void *room, size_t size);
 
-/* Copies the data of a tagged component of a profile of IIOP, gives its tag, and answers its size. LR_E_EMPTY, LR_E_NONE, LR_E_MEMORY. */
+/* Copies the data of a tagged component of a profile of IIOP, gives its tag, and answers its size. LR_E_EMPTY,
+ * LR_E_NONE, LR_E_MEMORY. */
 int64_t lr_ior_component(lr_ior *ior, uint32_t index, uint32_t component, uint32_t *tag, void *room, size_t size);
 
 /* ---- CDR (CORBA 3.3 Part 2, 9.3), without an allocation ---- */
 
 /*
- * A place says where reading or writing stands: `next` is the index of the next octet, `at` the place of the first octet, from
- * which numbers are aligned (0 for an encapsulation, body_at for a body), and `order` the order of numbers. Each function moves
- * `next` past what it read or wrote, padding included. At an error the place is as it was: LR_E_SHORT (reading: octets are
- * missing), LR_E_ROOM (writing), LR_E_VALUE (no value of the type), LR_E_RANGE (the order, or `next` lies beyond the octets).
+ * A place says where reading or writing stands: `next` is the index of the next octet, `at` the place of the first
+ * octet, from which numbers are aligned (0 for an encapsulation, body_at for a body), and `order` the order of
+ * numbers. Each function moves `next` past what it read or wrote, padding included, and answers LR_OK. At an error
+ * the place and the room are as they were: LR_E_SHORT (reading: octets are missing), LR_E_ROOM (writing), LR_E_VALUE
+ * (no value of the type, as text with a NUL), LR_E_RANGE (the order; or `next` lies beyond the octets, or at
+ * 4294967296 or more, counted from `at`), LR_E_LONG (text or octets whose length is over 4294967295).
  */
 typedef struct {
   uint64_t at;
@@ -541,9 +557,10 @@ int64_t lr_get_ulonglong(const void *octets, size_t size, lr_place *place, uint6
 int64_t lr_get_string(const void *octets, size_t size, lr_place *place, uint64_t *start, uint64_t *length);
 int64_t lr_get_octets(const void *octets, size_t size, lr_place *place, uint64_t *start, uint64_t *length);
 
-/* Enters an encapsulation, which is a sequence of octets: `inner` stands after its octet of the byte order. Its octets are
- * those from `start` on, `length` of them: inner counts from `start`. */
-int64_t lr_get_encapsulation(const void *octets, size_t size, lr_place *place, uint64_t *start, uint64_t *length, lr_place *inner);
+/* Enters an encapsulation, which is a sequence of octets: `inner` stands after its octet of the byte order. Its
+ * octets are those from `start` on, `length` of them: inner counts from `start`. */
+int64_t lr_get_encapsulation(const void *octets, size_t size, lr_place *place, uint64_t *start, uint64_t *length,
+                             lr_place *inner);
 
 int64_t lr_put_octet(void *room, size_t size, lr_place *place, uint8_t value);
 int64_t lr_put_char(void *room, size_t size, lr_place *place, uint8_t value);
@@ -559,8 +576,9 @@ int64_t lr_put_octets(void *room, size_t size, lr_place *place, const void *data
 
 /* ---- memory ---- */
 
-/* All memory comes from malloc, realloc and free, unless you give others: allocate and reallocate answer NULL where there is no
- * memory. Call it before any other function, or not at all. Memory is aligned to 16. */
+/* All memory comes from malloc, realloc and free, unless you give others: allocate and reallocate answer NULL where
+ * there is no memory. Call it before any other function, or not at all, and with no NULL. Memory is aligned to 16. It
+ * is the one thing that all slots share. */
 void lr_set_heap(void *(*allocate)(size_t), void *(*reallocate)(void *, size_t), void (*release)(void *));
 
 #ifdef __cplusplus
