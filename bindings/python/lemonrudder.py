@@ -1381,7 +1381,6 @@ class Engine(_Held):
             ft = FtRequest(self._part(request.client_size, _Part.CLIENT), request.retention_id, request.expiration)
         arguments = None
         if not request.is_raw:
-            body = Body(body.octets)
             arguments = body.unpack(self.signature(key, operation).arguments)
         return Asked(request.connection, key, operation, arguments, body, request.request_id, request.version,
                      _named(Wish, request.wish), ft)
@@ -1547,6 +1546,11 @@ class Server:
         self._listeners.append(listener)
         self._addresses.append((host, listener.sockets[0].getsockname()[1]))
         return self._addresses[-1][1]
+
+    @property
+    def connections(self) -> int:
+        """How many connections there are."""
+        return len(self._connections)
 
     def reference(self, key: Text, host: Optional[str] = None, port: Optional[int] = None) -> Ior:
         """The reference to an object, at the address that was listened at first where no other is given.
