@@ -506,14 +506,13 @@ def _address(octets: bytes) -> int:
     return ctypes.cast(octets, c_void_p).value or 0
 
 
-def _copied(size: int, function: Any, *arguments: Any) -> bytes:
-    """What a function copies, which has so many octets; or more, and then it is called again."""
+def _copied(room: Any, function: Any, *arguments: Any) -> bytes:
+    """What a function copies: into this room, or into a larger one."""
     while True:
-        room = ctypes.create_string_buffer(size)
-        needed = _call(function, *arguments, room, size)
-        if needed <= size:
+        needed = _call(function, *arguments, room, len(room))
+        if needed <= len(room):
             return ctypes.string_at(room, needed)
-        size = needed
+        room = ctypes.create_string_buffer(needed)
 
 
 def _written(size: int, write: Callable[[Any, int], int]) -> bytes:
@@ -570,9 +569,11 @@ def now() -> int:
 
 def _place(order: int, at: int) -> _Place:
     """The place of a first octet."""
+    if order not in (0, 1):
+        raise ValueError(f"no order: {order}")
     if not 0 <= at < 1 << 64:
         raise ValueError(f"no place: {at}")
-    return _Place(at, 0, Order(order), 0)
+    return _Place(at, 0, order, 0)
 
 
 class Reader:
@@ -965,6 +966,7 @@ class Assembler(_Held):
 
     def __init__(self, limit: int = LIMIT, partials: int = PARTIALS) -> None:
         super().__init__()
+        self._room = ctypes.create_string_buffer(4096)
         _call(_library.lr_assembler_open, self._slot, limit, partials)
 
     def feed(self, octets: Octets) -> List[Message]:
@@ -998,12 +1000,12 @@ class Assembler(_Held):
             if _call(_library.lr_assembler_message, self._slot, message):
                 yield self._message(message)
 
-    def _part(self, size: int, part: int) -> bytes:
-        return _copied(size, _library.lr_assembler_part, self._slot, part)
+    def _part(self, part: int) -> bytes:
+        return _copied(self._room, _library.lr_assembler_part, self._slot, part)
 
     def _context(self, index: int) -> Tuple[int, bytes]:
         number = c_uint32()
-        data = _copied(256, _library.lr_assembler_context, self._slot, index, number)
+        data = _copied(self._room, _library.lr_assembler_context, self._slot, index, number)
         return number.value, data
 
     def _message(self, message: _Message) -> Message:
@@ -1013,18 +1015,17 @@ class Assembler(_Held):
             said["request_id"] = message.request_id
         if kind == MessageType.REQUEST:
             said["wish"] = Wish(message.wish)
-            said["operation"] = self._part(message.operation_size, _Part.OPERATION).decode("latin-1")
+            said["operation"] = self._part(_Part.OPERATION).decode("latin-1")
         if kind in (MessageType.REPLY, MessageType.LOCATE_REPLY):
             said["status"] = _named(ReplyStatus if kind == MessageType.REPLY else LocateStatus, message.status)
         if kind in (MessageType.REQUEST, MessageType.REPLY):
             said["contexts"] = [self._context(index) for index in range(message.contexts)]
         if kind in (MessageType.REQUEST, MessageType.REPLY, MessageType.LOCATE_REPLY):
-            said["body"] = Body(self._part(message.body_size, _Part.BODY), order, message.body_at)
+            said["body"] = Body(self._part(_Part.BODY), order, message.body_at)
         if message.has_key:
-            said["key"] = self._part(message.key_size, _Part.KEY)
+            said["key"] = self._part(_Part.KEY)
         if message.has_client:
-            client = self._part(message.client_size, _Part.CLIENT)
-            said["ft"] = FtRequest(client, message.retention_id, message.expiration)
+            said["ft"] = FtRequest(self._part(_Part.CLIENT), message.retention_id, message.expiration)
         return Message(kind, message.version, order, **said)
 
 
@@ -1157,23 +1158,24 @@ class Ior:
 
     @classmethod
     def _of(cls, slot: _Slot) -> Ior:
-        type_id = _copied(256, _library.lr_ior_type_id, slot).decode("latin-1")
-        profiles = tuple(cls._profile(slot, index) for index in range(_call(_library.lr_ior_profiles, slot)))
+        room = ctypes.create_string_buffer(512)
+        type_id = _copied(room, _library.lr_ior_type_id, slot).decode("latin-1")
+        profiles = tuple(cls._profile(slot, index, room) for index in range(_call(_library.lr_ior_profiles, slot)))
         printed = _written(512, lambda room, size: _call(_library.lr_ior_print, slot, room, size))
         return cls(printed.decode("ascii"), type_id, profiles)
 
     @staticmethod
-    def _profile(slot: _Slot, index: int) -> Profile:
-        def part(size: int, which: int) -> bytes:
-            return _copied(size, _library.lr_ior_part, slot, index, which)
+    def _profile(slot: _Slot, index: int, room: Any) -> Profile:
+        def part(which: int) -> bytes:
+            return _copied(room, _library.lr_ior_part, slot, index, which)
 
         profile = _Profile()
         _call(_library.lr_ior_profile, slot, index, profile)
-        data = part(profile.data_size, _IorPart.DATA)
+        data = part(_IorPart.DATA)
         if not profile.is_iiop:
             return Profile(profile.tag, data)
-        host = part(profile.host_size, _IorPart.HOST).decode("latin-1")
-        key = part(profile.key_size, _IorPart.KEY)
+        host = part(_IorPart.HOST).decode("latin-1")
+        key = part(_IorPart.KEY)
         components: List[Tuple[int, bytes]] = []
         if profile.components:
             # lr_ior_component reads the whole profile for each; this reads all of them once
@@ -1321,6 +1323,8 @@ class Engine(_Held):
         super().__init__()
         self._signatures = catalogue._signatures
         self._room = ctypes.create_string_buffer(65536)
+        # what waits, once it was asked for
+        self._asked: Optional[Asked] = None
         _call(_library.lr_server_open, self._slot, catalogue._slot, limit, partials, capacity, share,
               secrets.randbits(64), secrets.randbits(64))
 
@@ -1362,6 +1366,7 @@ class Engine(_Held):
         if not 0 <= start <= len(octets):
             raise ValueError(f"no index of {len(octets)} octets: {start}")
         at = now() if moment is None else moment
+        self._asked = None
         return start + _call(_library.lr_server_feed, self._slot, connection, at, _address(octets) + start,
                              len(octets) - start)
 
@@ -1373,15 +1378,19 @@ class Engine(_Held):
         """The request that waits, or None."""
         request = _Request()
         if not _call(_library.lr_server_asked, self._slot, request):
-            return None
-        key = self._part(request.key_size, _Part.KEY)
-        operation = self._part(request.operation_size, _Part.OPERATION).decode("latin-1")
-        body, ft = Body(self._part(request.body_size, _Part.BODY), Order(request.body_order), request.body_at), None
+            self._asked = None
+        elif self._asked is None:
+            self._asked = self._read(request)
+        return self._asked
+
+    def _read(self, request: _Request) -> Asked:
+        """The request that waits, with its parts."""
+        key, operation = self._part(_Part.KEY), self._part(_Part.OPERATION).decode("latin-1")
+        body, ft = Body(self._part(_Part.BODY), Order(request.body_order), request.body_at), None
         if request.has_client:
-            ft = FtRequest(self._part(request.client_size, _Part.CLIENT), request.retention_id, request.expiration)
+            ft = FtRequest(self._part(_Part.CLIENT), request.retention_id, request.expiration)
         arguments = None
         if not request.is_raw:
-            body = Body(body.octets)
             arguments = body.unpack(self.signature(key, operation).arguments)
         return Asked(request.connection, key, operation, arguments, body, request.request_id, request.version,
                      _named(Wish, request.wish), ft)
@@ -1440,8 +1449,8 @@ class Engine(_Held):
                 return b"".join(parts)
             parts.append(ctypes.string_at(room, size))
 
-    def _part(self, size: int, part: int) -> bytes:
-        return _copied(size, _library.lr_server_part, self._slot, part)
+    def _part(self, part: int) -> bytes:
+        return _copied(self._room, _library.lr_server_part, self._slot, part)
 
     def _waiting(self) -> Signature:
         """The types of the operation that waits."""
@@ -1547,6 +1556,11 @@ class Server:
         self._listeners.append(listener)
         self._addresses.append((host, listener.sockets[0].getsockname()[1]))
         return self._addresses[-1][1]
+
+    @property
+    def connections(self) -> int:
+        """How many connections there are."""
+        return len(self._connections)
 
     def reference(self, key: Text, host: Optional[str] = None, port: Optional[int] = None) -> Ior:
         """The reference to an object, at the address that was listened at first where no other is given.
@@ -1892,7 +1906,7 @@ class Client:
         while _call(_library.lr_client_completed, self._slot, completion):
             octets = b""
             if completion.how <= _Ended.FORWARDED:
-                octets = _copied(completion.body_size, _library.lr_client_body, self._slot)
+                octets = _copied(self._room, _library.lr_client_body, self._slot)
             body = Body(octets, _named(Order, completion.body_order), completion.body_at)
             self._is_heard = self._is_heard or completion.how <= _Ended.NEEDS_ADDRESSING
             future = self._futures.pop(completion.call, None)

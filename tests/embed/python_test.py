@@ -1290,6 +1290,52 @@ class Ends(Case):
                     self.assertEqual(await call, 2)
         self.run_async(main())
 
+    def test_goodbye(self):
+        async def main():
+            server, client = await self.pair({"get": ("", "l", lambda: 1)})
+            async with client:
+                self.assertEqual(await client.call("k", "get", results="l"), 1)
+                reader, writer = await asyncio.open_connection(client.host, client.port)
+                writer.write(lr.write_request(1, "k", "get"))
+                octets = await reader.read(28)
+                await server.close()
+                octets += await reader.read()
+                writer.close()
+            kinds = [message.type.name for message in lr.messages(octets)]
+            self.assertEqual(kinds, ["REPLY", "CLOSE_CONNECTION"])
+        self.run_async(main())
+
+    def test_a_client_leaves_where_goodbye_was_said(self):
+        async def main():
+            ends = []
+
+            async def serve(reader, writer):
+                writer.write(lr.write_close())
+                ends.append(await reader.read())
+                writer.close()
+
+            listener = await asyncio.start_server(serve, "127.0.0.1", 0)
+            port = listener.sockets[0].getsockname()[1]
+            async with lr.Client("127.0.0.1", port, delays=(0.001, 0.01)) as client:
+                with self.assertRaises(lr.Expired):
+                    await client.call("k", "op", timeout=0.5)
+            self.assertGreater(len(ends), 3)
+            listener.close()
+        self.run_async(main())
+
+    def test_connections_that_are_gone(self):
+        async def main():
+            server, client = await self.pair({"get": ("", "l", lambda: 1)})
+            async with server:
+                async with client:
+                    await client.call("k", "get", results="l")
+                    self.assertEqual(server.connections, 1)
+                    self.assertFalse(server._engine.is_closed(1))
+                while server.connections:
+                    await asyncio.sleep(0.01)
+                self.assertTrue(server._engine.is_closed(1))
+        self.run_async(main())
+
     def test_serve_forever(self):
         async def main():
             server, client = await self.pair({"get": ("", "l", lambda: 1)})
