@@ -1,6 +1,8 @@
 //! CDR (CORBA 3.3 Part 2, 9.3) in octets of the caller, without an allocation.
 
-ghost use Rattle.std.specs.Prelude.{◌<◌, ◌≤◌, length};
+ghost use Rattle.std.specs.Prelude.{◌≡◌, ◌<◌, ◌≤◌, length};
+ghost use Rattle.lemonrudder.specs.Naming.{or_range};
+ghost use Rattle.lemonrudder.specs.Places.{before, position_at};
 
 use crate::named::{number_of_order, order_of};
 use crate::refusal::{Refusal, count_of};
@@ -32,7 +34,9 @@ const END: u64 = 1 << 32;
 
 impl Place {
     /// A cursor at the place.
-    pub fn cursor<'o>(&self, octets: &'o [u8]) -> Result<Cursor<'o>, Refusal> {
+    pub fn cursor<'o>(&self, octets: &'o [u8]) -> Result<Cursor<'o>, Refusal>
+        ensures { result ≡ or_range (position_at self.now octets.now) }
+    {
         let order = order_of(self.order)?;
         if self.at >= END || self.next >= END || self.at + self.next >= END {
             return Err(Refusal::Range);
@@ -42,7 +46,9 @@ impl Place {
     }
 
     /// Moves to where a cursor in these octets stands.
-    pub fn follow(&mut self, octets: &[u8], cursor: &Cursor<'_>) {
+    pub fn follow(&mut self, octets: &[u8], cursor: &Cursor<'_>)
+        ensures { self.new ≡ before self.old octets.now cursor.now.rest }
+    {
         self.next = count_of(octets).saturating_sub(count_of(cursor.rest()));
     }
 
