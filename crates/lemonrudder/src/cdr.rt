@@ -1,8 +1,8 @@
 //! CDR (CORBA 3.3 Part 2, 9.3) in octets of the caller, without an allocation.
 
-ghost use Rattle.std.specs.Prelude.{◌≡◌, ◌<◌, ◌≤◌, length};
+ghost use Rattle.std.specs.Prelude.{◌≡◌, ◌<◌, ◌≤◌, ◌+◌, ◌++◌, length, replicate};
 ghost use Rattle.lemonrudder.specs.Naming.{or_range};
-ghost use Rattle.lemonrudder.specs.Places.{before, position_at};
+ghost use Rattle.lemonrudder.specs.Places.{before, padded, position_at, written, Writes};
 
 use crate::named::{number_of_order, order_of};
 use crate::refusal::{Refusal, count_of};
@@ -31,6 +31,16 @@ pub fn order_in(octets: &[u8]) -> Result<Order, Refusal> {
 
 /// Places are below this.
 const END: u64 = 1 << 32;
+
+/// Fills a room with zeros, so many, and octets after them.
+fn lay(room: &mut [u8], zeros: usize, octets: &[u8])
+    requires { length room.old ≡ zeros + length octets.now }
+    ensures { room.new ≡ replicate zeros 0 ++ octets.now }
+{
+    let (front, back) = room.split_at_mut(zeros);
+    front.fill(0);
+    back.copy_from_slice(octets);
+}
 
 impl Place {
     /// A cursor at the place.
@@ -79,21 +89,24 @@ impl Place {
         }
     }
 
-    /// Writes octets at a place divisible by a size, with zeros before.
+    /// Writes octets and others after them at a place divisible by a size, with zeros before.
     pub fn put(&mut self, room: &mut [u8], size: u64, octets: &[u8]) -> Result<u64, Refusal>
         requires { (0 < size) × (size ≤ 8) }
+        ensures { Writes (written self.old (padded self.old size octets.now) room.old) self.old self.new room.old room.new result }
     {
         if self.at >= END || self.next >= END {
             return Err(Refusal::Range);
         }
         let padding = (size - (self.at + self.next) % size) % size;
         let (start, length) = (self.next as usize, padding as usize);
-        let left = room.get_mut(start..).ok_or(Refusal::Range)?;
-        let Some(left) = left.get_mut(..length + octets.len()) else {
+        if room.len() < start {
+            return Err(Refusal::Range);
+        }
+        let size = length + octets.len();
+        if room.len() - start < size {
             return Err(Refusal::Room);
-        };
-        left[..length].fill(0);
-        left[length..].copy_from_slice(octets);
+        }
+        lay(&mut room[start..start + size], length, octets);
         self.next += padding + count_of(octets);
         Ok(0)
     }
