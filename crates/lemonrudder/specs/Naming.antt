@@ -14,6 +14,12 @@ or_range None = Err Range
 abbrev pub order_named : ℕ → Option Order
 order_named n = if n == 0 then Some Big else (if n == 1 then Some Little else None)
 
+-- A number of an order chooses one of two, or is refused.
+abbrev pub by_order : {A : Type 0} → Option Order → (big little : Result A Refusal) → Result A Refusal
+by_order None big little = Err Range
+by_order (Some Big) big little = big
+by_order (Some Little) big little = little
+
 -- the number of an order
 abbrev pub order_number : Order → ℕ
 order_number Big = 0

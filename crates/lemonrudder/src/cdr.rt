@@ -1,7 +1,7 @@
 //! CDR (CORBA 3.3 Part 2, 9.3) in octets of the caller, without an allocation.
 
 ghost use Rattle.std.specs.Prelude.{◌≡◌, ◌<◌, ◌≤◌, ◌+◌, ◌++◌, length, replicate};
-ghost use Rattle.lemonrudder.specs.Naming.{or_range};
+ghost use Rattle.lemonrudder.specs.Naming.{by_order, order_named};
 ghost use Rattle.lemonrudder.specs.Places.{before, padded, position_at, written, Writes};
 
 use crate::named::{number_of_order, order_of};
@@ -45,7 +45,7 @@ fn lay(room: &mut [u8], zeros: usize, octets: &[u8])
 impl Place {
     /// A cursor at the place.
     pub fn cursor<'o>(&self, octets: &'o [u8]) -> Result<Cursor<'o>, Refusal>
-        ensures { result ≡ or_range (position_at self.now octets.now) }
+        ensures { result ≡ position_at self.now octets.now }
     {
         let order = order_of(self.order)?;
         if self.at >= END || self.next >= END || self.at + self.next >= END {
@@ -137,6 +137,8 @@ impl Place {
     /// Writes a number of 2, 4 or 8 octets, which are given in both orders.
     pub fn put_number(&mut self, room: &mut [u8], big: &[u8], little: &[u8]) -> Result<u64, Refusal>
         requires { (0 < length big.now) × (length big.now ≤ 8) }
+        ensures { let size = length big.now in let put = λ octets. written self.old (padded self.old size octets) room.old in
+            Writes (by_order (order_named self.old.order) (put big.now) (put little.now)) self.old self.new room.old room.new result }
     {
         let size = count_of(big);
         match order_of(self.order)? {
