@@ -3,7 +3,7 @@ use Rattle.std.specs.Prelude.{◌≡◌, ℕ, ◌+◌, ◌-◌, ◌^◌, ℤ, po
 use Rattle.cdr_core.specs.declared.order.Order.{Order}
 use Rattle.cdr_core.specs.declared.order.Order.TheVariants.{Big, Little}
 use Rattle.cdr_core.specs.Cursor.{Position}
-use Rattle.cdr_core.specs.Numbers.{padding}
+use Rattle.cdr_core.specs.Numbers.{digits_of, padding}
 use Rattle.cdr_core.specs.Parts.{octet_value}
 use Rattle.cdr_core.specs.Reading.{Read}
 use Rattle.cdr_core.specs.Value as value
@@ -11,7 +11,7 @@ use Rattle.cdr_core.specs.Value.{Value}
 use Rattle.cdr_core.specs.Writing.{octets_of}
 use Rattle.lemonrudder.specs.declared.cdr.Place.{Place}
 use Rattle.lemonrudder.specs.declared.refusal.Refusal.{Refusal}
-use Rattle.lemonrudder.specs.declared.refusal.Refusal.TheVariants.{Range, Room}
+use Rattle.lemonrudder.specs.declared.refusal.Refusal.TheVariants.{Long, Range, Room}
 use Rattle.lemonrudder.specs.Naming.{order_named, by_order}
 use Rattle.lemonrudder.specs.Refusals.{error_number, refusal_of_fault}
 
@@ -76,3 +76,13 @@ Puts (Err refusal) place after room new answer = (answer ≡ error_number refusa
 -- zeros up to the next place divisible by a size, and octets
 abbrev pub padded : Place → ℕ → List ℕ → List ℕ
 padded place size octets = replicate (padding (place.at + place.next) size) 0 ++ octets
+
+-- a length, octets of which it counts all, and at their end those of `nul`; in the place's order
+abbrev pub put_counted : List ℕ → List ℕ → Place → List ℕ → Result (Place × List ℕ) Refusal
+put_counted octets nul place room =
+    let n = length octets + length nul in
+    if nat_lt n (2 ^ 32) then by_order (order_named place.order) (written place (padded place 4 (digits_of Big 4 n ++ octets ++ nul)) room) (written place (padded place 4 (digits_of Little 4 n ++ octets ++ nul)) room) else by_order (order_named place.order) (Err Long) (Err Long)
+
+-- a value of so many octets is written, which must be fewer than 2^32
+abbrev pub put_long : ℕ → Value → Place → List ℕ → Result (Place × List ℕ) Refusal
+put_long n v place room = if nat_lt n (2 ^ 32) then put_at v place room else by_order (order_named place.order) (Err Long) (Err Long)

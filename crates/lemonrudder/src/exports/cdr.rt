@@ -1,10 +1,12 @@
 //! Reading and writing CDR in octets of the caller.
 
-ghost use Rattle.std.specs.Prelude.{[], ◌∷◌};
+ghost use Rattle.std.specs.Prelude.{◌<◌, ◌≤◌, ◌+◌, [], ◌∷◌, length, Err};
 ghost use Rattle.cdr_core.specs.Form as form;
 ghost use Rattle.cdr_core.specs.Parts.{char, char_value, long, long_value, longlong, longlong_value, octet, octet_value, short, short_value, ulong, ulong_value, ulonglong, ulonglong_value, ushort, ushort_value};
 ghost use Rattle.cdr_core.specs.Reading.{value_at};
-ghost use Rattle.lemonrudder.specs.Places.{flag_value, put_at, read_at, written, Gets, Puts};
+ghost use Rattle.cdr_core.specs.Spelling.{IsClean};
+ghost use Rattle.cdr_core.specs.Value as value;
+ghost use Rattle.lemonrudder.specs.Places.{flag_value, put_at, put_long, read_at, written, Gets, Puts};
 
 use crate::cdr::{Place, order_in};
 use crate::refusal::{Refusal, number_of};
@@ -254,7 +256,7 @@ pub extern "C" fn lr_get_encapsulation(
 pub extern "C" fn lr_put_octet(room: &mut [u8], place: &mut Place, value: u8) -> i64
     ensures { Puts (written place.old (value ∷ []) room.old) place.old place.new room.old room.new result }
 {
-    number_of(place.put(room, 1, &[value]))
+    number_of(place.put(room, 1, &[value], &[], &[]))
 }
 
 /// Writes a char.
@@ -262,7 +264,7 @@ pub extern "C" fn lr_put_octet(room: &mut [u8], place: &mut Place, value: u8) ->
 pub extern "C" fn lr_put_char(room: &mut [u8], place: &mut Place, value: u8) -> i64
     ensures { Puts (written place.old (value ∷ []) room.old) place.old place.new room.old room.new result }
 {
-    number_of(place.put(room, 1, &[value]))
+    number_of(place.put(room, 1, &[value], &[], &[]))
 }
 
 /// Writes a short.
@@ -315,21 +317,29 @@ pub extern "C" fn lr_put_ulonglong(room: &mut [u8], place: &mut Place, value: u6
 
 /// Writes a boolean: 0 or 1.
 #[unsafe(no_mangle)]
-pub extern "C" fn lr_put_boolean(room: &mut [u8], place: &mut Place, value: u8) -> i64 {
+pub extern "C" fn lr_put_boolean(room: &mut [u8], place: &mut Place, value: u8) -> i64
+    ensures bit { value ≤ 1 → Puts (written place.old (value ∷ []) room.old) place.old place.new room.old room.new result }
+    ensures other { 1 < value → Puts (Err Refusal.Value) place.old place.new room.old room.new result }
+{
     if value > 1 {
         return Refusal::Value.number();
     }
-    number_of(place.put(room, 1, &[value]))
+    number_of(place.put(room, 1, &[value], &[], &[]))
 }
 
 /// Writes a string, with its NUL.
 #[unsafe(no_mangle)]
-pub extern "C" fn lr_put_string(room: &mut [u8], place: &mut Place, text: &[u8]) -> i64 {
+pub extern "C" fn lr_put_string(room: &mut [u8], place: &mut Place, text: &[u8]) -> i64
+    ensures clean { IsClean text.now → Puts (put_long (length text.now + 1) (value.string text.now) place.old room.old) place.old place.new room.old room.new result }
+    ensures unclean { ¬ (IsClean text.now) → Puts (Err Refusal.Text) place.old place.new room.old room.new result }
+{
     number_of(place.put_string(room, text))
 }
 
 /// Writes a sequence of octets.
 #[unsafe(no_mangle)]
-pub extern "C" fn lr_put_octets(room: &mut [u8], place: &mut Place, data: &[u8]) -> i64 {
-    number_of(place.put_all(room, data, &[]))
+pub extern "C" fn lr_put_octets(room: &mut [u8], place: &mut Place, octets: &[u8]) -> i64
+    ensures { Puts (put_long (length octets.now) (value.octets octets.now) place.old room.old) place.old place.new room.old room.new result }
+{
+    number_of(place.put_all(room, octets, &[]))
 }
