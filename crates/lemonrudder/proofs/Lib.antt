@@ -1,1 +1,3 @@
+mod Idling
+mod Servers
 mod Values

@@ -1,5 +1,8 @@
 //! The messages of a stream.
 
+ghost use Rattle.std.specs.Prelude.{◌≡◌};
+ghost use Rattle.lemonrudder.specs.Assembles.{fault_number};
+
 use crate::named::{limits_of, minor_of, number_of_order, number_of_wish};
 use crate::refusal::{Refusal, copied, count_of};
 use giop_core::{
@@ -39,7 +42,9 @@ pub struct Assembling {
 }
 
 /// The number of a fault.
-fn number_of_fault(fault: &StreamFault) -> u64 {
+fn number_of_fault(fault: &StreamFault) -> u64
+    ensures { result ≡ fault_number fault.now }
+{
     match fault {
         StreamFault::Header(HeaderFault::BadMagic) => 1,
         StreamFault::Header(HeaderFault::BadVersion) => 2,
@@ -224,6 +229,8 @@ fn context_at(contexts: Contexts<'_>, index: u32) -> Option<(u32, &[u8])> {
 }
 
 impl Assembling {
+    ghost use Rattle.lemonrudder.specs.Assembles.{OnFeed};
+
     /// An assembler of which nothing has come.
     pub fn new(alloc: Global, message: u32, partials: u32) -> Result<Assembling, Refusal> {
         let limits = limits_of(message, partials)?;
@@ -234,7 +241,9 @@ impl Assembling {
     }
 
     /// Takes octets, and answers how many.
-    pub fn feed(&mut self, octets: &[u8]) -> Result<u64, Refusal> {
+    pub fn feed(&mut self, octets: &[u8]) -> Result<u64, Refusal>
+        ensures { OnFeed octets.now self.old self.new result }
+    {
         match self.assembler.feed(octets) {
             Ok(taken) => Ok(taken as u64),
             Err(fault) => {
@@ -247,7 +256,9 @@ impl Assembling {
     }
 
     /// The first fault of the stream, as a number.
-    pub fn fault(&self) -> u64 {
+    pub fn fault(&self) -> u64
+        ensures { result ≡ self.now.fault }
+    {
         self.fault
     }
 

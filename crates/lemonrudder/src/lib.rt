@@ -19,6 +19,7 @@ mod referring;
 mod refusal;
 mod request;
 mod seed;
+mod served;
 mod serving;
 mod slot;
 mod types;

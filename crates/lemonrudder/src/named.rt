@@ -1,5 +1,8 @@
 //! Numbers of the header, and what they name.
 
+ghost use Rattle.std.specs.Prelude.{◌≡◌};
+ghost use Rattle.lemonrudder.specs.Naming.{or_range, order_named, order_number};
+
 use crate::refusal::Refusal;
 use cdr_core::Order;
 use ft_log::{Completion, RawStatus, SystemName};
@@ -26,7 +29,9 @@ pub fn minor_of(version: Version) -> u32 {
 }
 
 /// The order of a number: 0 is big, 1 little.
-pub fn order_of(number: u32) -> Result<Order, Refusal> {
+pub fn order_of(number: u32) -> Result<Order, Refusal>
+    ensures { result ≡ or_range (order_named number) }
+{
     match number {
         0 => Ok(Order::Big),
         1 => Ok(Order::Little),
@@ -35,7 +40,9 @@ pub fn order_of(number: u32) -> Result<Order, Refusal> {
 }
 
 /// The number of an order.
-pub fn number_of_order(order: Order) -> u32 {
+pub fn number_of_order(order: Order) -> u32
+    ensures { result ≡ order_number order }
+{
     match order {
         Order::Big => 0,
         Order::Little => 1,

@@ -1,6 +1,8 @@
 //! Why a call does nothing: the error numbers of the header.
 
-ghost use Rattle.std.specs.Prelude.{◌≡◌, length};
+ghost use Rattle.std.specs.Prelude.{◌≡◌, ◌<◌, ◌≤◌, length};
+ghost use Rattle.lemonrudder.specs.declared.refusal.Refusal.TheVariants.{Memory};
+ghost use Rattle.lemonrudder.specs.Refusals.{error_number, filled, number_in, refusal_of_calling, refusal_of_connecting, refusal_of_fault, refusal_of_offering, refusal_of_reading, refusal_of_referring, refusal_of_serving, refusal_of_writing, signed_of};
 
 use cdr_core::{CdrError, Fault, Kind};
 use ft_client::CallError;
@@ -66,7 +68,9 @@ pub enum Refusal {
 
 impl Refusal {
     /// The number of the header.
-    pub fn number(self) -> i64 {
+    pub fn number(self) -> i64
+        ensures { result ≡ error_number self }
+    {
         match self {
             Refusal::Empty => -1,
             Refusal::Open => -2,
@@ -98,12 +102,16 @@ impl Refusal {
 }
 
 /// A count as an export answers it. No length of octets is over the greatest.
-pub fn signed(count: u64) -> i64 {
+pub fn signed(count: u64) -> i64
+    ensures { result ≡ signed_of count }
+{
     i64::try_from(count).unwrap_or(i64::MAX)
 }
 
 /// The number that an export answers: a count, or that of a refusal.
-pub fn number_of(answer: Result<u64, Refusal>) -> i64 {
+pub fn number_of(answer: Result<u64, Refusal>) -> i64
+    ensures { result ≡ number_in answer }
+{
     match answer {
         Ok(count) => signed(count),
         Err(refusal) => refusal.number(),
@@ -118,14 +126,20 @@ pub fn count_of(octets: &[u8]) -> u64
 }
 
 /// Copies octets into a room, as many as it has, and answers how many there are.
-pub fn copied(octets: &[u8], room: &mut [u8]) -> u64 {
+pub fn copied(octets: &[u8], room: &mut [u8]) -> u64
+    ensures count { result ≡ length octets.now }
+    ensures room { room.new ≡ filled octets.now room.old }
+{
     let count = octets.len().min(room.len());
     room[..count].copy_from_slice(&octets[..count]);
     octets.len() as u64
 }
 
 /// Copies all of the octets into a room, and answers how many there are.
-pub fn fitted(octets: &[u8], room: &mut [u8]) -> Result<u64, Refusal> {
+pub fn fitted(octets: &[u8], room: &mut [u8]) -> Result<u64, Refusal>
+    ensures fits { length octets.now ≤ length room.old → (result ≡ Ok (length octets.now)) × (room.new ≡ filled octets.now room.old) }
+    ensures room { length room.old < length octets.now → (result ≡ Err Refusal.Room) × (room.new ≡ room.old) }
+{
     if room.len() < octets.len() {
         return Err(Refusal::Room);
     }
@@ -133,18 +147,24 @@ pub fn fitted(octets: &[u8], room: &mut [u8]) -> Result<u64, Refusal> {
 }
 
 impl From<AllocError> for Refusal {
+    ghost from_gives = { λ _ r. r ≡ Memory };
+
     fn from(_error: AllocError) -> Refusal {
         Refusal::Memory
     }
 }
 
 impl<T: Drop> From<AllocFailed<T>> for Refusal {
+    ghost from_gives = { λ _ r. r ≡ Memory };
+
     fn from(_error: AllocFailed<T>) -> Refusal {
         Refusal::Memory
     }
 }
 
 impl From<Fault> for Refusal {
+    ghost from_gives = { λ e r. r ≡ refusal_of_fault e };
+
     fn from(fault: Fault) -> Refusal {
         match fault.kind {
             Kind::Short => Refusal::Short,
@@ -154,6 +174,8 @@ impl From<Fault> for Refusal {
 }
 
 impl From<CdrError> for Refusal {
+    ghost from_gives = { λ e r. r ≡ refusal_of_reading e };
+
     fn from(error: CdrError) -> Refusal {
         match error {
             CdrError::Bad(fault) => Refusal::from(fault),
@@ -163,6 +185,8 @@ impl From<CdrError> for Refusal {
 }
 
 impl From<InterfacesError> for Refusal {
+    ghost from_gives = { λ e r. r ≡ refusal_of_offering e };
+
     fn from(error: InterfacesError) -> Refusal {
         match error {
             InterfacesError::NotValid => Refusal::Text,
@@ -175,6 +199,8 @@ impl From<InterfacesError> for Refusal {
 }
 
 impl From<ConnectError> for Refusal {
+    ghost from_gives = { λ e r. r ≡ refusal_of_connecting e };
+
     fn from(error: ConnectError) -> Refusal {
         match error {
             ConnectError::NotNew => Refusal::Connection,
@@ -184,6 +210,8 @@ impl From<ConnectError> for Refusal {
 }
 
 impl From<ServeError> for Refusal {
+    ghost from_gives = { λ e r. r ≡ refusal_of_serving e };
+
     fn from(error: ServeError) -> Refusal {
         match error {
             ServeError::NoConnection => Refusal::Connection,
@@ -196,6 +224,8 @@ impl From<ServeError> for Refusal {
 }
 
 impl From<CallError> for Refusal {
+    ghost from_gives = { λ e r. r ≡ refusal_of_calling e };
+
     fn from(error: CallError) -> Refusal {
         match error {
             CallError::Expired => Refusal::Expired,
@@ -208,6 +238,8 @@ impl From<CallError> for Refusal {
 }
 
 impl From<WriteError> for Refusal {
+    ghost from_gives = { λ e r. r ≡ refusal_of_writing e };
+
     fn from(error: WriteError) -> Refusal {
         match error {
             WriteError::TooLong => Refusal::Long,
@@ -217,6 +249,8 @@ impl From<WriteError> for Refusal {
 }
 
 impl From<IorError> for Refusal {
+    ghost from_gives = { λ e r. r ≡ refusal_of_referring e };
+
     fn from(error: IorError) -> Refusal {
         match error {
             IorError::Memory => Refusal::Memory,

@@ -57,6 +57,7 @@ pub struct Serving {
 
 impl Serving {
     ghost use Rattle.std.specs.Prelude.{◌≡◌};
+    ghost use Rattle.lemonrudder.specs.Serves.{OnGiveUp};
 
     /// A server to which nothing has happened.
     pub fn new(
@@ -313,7 +314,9 @@ impl Serving {
     }
 
     /// Gives up the request that waits.
-    pub fn give_up(&mut self) -> Result<u64, Refusal> {
+    pub fn give_up(&mut self) -> Result<u64, Refusal>
+        ensures { OnGiveUp self.old self.new result }
+    {
         if !self.engine.is_asking() {
             return Err(Refusal::Idle);
         }

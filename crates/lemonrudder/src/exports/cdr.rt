@@ -1,11 +1,21 @@
 //! Reading and writing CDR in octets of the caller.
 
+ghost use Rattle.std.specs.Prelude.{◌<◌, ◌≤◌, ◌+◌, [], ◌∷◌, length, Err};
+ghost use Rattle.cdr_core.specs.Form as form;
+ghost use Rattle.cdr_core.specs.Parts.{char, char_value, long, long_value, longlong, longlong_value, octet, octet_value, short, short_value, ulong, ulong_value, ulonglong, ulonglong_value, ushort, ushort_value};
+ghost use Rattle.cdr_core.specs.Reading.{value_at};
+ghost use Rattle.cdr_core.specs.Spelling.{IsClean};
+ghost use Rattle.cdr_core.specs.Value as value;
+ghost use Rattle.lemonrudder.specs.Places.{flag_value, put_at, put_long, read_at, written, Gets, Puts};
+
 use crate::cdr::{Place, order_in};
 use crate::refusal::{Refusal, number_of};
 
 /// Reads an octet.
 #[unsafe(no_mangle)]
-pub extern "C" fn lr_get_octet(octets: &[u8], place: &mut Place, value: &mut u8) -> i64 {
+pub extern "C" fn lr_get_octet(octets: &[u8], place: &mut Place, value: &mut u8) -> i64
+    ensures { Gets octet_value (read_at (value_at octet) place.old octets.now) place.old place.new value.old value.new result }
+{
     let mut cursor = match place.cursor(octets) {
         Ok(cursor) => cursor,
         Err(refusal) => return refusal.number(),
@@ -22,7 +32,9 @@ pub extern "C" fn lr_get_octet(octets: &[u8], place: &mut Place, value: &mut u8)
 
 /// Reads a char.
 #[unsafe(no_mangle)]
-pub extern "C" fn lr_get_char(octets: &[u8], place: &mut Place, value: &mut u8) -> i64 {
+pub extern "C" fn lr_get_char(octets: &[u8], place: &mut Place, value: &mut u8) -> i64
+    ensures { Gets char_value (read_at (value_at char) place.old octets.now) place.old place.new value.old value.new result }
+{
     let mut cursor = match place.cursor(octets) {
         Ok(cursor) => cursor,
         Err(refusal) => return refusal.number(),
@@ -39,7 +51,9 @@ pub extern "C" fn lr_get_char(octets: &[u8], place: &mut Place, value: &mut u8) 
 
 /// Reads a boolean: 0 or 1.
 #[unsafe(no_mangle)]
-pub extern "C" fn lr_get_boolean(octets: &[u8], place: &mut Place, value: &mut u8) -> i64 {
+pub extern "C" fn lr_get_boolean(octets: &[u8], place: &mut Place, value: &mut u8) -> i64
+    ensures { Gets flag_value (read_at (value_at form.boolean) place.old octets.now) place.old place.new value.old value.new result }
+{
     let mut cursor = match place.cursor(octets) {
         Ok(cursor) => cursor,
         Err(refusal) => return refusal.number(),
@@ -56,7 +70,9 @@ pub extern "C" fn lr_get_boolean(octets: &[u8], place: &mut Place, value: &mut u
 
 /// Reads a short.
 #[unsafe(no_mangle)]
-pub extern "C" fn lr_get_short(octets: &[u8], place: &mut Place, value: &mut i16) -> i64 {
+pub extern "C" fn lr_get_short(octets: &[u8], place: &mut Place, value: &mut i16) -> i64
+    ensures { Gets short_value (read_at (value_at short) place.old octets.now) place.old place.new value.old value.new result }
+{
     let mut cursor = match place.cursor(octets) {
         Ok(cursor) => cursor,
         Err(refusal) => return refusal.number(),
@@ -73,7 +89,9 @@ pub extern "C" fn lr_get_short(octets: &[u8], place: &mut Place, value: &mut i16
 
 /// Reads an unsigned short.
 #[unsafe(no_mangle)]
-pub extern "C" fn lr_get_ushort(octets: &[u8], place: &mut Place, value: &mut u16) -> i64 {
+pub extern "C" fn lr_get_ushort(octets: &[u8], place: &mut Place, value: &mut u16) -> i64
+    ensures { Gets ushort_value (read_at (value_at ushort) place.old octets.now) place.old place.new value.old value.new result }
+{
     let mut cursor = match place.cursor(octets) {
         Ok(cursor) => cursor,
         Err(refusal) => return refusal.number(),
@@ -90,7 +108,9 @@ pub extern "C" fn lr_get_ushort(octets: &[u8], place: &mut Place, value: &mut u1
 
 /// Reads a long.
 #[unsafe(no_mangle)]
-pub extern "C" fn lr_get_long(octets: &[u8], place: &mut Place, value: &mut i32) -> i64 {
+pub extern "C" fn lr_get_long(octets: &[u8], place: &mut Place, value: &mut i32) -> i64
+    ensures { Gets long_value (read_at (value_at long) place.old octets.now) place.old place.new value.old value.new result }
+{
     let mut cursor = match place.cursor(octets) {
         Ok(cursor) => cursor,
         Err(refusal) => return refusal.number(),
@@ -107,7 +127,9 @@ pub extern "C" fn lr_get_long(octets: &[u8], place: &mut Place, value: &mut i32)
 
 /// Reads an unsigned long.
 #[unsafe(no_mangle)]
-pub extern "C" fn lr_get_ulong(octets: &[u8], place: &mut Place, value: &mut u32) -> i64 {
+pub extern "C" fn lr_get_ulong(octets: &[u8], place: &mut Place, value: &mut u32) -> i64
+    ensures { Gets ulong_value (read_at (value_at ulong) place.old octets.now) place.old place.new value.old value.new result }
+{
     let mut cursor = match place.cursor(octets) {
         Ok(cursor) => cursor,
         Err(refusal) => return refusal.number(),
@@ -124,7 +146,9 @@ pub extern "C" fn lr_get_ulong(octets: &[u8], place: &mut Place, value: &mut u32
 
 /// Reads a long long.
 #[unsafe(no_mangle)]
-pub extern "C" fn lr_get_longlong(octets: &[u8], place: &mut Place, value: &mut i64) -> i64 {
+pub extern "C" fn lr_get_longlong(octets: &[u8], place: &mut Place, value: &mut i64) -> i64
+    ensures { Gets longlong_value (read_at (value_at longlong) place.old octets.now) place.old place.new value.old value.new result }
+{
     let mut cursor = match place.cursor(octets) {
         Ok(cursor) => cursor,
         Err(refusal) => return refusal.number(),
@@ -141,7 +165,9 @@ pub extern "C" fn lr_get_longlong(octets: &[u8], place: &mut Place, value: &mut 
 
 /// Reads an unsigned long long.
 #[unsafe(no_mangle)]
-pub extern "C" fn lr_get_ulonglong(octets: &[u8], place: &mut Place, value: &mut u64) -> i64 {
+pub extern "C" fn lr_get_ulonglong(octets: &[u8], place: &mut Place, value: &mut u64) -> i64
+    ensures { Gets ulonglong_value (read_at (value_at ulonglong) place.old octets.now) place.old place.new value.old value.new result }
+{
     let mut cursor = match place.cursor(octets) {
         Ok(cursor) => cursor,
         Err(refusal) => return refusal.number(),
@@ -227,69 +253,93 @@ pub extern "C" fn lr_get_encapsulation(
 
 /// Writes an octet.
 #[unsafe(no_mangle)]
-pub extern "C" fn lr_put_octet(room: &mut [u8], place: &mut Place, value: u8) -> i64 {
-    number_of(place.put(room, 1, &[value]))
+pub extern "C" fn lr_put_octet(room: &mut [u8], place: &mut Place, value: u8) -> i64
+    ensures { Puts (written place.old (value ∷ []) room.old) place.old place.new room.old room.new result }
+{
+    number_of(place.put(room, 1, &[value], &[], &[]))
 }
 
 /// Writes a char.
 #[unsafe(no_mangle)]
-pub extern "C" fn lr_put_char(room: &mut [u8], place: &mut Place, value: u8) -> i64 {
-    number_of(place.put(room, 1, &[value]))
+pub extern "C" fn lr_put_char(room: &mut [u8], place: &mut Place, value: u8) -> i64
+    ensures { Puts (written place.old (value ∷ []) room.old) place.old place.new room.old room.new result }
+{
+    number_of(place.put(room, 1, &[value], &[], &[]))
 }
 
 /// Writes a short.
 #[unsafe(no_mangle)]
-pub extern "C" fn lr_put_short(room: &mut [u8], place: &mut Place, value: i16) -> i64 {
+pub extern "C" fn lr_put_short(room: &mut [u8], place: &mut Place, value: i16) -> i64
+    ensures { Puts (put_at (short_value value) place.old room.old) place.old place.new room.old room.new result }
+{
     number_of(place.put_number(room, &value.to_be_bytes(), &value.to_le_bytes()))
 }
 
 /// Writes an unsigned short.
 #[unsafe(no_mangle)]
-pub extern "C" fn lr_put_ushort(room: &mut [u8], place: &mut Place, value: u16) -> i64 {
+pub extern "C" fn lr_put_ushort(room: &mut [u8], place: &mut Place, value: u16) -> i64
+    ensures { Puts (put_at (ushort_value value) place.old room.old) place.old place.new room.old room.new result }
+{
     number_of(place.put_number(room, &value.to_be_bytes(), &value.to_le_bytes()))
 }
 
 /// Writes a long.
 #[unsafe(no_mangle)]
-pub extern "C" fn lr_put_long(room: &mut [u8], place: &mut Place, value: i32) -> i64 {
+pub extern "C" fn lr_put_long(room: &mut [u8], place: &mut Place, value: i32) -> i64
+    ensures { Puts (put_at (long_value value) place.old room.old) place.old place.new room.old room.new result }
+{
     number_of(place.put_number(room, &value.to_be_bytes(), &value.to_le_bytes()))
 }
 
 /// Writes an unsigned long.
 #[unsafe(no_mangle)]
-pub extern "C" fn lr_put_ulong(room: &mut [u8], place: &mut Place, value: u32) -> i64 {
+pub extern "C" fn lr_put_ulong(room: &mut [u8], place: &mut Place, value: u32) -> i64
+    ensures { Puts (put_at (ulong_value value) place.old room.old) place.old place.new room.old room.new result }
+{
     number_of(place.put_number(room, &value.to_be_bytes(), &value.to_le_bytes()))
 }
 
 /// Writes a long long.
 #[unsafe(no_mangle)]
-pub extern "C" fn lr_put_longlong(room: &mut [u8], place: &mut Place, value: i64) -> i64 {
+pub extern "C" fn lr_put_longlong(room: &mut [u8], place: &mut Place, value: i64) -> i64
+    ensures { Puts (put_at (longlong_value value) place.old room.old) place.old place.new room.old room.new result }
+{
     number_of(place.put_number(room, &value.to_be_bytes(), &value.to_le_bytes()))
 }
 
 /// Writes an unsigned long long.
 #[unsafe(no_mangle)]
-pub extern "C" fn lr_put_ulonglong(room: &mut [u8], place: &mut Place, value: u64) -> i64 {
+pub extern "C" fn lr_put_ulonglong(room: &mut [u8], place: &mut Place, value: u64) -> i64
+    ensures { Puts (put_at (ulonglong_value value) place.old room.old) place.old place.new room.old room.new result }
+{
     number_of(place.put_number(room, &value.to_be_bytes(), &value.to_le_bytes()))
 }
 
 /// Writes a boolean: 0 or 1.
 #[unsafe(no_mangle)]
-pub extern "C" fn lr_put_boolean(room: &mut [u8], place: &mut Place, value: u8) -> i64 {
+pub extern "C" fn lr_put_boolean(room: &mut [u8], place: &mut Place, value: u8) -> i64
+    ensures bit { value ≤ 1 → Puts (written place.old (value ∷ []) room.old) place.old place.new room.old room.new result }
+    ensures other { 1 < value → Puts (Err Refusal.Value) place.old place.new room.old room.new result }
+{
     if value > 1 {
         return Refusal::Value.number();
     }
-    number_of(place.put(room, 1, &[value]))
+    number_of(place.put(room, 1, &[value], &[], &[]))
 }
 
 /// Writes a string, with its NUL.
 #[unsafe(no_mangle)]
-pub extern "C" fn lr_put_string(room: &mut [u8], place: &mut Place, text: &[u8]) -> i64 {
+pub extern "C" fn lr_put_string(room: &mut [u8], place: &mut Place, text: &[u8]) -> i64
+    ensures clean { IsClean text.now → Puts (put_long (length text.now + 1) (value.string text.now) place.old room.old) place.old place.new room.old room.new result }
+    ensures unclean { ¬ (IsClean text.now) → Puts (Err Refusal.Text) place.old place.new room.old room.new result }
+{
     number_of(place.put_string(room, text))
 }
 
 /// Writes a sequence of octets.
 #[unsafe(no_mangle)]
-pub extern "C" fn lr_put_octets(room: &mut [u8], place: &mut Place, data: &[u8]) -> i64 {
-    number_of(place.put_all(room, data, &[]))
+pub extern "C" fn lr_put_octets(room: &mut [u8], place: &mut Place, octets: &[u8]) -> i64
+    ensures { Puts (put_long (length octets.now) (value.octets octets.now) place.old room.old) place.old place.new room.old room.new result }
+{
+    number_of(place.put_all(room, octets, &[]))
 }

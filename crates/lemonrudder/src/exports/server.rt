@@ -1,9 +1,14 @@
 //! A server of requests that may be sent again.
 
+ghost use Rattle.lemonrudder.specs.Answers.{OnServer};
+ghost use Rattle.lemonrudder.specs.Serves.{OnGiveUp};
+ghost use Rattle.lemonrudder.specs.Slots.{held_in};
+
 use crate::object::Object;
 use crate::refusal::{Refusal, number_of, signed};
 use crate::request::RequestHead;
 use crate::seed::Seed;
+use crate::served;
 use crate::serving::{Serving, Terms};
 use crate::slot::Slot;
 use ft_orb::Interfaces;
@@ -270,14 +275,13 @@ pub extern "C" fn lr_server_identify(alloc: Global, slot: &mut Slot) -> i64 {
 
 /// Gives up the request that waits.
 #[unsafe(no_mangle)]
-pub extern "C" fn lr_server_give_up(alloc: Global, slot: &mut Slot) -> i64 {
+pub extern "C" fn lr_server_give_up(alloc: Global, slot: &mut Slot) -> i64
+    ensures { OnServer OnGiveUp (held_in slot.old) (held_in slot.new) result }
+{
     let Some(mut object) = slot.take(alloc) else {
-        return EMPTY;
+        return Refusal::Empty.number();
     };
-    let answer = match &mut *object {
-        Object::Server(it) => number_of(it.give_up()),
-        _ => EMPTY,
-    };
+    let answer = served::give_up(&mut object);
     slot.put(object);
     answer
 }
