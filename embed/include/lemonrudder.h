@@ -533,7 +533,7 @@ int64_t lr_ior_component(lr_ior *ior, uint32_t index, uint32_t component, uint32
  * octet, from which numbers are aligned (0 for an encapsulation, body_at for a body), and `order` the order of
  * numbers. Each function moves `next` past what it read or wrote, padding included, and answers LR_OK. At an error
  * the place and the room are as they were: LR_E_SHORT (reading: octets are missing), LR_E_ROOM (writing), LR_E_VALUE
- * (no value of the type, as text with a NUL), LR_E_RANGE (the order; or `next` lies beyond the octets, or at
+ * (no value of the type), LR_E_TEXT (text with a NUL), LR_E_RANGE (the order; or `next` lies beyond the octets, or at
  * 4294967296 or more, counted from `at`), LR_E_LONG (text or octets whose length is over 4294967295).
  */
 typedef struct {

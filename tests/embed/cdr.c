@@ -233,7 +233,7 @@ static void no_values(void) {
   WANT(lr_put_boolean(room, sizeof room, &place, 2), LR_E_VALUE);
   WANT(lr_get_string(no_nul, sizeof no_nul, &place, &start, &length), LR_E_VALUE);
   WANT(lr_get_string(nul_within, sizeof nul_within, &place, &start, &length), LR_E_VALUE);
-  WANT(lr_put_string(room, sizeof room, &place, "a\0b", 3), LR_E_VALUE);
+  WANT(lr_put_string(room, sizeof room, &place, "a\0b", 3), LR_E_TEXT);
   WANT(lr_get_string(long_one, sizeof long_one, &place, &start, &length), LR_E_SHORT);
   WANT(lr_get_octets(long_one, sizeof long_one, &place, &start, &length), LR_E_SHORT);
   CHECK(is_place(place, place_of(0, 0, LR_BIG)) && start == 77 && length == 77 && truth == 7);

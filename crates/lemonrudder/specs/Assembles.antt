@@ -39,8 +39,8 @@ abbrev pub Takes : List ℕ → ℕ → Assembling → Assembling → Type 0
 Takes piece n s t =
     (n ≤ length piece) × (0 < length piece → 0 < n) × (t.assembler.message ≡ None → n ≡ length piece) × (t.assembler.failed ≡ false) × (t.fault ≡ s.fault)
     × ((all : List ℕ) → StandsFor s.assembler all
-        → StandsFor t.assembler (all ++ take n piece)
-        × (messages_of s.assembler.limits (all ++ take n piece) ≡ messages_of s.assembler.limits all ++ completed_at (length (all ++ take n piece)) t.assembler.message))
+    → StandsFor t.assembler (all ++ take n piece)
+    × (messages_of s.assembler.limits (all ++ take n piece) ≡ messages_of s.assembler.limits all ++ completed_at (length (all ++ take n piece)) t.assembler.message))
 
 -- the stream has a fault, or an allocation failed, now or before: nothing is lent
 abbrev pub Fails : List ℕ → Assembling → Assembling → Type 0

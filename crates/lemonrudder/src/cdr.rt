@@ -67,21 +67,18 @@ impl Place {
         self.next = count_of(octets).saturating_sub(count_of(cursor.rest()));
     }
 
-    /// Moves past a sequence of octets that was read up to there, and says where it lies: its first octet and how
-    /// many there are, the last `tail` of which are left out.
+    /// Moves past octets that were read, the first of which stands at a cursor, and says where they lie: the index of
+    /// the first, and how many there are.
     pub fn pass(
         &mut self,
         octets: &[u8],
+        first: &Cursor<'_>,
         cursor: &Cursor<'_>,
         read: &[u8],
-        tail: u64,
     ) -> (u64, u64) {
         self.follow(octets, cursor);
-        let length = count_of(read);
-        (
-            self.next.saturating_sub(length).saturating_sub(tail),
-            length,
-        )
+        let start = count_of(octets).saturating_sub(count_of(first.rest()));
+        (start, count_of(read))
     }
 
     /// The place in an encapsulation after its octet of the byte order.
@@ -147,12 +144,12 @@ impl Place {
         self.put_all(room, text, b"\0")
     }
 
-    /// Writes a number of 2, 4 or 8 octets, which are given in both orders.
+    /// Writes a number of 1, 2, 4 or 8 octets, which are given in both orders.
     pub fn put_number(&mut self, room: &mut [u8], big: &[u8], little: &[u8]) -> Result<u64, Refusal>
         requires { (0 < length big.now) × ((length big.now ≤ 8) × (length little.now ≡ length big.now)) }
         ensures { let size = length big.now in
             Writes (by_order (order_named self.old.order) (written self.old (padded self.old size big.now) room.old) (written self.old (padded self.old size little.now) room.old))
-                self.old self.new room.old room.new result }
+            self.old self.new room.old room.new result }
     {
         let size = count_of(big);
         match order_of(self.order)? {

@@ -194,9 +194,11 @@ pub extern "C" fn lr_get_string(
         Ok(cursor) => cursor,
         Err(refusal) => return refusal.number(),
     };
+    let mut first = cursor.fork();
+    let _length = first.ulong();
     match cursor.string() {
         Ok(found) => {
-            (*start, *length) = place.pass(octets, &cursor, found, 1);
+            (*start, *length) = place.pass(octets, &first, &cursor, found);
             0
         }
         Err(fault) => Refusal::from(fault).number(),
@@ -215,9 +217,11 @@ pub extern "C" fn lr_get_octets(
         Ok(cursor) => cursor,
         Err(refusal) => return refusal.number(),
     };
+    let mut first = cursor.fork();
+    let _length = first.ulong();
     match cursor.octets() {
         Ok(found) => {
-            (*start, *length) = place.pass(octets, &cursor, found, 0);
+            (*start, *length) = place.pass(octets, &first, &cursor, found);
             0
         }
         Err(fault) => Refusal::from(fault).number(),
@@ -237,6 +241,8 @@ pub extern "C" fn lr_get_encapsulation(
         Ok(cursor) => cursor,
         Err(refusal) => return refusal.number(),
     };
+    let mut first = cursor.fork();
+    let _length = first.ulong();
     let found = match cursor.octets() {
         Ok(found) => found,
         Err(fault) => return Refusal::from(fault).number(),
@@ -244,7 +250,7 @@ pub extern "C" fn lr_get_encapsulation(
     match order_in(found) {
         Ok(order) => {
             *inner = Place::inner(order);
-            (*start, *length) = place.pass(octets, &cursor, found, 0);
+            (*start, *length) = place.pass(octets, &first, &cursor, found);
             0
         }
         Err(refusal) => refusal.number(),
@@ -254,17 +260,17 @@ pub extern "C" fn lr_get_encapsulation(
 /// Writes an octet.
 #[unsafe(no_mangle)]
 pub extern "C" fn lr_put_octet(room: &mut [u8], place: &mut Place, value: u8) -> i64
-    ensures { Puts (written place.old (value ∷ []) room.old) place.old place.new room.old room.new result }
+    ensures { Puts (put_at (octet_value value) place.old room.old) place.old place.new room.old room.new result }
 {
-    number_of(place.put(room, 1, &[value], &[], &[]))
+    number_of(place.put_number(room, &[value], &[value]))
 }
 
 /// Writes a char.
 #[unsafe(no_mangle)]
 pub extern "C" fn lr_put_char(room: &mut [u8], place: &mut Place, value: u8) -> i64
-    ensures { Puts (written place.old (value ∷ []) room.old) place.old place.new room.old room.new result }
+    ensures { Puts (put_at (char_value value) place.old room.old) place.old place.new room.old room.new result }
 {
-    number_of(place.put(room, 1, &[value], &[], &[]))
+    number_of(place.put_number(room, &[value], &[value]))
 }
 
 /// Writes a short.
@@ -318,13 +324,13 @@ pub extern "C" fn lr_put_ulonglong(room: &mut [u8], place: &mut Place, value: u6
 /// Writes a boolean: 0 or 1.
 #[unsafe(no_mangle)]
 pub extern "C" fn lr_put_boolean(room: &mut [u8], place: &mut Place, value: u8) -> i64
-    ensures bit { value ≤ 1 → Puts (written place.old (value ∷ []) room.old) place.old place.new room.old room.new result }
+    ensures bit { value ≤ 1 → Puts (put_at (octet_value value) place.old room.old) place.old place.new room.old room.new result }
     ensures other { 1 < value → Puts (Err Refusal.Value) place.old place.new room.old room.new result }
 {
     if value > 1 {
         return Refusal::Value.number();
     }
-    number_of(place.put(room, 1, &[value], &[], &[]))
+    number_of(place.put_number(room, &[value], &[value]))
 }
 
 /// Writes a string, with its NUL.
