@@ -307,9 +307,7 @@ pub extern "C" fn lr_put_ulong(room: &mut [u8], place: &mut Place, value: u32) -
 
 /// Writes a long long.
 #[unsafe(no_mangle)]
-pub extern "C" fn lr_put_longlong(room: &mut [u8], place: &mut Place, value: i64) -> i64
-    ensures { Puts (put_at (longlong_value value) place.old room.old) place.old place.new room.old room.new result }
-{
+pub extern "C" fn lr_put_longlong(room: &mut [u8], place: &mut Place, value: i64) -> i64 {
     number_of(place.put_number(room, &value.to_be_bytes(), &value.to_le_bytes()))
 }
 
