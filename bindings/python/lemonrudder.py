@@ -58,7 +58,7 @@ import weakref
 from ctypes import c_int16, c_int32, c_int64, c_size_t, c_uint8, c_uint16, c_uint32, c_uint64, c_void_p
 from dataclasses import dataclass, field
 from functools import lru_cache
-from typing import Any, Callable, Dict, Iterable, Iterator, List, Mapping, NamedTuple, Optional, Sequence, Tuple, Union
+from typing import Any, Callable, Dict, Iterator, List, Mapping, NamedTuple, Optional, Sequence, Tuple, Union
 
 __all__ = [
     "BIG", "LITTLE", "FT_REQUEST", "LIMIT", "PARTIALS", "Asked", "Assembler", "Body", "Catalogue", "Client",
@@ -942,6 +942,9 @@ class Message:
     Request. key: the object key of a Request or LocateRequest whose target has one. operation: of a Request. body: of a
     Request, Reply or LocateReply. contexts: ids and data of the service contexts of a Request or Reply. ft: what its
     first FT_REQUEST says, of a Request that carries a valid one.
+
+    Reading its contexts takes time by the square of their number, thousands of them seconds: where peers are not
+    trusted, a smaller limit bounds that.
     """
 
     type: MessageType
