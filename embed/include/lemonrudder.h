@@ -6,7 +6,7 @@
  * and gives octets and what is to be done. Nothing in it is global but
  * the heap (lr_set_heap), and no call ends the process.
  *
- * Slots.  An object lives in a slot of yours: lr_server, lr_client and so on, each of which is a struct lr_slot. All
+ * Slots.  An object lives in a slot of yours: lr_server, lr_client and so on, whose members are not yours. All
  * zero is an empty slot, so that `lr_server s = LR_INIT;` is right. lr_close empties a slot and frees what it held;
  * on an empty one it does nothing, so closing twice is harmless. A slot may be moved in memory between calls, if the
  * old place is not used again. Two calls at once must not use one slot; different slots may be used by different
@@ -44,21 +44,17 @@ uint32_t lr_version(void);
 
 /* ---- slots ---- */
 
-struct lr_slot {
-  uint32_t kind;
-  void *at;
-};
+/* Each kind is a type of its own, so that a compiler tells them apart; all are laid out alike. */
+typedef struct { uint32_t kind; void *at; } lr_catalogue; /* which objects and operations a server has */
+typedef struct { uint32_t kind; void *at; } lr_server;    /* a server of requests that may be sent again */
+typedef struct { uint32_t kind; void *at; } lr_client;    /* a client that sends its calls again */
+typedef struct { uint32_t kind; void *at; } lr_assembler; /* the messages of a stream */
+typedef struct { uint32_t kind; void *at; } lr_ior;       /* a reference to an object */
 
 #define LR_INIT {0, NULL}
 
-typedef struct lr_slot lr_catalogue; /* which objects and operations a server has */
-typedef struct lr_slot lr_server;    /* a server of requests that may be sent again */
-typedef struct lr_slot lr_client;    /* a client that sends its calls again */
-typedef struct lr_slot lr_assembler; /* the messages of a stream */
-typedef struct lr_slot lr_ior;       /* a reference to an object */
-
 /* Empties a slot of any kind. */
-void lr_close(struct lr_slot *slot);
+void lr_close(void *slot);
 
 /* ---- errors ---- */
 
@@ -110,6 +106,16 @@ enum {
   LR_LOCATION_FORWARD = 3,
   LR_LOCATION_FORWARD_PERM = 4,
   LR_NEEDS_ADDRESSING_MODE = 5
+};
+
+/* The status of a LocateReply (CORBA 3.3 Part 2, 9.4.6.1). */
+enum {
+  LR_UNKNOWN_OBJECT = 0,
+  LR_OBJECT_HERE = 1,
+  LR_OBJECT_FORWARD = 2,
+  LR_OBJECT_FORWARD_PERM = 3,
+  LR_LOC_SYSTEM_EXCEPTION = 4,
+  LR_LOC_NEEDS_ADDRESSING_MODE = 5
 };
 
 /* The system exceptions that a server raises (CORBA 3.3 Part 2, A.5). */
@@ -249,8 +255,8 @@ typedef struct {
   uint64_t key_size;       /* of LR_PART_KEY */
   uint64_t operation_size; /* of LR_PART_OPERATION */
   uint64_t body_size;      /* of LR_PART_BODY */
-  uint64_t body_at;        /* the place of the body's first octet, from which it is aligned */
-  uint32_t body_order;     /* LR_BIG or LR_LITTLE */
+  uint64_t body_at;        /* where is_raw is: the place of the body's first octet, from which it is aligned; else 0 */
+  uint32_t body_order;     /* where is_raw is: LR_BIG or LR_LITTLE; else LR_BIG */
   uint32_t is_raw;         /* 1 where the operation is raw */
   uint32_t request_id;
   uint32_t version;
@@ -293,7 +299,8 @@ int64_t lr_server_answer_raw(lr_server *server, uint32_t status, uint32_t order,
 int64_t lr_server_identify(lr_server *server);
 
 /* Gives up the request that waits: you can't perform it now, and have done nothing. Nothing is kept, and its
- * connection is gone; it is asked again when it comes again. LR_E_EMPTY, LR_E_IDLE. */
+ * connection is gone; it is asked again when it comes again. What was answered before it stays due.
+ * LR_E_EMPTY, LR_E_IDLE. */
 int64_t lr_server_give_up(lr_server *server);
 
 /* Moves octets that are due into the room, as many as it has, and answers how many: 0 where none are left. They
@@ -307,8 +314,10 @@ int64_t lr_server_output(lr_server *server, void *room, size_t size);
  * a server that keeps outcomes performs it once. Octets that are due are moved by lr_client_output after each call.
  */
 
-/* Opens a client that is not connected. Its id, 1 to 256 octets without a NUL, names it to each server. Limits as of
- * lr_server_open. LR_E_OPEN, LR_E_RANGE, LR_E_TEXT, LR_E_MEMORY. */
+/* Opens a client that is not connected. Its id, 1 to 256 octets without a NUL, names it to each server. It numbers its
+ * calls from 1, so an id is used once: a client that is opened with one that was used before, by a program that was
+ * started again say, is given the outcomes of calls of before. Limits as of lr_server_open.
+ * LR_E_OPEN, LR_E_RANGE, LR_E_TEXT, LR_E_MEMORY. */
 int64_t lr_client_open(lr_client *client, const void *id, size_t id_size, uint32_t version,
                        uint32_t message_limit, uint32_t partials);
 

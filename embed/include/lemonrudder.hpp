@@ -233,7 +233,8 @@ inline std::uint64_t now() noexcept { return moment(std::chrono::system_clock::n
 
 /* ---- objects ---- */
 
-/* A slot and what it holds. */
+/* A slot of a type of lemonrudder.h, and what it holds. */
+template <class Raw>
 class Slot {
  public:
   Slot(const Slot&) = delete;
@@ -242,15 +243,15 @@ class Slot {
   bool is_open() const noexcept { return slot_.kind != 0; }
   void close() noexcept { lr_close(&slot_); }
   /* The slot itself, for the functions of lemonrudder.h. */
-  lr_slot* slot() noexcept { return &slot_; }
+  Raw* slot() noexcept { return &slot_; }
 
  protected:
   Slot() noexcept = default;
-  Slot(Slot&& other) noexcept : slot_(std::exchange(other.slot_, lr_slot LR_INIT)) {}
+  Slot(Slot&& other) noexcept : slot_(std::exchange(other.slot_, Raw LR_INIT)) {}
   Slot& operator=(Slot&& other) noexcept {
     if (this != &other) {
       lr_close(&slot_);
-      slot_ = std::exchange(other.slot_, lr_slot LR_INIT);
+      slot_ = std::exchange(other.slot_, Raw LR_INIT);
     }
     return *this;
   }
@@ -264,11 +265,11 @@ class Slot {
   }
 
  private:
-  lr_slot slot_ = LR_INIT;
+  Raw slot_ = LR_INIT;
 };
 
 /* Which objects and operations a server has. */
-class Catalogue : public Slot {
+class Catalogue : public Slot<lr_catalogue> {
  public:
   static Result<Catalogue> open() noexcept {
     Catalogue made;
@@ -323,7 +324,7 @@ struct Seeds {
 };
 
 /* A server of requests that may be sent again. */
-class Server : public Slot {
+class Server : public Slot<lr_server> {
  public:
   /* Opens a server of the objects of a catalogue, which is empty afterwards; at an error it is as it was. */
   static Result<Server> open(Catalogue& catalogue, Limits limits, Keeping keeping, Seeds seeds) noexcept {
@@ -395,7 +396,7 @@ struct Call {
 };
 
 /* A client that sends its calls again. */
-class Client : public Slot {
+class Client : public Slot<lr_client> {
  public:
   static Result<Client> open(Octets id, std::uint32_t version, Limits limits) noexcept {
     Client made;
@@ -453,7 +454,7 @@ Result<Tagged> tagged(Copy copy) noexcept {
 }  // namespace detail
 
 /* The messages of a stream. */
-class Assembler : public Slot {
+class Assembler : public Slot<lr_assembler> {
  public:
   static Result<Assembler> open(Limits limits) noexcept {
     Assembler made;
@@ -489,7 +490,7 @@ class Assembler : public Slot {
 };
 
 /* A reference to an object. */
-class Ior : public Slot {
+class Ior : public Slot<lr_ior> {
  public:
   static Result<Ior> parse(std::string_view text) noexcept {
     Ior made;

@@ -1489,10 +1489,11 @@ HEADER = os.path.join(ROOT, "embed", "include", "lemonrudder.h")
 ENUMS = [
     ("LR_E_", lr.Error), ("LR_WISH_", lr.Wish), ("LR_COMPLETED_", lr.Completed), ("LR_PART_", lr._Part),
     ("LR_FAULT_", lr.Fault), ("LR_ENDED_", lr._Ended), ("LR_IOR_", lr._IorPart), ("LR_", lr.Order),
-    ("LR_", lr.ReplyStatus), ("LR_", lr.SystemName), ("LR_", lr.MessageType), ("LR_", lr._Code),
+    ("LR_", lr.ReplyStatus), ("LR_", lr.LocateStatus), ("LR_", lr.SystemName), ("LR_", lr.MessageType),
+    ("LR_", lr._Code),
 ]
 STRUCTS = {
-    "lr_slot": lr._Slot, "lr_request": lr._Request, "lr_completion": lr._Completion, "lr_message": lr._Message,
+    **{f"lr_{kind}": lr._Slot for kind in ("catalogue", "server", "client", "assembler", "ior")}, "lr_request": lr._Request, "lr_completion": lr._Completion, "lr_message": lr._Message,
     "lr_profile": lr._Profile, "lr_place": lr._Place,
 }
 # what the module has no use for
@@ -1520,8 +1521,7 @@ class Header(Case):
     def test_structs(self):
         for name, struct_type in STRUCTS.items():
             with self.subTest(name):
-                body, = re.findall(rf"struct {name} {{(.*?)}};", self.text, re.S) or \
-                    re.findall(rf"struct {{([^}}]*)}} {name};", self.text)
+                body, = re.findall(rf"struct {{([^}}]*)}} {name};", self.text)
                 members = re.findall(r"(\w+) \*?(\w+);", body)
                 self.assertEqual(len(members), len(struct_type._fields_))
                 for (kind, member), field in zip(members, struct_type._fields_):

@@ -1,7 +1,8 @@
 //! Compares the declarations, and the numbers that have names, with `lemonrudder.h`.
 
 use crate::{
-    types, Completed, Ended, Error, Fault, MessageType, Order, Status, SystemName, Type, Wish,
+    types, Completed, Ended, Error, Fault, LocateStatus, MessageType, Order, Status, SystemName,
+    Type, Wish,
 };
 use std::collections::BTreeMap;
 use std::fmt::Debug;
@@ -43,7 +44,7 @@ fn in_rust(declared: &str) -> (String, String) {
         "uint64_t" => "u64",
         "int64_t" => "i64",
         "size_t" => "usize",
-        "lr_catalogue" | "lr_server" | "lr_client" | "lr_assembler" | "lr_ior" => "lr_slot",
+        slot if SLOTS.contains(&slot) => "lr_slot",
         other => other,
     };
     let kind = match (is_pointer, is_const) {
@@ -65,11 +66,19 @@ fn declared(text: &str) -> (String, String) {
 /// The name of a function, its parameters, and what it answers.
 type Function = (String, Vec<(String, String)>, String);
 
-/// The functions of the header, but for the one that takes functions.
+/// The types of the header that are slots: here they are one.
+const SLOTS: [&str; 5] = ["lr_catalogue", "lr_server", "lr_client", "lr_assembler", "lr_ior"];
+
+/// Whether a function is declared otherwise here: the one that takes functions, and the one that takes any slot.
+fn is_other(text: &str) -> bool {
+    text.contains("lr_set_heap") || text.contains("lr_close")
+}
+
+/// The functions of the header, but for those.
 fn functions_in_c(header: &str) -> Vec<Function> {
     let statements = header.split(['{', '}', ';']).map(str::trim);
     let functions = statements.filter(|text| text.contains(" lr_") || text.contains("*lr_"));
-    let functions = functions.filter(|text| text.ends_with(')') && !text.contains("lr_set_heap"));
+    let functions = functions.filter(|text| text.ends_with(')') && !is_other(text));
     let of = |text: &str| {
         let (head, parameters) = text.split_once('(').unwrap();
         let (name, answer) = in_rust(head);
@@ -80,12 +89,11 @@ fn functions_in_c(header: &str) -> Vec<Function> {
     functions.map(of).collect()
 }
 
-/// The functions that are declared here, but for that one.
+/// The functions that are declared here, but for those.
 fn functions_here() -> Vec<Function> {
     let text = include_str!("../sys.rs");
     let block = between(text, "unsafe extern \"C\" {", "\n}\n").next().unwrap();
-    let functions =
-        block.split(';').filter(|each| each.contains("fn ") && !each.contains("lr_set_heap"));
+    let functions = block.split(';').filter(|each| each.contains("fn ") && !is_other(each));
     let of = |text: &str| {
         let (name, rest) = text.split_once("fn ").unwrap().1.split_once('(').unwrap();
         let (parameters, answer) = rest.split_once(')').unwrap();
@@ -118,6 +126,7 @@ fn each_struct_is_declared_as_in_the_header() {
             fields.split(';').filter(|each| !each.trim().is_empty()).map(in_rust).collect();
         wanted.insert(rest.split_once(';').unwrap().0.trim().to_string(), fields);
     }
+    wanted.retain(|name, _| !SLOTS.contains(&name.as_str()));
     let here = include_str!("../sys.rs");
     let here: BTreeMap<_, _> = between(here, "pub struct ", "\n}\n")
         .filter(|text| !text.starts_with("lr_slot"))
@@ -128,7 +137,9 @@ fn each_struct_is_declared_as_in_the_header() {
         })
         .collect();
     assert_eq!(wanted, here);
-    assert!(header.contains("struct lr_slot {\n  uint32_t kind;\n  void *at;\n}"));
+    for slot in SLOTS {
+        assert!(header.contains(&format!("typedef struct {{ uint32_t kind; void *at; }} {slot};")));
+    }
 }
 
 /// The names of the header that have numbers.
@@ -170,6 +181,7 @@ fn each_number_has_the_name_of_the_header() {
     take(&mut numbers, "", Order::from_number);
     take(&mut numbers, "WISH_", Wish::from_number);
     take(&mut numbers, "", Status::from_number);
+    take(&mut numbers, "", LocateStatus::from_number);
     take(&mut numbers, "", SystemName::from_number);
     take(&mut numbers, "COMPLETED_", Completed::from_number);
     take(&mut numbers, "ENDED_", Ended::from_number);
