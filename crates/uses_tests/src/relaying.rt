@@ -43,19 +43,23 @@ impl Back for Scripted {
     }
 }
 
-/// A server behind whose connection is lost while it performs.
+/// Savings behind, whose connection may be lost while they perform.
 #[derive(Drop)]
-struct Losing {
-    back: Behind<Savings>,
+struct Remote {
+    savings: Behind<Savings>,
+    is_heard: bool,
 }
 
-impl Back for Losing {
+impl Back for Remote {
     ghost use Rattle.std.specs.Prelude.{None};
 
     ghost exchanges = { λ _. None };
 
     fn exchange(&mut self, alloc: Global, request: &[u8]) -> Vec<u8> {
-        let _unheard = self.back.exchange(alloc, request);
+        let written = self.savings.exchange(alloc, request);
+        if self.is_heard {
+            return written;
+        }
         Vec::new(alloc)
     }
 }
@@ -105,6 +109,17 @@ fn answers<B: Back + Drop>(
     Ok(written)
 }
 
+/// What is answered to these events before savings, and the balance after them.
+fn saved(rt: &HostRuntime, is_heard: bool, events: &[Event]) -> Result<(Vec<Vec<u8>>, i64), Fail> {
+    let back = Remote {
+        savings: savings(rt)?,
+        is_heard,
+    };
+    let mut relay = Relay::new(back, Limits::default());
+    let written = answers(rt, &mut relay, events)?;
+    Ok((written, relay.back().savings.servant().balance()))
+}
+
 /// The Reply of 1.2 with an id that returns an amount.
 fn returned(alloc: Global, id: u32, cents: i64) -> Result<Vec<u8>, AllocError> {
     let mut octets = Vec::from_slice(alloc, RETURNED)?;
@@ -117,8 +132,7 @@ fn returned(alloc: Global, id: u32, cents: i64) -> Result<Vec<u8>, AllocError> {
 fn a_call_that_comes_again_is_forwarded_once(rt: HostRuntime) -> Result<(), Fail> {
     let alloc = rt.alloc();
     let events = over_two(alloc, &[SAVE_ONCE], &[SAVE_AGAIN, SAVE_LITTLE, SAVE_10])?;
-    let mut relay = Relay::new(savings(&rt)?, Limits::default());
-    let written = answers(&rt, &mut relay, &events)?;
+    let (written, balance) = saved(&rt, true, &events)?;
     let expected = vec![in alloc;
         returned(alloc, 5, 1000)?,
         returned(alloc, 6, 1000)?,
@@ -126,7 +140,7 @@ fn a_call_that_comes_again_is_forwarded_once(rt: HostRuntime) -> Result<(), Fail
         Vec::from_slice(alloc, IMP_LIMIT)?,
     ]?;
     assert!(rt; written == expected);
-    assert_eq!(rt; relay.back().servant().balance(), 3000);
+    assert_eq!(rt; balance, 3000);
     Ok(())
 }
 
@@ -134,12 +148,12 @@ fn a_call_that_comes_again_is_forwarded_once(rt: HostRuntime) -> Result<(), Fail
 fn exceptions_are_handed_on(rt: HostRuntime) -> Result<(), Fail> {
     let alloc = rt.alloc();
     let events = over_two(alloc, &[OVERDRAW, CLOSE], &[])?;
-    let mut relay = Relay::new(savings(&rt)?, Limits::default());
-    let written = answers(&rt, &mut relay, &events)?;
+    let (written, balance) = saved(&rt, true, &events)?;
     let mut overdrawn = Vec::from_slice(alloc, SAVINGS_OVERDRAWN)?;
     overdrawn.extend_from_slice(&0i64.to_be_bytes())?;
     let expected = vec![in alloc; overdrawn, Vec::from_slice(alloc, BAD_OPERATION)?]?;
     assert!(rt; written == expected);
+    assert_eq!(rt; balance, 0);
     Ok(())
 }
 
@@ -147,17 +161,13 @@ fn exceptions_are_handed_on(rt: HostRuntime) -> Result<(), Fail> {
 fn what_a_lost_server_performed_is_not_asked_again(rt: HostRuntime) -> Result<(), Fail> {
     let alloc = rt.alloc();
     let events = over_two(alloc, &[SAVE_ONCE], &[SAVE_ONCE])?;
-    let back = Losing {
-        back: savings(&rt)?,
-    };
-    let mut relay = Relay::new(back, Limits::default());
-    let written = answers(&rt, &mut relay, &events)?;
+    let (written, balance) = saved(&rt, false, &events)?;
     let expected = vec![in alloc;
         Vec::from_slice(alloc, UNKNOWN)?,
         Vec::from_slice(alloc, UNKNOWN)?,
     ]?;
     assert!(rt; written == expected);
-    assert_eq!(rt; relay.back().back.servant().balance(), 1000);
+    assert_eq!(rt; balance, 1000);
     Ok(())
 }
 
