@@ -5,3 +5,4 @@ pub mod Heard
 pub mod OneTicket
 pub mod Played
 pub mod Served
+pub mod Told

@@ -10,6 +10,8 @@ pub mod Serving
 pub mod Pieces
 pub mod Retrying
 pub mod Cutting
+pub mod Forwarding
+pub mod Relaying
 -- proofs that `impl Servant` cites
 pub mod TicketsFacts
 pub mod SavingFacts

@@ -187,10 +187,10 @@ pub(crate) fn feed<C: Catalogue + Drop, O: Performer>(
 }
 
 /// Serves an event: what is to be sent on its connection.
-fn serve_event(
+fn serve_event<C: Catalogue + Drop, O: Performer>(
     alloc: Global,
-    engine: &mut Engine<Interfaces>,
-    bank: &mut Bank,
+    engine: &mut Engine<C>,
+    owner: &mut O,
     event: &Event,
 ) -> Result<Vec<u8>, BankingError>
     requires idle { waits_in engine.old ≡ None }
@@ -200,12 +200,32 @@ fn serve_event(
     match event {
         Event::Opened(connection) => engine.connect(*connection)?,
         Event::Piece(connection, moment, piece) => {
-            feed(alloc, engine, bank, *connection, *moment, piece, &mut out)?;
+            feed(alloc, engine, owner, *connection, *moment, piece, &mut out)?;
         }
         Event::Close(connection) => engine.close(*connection, &mut out)?,
         Event::Lost(connection) => engine.lost(*connection),
     }
     Ok(out)
+}
+
+/// Serves events one after another: appends what is to be sent for each.
+pub(crate) fn serve_events<C: Catalogue + Drop, O: Performer>(
+    alloc: Global,
+    engine: &mut Engine<C>,
+    owner: &mut O,
+    events: &[Event],
+    out: &mut Vec<Vec<u8>>,
+) -> Result<(), BankingError>
+    requires idle { waits_in engine.old ≡ None }
+    ensures idle { waits_in engine.new ≡ None }
+{
+    for event in events {
+        let octets = serve_event(alloc, engine, owner, event)?;
+        if out.push(octets).is_err() {
+            return Err(BankingError::Memory(AllocError));
+        }
+    }
+    Ok(())
 }
 
 /// Serves a new bank: appends what is to be sent for each event, and gives the bank after the last.
@@ -219,11 +239,6 @@ pub fn serve_bank(
     let mut bank = Bank::new(alloc);
     // at most 100 outcomes are kept, at most 100 of each client
     let mut engine = Engine::new(alloc, bank_interfaces(alloc)?, limits, 100, 100, hasher);
-    for event in events {
-        let octets = serve_event(alloc, &mut engine, &mut bank, event)?;
-        if out.push(octets).is_err() {
-            return Err(BankingError::Memory(AllocError));
-        }
-    }
+    serve_events(alloc, &mut engine, &mut bank, events, out)?;
     Ok(bank)
 }

@@ -1,4 +1,4 @@
-//! Fourteen uses of the libraries, as a caller writes them: each is one file with one subject, proved, and
+//! Sixteen uses of the libraries, as a caller writes them: each is one file with one subject, proved, and
 //! run by a test of `uses_tests` on octets written out by hand from the standard's layouts (CORBA 3.3 Part 2, 9.3 and 9.4).
 //! docs/GUIDE.md and the pages of `giop_link` and `ft_log` quote them.
 #![tactic(auto)]
@@ -8,11 +8,13 @@ mod banking;
 mod capture;
 mod cutting;
 mod endpoint;
+mod forwarding;
 mod hearing;
 mod invocation;
 mod keeping;
 mod locating;
 mod pieces;
+mod relaying;
 mod retrying;
 mod saving;
 mod serving;
@@ -23,11 +25,13 @@ pub use banking::{Bank, BankingError, serve_bank};
 pub use capture::{Capture, read_capture};
 pub use cutting::{AtCut, CuttingError, ticket_at_cut};
 pub use endpoint::first_endpoint;
+pub use forwarding::{ForwardError, forward_request, read_reply};
 pub use hearing::requests_heard;
 pub use invocation::{Retry, add_request, cut};
 pub use keeping::keep_once;
 pub use locating::answer_locate;
 pub use pieces::{Piece, serve_pieces};
+pub use relaying::{Back, Behind, Relay, serve_relay};
 pub use retrying::{RetryingError, next_ticket};
 pub use saving::Savings;
 pub use serving::{ServingError, serve_once};

@@ -25,6 +25,10 @@ mod octets;
 #[cfg(test)]
 mod pieces;
 #[cfg(test)]
+mod relayed;
+#[cfg(test)]
+mod relaying;
+#[cfg(test)]
 mod retrying;
 #[cfg(test)]
 mod saving;
