@@ -1,3 +1,5 @@
+mod Ended
 mod Idling
+mod Owing
 mod Servers
 mod Values

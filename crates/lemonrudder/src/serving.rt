@@ -1,5 +1,8 @@
 //! A server, with the octets that are due on a connection.
 
+ghost use Rattle.std.specs.Prelude.{◌≡◌, ◌↔◌, IsTrue, length};
+ghost use Rattle.lemonrudder.specs.Serves.{taken_of};
+
 use crate::due::Due;
 use crate::named::{
     completion_of, limits_of, number_of_order, order_of, raw_status_of, system_name_of,
@@ -56,8 +59,7 @@ pub struct Serving {
 }
 
 impl Serving {
-    ghost use Rattle.std.specs.Prelude.{◌≡◌};
-    ghost use Rattle.lemonrudder.specs.Serves.{OnGiveUp};
+    ghost use Rattle.lemonrudder.specs.Serves.{IsDueElsewhere, OnConnect, OnFarewell, OnFeed, OnGiveUp, OnIsClosed, OnLost, OnOutput};
 
     /// A server to which nothing has happened.
     pub fn new(
@@ -80,20 +82,17 @@ impl Serving {
         }
     }
 
-    /// Makes what is due next that of a connection.
-    fn turn_to(&mut self, connection: u64) -> Result<(), Refusal>
-        ensures engine { self.new.engine ≡ self.old.engine }
-        ensures due { self.new.due ≡ self.old.due }
+    /// Whether octets are due on another connection.
+    fn is_due_elsewhere(&self, connection: u64) -> bool
+        ensures { IsTrue result ↔ IsDueElsewhere connection self.now }
     {
-        if self.due.is_some() && self.due_on != connection {
-            return Err(Refusal::Due);
-        }
-        self.due_on = connection;
-        Ok(())
+        self.due.is_some() && self.due_on != connection
     }
 
     /// Opens a connection.
-    pub fn connect(&mut self, connection: u64) -> Result<u64, Refusal> {
+    pub fn connect(&mut self, connection: u64) -> Result<u64, Refusal>
+        ensures { OnConnect connection self.old self.new result }
+    {
         if self.engine.is_asking() {
             return Err(Refusal::Asking);
         }
@@ -102,7 +101,9 @@ impl Serving {
     }
 
     /// Forgets a connection, and what is due on it.
-    pub fn lost(&mut self, connection: u64) -> Result<u64, Refusal> {
+    pub fn lost(&mut self, connection: u64) -> Result<u64, Refusal>
+        ensures { OnLost connection self.old self.new result }
+    {
         if self.engine.is_asking() {
             return Err(Refusal::Asking);
         }
@@ -114,33 +115,42 @@ impl Serving {
     }
 
     /// Says goodbye on a connection.
-    pub fn farewell(&mut self, connection: u64) -> Result<u64, Refusal> {
+    pub fn farewell(&mut self, connection: u64) -> Result<u64, Refusal>
+        ensures { OnFarewell connection self.old self.new result }
+    {
         if self.engine.is_asking() {
             return Err(Refusal::Asking);
         }
-        self.turn_to(connection)?;
+        if self.is_due_elsewhere(connection) {
+            return Err(Refusal::Due);
+        }
+        self.due_on = connection;
         self.engine.close(connection, &mut self.due.octets)?;
         Ok(0)
     }
 
     /// Whether what comes on a connection has no meaning.
-    pub fn is_closed(&self, connection: u64) -> u64 {
+    pub fn is_closed(&self, connection: u64) -> u64
+        ensures { OnIsClosed connection self.now self.now (Ok result) }
+    {
         u64::from(self.engine.is_closed(connection))
     }
 
     /// Takes octets of a connection, and answers how many.
-    pub fn feed(&mut self, connection: u64, moment: u64, octets: &[u8]) -> Result<u64, Refusal> {
+    pub fn feed(&mut self, connection: u64, moment: u64, octets: &[u8]) -> Result<u64, Refusal>
+        ensures { OnFeed connection moment octets.now self.old self.new result }
+    {
         if self.engine.is_asking() {
             return Err(Refusal::Asking);
         }
-        self.turn_to(connection)?;
-        match self
-            .engine
-            .feed(connection, moment, octets, &mut self.due.octets)?
-        {
-            Fed::Whole => Ok(count_of(octets)),
-            Fed::Asks(taken) => Ok(taken as u64),
+        if self.is_due_elsewhere(connection) {
+            return Err(Refusal::Due);
         }
+        self.due_on = connection;
+        let fed = self
+            .engine
+            .feed(connection, moment, octets, &mut self.due.octets);
+        taken_of(octets, fed)
     }
 
     /// Whether the operation that waits is raw.
@@ -325,13 +335,25 @@ impl Serving {
     }
 
     /// Moves octets that are due into a room.
-    pub fn output(&mut self, room: &mut [u8]) -> u64 {
+    pub fn output(&mut self, room: &mut [u8]) -> u64
+        ensures { OnOutput room.old room.new self.old self.new (Ok result) }
+    {
         self.due.output(room)
     }
 }
 
 /// The repository id of every object (CORBA 3.3 Part 1, 8.3).
 const OBJECT: &[u8] = b"IDL:omg.org/CORBA/Object:1.0";
+
+/// How many octets were taken.
+fn taken_of(octets: &[u8], fed: Result<Fed, ServeError>) -> Result<u64, Refusal>
+    ensures { result ≡ taken_of (length octets.now) fed }
+{
+    match fed? {
+        Fed::Whole => Ok(count_of(octets)),
+        Fed::Asks(taken) => Ok(taken as u64),
+    }
+}
 
 /// Octets that are no value of a result's type are no outcome.
 fn of_outcome(refusal: Refusal) -> Refusal {

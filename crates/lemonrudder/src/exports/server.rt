@@ -1,7 +1,8 @@
 //! A server of requests that may be sent again.
 
+ghost use Rattle.std.specs.Prelude.{◌≡◌};
 ghost use Rattle.lemonrudder.specs.Answers.{OnServer};
-ghost use Rattle.lemonrudder.specs.Serves.{OnGiveUp};
+ghost use Rattle.lemonrudder.specs.Serves.{HasNoServer, OnConnect, OnFarewell, OnFeed, OnGiveUp, OnIsClosed, OnLost, OnOutput};
 ghost use Rattle.lemonrudder.specs.Slots.{held_in};
 
 use crate::object::Object;
@@ -69,56 +70,52 @@ pub extern "C" fn lr_server_open(
 
 /// Opens a connection.
 #[unsafe(no_mangle)]
-pub extern "C" fn lr_server_connect(alloc: Global, slot: &mut Slot, connection: u64) -> i64 {
+pub extern "C" fn lr_server_connect(alloc: Global, slot: &mut Slot, connection: u64) -> i64
+    ensures { OnServer (OnConnect connection) (held_in slot.old) (held_in slot.new) result }
+{
     let Some(mut object) = slot.take(alloc) else {
-        return EMPTY;
+        return Refusal::Empty.number();
     };
-    let answer = match &mut *object {
-        Object::Server(it) => number_of(it.connect(connection)),
-        _ => EMPTY,
-    };
+    let answer = served::connect(&mut object, connection);
     slot.put(object);
     answer
 }
 
 /// Forgets a connection that is gone.
 #[unsafe(no_mangle)]
-pub extern "C" fn lr_server_lost(alloc: Global, slot: &mut Slot, connection: u64) -> i64 {
+pub extern "C" fn lr_server_lost(alloc: Global, slot: &mut Slot, connection: u64) -> i64
+    ensures { OnServer (OnLost connection) (held_in slot.old) (held_in slot.new) result }
+{
     let Some(mut object) = slot.take(alloc) else {
-        return EMPTY;
+        return Refusal::Empty.number();
     };
-    let answer = match &mut *object {
-        Object::Server(it) => number_of(it.lost(connection)),
-        _ => EMPTY,
-    };
+    let answer = served::lost(&mut object, connection);
     slot.put(object);
     answer
 }
 
 /// Says goodbye on a connection.
 #[unsafe(no_mangle)]
-pub extern "C" fn lr_server_farewell(alloc: Global, slot: &mut Slot, connection: u64) -> i64 {
+pub extern "C" fn lr_server_farewell(alloc: Global, slot: &mut Slot, connection: u64) -> i64
+    ensures { OnServer (OnFarewell connection) (held_in slot.old) (held_in slot.new) result }
+{
     let Some(mut object) = slot.take(alloc) else {
-        return EMPTY;
+        return Refusal::Empty.number();
     };
-    let answer = match &mut *object {
-        Object::Server(it) => number_of(it.farewell(connection)),
-        _ => EMPTY,
-    };
+    let answer = served::farewell(&mut object, connection);
     slot.put(object);
     answer
 }
 
 /// Whether what comes on a connection has no meaning.
 #[unsafe(no_mangle)]
-pub extern "C" fn lr_server_is_closed(alloc: Global, slot: &mut Slot, connection: u64) -> i64 {
+pub extern "C" fn lr_server_is_closed(alloc: Global, slot: &mut Slot, connection: u64) -> i64
+    ensures { OnServer (OnIsClosed connection) (held_in slot.old) (held_in slot.new) result }
+{
     let Some(object) = slot.take(alloc) else {
-        return EMPTY;
+        return Refusal::Empty.number();
     };
-    let answer = match &*object {
-        Object::Server(it) => signed(it.is_closed(connection)),
-        _ => EMPTY,
-    };
+    let answer = served::is_closed(&object, connection);
     slot.put(object);
     answer
 }
@@ -131,14 +128,13 @@ pub extern "C" fn lr_server_feed(
     connection: u64,
     moment: u64,
     octets: &[u8],
-) -> i64 {
+) -> i64
+    ensures { OnServer (OnFeed connection moment octets.now) (held_in slot.old) (held_in slot.new) result }
+{
     let Some(mut object) = slot.take(alloc) else {
-        return EMPTY;
+        return Refusal::Empty.number();
     };
-    let answer = match &mut *object {
-        Object::Server(it) => number_of(it.feed(connection, moment, octets)),
-        _ => EMPTY,
-    };
+    let answer = served::feed(&mut object, connection, moment, octets);
     slot.put(object);
     answer
 }
@@ -288,14 +284,14 @@ pub extern "C" fn lr_server_give_up(alloc: Global, slot: &mut Slot) -> i64
 
 /// Moves octets that are due into a room.
 #[unsafe(no_mangle)]
-pub extern "C" fn lr_server_output(alloc: Global, slot: &mut Slot, room: &mut [u8]) -> i64 {
+pub extern "C" fn lr_server_output(alloc: Global, slot: &mut Slot, room: &mut [u8]) -> i64
+    ensures does { OnServer (OnOutput room.old room.new) (held_in slot.old) (held_in slot.new) result }
+    ensures room { HasNoServer (held_in slot.old) → room.new ≡ room.old }
+{
     let Some(mut object) = slot.take(alloc) else {
-        return EMPTY;
+        return Refusal::Empty.number();
     };
-    let answer = match &mut *object {
-        Object::Server(it) => signed(it.output(room)),
-        _ => EMPTY,
-    };
+    let answer = served::output(&mut object, room);
     slot.put(object);
     answer
 }
