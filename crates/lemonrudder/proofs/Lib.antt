@@ -1,3 +1,9 @@
+mod Ended
+mod Handing
 mod Idling
+mod Owing
+mod Raising
+mod Reading
 mod Servers
+mod Telling
 mod Values

@@ -1,7 +1,18 @@
 -- Numbers of the header, and what they name.
-use Rattle.std.specs.Prelude.{ℕ, Option, Some, None, Result, Ok, Err, ◌==◌, if◌then◌else◌}
+use Rattle.std.specs.Prelude.{◌≡◌, ℕ, ◌≤◌, List, [], ◌∷◌, slice_get, Option, Some, None, Result, Ok, Err, ◌==◌, if◌then◌else◌}
 use Rattle.cdr_core.specs.declared.order.Order.{Order}
 use Rattle.cdr_core.specs.declared.order.Order.TheVariants.{Big, Little}
+use Rattle.giop_core.specs.declared.header.Version.{Version}
+use Rattle.giop_core.specs.declared.header.Version.TheVariants.{V10, V11, V12}
+use Rattle.giop_core.specs.declared.request.ReplyWish.{ReplyWish}
+use Rattle.giop_core.specs.declared.request.ReplyWish.TheVariants as wish
+use Rattle.giop_frames.specs.declared.limits.Limits.{Limits}
+use Rattle.ft_log.specs.declared.outcome.RawStatus.{RawStatus}
+use Rattle.ft_log.specs.declared.outcome.RawStatus.TheVariants.{LocationForward, NoException, SystemException, UserException}
+use Rattle.ft_log.specs.declared.system_exception.Completion.{Completion}
+use Rattle.ft_log.specs.declared.system_exception.Completion.TheVariants.{Maybe, No, Yes}
+use Rattle.ft_log.specs.declared.system_exception.SystemName.{SystemName}
+use Rattle.ft_log.specs.declared.system_exception.SystemName.TheVariants as system
 use Rattle.lemonrudder.specs.declared.refusal.Refusal.{Refusal}
 use Rattle.lemonrudder.specs.declared.refusal.Refusal.TheVariants.{Range}
 
@@ -24,3 +35,34 @@ by_order (Some Little) big little = little
 abbrev pub order_number : Order → ℕ
 order_number Big = 0
 order_number Little = 1
+
+-- the minor number of a version
+abbrev pub minor_number : Version → ℕ
+minor_number V10 = 0
+minor_number V11 = 1
+minor_number V12 = 2
+
+-- the number of a wish
+abbrev pub wish_number : ReplyWish → ℕ
+wish_number wish.None = 0
+wish_number wish.Empty = 1
+wish_number wish.Full = 2
+
+-- numbers that the limits of a connection may have
+abbrev pub AreLimits : (message partials : ℕ) → Type 0
+AreLimits message partials = (4096 ≤ message) × (message ≤ 16777216) × (1 ≤ partials) × (partials ≤ 16)
+
+-- the limits of these numbers
+abbrev pub IsNamed : (message partials : ℕ) → Limits → Type 0
+IsNamed message partials limits = (limits.message ≡ message) × (limits.partials ≡ partials)
+
+-- GIOP 9.4.3: the status of a reply, a completion, each by its ordinal
+abbrev pub raw_status_named : ℕ → Option RawStatus
+raw_status_named n = slice_get (NoException ∷ UserException ∷ SystemException ∷ LocationForward ∷ []) n
+
+abbrev pub completion_named : ℕ → Option Completion
+completion_named n = slice_get (Yes ∷ No ∷ Maybe ∷ []) n
+
+-- a system exception, by the number of the header
+abbrev pub system_name_named : ℕ → Option SystemName
+system_name_named n = slice_get (system.Marshal ∷ system.BadContext ∷ system.NoResources ∷ system.BadOperation ∷ system.ObjectNotExist ∷ system.Unknown ∷ system.BadParam ∷ system.NoPermission ∷ system.ImpLimit ∷ system.Internal ∷ system.Transient ∷ []) n

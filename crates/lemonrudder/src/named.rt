@@ -1,7 +1,7 @@
 //! Numbers of the header, and what they name.
 
-ghost use Rattle.std.specs.Prelude.{◌≡◌};
-ghost use Rattle.lemonrudder.specs.Naming.{or_range, order_named, order_number};
+ghost use Rattle.std.specs.Prelude.{◌≡◌, ◌↔◌, IfErr, IfOk, IsOk};
+ghost use Rattle.lemonrudder.specs.Naming.{AreLimits, IsNamed, completion_named, minor_number, or_range, order_named, order_number, raw_status_named, system_name_named, wish_number};
 
 use crate::refusal::Refusal;
 use cdr_core::Order;
@@ -20,7 +20,9 @@ pub fn version_of(minor: u32) -> Result<Version, Refusal> {
 }
 
 /// The minor number of a version.
-pub fn minor_of(version: Version) -> u32 {
+pub fn minor_of(version: Version) -> u32
+    ensures { result ≡ minor_number version }
+{
     match version {
         Version::V10 => 0,
         Version::V11 => 1,
@@ -60,7 +62,9 @@ pub fn wish_of(number: u32) -> Result<ReplyWish, Refusal> {
 }
 
 /// The number of a wish.
-pub fn number_of_wish(wish: ReplyWish) -> u32 {
+pub fn number_of_wish(wish: ReplyWish) -> u32
+    ensures { result ≡ wish_number wish }
+{
     match wish {
         ReplyWish::None => 0,
         ReplyWish::Empty => 1,
@@ -69,13 +73,19 @@ pub fn number_of_wish(wish: ReplyWish) -> u32 {
 }
 
 /// The limits of a connection.
-pub fn limits_of(message: u32, partials: u32) -> Result<Limits, Refusal> {
+pub fn limits_of(message: u32, partials: u32) -> Result<Limits, Refusal>
+    ensures in_range { IsOk result ↔ AreLimits message partials }
+    ensures named { IfOk result (IsNamed message partials) }
+    ensures err { IfErr result (λ e. e ≡ Refusal.Range) }
+{
     let partials = u8::try_from(partials).map_err(|_| Refusal::Range)?;
     Limits::new(message, partials).ok_or(Refusal::Range)
 }
 
 /// The status of a raw reply.
-pub fn raw_status_of(number: u32) -> Result<RawStatus, Refusal> {
+pub fn raw_status_of(number: u32) -> Result<RawStatus, Refusal>
+    ensures { result ≡ or_range (raw_status_named number) }
+{
     match number {
         0 => Ok(RawStatus::NoException),
         1 => Ok(RawStatus::UserException),
@@ -86,7 +96,9 @@ pub fn raw_status_of(number: u32) -> Result<RawStatus, Refusal> {
 }
 
 /// The system exception of a number.
-pub fn system_name_of(number: u32) -> Result<SystemName, Refusal> {
+pub fn system_name_of(number: u32) -> Result<SystemName, Refusal>
+    ensures { result ≡ or_range (system_name_named number) }
+{
     match number {
         0 => Ok(SystemName::Marshal),
         1 => Ok(SystemName::BadContext),
@@ -104,7 +116,9 @@ pub fn system_name_of(number: u32) -> Result<SystemName, Refusal> {
 }
 
 /// The completion of a number, by the ordinals of the standard's enumeration.
-pub fn completion_of(number: u32) -> Result<Completion, Refusal> {
+pub fn completion_of(number: u32) -> Result<Completion, Refusal>
+    ensures { result ≡ or_range (completion_named number) }
+{
     match number {
         0 => Ok(Completion::Yes),
         1 => Ok(Completion::No),

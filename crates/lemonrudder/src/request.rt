@@ -1,5 +1,9 @@
 //! What a request says, but its parts of any length, as the header has it.
 
+ghost use Rattle.std.specs.Prelude.{◌≡◌};
+ghost use Rattle.giop_core.specs.Items.{contexts_left};
+ghost use Rattle.lemonrudder.specs.Asking.{with_question};
+
 use crate::named::{minor_of, number_of_wish};
 use crate::refusal::count_of;
 use giop_core::{FtField, Request, Version, ft_request};
@@ -26,8 +30,12 @@ pub struct RequestHead {
 }
 
 impl RequestHead {
+    ghost use Rattle.lemonrudder.specs.Asking.{no_request};
+
     /// All zero.
-    pub fn none() -> RequestHead {
+    pub fn none() -> RequestHead
+        ensures { result ≡ no_request }
+    {
         RequestHead {
             connection: 0,
             key_size: 0,
@@ -49,19 +57,22 @@ impl RequestHead {
 }
 
 /// Says the version, the id, the wish and the FT_REQUEST of a request.
-pub fn put_question(head: &mut RequestHead, version: Version, request: &Request<'_>) {
+pub fn put_question(head: &mut RequestHead, version: Version, request: &Request<'_>)
+    ensures { head.new ≡ with_question version request.now.request_id request.now.reply (contexts_left request.now.contexts) head.old }
+{
     head.request_id = request.request_id;
     head.version = minor_of(version);
     head.wish = number_of_wish(request.reply);
-    if let FtField::Present {
+    let FtField::Present {
         client_id,
         retention_id,
         expiration,
     } = ft_request(&request.contexts)
-    {
-        head.has_client = 1;
-        head.retention_id = retention_id;
-        head.client_size = count_of(client_id);
-        head.expiration = expiration;
-    }
+    else {
+        return;
+    };
+    head.has_client = 1;
+    head.retention_id = retention_id;
+    head.client_size = count_of(client_id);
+    head.expiration = expiration;
 }

@@ -1,11 +1,136 @@
 //! The calls on an object that is a server, if it is one.
 
-ghost use Rattle.std.specs.Prelude.{Some};
+ghost use Rattle.std.specs.Prelude.{◌≡◌, Some};
 ghost use Rattle.lemonrudder.specs.Answers.{OnServer};
-ghost use Rattle.lemonrudder.specs.Serves.{OnGiveUp};
+ghost use Rattle.lemonrudder.specs.Outcomes.{OnAnswer, OnAnswerRaw, OnIdentify, OnRaise, OnSystem};
+ghost use Rattle.lemonrudder.specs.Questions.{OnAsked, OnPart};
+ghost use Rattle.lemonrudder.specs.Serves.{HasNoServer, OnConnect, OnFarewell, OnFeed, OnGiveUp, OnIsClosed, OnLost, OnOutput};
 
 use crate::object::Object;
 use crate::refusal::{Refusal, number_of};
+use crate::request::RequestHead;
+
+/// Opens a connection.
+pub fn connect(object: &mut Object, connection: u64) -> i64
+    ensures { OnServer (OnConnect connection) (Some object.old) (Some object.new) result }
+{
+    let Object::Server(server) = object else {
+        return Refusal::Empty.number();
+    };
+    number_of(server.connect(connection))
+}
+
+/// Forgets a connection that is gone.
+pub fn lost(object: &mut Object, connection: u64) -> i64
+    ensures { OnServer (OnLost connection) (Some object.old) (Some object.new) result }
+{
+    let Object::Server(server) = object else {
+        return Refusal::Empty.number();
+    };
+    number_of(server.lost(connection))
+}
+
+/// Says goodbye on a connection.
+pub fn farewell(object: &mut Object, connection: u64) -> i64
+    ensures { OnServer (OnFarewell connection) (Some object.old) (Some object.new) result }
+{
+    let Object::Server(server) = object else {
+        return Refusal::Empty.number();
+    };
+    number_of(server.farewell(connection))
+}
+
+/// Whether what comes on a connection has no meaning.
+pub fn is_closed(object: &Object, connection: u64) -> i64
+    ensures { OnServer (OnIsClosed connection) (Some object.now) (Some object.now) result }
+{
+    let Object::Server(server) = object else {
+        return Refusal::Empty.number();
+    };
+    number_of(Ok(server.is_closed(connection)))
+}
+
+/// Takes octets of a connection, and answers how many.
+pub fn feed(object: &mut Object, connection: u64, moment: u64, octets: &[u8]) -> i64
+    ensures { OnServer (OnFeed connection moment octets.now) (Some object.old) (Some object.new) result }
+{
+    let Object::Server(server) = object else {
+        return Refusal::Empty.number();
+    };
+    number_of(server.feed(connection, moment, octets))
+}
+
+/// Says what waits.
+pub fn asked(object: &Object, request: &mut RequestHead) -> i64
+    ensures does { OnServer (OnAsked request.old request.new) (Some object.now) (Some object.now) result }
+    ensures request { HasNoServer (Some object.now) → request.new ≡ request.old }
+{
+    let Object::Server(server) = object else {
+        return Refusal::Empty.number();
+    };
+    number_of(Ok(server.asked(request)))
+}
+
+/// Copies a part of the request that waits.
+pub fn part(object: &Object, part: u32, room: &mut [u8]) -> i64
+    ensures does { OnServer (OnPart part room.old room.new) (Some object.now) (Some object.now) result }
+    ensures room { HasNoServer (Some object.now) → room.new ≡ room.old }
+{
+    let Object::Server(server) = object else {
+        return Refusal::Empty.number();
+    };
+    number_of(server.part(part, room))
+}
+
+/// Answers by results.
+pub fn answer(object: &mut Object, order: u32, results: &[u8]) -> i64
+    ensures { OnServer (OnAnswer order results.now) (Some object.old) (Some object.new) result }
+{
+    let Object::Server(server) = object else {
+        return Refusal::Empty.number();
+    };
+    number_of(server.answer(order, results))
+}
+
+/// Answers by an exception that the operation declares.
+pub fn raise(object: &mut Object, id: &[u8], order: u32, members: &[u8]) -> i64
+    ensures { OnServer (OnRaise id.now order members.now) (Some object.old) (Some object.new) result }
+{
+    let Object::Server(server) = object else {
+        return Refusal::Empty.number();
+    };
+    number_of(server.raise(id, order, members))
+}
+
+/// Answers by a system exception.
+pub fn system(object: &mut Object, name: u32, minor: u32, completed: u32) -> i64
+    ensures { OnServer (OnSystem name minor completed) (Some object.old) (Some object.new) result }
+{
+    let Object::Server(server) = object else {
+        return Refusal::Empty.number();
+    };
+    number_of(server.system(name, minor, completed))
+}
+
+/// Answers a raw operation.
+pub fn answer_raw(object: &mut Object, status: u32, order: u32, body: &[u8]) -> i64
+    ensures { OnServer (OnAnswerRaw status order body.now) (Some object.old) (Some object.new) result }
+{
+    let Object::Server(server) = object else {
+        return Refusal::Empty.number();
+    };
+    number_of(server.answer_raw(status, order, body))
+}
+
+/// Answers `_is_a` and `_non_existent`.
+pub fn identify(object: &mut Object) -> i64
+    ensures { OnServer OnIdentify (Some object.old) (Some object.new) result }
+{
+    let Object::Server(server) = object else {
+        return Refusal::Empty.number();
+    };
+    number_of(server.identify())
+}
 
 /// Gives up the request that waits.
 pub fn give_up(object: &mut Object) -> i64
@@ -15,4 +140,15 @@ pub fn give_up(object: &mut Object) -> i64
         return Refusal::Empty.number();
     };
     number_of(server.give_up())
+}
+
+/// Moves octets that are due into a room.
+pub fn output(object: &mut Object, room: &mut [u8]) -> i64
+    ensures does { OnServer (OnOutput room.old room.new) (Some object.old) (Some object.new) result }
+    ensures room { HasNoServer (Some object.old) → room.new ≡ room.old }
+{
+    let Object::Server(server) = object else {
+        return Refusal::Empty.number();
+    };
+    number_of(Ok(server.output(room)))
 }

@@ -1,5 +1,12 @@
 //! Types that are spelled by codes, and values that are octets of them.
 
+ghost use Rattle.std.specs.Prelude.{IfOk};
+ghost use Rattle.cdr_core.specs.Fitting.{AreValid};
+ghost use Rattle.cdr_core.specs.Spelling.{SpellsMembers};
+ghost use Rattle.cdr_core.specs.Value.{Values};
+ghost use Rattle.cdr_core.specs.View.{forms_of, values_of};
+ghost use Rattle.lemonrudder.specs.Spelled.{AreThose};
+
 use crate::refusal::Refusal;
 use cdr_core::{Order, Ty, Val, are_valid, read_list};
 use std::alloc::Global;
@@ -103,7 +110,10 @@ pub fn values_of(
     types: &[Ty],
     order: Order,
     octets: &[u8],
-) -> Result<Vec<Val>, Refusal> {
+) -> Result<Vec<Val>, Refusal>
+    ensures spelled { IfOk result (λ v. SpellsMembers (forms_of types.now) order (values_of v.items) 0 octets.now) }
+    ensures only { AreValid (forms_of types.now) → (vs : Values) → SpellsMembers (forms_of types.now) order vs 0 octets.now → AreThose vs result }
+{
     if !are_valid(types) {
         return Err(Refusal::Types);
     }

@@ -1,11 +1,14 @@
 //! A server of requests that may be sent again.
 
+ghost use Rattle.std.specs.Prelude.{◌≡◌};
 ghost use Rattle.lemonrudder.specs.Answers.{OnServer};
-ghost use Rattle.lemonrudder.specs.Serves.{OnGiveUp};
+ghost use Rattle.lemonrudder.specs.Outcomes.{OnAnswer, OnAnswerRaw, OnIdentify, OnRaise, OnSystem};
+ghost use Rattle.lemonrudder.specs.Questions.{OnAsked, OnPart};
+ghost use Rattle.lemonrudder.specs.Serves.{HasNoServer, OnConnect, OnFarewell, OnFeed, OnGiveUp, OnIsClosed, OnLost, OnOutput};
 ghost use Rattle.lemonrudder.specs.Slots.{held_in};
 
 use crate::object::Object;
-use crate::refusal::{Refusal, number_of, signed};
+use crate::refusal::Refusal;
 use crate::request::RequestHead;
 use crate::seed::Seed;
 use crate::served;
@@ -15,9 +18,6 @@ use ft_orb::Interfaces;
 use std::alloc::Global;
 use std::hash::RandomState;
 use std::mem;
-
-/// The slot has no object of the kind.
-const EMPTY: i64 = -1;
 
 /// The server of a catalogue's objects. The catalogue stays where it is refused.
 fn opened(alloc: Global, catalogue: &mut Slot, terms: Terms) -> Result<Box<Object>, Refusal> {
@@ -69,56 +69,52 @@ pub extern "C" fn lr_server_open(
 
 /// Opens a connection.
 #[unsafe(no_mangle)]
-pub extern "C" fn lr_server_connect(alloc: Global, slot: &mut Slot, connection: u64) -> i64 {
+pub extern "C" fn lr_server_connect(alloc: Global, slot: &mut Slot, connection: u64) -> i64
+    ensures { OnServer (OnConnect connection) (held_in slot.old) (held_in slot.new) result }
+{
     let Some(mut object) = slot.take(alloc) else {
-        return EMPTY;
+        return Refusal::Empty.number();
     };
-    let answer = match &mut *object {
-        Object::Server(it) => number_of(it.connect(connection)),
-        _ => EMPTY,
-    };
+    let answer = served::connect(&mut object, connection);
     slot.put(object);
     answer
 }
 
 /// Forgets a connection that is gone.
 #[unsafe(no_mangle)]
-pub extern "C" fn lr_server_lost(alloc: Global, slot: &mut Slot, connection: u64) -> i64 {
+pub extern "C" fn lr_server_lost(alloc: Global, slot: &mut Slot, connection: u64) -> i64
+    ensures { OnServer (OnLost connection) (held_in slot.old) (held_in slot.new) result }
+{
     let Some(mut object) = slot.take(alloc) else {
-        return EMPTY;
+        return Refusal::Empty.number();
     };
-    let answer = match &mut *object {
-        Object::Server(it) => number_of(it.lost(connection)),
-        _ => EMPTY,
-    };
+    let answer = served::lost(&mut object, connection);
     slot.put(object);
     answer
 }
 
 /// Says goodbye on a connection.
 #[unsafe(no_mangle)]
-pub extern "C" fn lr_server_farewell(alloc: Global, slot: &mut Slot, connection: u64) -> i64 {
+pub extern "C" fn lr_server_farewell(alloc: Global, slot: &mut Slot, connection: u64) -> i64
+    ensures { OnServer (OnFarewell connection) (held_in slot.old) (held_in slot.new) result }
+{
     let Some(mut object) = slot.take(alloc) else {
-        return EMPTY;
+        return Refusal::Empty.number();
     };
-    let answer = match &mut *object {
-        Object::Server(it) => number_of(it.farewell(connection)),
-        _ => EMPTY,
-    };
+    let answer = served::farewell(&mut object, connection);
     slot.put(object);
     answer
 }
 
 /// Whether what comes on a connection has no meaning.
 #[unsafe(no_mangle)]
-pub extern "C" fn lr_server_is_closed(alloc: Global, slot: &mut Slot, connection: u64) -> i64 {
+pub extern "C" fn lr_server_is_closed(alloc: Global, slot: &mut Slot, connection: u64) -> i64
+    ensures { OnServer (OnIsClosed connection) (held_in slot.old) (held_in slot.new) result }
+{
     let Some(object) = slot.take(alloc) else {
-        return EMPTY;
+        return Refusal::Empty.number();
     };
-    let answer = match &*object {
-        Object::Server(it) => signed(it.is_closed(connection)),
-        _ => EMPTY,
-    };
+    let answer = served::is_closed(&object, connection);
     slot.put(object);
     answer
 }
@@ -131,51 +127,41 @@ pub extern "C" fn lr_server_feed(
     connection: u64,
     moment: u64,
     octets: &[u8],
-) -> i64 {
+) -> i64
+    ensures { OnServer (OnFeed connection moment octets.now) (held_in slot.old) (held_in slot.new) result }
+{
     let Some(mut object) = slot.take(alloc) else {
-        return EMPTY;
+        return Refusal::Empty.number();
     };
-    let answer = match &mut *object {
-        Object::Server(it) => number_of(it.feed(connection, moment, octets)),
-        _ => EMPTY,
-    };
+    let answer = served::feed(&mut object, connection, moment, octets);
     slot.put(object);
     answer
 }
 
 /// Says what waits.
 #[unsafe(no_mangle)]
-pub extern "C" fn lr_server_asked(
-    alloc: Global,
-    slot: &mut Slot,
-    request: &mut RequestHead,
-) -> i64 {
+pub extern "C" fn lr_server_asked(alloc: Global, slot: &mut Slot, request: &mut RequestHead) -> i64
+    ensures does { OnServer (OnAsked request.old request.new) (held_in slot.old) (held_in slot.new) result }
+    ensures request { HasNoServer (held_in slot.old) → request.new ≡ request.old }
+{
     let Some(object) = slot.take(alloc) else {
-        return EMPTY;
+        return Refusal::Empty.number();
     };
-    let answer = match &*object {
-        Object::Server(it) => signed(it.asked(request)),
-        _ => EMPTY,
-    };
+    let answer = served::asked(&object, request);
     slot.put(object);
     answer
 }
 
 /// Copies a part of the request that waits.
 #[unsafe(no_mangle)]
-pub extern "C" fn lr_server_part(
-    alloc: Global,
-    slot: &mut Slot,
-    part: u32,
-    room: &mut [u8],
-) -> i64 {
+pub extern "C" fn lr_server_part(alloc: Global, slot: &mut Slot, part: u32, room: &mut [u8]) -> i64
+    ensures does { OnServer (OnPart part room.old room.new) (held_in slot.old) (held_in slot.new) result }
+    ensures room { HasNoServer (held_in slot.old) → room.new ≡ room.old }
+{
     let Some(object) = slot.take(alloc) else {
-        return EMPTY;
+        return Refusal::Empty.number();
     };
-    let answer = match &*object {
-        Object::Server(it) => number_of(it.part(part, room)),
-        _ => EMPTY,
-    };
+    let answer = served::part(&object, part, room);
     slot.put(object);
     answer
 }
@@ -187,14 +173,13 @@ pub extern "C" fn lr_server_answer(
     slot: &mut Slot,
     order: u32,
     results: &[u8],
-) -> i64 {
+) -> i64
+    ensures { OnServer (OnAnswer order results.now) (held_in slot.old) (held_in slot.new) result }
+{
     let Some(mut object) = slot.take(alloc) else {
-        return EMPTY;
+        return Refusal::Empty.number();
     };
-    let answer = match &mut *object {
-        Object::Server(it) => number_of(it.answer(order, results)),
-        _ => EMPTY,
-    };
+    let answer = served::answer(&mut object, order, results);
     slot.put(object);
     answer
 }
@@ -207,14 +192,13 @@ pub extern "C" fn lr_server_raise(
     id: &[u8],
     order: u32,
     members: &[u8],
-) -> i64 {
+) -> i64
+    ensures { OnServer (OnRaise id.now order members.now) (held_in slot.old) (held_in slot.new) result }
+{
     let Some(mut object) = slot.take(alloc) else {
-        return EMPTY;
+        return Refusal::Empty.number();
     };
-    let answer = match &mut *object {
-        Object::Server(it) => number_of(it.raise(id, order, members)),
-        _ => EMPTY,
-    };
+    let answer = served::raise(&mut object, id, order, members);
     slot.put(object);
     answer
 }
@@ -227,14 +211,13 @@ pub extern "C" fn lr_server_system(
     name: u32,
     minor: u32,
     completed: u32,
-) -> i64 {
+) -> i64
+    ensures { OnServer (OnSystem name minor completed) (held_in slot.old) (held_in slot.new) result }
+{
     let Some(mut object) = slot.take(alloc) else {
-        return EMPTY;
+        return Refusal::Empty.number();
     };
-    let answer = match &mut *object {
-        Object::Server(it) => number_of(it.system(name, minor, completed)),
-        _ => EMPTY,
-    };
+    let answer = served::system(&mut object, name, minor, completed);
     slot.put(object);
     answer
 }
@@ -247,28 +230,26 @@ pub extern "C" fn lr_server_answer_raw(
     status: u32,
     order: u32,
     body: &[u8],
-) -> i64 {
+) -> i64
+    ensures { OnServer (OnAnswerRaw status order body.now) (held_in slot.old) (held_in slot.new) result }
+{
     let Some(mut object) = slot.take(alloc) else {
-        return EMPTY;
+        return Refusal::Empty.number();
     };
-    let answer = match &mut *object {
-        Object::Server(it) => number_of(it.answer_raw(status, order, body)),
-        _ => EMPTY,
-    };
+    let answer = served::answer_raw(&mut object, status, order, body);
     slot.put(object);
     answer
 }
 
 /// Answers `_is_a` and `_non_existent`.
 #[unsafe(no_mangle)]
-pub extern "C" fn lr_server_identify(alloc: Global, slot: &mut Slot) -> i64 {
+pub extern "C" fn lr_server_identify(alloc: Global, slot: &mut Slot) -> i64
+    ensures { OnServer OnIdentify (held_in slot.old) (held_in slot.new) result }
+{
     let Some(mut object) = slot.take(alloc) else {
-        return EMPTY;
+        return Refusal::Empty.number();
     };
-    let answer = match &mut *object {
-        Object::Server(it) => number_of(it.identify()),
-        _ => EMPTY,
-    };
+    let answer = served::identify(&mut object);
     slot.put(object);
     answer
 }
@@ -288,14 +269,14 @@ pub extern "C" fn lr_server_give_up(alloc: Global, slot: &mut Slot) -> i64
 
 /// Moves octets that are due into a room.
 #[unsafe(no_mangle)]
-pub extern "C" fn lr_server_output(alloc: Global, slot: &mut Slot, room: &mut [u8]) -> i64 {
+pub extern "C" fn lr_server_output(alloc: Global, slot: &mut Slot, room: &mut [u8]) -> i64
+    ensures does { OnServer (OnOutput room.old room.new) (held_in slot.old) (held_in slot.new) result }
+    ensures room { HasNoServer (held_in slot.old) → room.new ≡ room.old }
+{
     let Some(mut object) = slot.take(alloc) else {
-        return EMPTY;
+        return Refusal::Empty.number();
     };
-    let answer = match &mut *object {
-        Object::Server(it) => signed(it.output(room)),
-        _ => EMPTY,
-    };
+    let answer = served::output(&mut object, room);
     slot.put(object);
     answer
 }

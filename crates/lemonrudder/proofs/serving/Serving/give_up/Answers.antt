@@ -2,14 +2,13 @@ use Rattle.std.proofs.Common.{rules, ◌≡◌, ℕ, refl}
 use Rattle.lemonrudder.proofs.Idling.{not_both}
 use Rattle.lemonrudder.proofs.serving.Serving.give_up.Goals as goal
 
--- src/serving.rt:317:5
 pub returns : goal.returns
 returns c = (
   λ idle. absurd (not_both _ (search rules) idle),
   λ some. (
     refl,
     c.give_up.ensures.idle,
-    refl,
+    (refl, refl),
     (
       c.give_up.result,
       λ owner calls past moment octets written w asks.

@@ -1,0 +1,7 @@
+use Rattle.std.proofs.Common.{rules, ◌≡◌}
+use Rattle.lemonrudder.specs.Outcomes.{OnIdentify}
+use Rattle.lemonrudder.proofs.Servers.{on_server}
+use Rattle.lemonrudder.proofs.served.identify.Goals as goal
+
+pub returns : goal.returns
+returns c = on_server OnIdentify _ _ _ _ _ c.in-Server.is (search rules) c.identify.ensures

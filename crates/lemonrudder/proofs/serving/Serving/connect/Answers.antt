@@ -1,0 +1,32 @@
+use Rattle.std.proofs.Common.{◌≡◌, refl}
+use Rattle.lemonrudder.specs.Refusals.{refusal_of_connecting}
+use Rattle.lemonrudder.proofs.Ended.{err-done, ok-done}
+use Rattle.lemonrudder.proofs.Idling.{not_both, not_so}
+use Rattle.lemonrudder.proofs.serving.Serving.connect.Goals as goal
+
+pub returns-then-is_asking : goal.returns-then-is_asking
+returns-then-is_asking c = (λ some. (refl, refl), λ idle. absurd (not_both _ (c.is_asking.ensures.0 c.if-is_asking.true) idle))
+
+pub returns-in_err-connect : goal.returns-in_err-connect
+returns-in_err-connect c = (
+  λ some. absurd (not_so c.if-is_asking.false (c.is_asking.ensures.1 some)),
+  λ idle. (
+    c.connect.result,
+    err-done 0 refusal_of_connecting c.connect.result _ c.from_residual.result c.in_err-connect.was c.from_residual.ensures.1,
+    c.connect.ensures.idle,
+    (refl, refl),
+    c.connect.ensures.table,
+  ),
+)
+
+pub returns : goal.returns
+returns c = (
+  λ some. absurd (not_so c.if-is_asking.false (c.is_asking.ensures.1 some)),
+  λ idle. (
+    c.connect.result,
+    ok-done 0 refusal_of_connecting c.connect.result _ c.in_ok-connect.was,
+    c.connect.ensures.idle,
+    (refl, refl),
+    c.connect.ensures.table,
+  ),
+)

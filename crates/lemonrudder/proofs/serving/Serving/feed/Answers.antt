@@ -1,0 +1,40 @@
+use Rattle.std.proofs.Common.{rules, ◌≡◌, refl}
+use Rattle.ft_orb.specs.Filling.{offer_of}
+use Rattle.lemonrudder.proofs.Idling.{not_both, not_so}
+use Rattle.lemonrudder.proofs.Owing.{feeds-once-owed, feeds-owed, feeds-stays}
+use Rattle.lemonrudder.proofs.serving.Serving.feed.Goals as goal
+
+pub returns-then-is_asking : goal.returns-then-is_asking
+returns-then-is_asking c = (λ some. (refl, refl), λ idle. absurd (not_both _ (c.is_asking.ensures.0 c.if-is_asking.true) idle))
+
+pub returns-then-is_due_elsewhere : goal.returns-then-is_due_elsewhere
+returns-then-is_due_elsewhere c = (
+  λ some. absurd (not_so c.if-is_asking.false (c.is_asking.ensures.1 some)),
+  λ idle. (λ elsewhere. (refl, refl), λ free. absurd (free (c.is_due_elsewhere.ensures.0 c.if-is_due_elsewhere.true))),
+)
+
+pub returns : goal.returns
+returns c = (
+  λ some. absurd (not_so c.if-is_asking.false (c.is_asking.ensures.1 some)),
+  λ idle. (
+    λ elsewhere. absurd (not_so c.if-is_due_elsewhere.false (c.is_due_elsewhere.ensures.1 elsewhere)),
+    λ free. (
+      refl,
+      (
+        c.feed-fed.result,
+        c.taken_of.ensures,
+        (
+          c.feed-fed.ensures.place,
+          c.feed-fed.ensures.fit,
+          λ owner calls past rests placed.
+              let due = c.args.self.now.due in
+              let h = c.feed-fed.ensures.table owner calls past rests in (
+                feeds-stays offer_of owner calls past due.taken due.octets.items c.feed-fed.new.out.items placed c.args.connection c.args.moment c.args.octets.now c.feed-fed.result c.feed-fed.new.self h,
+                feeds-owed offer_of owner calls past due.taken due.octets.items c.feed-fed.new.out.items placed c.args.connection c.args.moment c.args.octets.now c.feed-fed.result c.feed-fed.new.self h,
+                feeds-once-owed offer_of owner calls past due.taken due.octets.items c.feed-fed.new.out.items placed c.args.connection c.args.moment c.args.octets.now c.feed-fed.result _ (c.feed-fed.ensures.once owner calls past rests),
+              ),
+        ),
+      ),
+    ),
+  ),
+)

@@ -1,0 +1,22 @@
+use Rattle.std.proofs.Common.{◌≡◌, ◌∙◌, [], ◌∷◌, Some, ap, inr, refl, subst, sym, rules}
+use Rattle.cdr_core.specs.Value as value
+use Rattle.cdr_core.specs.Value.{Value, Values, values}
+use Rattle.cdr_core.specs.View.{values_of}
+use Rattle.ft_log.specs.Performed.{returned}
+use Rattle.ft_orb.specs.Engines.{Awaited, awaited_lent}
+use Rattle.lemonrudder.specs.Outcomes.{HandsIn, Identifies, identity_at}
+use Rattle.lemonrudder.proofs.Handing.{by_awaited}
+use Rattle.lemonrudder.proofs.Reading.{value-boolean}
+use Rattle.lemonrudder.proofs.serving.Serving.identify.Goals as goal
+
+pub returns : goal.returns
+returns c =
+    let s = c.args.self.now in
+    let t = c.hand_in.new.self in
+    let r = c.hand_in.result in
+    let w = awaited_lent c.in_ok-asked.asked in
+    let here = rw c.in_ok-asked.was at c.ok_or.ensures.ok_part in
+    let truth = c.in-Some.truth in
+    let told = ap values_of c.in_ok-results.ensures.items ∙ ap (λ (v : Value). values (v ∷ [])) (value-boolean truth) in
+    by_awaited _ w s t r (λ x. Identifies (identity_at s x) s t r) (sym (rw here at c.asked.ensures))
+    (subst (λ o. Identifies o s t r) (sym (sym c.identity.ensures ∙ c.in-Some.is)) (inr (subst (λ (vs : Values). HandsIn 1 (returned vs) s t r) told c.hand_in.ensures)))

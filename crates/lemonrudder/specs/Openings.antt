@@ -1,0 +1,16 @@
+-- A server to which nothing has happened.
+use Rattle.std.specs.Prelude.{◌≡◌, ℕ, List, []}
+use Rattle.giop_frames.specs.declared.limits.Limits.{Limits}
+use Rattle.ft_log.specs.Performed.{Performed}
+use Rattle.ft_orb.specs.declared.interfaces.Interfaces.{Interfaces}
+use Rattle.ft_orb.specs.Engines.{Rests}
+use Rattle.ft_orb.specs.Filling.{offer_of}
+use Rattle.ft_orb.specs.Requests.{Call}
+use Rattle.lemonrudder.specs.declared.serving.Serving.{Serving}
+use Rattle.lemonrudder.specs.Dues.{IsPlaced, owed}
+use Rattle.lemonrudder.specs.Serves.{IsIdle}
+
+-- a server of these objects, to which nothing has happened
+abbrev pub IsNew : Interfaces → Limits → (capacity share : ℕ) → Serving → Type 0
+IsNew i limits capacity share t = IsIdle t × (owed t.due ≡ []) × IsPlaced t.due
+    × ((answers : List Call → Call → Performed) → Rests offer_of (record { offer = offer_of i; answers = answers; limits = limits; capacity = capacity; share = share }) [] t.engine [])

@@ -1,0 +1,91 @@
+-- What is told of the request that waits.
+use Rattle.std.specs.Prelude.{◌≡◌, ◌⊎◌, ℕ, ◌<◌, ◌^◌, nat_lt, Bool, true, false, if◌then◌else◌, List, length, Option, Some, None, unwrap_or, Result, Ok, Err}
+use Rattle.std.specs.Int.{from_bool}
+use Rattle.std.specs.Option.{option_map_or}
+use Rattle.cdr_core.specs.declared.order.Order.TheVariants.{Big}
+use Rattle.cdr_core.specs.Value.{Values}
+use Rattle.cdr_core.specs.Writing.{AreWritable, octets_of_all}
+use Rattle.giop_core.specs.declared.header.Version.{Version}
+use Rattle.giop_core.specs.declared.request.ReplyWish.{ReplyWish}
+use Rattle.giop_core.specs.Ft as ft
+use Rattle.giop_core.specs.Ft.{Ft, ft_in}
+use Rattle.giop_link.specs.Hearing.{Question}
+use Rattle.ft_orb.specs.Accessors.{boolean_at, octets_at, ulong_at}
+use Rattle.ft_orb.specs.Engines.{Asks, Awaited, waits_in}
+use Rattle.ft_orb.specs.Filling.{offer_of}
+use Rattle.ft_orb.specs.History.{Event}
+use Rattle.ft_orb.specs.Interfaces.{Interface, no_object, no_operation, operation, raw_operation}
+use Rattle.ft_orb.specs.Owners.{Owner}
+use Rattle.ft_orb.specs.Requests.{Call}
+use Rattle.lemonrudder.specs.declared.refusal.Refusal.{Refusal}
+use Rattle.lemonrudder.specs.declared.refusal.Refusal.TheVariants as refusal
+use Rattle.lemonrudder.specs.declared.request.RequestHead.{RequestHead}
+use Rattle.lemonrudder.specs.declared.serving.Serving.{Serving}
+use Rattle.lemonrudder.specs.Asking.{no_request, with_question}
+use Rattle.lemonrudder.specs.Outcomes.{interface_at}
+use Rattle.lemonrudder.specs.Refusals.{filled}
+use Rattle.lemonrudder.specs.Serves.{IsIdle}
+
+-- a head with what it says of the body: of a raw operation the octets as they came, their order and their place, and else how many
+-- octets the arguments are in big order from place 0
+abbrev pub with_body : Interface → Values → RequestHead → RequestHead
+with_body raw_operation arguments h = record h {
+  is_raw = 1;
+  body_size = option_map_or length (octets_at 0 arguments) 0;
+  body_order = from_bool (unwrap_or (boolean_at 1 arguments) false);
+  body_at = unwrap_or (ulong_at 2 arguments) 0;
+}
+with_body _ arguments h = let n = length (octets_of_all Big arguments 0) in record h { body_size = if nat_lt n (2 ^ 64) then n else 0 }
+
+-- the head of a request that waits, whose operation is this and which says this
+abbrev pub head_of : Interface → Awaited → Question → RequestHead
+head_of i w q = with_body i w.call.arguments (with_question q.version q.id q.wish q.contexts (record no_request { connection = w.connection; key_size = length w.call.object_key; operation_size = length w.call.operation }))
+
+-- the head of what waits is told, and 1; where nothing waits 0, and the caller's head is as it was
+abbrev pub OnAsked : (head new : RequestHead) → Serving → Serving → Result ℕ Refusal → Type 0
+OnAsked head new s t r = (t ≡ s) × (IsIdle s → (r ≡ Ok 0) × (new ≡ head))
+    × ((owner : Owner) (calls : List Call) (past : List Event) (moment : ℕ) (octets written : List ℕ) (w : Awaited) → (a : Asks offer_of owner calls s.engine past moment octets written w)
+    → (r ≡ Ok 1) × (new ≡ head_of (interface_at s w) w a.question))
+
+-- octets are copied to the front of a room, as many as it has, and how many they are is told
+abbrev pub Tells : List ℕ → (room new : List ℕ) → Result ℕ Refusal → Type 0
+Tells octets room new r = (r ≡ Ok (length octets)) × (new ≡ filled octets room)
+
+-- nothing is told
+abbrev pub TellsNone : Refusal → (room new : List ℕ) → Result ℕ Refusal → Type 0
+TellsNone e room new r = (r ≡ Err e) × (new ≡ room)
+
+abbrev pub TellsIfSome : Option (List ℕ) → (room new : List ℕ) → Result ℕ Refusal → Type 0
+TellsIfSome (Some octets) room new r = Tells octets room new r
+TellsIfSome None room new r = TellsNone refusal.None room new r
+
+-- the body: of a raw operation the octets as they came, and else the arguments in big order, from place 0
+abbrev pub TellsBody : Interface → Values → (room new : List ℕ) → Result ℕ Refusal → Type 0
+TellsBody raw_operation arguments room new r = TellsIfSome (octets_at 0 arguments) room new r
+TellsBody _ arguments room new r =
+    (AreWritable arguments → TellsNone refusal.Memory room new r ⊎ Tells (octets_of_all Big arguments 0) room new r)
+    × (¬ (AreWritable arguments) → TellsNone refusal.None room new r)
+
+-- the client id, if the request carries one
+abbrev pub client_in : Ft → Option (List ℕ)
+client_in (ft.present client_id retention_id expiration) = Some client_id
+client_in _ = None
+
+-- the client id of the request that waits is told, if it carries one
+abbrev pub TellsClient : (room new : List ℕ) → Serving → Result ℕ Refusal → Type 0
+TellsClient room new s r = (owner : Owner) (calls : List Call) (past : List Event) (moment : ℕ) (octets written : List ℕ) (w : Awaited) → (a : Asks offer_of owner calls s.engine past moment octets written w)
+    → TellsIfSome (client_in (ft_in a.question.contexts)) room new r
+
+-- a part of the request that waits is told: its object key, its operation, its body or its client id
+abbrev pub OnPart : ℕ → (room new : List ℕ) → Serving → Serving → Result ℕ Refusal → Type 0
+OnPart part room new s t r = (t ≡ s) × (IsIdle s → TellsNone refusal.Idle room new r)
+    × ((w : Awaited) → waits_in s.engine ≡ Some w
+    → (part ≡ 0 → Tells w.call.object_key room new r) × (part ≡ 1 → Tells w.call.operation room new r)
+    × (part ≡ 2 → TellsBody (interface_at s w) w.call.arguments room new r) × (3 < part → TellsNone refusal.None room new r))
+    × (part ≡ 3 → TellsClient room new s r)
+
+-- Words of private functions.
+
+abbrev pub is_raw : Interface → Bool
+is_raw raw_operation = true
+is_raw _ = false
