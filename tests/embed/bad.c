@@ -270,7 +270,7 @@ static void servers_want_a_catalogue(void) {
   lr_ior ior = LR_INIT;
   open_ior(&ior);
   WANT(lr_server_open(&server, &empty, LIMIT, PARTIALS, 100, 100, 1, 2), LR_E_EMPTY);
-  WANT(lr_server_open(&server, &ior, LIMIT, PARTIALS, 100, 100, 1, 2), LR_E_EMPTY);
+  WANT(lr_server_open(&server, (void *)&ior, LIMIT, PARTIALS, 100, 100, 1, 2), LR_E_EMPTY);
   CHECK(server.kind == 0);
   ior_works(&ior);
   lr_close(&ior);
