@@ -1,3 +1,6 @@
+mod Clients
+mod Counts
 mod Idling
+mod Owing
 mod Servers
 mod Values
