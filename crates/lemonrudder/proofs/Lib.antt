@@ -1,6 +1,9 @@
+mod Assemblers
+mod Catalogues
 mod Clients
 mod Counts
 mod Idling
 mod Owing
+mod References
 mod Servers
 mod Values

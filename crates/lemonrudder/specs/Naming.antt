@@ -1,7 +1,10 @@
 -- Numbers of the header, and what they name.
-use Rattle.std.specs.Prelude.{ℕ, Option, Some, None, Result, Ok, Err, ◌==◌, if◌then◌else◌}
+use Rattle.std.specs.Prelude.{◌≡◌, ℕ, ◌≤◌, Option, Some, None, Result, Ok, Err, ◌==◌, if◌then◌else◌}
 use Rattle.cdr_core.specs.declared.order.Order.{Order}
 use Rattle.cdr_core.specs.declared.order.Order.TheVariants.{Big, Little}
+use Rattle.giop_core.specs.declared.header.Version.{Version}
+use Rattle.giop_core.specs.declared.header.Version.TheVariants.{V10, V11, V12}
+use Rattle.giop_frames.specs.declared.limits.Limits.{Limits}
 use Rattle.lemonrudder.specs.declared.refusal.Refusal.{Refusal}
 use Rattle.lemonrudder.specs.declared.refusal.Refusal.TheVariants.{Range}
 
@@ -24,3 +27,19 @@ by_order (Some Little) big little = little
 abbrev pub order_number : Order → ℕ
 order_number Big = 0
 order_number Little = 1
+
+-- the minor number of a version names it
+abbrev pub version_named : ℕ → Option Version
+version_named n = if n == 0 then Some V10 else (if n == 1 then Some V11 else (if n == 2 then Some V12 else None))
+
+-- numbers that limits may have
+abbrev pub AreLimits : (message partials : ℕ) → Type 0
+AreLimits message partials = (4096 ≤ message) × (message ≤ 16777216) × (1 ≤ partials) × (partials ≤ 16)
+
+abbrev pub HasLimits : (message partials : ℕ) → Limits → Type 0
+HasLimits message partials limits = (limits.message ≡ message) × (limits.partials ≡ partials)
+
+-- the limits of these numbers, or the refusal of numbers that are not allowed
+abbrev pub GivesLimits : (message partials : ℕ) → Result Limits Refusal → Type 0
+GivesLimits message partials (Ok limits) = HasLimits message partials limits
+GivesLimits message partials (Err e) = (e ≡ Range) × (¬ (AreLimits message partials))
