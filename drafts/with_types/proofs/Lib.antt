@@ -1,0 +1,9 @@
+mod Catalogues
+mod Clients
+mod Coding
+mod Counts
+mod Idling
+mod Owing
+mod Servers
+mod Valued
+mod Values

@@ -1,0 +1,9 @@
+use Rattle.std.proofs.Common.{refl, rules}
+use Rattle.lemonrudder.proofs.Catalogues.{filled_as}
+use Rattle.lemonrudder.proofs.cataloguing.Cataloguing.raw_object.Goals as goal
+
+pub returns : goal.returns
+returns c = ?
+
+pub returns-in_err-add_raw_object : goal.returns-in_err-add_raw_object
+returns-in_err-add_raw_object c = ?

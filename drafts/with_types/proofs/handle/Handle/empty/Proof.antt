@@ -1,0 +1,33 @@
+-- `empty` makes a null pointer, and owns nothing.
+use Rattle.std.proofs.Common.{[], ◌∷◌, refl, lit<}
+use Rattle.std.specs.Prelude.{None}
+use Rattle.std.proofs.raw_atomic.Walks.{proved}
+use base.Logic.{emp}
+use base.Fml.{ftrue}
+use types.Kit.{raw, ◌$◌, ◌∵◌, !, qed, done, drop, suffices}
+use types.Run.{enter, lit, no_more, and_then, returns}
+use types.ByLocal.{alloc_all, pass_all, free_all, look_at, sets}
+use types.Part.{agg}
+use denote.RawPtr.{null_ptr}
+use denote.Steps.{nothing}
+use denote.Triple.Entry.{on_entry}
+use denote.Triple.Walked.{Stays, says, ends_at}
+use Rattle.lemonrudder.proofs.Values.{makes, word}
+use Rattle.lemonrudder.specs.contracts.handle.Handle.empty as f
+use Rattle.lemonrudder.proofs.handle.Handle.empty.Statement.{statement}
+use Rattle.lemonrudder.proofs.handle.Handle.empty.Code as code
+
+abbrev stayed : Stays f.ended.signature.params f.ended.kept
+stayed = tt
+
+pub empty_spec : {M : Type 1} → statement M
+empty_spec 𝓤 𝓛 𝓜 𝓡 wired =
+    let c = f.clauses 𝓛 𝓜.mem 𝓡.returns in
+    proved 𝓛 f.ended stayed c 𝓜 𝓡 tt f.Key.name code.function (code.unfolded 𝓤 𝓛.H 𝓜 𝓡 wired)
+    (λ κs. tt) (λ κs. tt) (λ κs qs bounds a g are.
+    qed 𝓛 (raw (on_entry 𝓛 f.signature κs qs a tt) ∷ raw (emp 𝓤) ∷ []) ∵ drop ! $ drop ! $
+    enter ! _ _ _ _ _ $ alloc_all ! (λ l. pass_all ! refl tt $
+    sets ! (agg ! (and_then ! (lit ! tt) (no_more !))) refl (tt, (record { fits = lit< tt }, tt)) $
+    returns ! (look_at ! 0 refl) $ free_all ! refl $
+    suffices ! _ (ends_at 𝓛 f.ended stayed c ((κs, qs, bounds, a, tt), g) (word null_ptr) (record { at = null_ptr; held = None }) tt tt) $ says ! refl $
+    nothing ! $ makes ! null_ptr ftrue $ nothing ! $ nothing ! $ done !))

@@ -1,0 +1,45 @@
+-- Numbers of the header, and what they name.
+use Rattle.std.specs.Prelude.{◌≡◌, ℕ, ◌≤◌, Option, Some, None, Result, Ok, Err, ◌==◌, if◌then◌else◌}
+use Rattle.cdr_core.specs.declared.order.Order.{Order}
+use Rattle.cdr_core.specs.declared.order.Order.TheVariants.{Big, Little}
+use Rattle.giop_core.specs.declared.header.Version.{Version}
+use Rattle.giop_core.specs.declared.header.Version.TheVariants.{V10, V11, V12}
+use Rattle.giop_frames.specs.declared.limits.Limits.{Limits}
+use Rattle.lemonrudder.specs.declared.refusal.Refusal.{Refusal}
+use Rattle.lemonrudder.specs.declared.refusal.Refusal.TheVariants.{Range}
+
+-- what is there, or the refusal of a number that is not allowed
+abbrev pub or_range : {A : Type 0} → Option A → Result A Refusal
+or_range (Some x) = Ok x
+or_range None = Err Range
+
+-- 0 names the big order, and 1 the little
+abbrev pub order_named : ℕ → Option Order
+order_named n = if n == 0 then Some Big else (if n == 1 then Some Little else None)
+
+-- A number of an order chooses one of two, or is refused.
+abbrev pub by_order : {A : Type 0} → Option Order → (big little : Result A Refusal) → Result A Refusal
+by_order None big little = Err Range
+by_order (Some Big) big little = big
+by_order (Some Little) big little = little
+
+-- the number of an order
+abbrev pub order_number : Order → ℕ
+order_number Big = 0
+order_number Little = 1
+
+-- the minor number of a version names it
+abbrev pub version_named : ℕ → Option Version
+version_named n = if n == 0 then Some V10 else (if n == 1 then Some V11 else (if n == 2 then Some V12 else None))
+
+-- numbers that limits may have
+abbrev pub AreLimits : (message partials : ℕ) → Type 0
+AreLimits message partials = (4096 ≤ message) × (message ≤ 16777216) × (1 ≤ partials) × (partials ≤ 16)
+
+abbrev pub HasLimits : (message partials : ℕ) → Limits → Type 0
+HasLimits message partials limits = (limits.message ≡ message) × (limits.partials ≡ partials)
+
+-- the limits of these numbers, or the refusal of numbers that are not allowed
+abbrev pub GivesLimits : (message partials : ℕ) → Result Limits Refusal → Type 0
+GivesLimits message partials (Ok limits) = HasLimits message partials limits
+GivesLimits message partials (Err e) = (e ≡ Range) × (¬ (AreLimits message partials))

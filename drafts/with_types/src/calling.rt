@@ -1,0 +1,219 @@
+//! A client, with the octets that are due on its connection, and the completion that was taken last.
+
+ghost use Rattle.std.specs.Prelude.{◌≡◌, option_map};
+ghost use Rattle.ft_client.specs.Ends.{body_of, ended_of};
+ghost use Rattle.lemonrudder.specs.Calls.{head_of, how_ended, told};
+
+use crate::due::Due;
+use crate::named::{limits_of, number_of_order, order_of, version_of};
+use crate::refusal::{Refusal, copied, count_of};
+use crate::types::{types_of, values_of};
+use cdr_core::has_no_nul;
+use ft_client::{Ended, FtClient, ReplyBody};
+use std::alloc::Global;
+
+/// A call that ended: `lr_completion`.
+#[repr(C)]
+#[derive(Clone, Copy, Debug, Drop)]
+pub struct CompletionHead {
+    pub body_size: u64,
+    pub body_at: u64,
+    pub call: i32,
+    pub how: u32,
+    pub body_order: u32,
+    pub reserved: u32,
+}
+
+/// A call: what it asks, and until when.
+#[derive(Clone, Copy)]
+pub struct Call<'c> {
+    pub now: u64,
+    pub expiration: u64,
+    pub key: &'c [u8],
+    pub operation: &'c [u8],
+    pub types: &'c [u8],
+    pub order: u32,
+    pub arguments: &'c [u8],
+}
+
+/// A client, and what is due on its connection.
+#[derive(Drop)]
+pub struct Calling {
+    client: FtClient,
+    alloc: Global,
+    due: Due,
+    ended: Option<Ended>,
+}
+
+/// How a call ended, as a number, and the body of its reply, if one came.
+fn of_ended(ended: &Ended) -> (u32, Option<&ReplyBody>)
+    ensures how { result.0 ≡ how_ended (ended_of ended.now) }
+    ensures body { option_map (λ body. body_of body.now) result.1 ≡ told (ended_of ended.now) }
+{
+    match ended {
+        Ended::Returned(body) => (0, Some(body)),
+        Ended::Raised(body) => (1, Some(body)),
+        Ended::System(body) => (2, Some(body)),
+        Ended::Forwarded(body) => (3, Some(body)),
+        Ended::NeedsAddressing => (4, None),
+        Ended::Expired => (5, None),
+        Ended::Cancelled => (6, None),
+    }
+}
+
+/// What is said of a call that ended. Where no reply came, the numbers of its body are 0.
+fn head_of(call: i32, ended: &Ended) -> CompletionHead
+    ensures { result ≡ head_of call (ended_of ended.now) }
+{
+    let (how, body) = of_ended(ended);
+    let (body_size, body_at, body_order) = match body {
+        Some(body) => (count_of(&body.octets), body.at, number_of_order(body.order)),
+        None => (0, 0, 0),
+    };
+    CompletionHead {
+        body_size,
+        body_at,
+        call,
+        how,
+        body_order,
+        reserved: 0,
+    }
+}
+
+impl Calling {
+    ghost use Rattle.std.specs.Prelude.{◌≡◌, Ok, false, is_some};
+    ghost use Rattle.lemonrudder.specs.Calls.{IsMade, OnBody, OnCall, OnCancel, OnCompleted, OnConnected, OnFeed, OnIsConnected, OnLost, OnOutput, OnTick, question_of};
+
+    /// A client that is not connected.
+    pub fn new(
+        alloc: Global,
+        id: &[u8],
+        version: u32,
+        message: u32,
+        partials: u32,
+    ) -> Result<Calling, Refusal>
+        ensures { IsMade id.now version message partials result }
+    {
+        let version = version_of(version)?;
+        let limits = limits_of(message, partials)?;
+        if id.is_empty() || id.len() > 256 || !has_no_nul(id) {
+            return Err(Refusal::Text);
+        }
+        Ok(Calling {
+            client: FtClient::new(alloc, id, version, limits)?,
+            alloc,
+            due: Due::new(Vec::new(alloc)),
+            ended: None,
+        })
+    }
+
+    /// The client is connected anew.
+    pub fn connected(&mut self, now: u64) -> Result<u64, Refusal>
+        ensures { OnConnected now self.old self.new result }
+    {
+        self.lost();
+        match self.client.connected(now, &mut self.due.octets) {
+            Ok(()) => Ok(0),
+            Err(_) => Err(Refusal::Lost),
+        }
+    }
+
+    /// The connection is lost.
+    pub fn lost(&mut self) -> u64
+        ensures lost { OnLost self.old self.new (Ok result) }
+        ensures link { is_some self.new.client.link ≡ false }
+    {
+        self.client.lost();
+        self.due.drop_all();
+        0
+    }
+
+    /// Whether the client is connected.
+    pub fn is_connected(&self) -> u64
+        ensures { OnIsConnected self.now self.now (Ok result) }
+    {
+        u64::from(self.client.is_connected())
+    }
+
+    /// Takes a call, and answers its number.
+    pub fn call(&mut self, call: &Call<'_>) -> Result<u64, Refusal>
+        ensures { OnCall (question_of call.now) self.old self.new result }
+    {
+        let types = types_of(self.alloc, call.types)?;
+        let arguments = values_of(self.alloc, &types, order_of(call.order)?, call.arguments)?;
+        if !has_no_nul(call.operation) {
+            return Err(Refusal::Text);
+        }
+        let number = self.client.call(
+            call.now,
+            call.key,
+            call.operation,
+            &arguments,
+            call.expiration,
+            &mut self.due.octets,
+        )?;
+        Ok(u64::from(number.unsigned_abs()))
+    }
+
+    /// Cancels a call.
+    pub fn cancel(&mut self, call: i64) -> Result<u64, Refusal>
+        ensures { OnCancel call self.old self.new result }
+    {
+        match i32::try_from(call) {
+            Ok(call) => Ok(u64::from(self.client.cancel(call, &mut self.due.octets)?)),
+            Err(_) => Err(Refusal::Range),
+        }
+    }
+
+    /// A moment has come.
+    pub fn tick(&mut self, now: u64) -> u64
+        ensures { OnTick now self.old self.new (Ok result) }
+    {
+        self.client.tick(now);
+        0
+    }
+
+    /// Takes octets that came on the connection.
+    pub fn feed(&mut self, octets: &[u8]) -> Result<u64, Refusal>
+        ensures { OnFeed octets.now self.old self.new result }
+    {
+        match self.client.feed(octets) {
+            Ok(()) => Ok(count_of(octets)),
+            Err(_) => Err(Refusal::Lost),
+        }
+    }
+
+    /// Takes the next completion.
+    pub fn completed(&mut self, head: &mut CompletionHead) -> u64
+        ensures taken { OnCompleted head.old head.new self.old self.new (Ok result) }
+        ensures none { result ≡ 0 → head.new ≡ head.old }
+    {
+        let Some((call, ended)) = self.client.take_completion() else {
+            return 0;
+        };
+        *head = head_of(call, &ended);
+        self.ended = Some(ended);
+        1
+    }
+
+    /// Copies the body of the completion that was taken last.
+    pub fn body(&self, room: &mut [u8]) -> Result<u64, Refusal>
+        ensures { OnBody room.old room.new self.now self.now result }
+    {
+        let Some(ended) = &self.ended else {
+            return Err(Refusal::None);
+        };
+        let (_, body) = of_ended(ended);
+        match body {
+            Some(body) => Ok(copied(&body.octets, room)),
+            None => Err(Refusal::None),
+        }
+    }
+
+    /// Moves octets that are due into a room.
+    pub fn output(&mut self, room: &mut [u8]) -> u64
+        ensures { OnOutput room.old room.new self.old self.new (Ok result) }
+    {
+        self.due.output(room)
+    }
+}

@@ -1,0 +1,59 @@
+//! Octets that are to be sent, and that the caller has not taken yet.
+
+ghost use Rattle.std.specs.Prelude.{◌≡◌, ◌<◌, ◌↔◌, [], IsTrue, drop, length, min};
+ghost use Rattle.lemonrudder.specs.Refusals.{filled};
+
+/// Octets that are due; the first `taken` are gone.
+#[derive(Drop)]
+pub struct Due {
+    pub octets: Vec<u8>,
+    taken: usize,
+}
+
+impl Due {
+    ghost use Rattle.lemonrudder.specs.Dues.{IsPlaced, owed};
+
+    /// Nothing is due.
+    pub fn new(octets: Vec<u8>) -> Due
+        ensures owed { owed result ≡ octets.items }
+        ensures placed { IsPlaced result }
+    {
+        Due { octets, taken: 0 }
+    }
+
+    /// Whether octets are due.
+    pub fn is_some(&self) -> bool
+        ensures { IsTrue result ↔ 0 < length (owed self.now) }
+    {
+        self.taken < self.octets.len()
+    }
+
+    /// Drops what is due.
+    pub fn drop_all(&mut self)
+        ensures owed { owed self.new ≡ [] }
+        ensures placed { IsPlaced self.new }
+    {
+        self.octets.clear();
+        self.taken = 0;
+    }
+
+    /// Moves octets into a room, as many as it has, and answers how many.
+    pub fn output(&mut self, room: &mut [u8]) -> u64
+        ensures count { result ≡ min (length (owed self.old)) (length room.old) }
+        ensures room { room.new ≡ filled (owed self.old) room.old }
+        ensures owed { owed self.new ≡ drop result (owed self.old) }
+        ensures placed { IsPlaced self.old → IsPlaced self.new }
+    {
+        let Some(left) = self.octets.get(self.taken..) else {
+            return 0;
+        };
+        let count = left.len().min(room.len());
+        room[..count].copy_from_slice(&left[..count]);
+        if count == left.len() {
+            self.drop_all();
+        } else {
+            self.taken += count;
+        }
+        count as u64
+    }
+}

@@ -1,0 +1,39 @@
+//! What the header declares.
+
+mod assembler;
+mod catalogue;
+mod cdr;
+mod client;
+mod ior;
+mod message;
+mod server;
+
+use crate::slot::Slot;
+use std::alloc::Global;
+
+/// The version of the library: major * 65536 + minor * 256 + patch.
+#[unsafe(no_mangle)]
+pub extern "C" fn lr_version() -> u32 {
+    256
+}
+
+/// Empties a slot of any kind, and frees what it held.
+#[unsafe(no_mangle)]
+pub extern "C" fn lr_close(alloc: Global, slot: &mut Slot) {
+    let _object = slot.take(alloc);
+}
+
+/// 1 January 1970, 00:00 UTC, in units of 100 ns since 15 October 1582.
+const UNIX_EPOCH: u64 = 122_192_928_000_000_000;
+
+/// How many units of 100 ns a second has.
+const UNITS: u64 = 10_000_000;
+
+/// The moment of seconds and nanoseconds since 1970. The greatest, where it lies beyond.
+#[unsafe(no_mangle)]
+pub extern "C" fn lr_moment(seconds: u64, nanoseconds: u32) -> u64 {
+    seconds
+        .saturating_mul(UNITS)
+        .saturating_add(u64::from(nanoseconds / 100))
+        .saturating_add(UNIX_EPOCH)
+}

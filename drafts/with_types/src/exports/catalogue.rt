@@ -1,0 +1,121 @@
+//! Which objects a server has.
+
+ghost use Rattle.lemonrudder.specs.Answers.{OnCatalogue};
+ghost use Rattle.lemonrudder.specs.Fills.{OnException, OnObject, OnOperation, OnRawObject, OnRawOperation, OnRepositoryIds, OpensEmpty};
+ghost use Rattle.lemonrudder.specs.Slots.{held_in};
+
+use crate::catalogued;
+use crate::cataloguing::Cataloguing;
+use crate::object::Object;
+use crate::opened::open;
+use crate::refusal::Refusal;
+use crate::slot::Slot;
+use std::alloc::Global;
+
+/// Opens a catalogue without objects.
+#[unsafe(no_mangle)]
+pub extern "C" fn lr_catalogue_open(alloc: Global, slot: &mut Slot) -> i64
+    ensures { OpensEmpty (held_in slot.old) (held_in slot.new) result }
+{
+    open(alloc, slot, Object::Catalogue(Cataloguing::new(alloc)))
+}
+
+/// Adds an object without operations.
+#[unsafe(no_mangle)]
+pub extern "C" fn lr_catalogue_object(alloc: Global, slot: &mut Slot, key: &[u8]) -> i64
+    ensures { OnCatalogue (OnObject key.now) (held_in slot.old) (held_in slot.new) result }
+{
+    let Some(mut object) = slot.take(alloc) else {
+        return Refusal::Empty.number();
+    };
+    let answer = catalogued::object(&mut object, key);
+    slot.put(object);
+    answer
+}
+
+/// Adds an object whose every operation is raw.
+#[unsafe(no_mangle)]
+pub extern "C" fn lr_catalogue_raw_object(alloc: Global, slot: &mut Slot, key: &[u8]) -> i64
+    ensures { OnCatalogue (OnRawObject key.now) (held_in slot.old) (held_in slot.new) result }
+{
+    let Some(mut object) = slot.take(alloc) else {
+        return Refusal::Empty.number();
+    };
+    let answer = catalogued::raw_object(&mut object, key);
+    slot.put(object);
+    answer
+}
+
+/// Declares an exception of the operation that is added next.
+#[unsafe(no_mangle)]
+pub extern "C" fn lr_catalogue_exception(
+    alloc: Global,
+    slot: &mut Slot,
+    id: &[u8],
+    members: &[u8],
+) -> i64
+    ensures { OnCatalogue (OnException id.now members.now) (held_in slot.old) (held_in slot.new) result }
+{
+    let Some(mut object) = slot.take(alloc) else {
+        return Refusal::Empty.number();
+    };
+    let answer = catalogued::exception(&mut object, id, members);
+    slot.put(object);
+    answer
+}
+
+/// Adds an operation with the exceptions that were declared.
+#[unsafe(no_mangle)]
+pub extern "C" fn lr_catalogue_operation(
+    alloc: Global,
+    slot: &mut Slot,
+    key: &[u8],
+    name: &[u8],
+    arguments: &[u8],
+    results: &[u8],
+) -> i64
+    ensures { OnCatalogue (OnOperation key.now name.now arguments.now results.now) (held_in slot.old) (held_in slot.new) result }
+{
+    let Some(mut object) = slot.take(alloc) else {
+        return Refusal::Empty.number();
+    };
+    let answer = catalogued::operation(&mut object, key, name, arguments, results);
+    slot.put(object);
+    answer
+}
+
+/// Adds an operation that is raw.
+#[unsafe(no_mangle)]
+pub extern "C" fn lr_catalogue_raw_operation(
+    alloc: Global,
+    slot: &mut Slot,
+    key: &[u8],
+    name: &[u8],
+) -> i64
+    ensures { OnCatalogue (OnRawOperation key.now name.now) (held_in slot.old) (held_in slot.new) result }
+{
+    let Some(mut object) = slot.take(alloc) else {
+        return Refusal::Empty.number();
+    };
+    let answer = catalogued::raw_operation(&mut object, key, name);
+    slot.put(object);
+    answer
+}
+
+/// Names the repository ids of an object.
+#[unsafe(no_mangle)]
+pub extern "C" fn lr_catalogue_repository_ids(
+    alloc: Global,
+    slot: &mut Slot,
+    key: &[u8],
+    ids: &[u8],
+) -> i64
+    ensures { OnCatalogue (OnRepositoryIds key.now ids.now) (held_in slot.old) (held_in slot.new) result }
+{
+    let Some(mut object) = slot.take(alloc) else {
+        return Refusal::Empty.number();
+    };
+    let answer = catalogued::repository_ids(&mut object, key, ids);
+    slot.put(object);
+    answer
+}

@@ -1,0 +1,189 @@
+//! A client that sends its calls again.
+
+ghost use Rattle.std.specs.Prelude.{◌≡◌, ◌<ℤ◌, ◌≤ℤ◌, pos};
+ghost use Rattle.lemonrudder.specs.Answers.{OnClient};
+ghost use Rattle.lemonrudder.specs.Calls.{IsMade, OnBody, OnCall, OnCancel, OnCompleted, OnConnected, OnFeed, OnIsConnected, OnLost, OnOutput, OnTick};
+ghost use Rattle.lemonrudder.specs.Opening.{OpensMade};
+ghost use Rattle.lemonrudder.specs.Slots.{held_in};
+
+use crate::called;
+use crate::calling::{Call, Calling, CompletionHead};
+use crate::object::Object;
+use crate::opened::open;
+use crate::refusal::Refusal;
+use crate::slot::Slot;
+use std::alloc::Global;
+
+/// Opens a client that is not connected.
+#[unsafe(no_mangle)]
+pub extern "C" fn lr_client_open(
+    alloc: Global,
+    slot: &mut Slot,
+    id: &[u8],
+    version: u32,
+    message_limit: u32,
+    partials: u32,
+) -> i64
+    ensures { OpensMade Object.Client (IsMade id.now version message_limit partials) (held_in slot.old) (held_in slot.new) result }
+{
+    match Calling::new(alloc, id, version, message_limit, partials) {
+        Ok(calling) => open(alloc, slot, Object::Client(calling)),
+        Err(refusal) => refusal.number(),
+    }
+}
+
+/// The client is connected anew.
+#[unsafe(no_mangle)]
+pub extern "C" fn lr_client_connected(alloc: Global, slot: &mut Slot, now: u64) -> i64
+    ensures { OnClient (OnConnected now) (held_in slot.old) (held_in slot.new) result }
+{
+    let Some(mut object) = slot.take(alloc) else {
+        return Refusal::Empty.number();
+    };
+    let answer = called::connected(&mut object, now);
+    slot.put(object);
+    answer
+}
+
+/// The connection is lost.
+#[unsafe(no_mangle)]
+pub extern "C" fn lr_client_lost(alloc: Global, slot: &mut Slot) -> i64
+    ensures { OnClient OnLost (held_in slot.old) (held_in slot.new) result }
+{
+    let Some(mut object) = slot.take(alloc) else {
+        return Refusal::Empty.number();
+    };
+    let answer = called::lost(&mut object);
+    slot.put(object);
+    answer
+}
+
+/// Whether the client is connected.
+#[unsafe(no_mangle)]
+pub extern "C" fn lr_client_is_connected(alloc: Global, slot: &mut Slot) -> i64
+    ensures { OnClient OnIsConnected (held_in slot.old) (held_in slot.new) result }
+{
+    let Some(object) = slot.take(alloc) else {
+        return Refusal::Empty.number();
+    };
+    let answer = called::is_connected(&object);
+    slot.put(object);
+    answer
+}
+
+/// Calls an operation of an object, and answers the number of the call.
+#[unsafe(no_mangle)]
+pub extern "C" fn lr_client_call(
+    alloc: Global,
+    slot: &mut Slot,
+    now: u64,
+    expiration: u64,
+    key: &[u8],
+    operation: &[u8],
+    types: &[u8],
+    order: u32,
+    arguments: &[u8],
+) -> i64
+    ensures { OnClient (OnCall (record { now = now; expiration = expiration; key = key.now; operation = operation.now; types = types.now; order = order; arguments = arguments.now })) (held_in slot.old) (held_in slot.new) result }
+{
+    let call = Call {
+        now,
+        expiration,
+        key,
+        operation,
+        types,
+        order,
+        arguments,
+    };
+    let Some(mut object) = slot.take(alloc) else {
+        return Refusal::Empty.number();
+    };
+    let answer = called::call(&mut object, &call);
+    slot.put(object);
+    answer
+}
+
+/// Cancels a call.
+#[unsafe(no_mangle)]
+pub extern "C" fn lr_client_cancel(alloc: Global, slot: &mut Slot, call: i64) -> i64
+    ensures { OnClient (OnCancel call) (held_in slot.old) (held_in slot.new) result }
+{
+    let Some(mut object) = slot.take(alloc) else {
+        return Refusal::Empty.number();
+    };
+    let answer = called::cancel(&mut object, call);
+    slot.put(object);
+    answer
+}
+
+/// A moment has come.
+#[unsafe(no_mangle)]
+pub extern "C" fn lr_client_tick(alloc: Global, slot: &mut Slot, now: u64) -> i64
+    ensures { OnClient (OnTick now) (held_in slot.old) (held_in slot.new) result }
+{
+    let Some(mut object) = slot.take(alloc) else {
+        return Refusal::Empty.number();
+    };
+    let answer = called::tick(&mut object, now);
+    slot.put(object);
+    answer
+}
+
+/// Takes octets that came on the connection.
+#[unsafe(no_mangle)]
+pub extern "C" fn lr_client_feed(alloc: Global, slot: &mut Slot, octets: &[u8]) -> i64
+    ensures { OnClient (OnFeed octets.now) (held_in slot.old) (held_in slot.new) result }
+{
+    let Some(mut object) = slot.take(alloc) else {
+        return Refusal::Empty.number();
+    };
+    let answer = called::feed(&mut object, octets);
+    slot.put(object);
+    answer
+}
+
+/// Takes the next completion.
+#[unsafe(no_mangle)]
+pub extern "C" fn lr_client_completed(
+    alloc: Global,
+    slot: &mut Slot,
+    completion: &mut CompletionHead,
+) -> i64
+    ensures taken { OnClient (OnCompleted completion.old completion.new) (held_in slot.old) (held_in slot.new) result }
+    ensures none { result ≤ℤ pos 0 → completion.new ≡ completion.old }
+{
+    let Some(mut object) = slot.take(alloc) else {
+        return Refusal::Empty.number();
+    };
+    let answer = called::completed(&mut object, completion);
+    slot.put(object);
+    answer
+}
+
+/// Copies the body of the completion that was taken last.
+#[unsafe(no_mangle)]
+pub extern "C" fn lr_client_body(alloc: Global, slot: &mut Slot, room: &mut [u8]) -> i64
+    ensures copied { OnClient (OnBody room.old room.new) (held_in slot.old) (held_in slot.new) result }
+    ensures refused { result <ℤ pos 0 → room.new ≡ room.old }
+{
+    let Some(object) = slot.take(alloc) else {
+        return Refusal::Empty.number();
+    };
+    let answer = called::body(&object, room);
+    slot.put(object);
+    answer
+}
+
+/// Moves octets that are due into a room.
+#[unsafe(no_mangle)]
+pub extern "C" fn lr_client_output(alloc: Global, slot: &mut Slot, room: &mut [u8]) -> i64
+    ensures moved { OnClient (OnOutput room.old room.new) (held_in slot.old) (held_in slot.new) result }
+    ensures refused { result <ℤ pos 0 → room.new ≡ room.old }
+{
+    let Some(mut object) = slot.take(alloc) else {
+        return Refusal::Empty.number();
+    };
+    let answer = called::output(&mut object, room);
+    slot.put(object);
+    answer
+}

@@ -1,0 +1,124 @@
+//! Messages that are written into the caller's room.
+
+use crate::messages::{Asking, Manner, close, error, ft};
+use crate::refusal::number_of;
+use std::alloc::Global;
+
+/// Writes a Request to an object key.
+#[unsafe(no_mangle)]
+pub extern "C" fn lr_write_request(
+    alloc: Global,
+    room: &mut [u8],
+    version: u32,
+    order: u32,
+    request_id: u32,
+    wish: u32,
+    key: &[u8],
+    operation: &[u8],
+    context_id: u32,
+    context: &[u8],
+    body: &[u8],
+) -> i64 {
+    let asking = Asking {
+        request_id,
+        wish,
+        key,
+        operation,
+        context_id,
+        context,
+        body,
+    };
+    match Manner::new(version, order) {
+        Ok(manner) => number_of(manner.request(alloc, &asking, room)),
+        Err(refusal) => refusal.number(),
+    }
+}
+
+/// Writes a Reply without service contexts.
+#[unsafe(no_mangle)]
+pub extern "C" fn lr_write_reply(
+    alloc: Global,
+    room: &mut [u8],
+    version: u32,
+    order: u32,
+    request_id: u32,
+    status: u32,
+    body: &[u8],
+) -> i64 {
+    match Manner::new(version, order) {
+        Ok(manner) => number_of(manner.reply(alloc, request_id, status, body, room)),
+        Err(refusal) => refusal.number(),
+    }
+}
+
+/// Writes a CancelRequest.
+#[unsafe(no_mangle)]
+pub extern "C" fn lr_write_cancel(
+    alloc: Global,
+    room: &mut [u8],
+    version: u32,
+    order: u32,
+    request_id: u32,
+) -> i64 {
+    match Manner::new(version, order) {
+        Ok(manner) => number_of(manner.cancel(alloc, request_id, room)),
+        Err(refusal) => refusal.number(),
+    }
+}
+
+/// Writes a LocateRequest of an object key.
+#[unsafe(no_mangle)]
+pub extern "C" fn lr_write_locate_request(
+    alloc: Global,
+    room: &mut [u8],
+    version: u32,
+    order: u32,
+    request_id: u32,
+    key: &[u8],
+) -> i64 {
+    match Manner::new(version, order) {
+        Ok(manner) => number_of(manner.locate_request(alloc, request_id, key, room)),
+        Err(refusal) => refusal.number(),
+    }
+}
+
+/// Writes a LocateReply without a body.
+#[unsafe(no_mangle)]
+pub extern "C" fn lr_write_locate_reply(
+    alloc: Global,
+    room: &mut [u8],
+    version: u32,
+    order: u32,
+    request_id: u32,
+    status: u32,
+) -> i64 {
+    match Manner::new(version, order) {
+        Ok(manner) => number_of(manner.locate_reply(alloc, request_id, status, room)),
+        Err(refusal) => refusal.number(),
+    }
+}
+
+/// Writes CloseConnection.
+#[unsafe(no_mangle)]
+pub extern "C" fn lr_write_close(alloc: Global, room: &mut [u8]) -> i64 {
+    number_of(close(alloc, room))
+}
+
+/// Writes MessageError.
+#[unsafe(no_mangle)]
+pub extern "C" fn lr_write_error(alloc: Global, room: &mut [u8]) -> i64 {
+    number_of(error(alloc, room))
+}
+
+/// Writes the data of an FT_REQUEST context.
+#[unsafe(no_mangle)]
+pub extern "C" fn lr_write_ft(
+    alloc: Global,
+    room: &mut [u8],
+    order: u32,
+    client: &[u8],
+    retention_id: i32,
+    expiration: u64,
+) -> i64 {
+    number_of(ft(alloc, order, client, retention_id, expiration, room))
+}

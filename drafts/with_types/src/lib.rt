@@ -1,0 +1,28 @@
+//! The engine for programs in C: lemonrudder.h.
+//!
+//! Each export calls a public function of the libraries below on the object in a slot (`slot`), and answers a count or an
+//! error number (`refusal`).
+#![tactic(auto)]
+
+mod assembling;
+mod called;
+mod calling;
+mod catalogued;
+mod cataloguing;
+mod cdr;
+mod due;
+mod exports;
+mod handle;
+mod messages;
+mod named;
+mod object;
+mod opened;
+mod referring;
+mod refusal;
+mod request;
+mod seed;
+mod served;
+mod serving;
+mod slot;
+mod types;
+mod unboxed;

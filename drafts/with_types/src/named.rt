@@ -1,0 +1,118 @@
+//! Numbers of the header, and what they name.
+
+ghost use Rattle.std.specs.Prelude.{◌≡◌};
+ghost use Rattle.lemonrudder.specs.Naming.{GivesLimits, or_range, order_named, order_number, version_named};
+
+use crate::refusal::Refusal;
+use cdr_core::Order;
+use ft_log::{Completion, RawStatus, SystemName};
+use giop_core::{ReplyWish, Version};
+use giop_frames::Limits;
+
+/// The version of a minor number.
+pub fn version_of(minor: u32) -> Result<Version, Refusal>
+    ensures { result ≡ or_range (version_named minor) }
+{
+    match minor {
+        0 => Ok(Version::V10),
+        1 => Ok(Version::V11),
+        2 => Ok(Version::V12),
+        _ => Err(Refusal::Range),
+    }
+}
+
+/// The minor number of a version.
+pub fn minor_of(version: Version) -> u32 {
+    match version {
+        Version::V10 => 0,
+        Version::V11 => 1,
+        Version::V12 => 2,
+    }
+}
+
+/// The order of a number: 0 is big, 1 little.
+pub fn order_of(number: u32) -> Result<Order, Refusal>
+    ensures { result ≡ or_range (order_named number) }
+{
+    match number {
+        0 => Ok(Order::Big),
+        1 => Ok(Order::Little),
+        _ => Err(Refusal::Range),
+    }
+}
+
+/// The number of an order.
+pub fn number_of_order(order: Order) -> u32
+    ensures { result ≡ order_number order }
+{
+    match order {
+        Order::Big => 0,
+        Order::Little => 1,
+    }
+}
+
+/// The wish of a number.
+pub fn wish_of(number: u32) -> Result<ReplyWish, Refusal> {
+    match number {
+        0 => Ok(ReplyWish::None),
+        1 => Ok(ReplyWish::Empty),
+        2 => Ok(ReplyWish::Full),
+        _ => Err(Refusal::Range),
+    }
+}
+
+/// The number of a wish.
+pub fn number_of_wish(wish: ReplyWish) -> u32 {
+    match wish {
+        ReplyWish::None => 0,
+        ReplyWish::Empty => 1,
+        ReplyWish::Full => 2,
+    }
+}
+
+/// The limits of a connection.
+pub fn limits_of(message: u32, partials: u32) -> Result<Limits, Refusal>
+    ensures { GivesLimits message partials result }
+{
+    let partials = u8::try_from(partials).map_err(|_| Refusal::Range)?;
+    Limits::new(message, partials).ok_or(Refusal::Range)
+}
+
+/// The status of a raw reply.
+pub fn raw_status_of(number: u32) -> Result<RawStatus, Refusal> {
+    match number {
+        0 => Ok(RawStatus::NoException),
+        1 => Ok(RawStatus::UserException),
+        2 => Ok(RawStatus::SystemException),
+        3 => Ok(RawStatus::LocationForward),
+        _ => Err(Refusal::Range),
+    }
+}
+
+/// The system exception of a number.
+pub fn system_name_of(number: u32) -> Result<SystemName, Refusal> {
+    match number {
+        0 => Ok(SystemName::Marshal),
+        1 => Ok(SystemName::BadContext),
+        2 => Ok(SystemName::NoResources),
+        3 => Ok(SystemName::BadOperation),
+        4 => Ok(SystemName::ObjectNotExist),
+        5 => Ok(SystemName::Unknown),
+        6 => Ok(SystemName::BadParam),
+        7 => Ok(SystemName::NoPermission),
+        8 => Ok(SystemName::ImpLimit),
+        9 => Ok(SystemName::Internal),
+        10 => Ok(SystemName::Transient),
+        _ => Err(Refusal::Range),
+    }
+}
+
+/// The completion of a number, by the ordinals of the standard's enumeration.
+pub fn completion_of(number: u32) -> Result<Completion, Refusal> {
+    match number {
+        0 => Ok(Completion::Yes),
+        1 => Ok(Completion::No),
+        2 => Ok(Completion::Maybe),
+        _ => Err(Refusal::Range),
+    }
+}
