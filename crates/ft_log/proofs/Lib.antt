@@ -1,6 +1,7 @@
 pub mod Listed
 pub mod Named
 pub mod Slots
+mod Counts
 pub mod Heaped
 pub mod Entries
 pub mod Dated

@@ -1,5 +1,7 @@
 -- The names in a log's map. No public contract, definition or law uses these words.
-use Rattle.std.specs.Prelude.{◌≡◌, ℕ, ℤ, Bool, true, ◌&&◌, List, ◌++◌, Option, Some, None, bytes_eq, refl}
+use Rattle.std.specs.Prelude.{◌≡◌, ◌^◌, ℕ, ℤ, Bool, true, ◌&&◌, List, [], ◌∷◌, ◌++◌, Option, Some, None, bytes_eq, refl}
+use mir.Syntax.{w32}
+use mir.Val.{of_z as cast_unsigned}
 use Rattle.std.specs.Option.{option_eq}
 use Rattle.std.specs.Ordering.{int_eq}
 use Rattle.std.specs.Hash as fed
@@ -14,9 +16,14 @@ use Rattle.ft_log.specs.declared.name.Name.{Name}
 abbrev pub is_named : List ℕ → Option ℤ → Name → Bool
 is_named client number name = bytes_eq client name.client_id.items && option_eq int_eq number name.number
 
--- what a name feeds a hasher
+-- a number of 64 bits for each number of 32 bits, and one for none
+abbrev pub code_of : Option ℤ → ℕ
+code_of None = 4294967296
+code_of (Some n) = cast_unsigned w32 n
+
+-- what a name feeds a hasher: the number's code, and then the client, so that the octets are fed by whole words
 abbrev pub fed_name : List ℕ → Option ℤ → HashWrites
-fed_name client number = fed.slice fed.u8 client ++ fed.option fed.i32 number
+fed_name client number = fed.u64 (code_of number) ++ client ∷ []
 
 same_number : (m n : Option ℤ) → option_eq int_eq m n ≡ true → m ≡ n
 same_number None None h = refl
@@ -39,3 +46,10 @@ hashed_alike c m name h = let s = named_so c m name h in λ i. fed_name (s.clien
 
 pub equal_alike : (c : List ℕ) (m : Option ℤ) (x y : Name) → is_named c m x ≡ true → is_named c m y ≡ is_named x.client_id.items x.number y
 equal_alike c m x y h = let s = named_so c m x h in λ i. is_named (s.client i) (s.number i) y
+
+pub fed_alike : (c d : List ℕ) (m n : Option ℤ) → (bytes_eq c d && option_eq int_eq m n) ≡ true → fed_name c m ≡ fed_name d n
+fed_alike c d m n h =
+    let parts = and_parts (bytes_eq c d) (option_eq int_eq m n) h in
+    let client : c ≡ d = (bytes_eq-Decides c d).0 parts.0 in
+    let number : m ≡ n = same_number m n parts.1 in
+    λ i. fed_name (client i) (number i)

@@ -1,6 +1,6 @@
 //! The map of a log: under each key its outcome, and under each client how many of them it has.
 
-ghost use Rattle.std.specs.Prelude.{◌≡◌, ◌+◌, ◌^◌, ◌<◌, ◌≤◌, ◌==◌, if◌then◌else◌, List, ℕ, Some, None, bytes_eq, is_some};
+ghost use Rattle.std.specs.Prelude.{◌≡◌, ◌+◌, ◌^◌, ◌<◌, ◌≤◌, ◌==◌, if◌then◌else◌, List, ℕ, Some, None, bytes_eq, is_some, true, false};
 ghost use Rattle.std.specs.Option.{option_copied};
 ghost use Rattle.indexmap.specs.IndexMap.{index_map_len, spare};
 ghost use Rattle.ft_log.specs.Keys.{RequestKey, same_key};
@@ -86,12 +86,14 @@ pub(crate) fn count_up(shelf: &mut Shelf, client_id: Vec<u8>)
     ensures slots { index_map_len shelf.new ≤ index_map_len shelf.old + (if held_at shelf.old client_id.items == 0 then 1 else 0) }
     ensures room { spare shelf.old ≤ spare shelf.new + 1 }
 {
-    let count = count_of(shelf, client_id.as_slice());
+    if raised(shelf, client_id.as_slice()) {
+        return;
+    }
     let name = Name {
         client_id,
         number: None,
     };
-    shelf.insert(name, Slot::Held(count + 1)).unwrap();
+    shelf.insert(name, Slot::Held(1)).unwrap();
 }
 
 /// Counts one outcome of a client less. A client that has none left is forgotten.
@@ -102,14 +104,66 @@ pub(crate) fn count_down(shelf: &mut Shelf, client_id: &[u8])
     ensures slots { index_map_len shelf.new + (if held_at shelf.old client_id.now == 1 then 1 else 0) ≤ index_map_len shelf.old }
     ensures room { spare shelf.old ≤ spare shelf.new }
 {
-    let count = count_of(shelf, client_id);
+    if lowered(shelf, client_id) {
+        return;
+    }
     let name = Lent {
         client_id,
         number: None,
     };
-    if count == 1 {
-        shelf.swap_remove(name);
-    } else if let Some(slot) = shelf.get_mut(name) {
-        *slot = Slot::Held(count - 1);
+    shelf.swap_remove(name);
+}
+
+/// Counts one more outcome of a client that has some, and says whether it has.
+fn raised(shelf: &mut Shelf, client_id: &[u8]) -> bool
+    requires { held_at shelf.old client_id.now + 1 < 2 ^ 32 }
+    ensures kept { (key : RequestKey) → kept_at shelf.new key ≡ kept_at shelf.old key }
+    ensures yes { result ≡ true → (client : List ℕ) → held_at shelf.new client ≡ held_at shelf.old client + (if bytes_eq client_id.now client then 1 else 0) }
+    ensures no { result ≡ false → (held_at shelf.old client_id.now ≡ 0) × ((client : List ℕ) → held_at shelf.new client ≡ held_at shelf.old client) }
+    ensures slots { index_map_len shelf.new ≡ index_map_len shelf.old }
+    ensures room { spare shelf.old ≤ spare shelf.new }
+{
+    let name = Lent {
+        client_id,
+        number: None,
+    };
+    match shelf.get_mut(name) {
+        Some(slot) => match slot {
+            Slot::Held(count) => {
+                let more = *count + 1;
+                *slot = Slot::Held(more);
+                true
+            }
+            Slot::Kept(_) => false,
+        },
+        None => false,
+    }
+}
+
+/// Counts one outcome less of a client that has more than one, and says whether it has.
+fn lowered(shelf: &mut Shelf, client_id: &[u8]) -> bool
+    ensures kept { (key : RequestKey) → kept_at shelf.new key ≡ kept_at shelf.old key }
+    ensures yes { result ≡ true → (1 < held_at shelf.old client_id.now) × ((client : List ℕ) → held_at shelf.new client + (if bytes_eq client_id.now client then 1 else 0) ≡ held_at shelf.old client) }
+    ensures no { result ≡ false → (held_at shelf.old client_id.now ≤ 1) × ((client : List ℕ) → held_at shelf.new client ≡ held_at shelf.old client) }
+    ensures slots { index_map_len shelf.new ≡ index_map_len shelf.old }
+    ensures room { spare shelf.old ≤ spare shelf.new }
+{
+    let name = Lent {
+        client_id,
+        number: None,
+    };
+    match shelf.get_mut(name) {
+        Some(slot) => match slot {
+            Slot::Held(count) => {
+                let count = *count;
+                if count <= 1 {
+                    return false;
+                }
+                *slot = Slot::Held(count - 1);
+                true
+            }
+            Slot::Kept(_) => false,
+        },
+        None => false,
     }
 }

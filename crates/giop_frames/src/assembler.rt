@@ -243,6 +243,7 @@ impl Assembler {
     }
 
     /// The message that the last call of `feed` completed, if it did.
+    #[inline(always)]
     pub fn message(&self) -> Option<Message<'_>>
         ensures lent { MatchOption result (self.now.message ≡ None) (λ m. IsSomeAnd self.now.message (λ f. IsLent m f)) }
         ensures within { frame_held self.now.message self.now.pending ≤ self.now.limits.message }

@@ -27,6 +27,7 @@ pub enum Inbound<'m> {
 }
 
 /// What is heard in a message, if it is one that a client sends.
+#[inline(always)]
 pub(crate) fn spoken(message: Message<'_>) -> Option<Inbound<'_>>
     requires { OnBody HasPlace (content_of message.content) }
     ensures told { option_map meaning_at result ≡ spoken (meaning_in message.entry.version (content_of message.entry.content)) }

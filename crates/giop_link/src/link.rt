@@ -124,6 +124,7 @@ impl ServerLink {
     }
 
     /// The message that the last call of `feed` completed, if it did.
+    #[inline(always)]
     pub fn inbound(&self) -> Option<Inbound<'_>>
         ensures lent { option_map meaning_at result ≡ self.now.inbound }
         // the place of a request's body fits 32 bits, as its arguments' reader asks

@@ -1,30 +1,31 @@
-use Rattle.std.proofs.Common.{◌≡◌, ◌+◌, Bool, true, false, cond, Some, List, ℕ, refl, ap, ◌∙◌, bytes_eq, arith}
-use Rattle.std.proofs.lemmas.Slice.Eq.{bytes_eq-Decides}
-use Rattle.ft_log.specs.Shelf.{Shelf, held_at}
+use Rattle.std.proofs.Common.{◌≡◌, ◌+◌, ◌-◌, Bool, true, false, cond, Some, None, List, ℕ, refl, ap, sym, ◌∙◌, bytes_eq, arith, is_some}
+use Rattle.std.specs.Option.{option_copied_mut}
+use Rattle.ft_log.specs.Shelf.{Shelf, held_at, count_in}
+use Rattle.ft_log.specs.declared.slot.Slot.{Slot}
 use Rattle.ft_log.specs.declared.slot.Slot.TheVariants.{Held}
+use Rattle.ft_log.proofs.Counts.{one_more, as_before, one_less}
+use Rattle.std.proofs.lemmas.Bool.Decides.{nat_tests}
 use Rattle.ft_log.proofs.Named.{kept-client, held-client}
-use Rattle.ft_log.proofs.Slots.{put_count}
+use Rattle.ft_log.proofs.Slots.{put_one}
 use Rattle.ft_log.proofs.shelf.count_up.Goals as goal
 
-one_more : (m : Shelf) (client other : List ℕ) (n : ℕ) → n ≡ held_at m client → cond (bytes_eq client other) (n + 1) (held_at m other) ≡ held_at m other + cond (bytes_eq client other) 1 0
-one_more m client other n is = by (bytes_eq client other) refl
-  where
-    by : (b : Bool) → bytes_eq client other ≡ b → cond b (n + 1) (held_at m other) ≡ held_at m other + cond b 1 0
-    by true e = let same = ap (held_at m) ((bytes_eq-Decides client other).0 e) in omega (arith, is, same)
-    by false e = omega arith
-
 pub returns-clause-kept : goal.returns-clause-kept
-returns-clause-kept c =
+returns-clause-kept c = λ key.
     let up = rw c.unwrap.ensures at c.insert.ensures.updates in
-    kept-client _ (λ x y. refl) c.args.shelf.now c.insert.new.self (Some (Held (c.count_of-count.result + 1))) c.args.client_id.items up.1 up.3
+    kept-client _ (λ x y. refl) c.raised.new.shelf c.insert.new.self (Some (Held 1)) c.args.client_id.items up.1 up.3 key ∙ c.raised.ensures.kept key
 
 pub returns-clause-slots : goal.returns-clause-slots
 returns-clause-slots c =
-    let was = rw c.unwrap.ensures at c.insert.ensures.old in
-    put_count c.unwrap.result _ _ _ was (rw c.unwrap.ensures at c.insert.ensures.len)
+    let no = c.raised.ensures.no c.if-raised.false in
+    let none : held_at c.args.shelf.now c.args.client_id.items ≡ 0 = ap (held_at c.args.shelf.now) (sym c.as_slice.ensures.value) ∙ no.0 in
+    let more = put_one c.unwrap.result _ _ (rw c.unwrap.ensures at c.insert.ensures.len) in
+    let same = c.raised.ensures.slots in
+    grind (arith, nat_tests)
 
 pub returns-clause-held : goal.returns-clause-held
 returns-clause-held c = λ client.
     let up = rw c.unwrap.ensures at c.insert.ensures.updates in
-    held-client _ (λ x y. refl) c.args.shelf.now c.insert.new.self (Some (Held (c.count_of-count.result + 1))) c.args.client_id.items up.1 up.3 client
-    ∙ one_more c.args.shelf.now c.args.client_id.items client c.count_of-count.result (c.count_of-count.ensures ∙ ap (held_at c.args.shelf.now) c.as_slice.ensures.value)
+    let no = c.raised.ensures.no c.if-raised.false in
+    let none = sym (no.1 c.args.client_id.items ∙ ap (held_at c.args.shelf.now) (sym c.as_slice.ensures.value) ∙ no.0) in
+    held-client _ (λ x y. refl) c.raised.new.shelf c.insert.new.self (Some (Held 1)) c.args.client_id.items up.1 up.3 client
+    ∙ one_more c.raised.new.shelf c.args.client_id.items client 0 none ∙ ap (λ k. k + cond (bytes_eq c.args.client_id.items client) 1 0) (no.1 client)
