@@ -1,5 +1,5 @@
 -- How the count of a client moves.
-use Rattle.std.proofs.Common.{◌≡◌, ◌+◌, Bool, true, false, cond, List, ℕ, refl, ap, sym, ◌∙◌, bytes_eq, arith}
+use Rattle.std.proofs.Common.{◌≡◌, ◌+◌, Bool, true, false, cond, List, ℕ, refl, ap, ◌∙◌, bytes_eq, arith}
 use Rattle.std.proofs.lemmas.Slice.Eq.{bytes_eq-Decides}
 use Rattle.ft_log.specs.Shelf.{Shelf, held_at}
 

@@ -1,5 +1,5 @@
 -- The names in a log's map. No public contract, definition or law uses these words.
-use Rattle.std.specs.Prelude.{◌≡◌, ◌^◌, ℕ, ℤ, Bool, true, ◌&&◌, List, [], ◌∷◌, ◌++◌, Option, Some, None, bytes_eq, refl}
+use Rattle.std.specs.Prelude.{◌≡◌, ℕ, ℤ, Bool, true, ◌&&◌, List, [], ◌∷◌, ◌++◌, Option, Some, None, bytes_eq, refl}
 use mir.Syntax.{w32}
 use mir.Val.{of_z as cast_unsigned}
 use Rattle.std.specs.Option.{option_eq}

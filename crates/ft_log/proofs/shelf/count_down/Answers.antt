@@ -1,6 +1,6 @@
-use Rattle.std.proofs.Common.{◌≡◌, ◌+◌, ◌-◌, ◌==◌, Bool, true, false, cond, Some, None, List, ℕ, refl, ap, sym, ◌∙◌, bytes_eq, arith, is_some}
+use Rattle.std.proofs.Common.{◌≡◌, None, refl, ◌∙◌, arith}
 use Rattle.std.proofs.lemmas.Bool.Decides.{nat_tests}
-use Rattle.ft_log.specs.Shelf.{Shelf, held_at, count_in}
+use Rattle.ft_log.specs.Shelf.{held_at}
 use Rattle.ft_log.proofs.Counts.{one_less}
 use Rattle.ft_log.proofs.Named.{kept-client, held-client}
 use Rattle.ft_log.proofs.Slots.{take_count}

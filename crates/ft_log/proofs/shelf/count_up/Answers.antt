@@ -1,9 +1,7 @@
-use Rattle.std.proofs.Common.{◌≡◌, ◌+◌, ◌-◌, Bool, true, false, cond, Some, None, List, ℕ, refl, ap, sym, ◌∙◌, bytes_eq, arith, is_some}
-use Rattle.std.specs.Option.{option_copied_mut}
-use Rattle.ft_log.specs.Shelf.{Shelf, held_at, count_in}
-use Rattle.ft_log.specs.declared.slot.Slot.{Slot}
+use Rattle.std.proofs.Common.{◌≡◌, ◌+◌, cond, Some, refl, ap, sym, ◌∙◌, bytes_eq, arith}
+use Rattle.ft_log.specs.Shelf.{held_at}
 use Rattle.ft_log.specs.declared.slot.Slot.TheVariants.{Held}
-use Rattle.ft_log.proofs.Counts.{one_more, as_before, one_less}
+use Rattle.ft_log.proofs.Counts.{one_more}
 use Rattle.std.proofs.lemmas.Bool.Decides.{nat_tests}
 use Rattle.ft_log.proofs.Named.{kept-client, held-client}
 use Rattle.ft_log.proofs.Slots.{put_one}

@@ -1,9 +1,9 @@
-use Rattle.std.proofs.Common.{◌≡◌, ◌+◌, ◌-◌, Bool, true, false, cond, Some, None, List, ℕ, refl, ap, sym, ◌∙◌, bytes_eq, arith, is_some}
+use Rattle.std.proofs.Common.{◌≡◌, ◌-◌, Some, refl, ap, sym, ◌∙◌, arith, is_some}
 use Rattle.std.specs.Option.{option_copied_mut}
-use Rattle.ft_log.specs.Shelf.{Shelf, held_at, count_in}
+use Rattle.ft_log.specs.Shelf.{held_at, count_in}
 use Rattle.ft_log.specs.declared.slot.Slot.{Slot}
 use Rattle.ft_log.specs.declared.slot.Slot.TheVariants.{Held}
-use Rattle.ft_log.proofs.Counts.{one_more, as_before, one_less}
+use Rattle.ft_log.proofs.Counts.{as_before, one_less}
 use Rattle.ft_log.proofs.Named.{kept-client, held-client}
 use Rattle.ft_log.proofs.shelf.lowered.Goals as goal
 
