@@ -1,3 +1,5 @@
+mod Clients
+mod Counts
 mod Ended
 mod Handing
 mod Idling

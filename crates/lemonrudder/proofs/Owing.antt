@@ -1,6 +1,6 @@
 -- What is written after what was due is due too, whatever of it was taken before.
-use Rattle.std.proofs.Common.{◌≡◌, ℕ, ◌+◌, ◌≤◌, List, ◌++◌, length, drop, take, Option, Result, Ok, Err, ap, arith, ◌∙◌, length-append}
-use Rattle.std.proofs.lemmas.List.{drop-append-le}
+use Rattle.std.proofs.Common.{◌≡◌, ℕ, ◌+◌, ◌≤◌, min, List, ◌++◌, length, drop, take, Option, Result, Ok, Err, ap, arith, ◌∙◌, length-append}
+use Rattle.std.proofs.lemmas.List.{drop-append-le, drop_min}
 use Rattle.ft_orb.specs.declared.engine.Engine.{Engine}
 use Rattle.ft_orb.specs.declared.engine.Fed.{Fed}
 use Rattle.ft_orb.specs.declared.engine.Fed.TheVariants as fed
@@ -20,6 +20,10 @@ grows n before written out few e = ap (drop n) e ∙ drop-append-le n before wri
 
 pub stays : (n : ℕ) (before written out : List ℕ) → n ≤ length before → out ≡ before ++ written → n ≤ length out
 stays n before written out few e = let l = ap length e ∙ length-append before written in omega (arith, l)
+
+-- no more is taken than there is
+pub drop_taken : (xs : List ℕ) (room : ℕ) → drop (min (length xs) room) xs ≡ drop room xs
+drop_taken xs room = let e : min (length xs) room ≡ min room (length xs) = omega arith in ap (λ n. drop n xs) e ∙ drop_min room xs
 
 module _ {C : Type 0} (offers : C → Offer) (owner : Owner) (calls : List Call) (past : List Event) (n : ℕ) (before out : List ℕ) (few : n ≤ length before) where
   ends-owed : (e : Event) (note : Note) (engine : Engine C) → Ends offers owner calls past e note engine before out → Ends offers owner calls past e note engine (drop n before) (drop n out)

@@ -1,5 +1,9 @@
 //! A client, with the octets that are due on its connection, and the completion that was taken last.
 
+ghost use Rattle.std.specs.Prelude.{◌≡◌, option_map};
+ghost use Rattle.ft_client.specs.Ends.{body_of, ended_of};
+ghost use Rattle.lemonrudder.specs.Calls.{head_of, how_ended, told};
+
 use crate::due::Due;
 use crate::named::{limits_of, number_of_order, order_of, version_of};
 use crate::refusal::{Refusal, copied, count_of};
@@ -42,7 +46,10 @@ pub struct Calling {
 }
 
 /// How a call ended, as a number, and the body of its reply, if one came.
-fn of_ended(ended: &Ended) -> (u32, Option<&ReplyBody>) {
+fn of_ended(ended: &Ended) -> (u32, Option<&ReplyBody>)
+    ensures how { result.0 ≡ how_ended (ended_of ended.now) }
+    ensures body { option_map (λ body. body_of body.now) result.1 ≡ told (ended_of ended.now) }
+{
     match ended {
         Ended::Returned(body) => (0, Some(body)),
         Ended::Raised(body) => (1, Some(body)),
@@ -54,7 +61,29 @@ fn of_ended(ended: &Ended) -> (u32, Option<&ReplyBody>) {
     }
 }
 
+/// What is said of a call that ended. Where no reply came, the numbers of its body are 0.
+fn head_of(call: i32, ended: &Ended) -> CompletionHead
+    ensures { result ≡ head_of call (ended_of ended.now) }
+{
+    let (how, body) = of_ended(ended);
+    let (body_size, body_at, body_order) = match body {
+        Some(body) => (count_of(&body.octets), body.at, number_of_order(body.order)),
+        None => (0, 0, 0),
+    };
+    CompletionHead {
+        body_size,
+        body_at,
+        call,
+        how,
+        body_order,
+        reserved: 0,
+    }
+}
+
 impl Calling {
+    ghost use Rattle.std.specs.Prelude.{◌≡◌, Ok, false, is_some};
+    ghost use Rattle.lemonrudder.specs.Calls.{OnBody, OnCancel, OnCompleted, OnConnected, OnFeed, OnIsConnected, OnLost, OnOutput, OnTick};
+
     /// A client that is not connected.
     pub fn new(
         alloc: Global,
@@ -77,9 +106,10 @@ impl Calling {
     }
 
     /// The client is connected anew.
-    pub fn connected(&mut self, now: u64) -> Result<u64, Refusal> {
-        self.client.lost();
-        self.due.drop_all();
+    pub fn connected(&mut self, now: u64) -> Result<u64, Refusal>
+        ensures { OnConnected now self.old self.new result }
+    {
+        self.lost();
         match self.client.connected(now, &mut self.due.octets) {
             Ok(()) => Ok(0),
             Err(_) => Err(Refusal::Lost),
@@ -87,14 +117,19 @@ impl Calling {
     }
 
     /// The connection is lost.
-    pub fn lost(&mut self) -> u64 {
+    pub fn lost(&mut self) -> u64
+        ensures lost { OnLost self.old self.new (Ok result) }
+        ensures link { is_some self.new.client.link ≡ false }
+    {
         self.client.lost();
         self.due.drop_all();
         0
     }
 
     /// Whether the client is connected.
-    pub fn is_connected(&self) -> u64 {
+    pub fn is_connected(&self) -> u64
+        ensures { OnIsConnected self.now self.now (Ok result) }
+    {
         u64::from(self.client.is_connected())
     }
 
@@ -120,19 +155,27 @@ impl Calling {
     }
 
     /// Cancels a call.
-    pub fn cancel(&mut self, call: i64) -> Result<u64, Refusal> {
-        let call = i32::try_from(call).map_err(|_| Refusal::Range)?;
-        Ok(u64::from(self.client.cancel(call, &mut self.due.octets)?))
+    pub fn cancel(&mut self, call: i64) -> Result<u64, Refusal>
+        ensures { OnCancel call self.old self.new result }
+    {
+        match i32::try_from(call) {
+            Ok(call) => Ok(u64::from(self.client.cancel(call, &mut self.due.octets)?)),
+            Err(_) => Err(Refusal::Range),
+        }
     }
 
     /// A moment has come.
-    pub fn tick(&mut self, now: u64) -> u64 {
+    pub fn tick(&mut self, now: u64) -> u64
+        ensures { OnTick now self.old self.new (Ok result) }
+    {
         self.client.tick(now);
         0
     }
 
     /// Takes octets that came on the connection.
-    pub fn feed(&mut self, octets: &[u8]) -> Result<u64, Refusal> {
+    pub fn feed(&mut self, octets: &[u8]) -> Result<u64, Refusal>
+        ensures { OnFeed octets.now self.old self.new result }
+    {
         match self.client.feed(octets) {
             Ok(()) => Ok(count_of(octets)),
             Err(_) => Err(Refusal::Lost),
@@ -140,34 +183,36 @@ impl Calling {
     }
 
     /// Takes the next completion.
-    pub fn completed(&mut self, head: &mut CompletionHead) -> u64 {
+    pub fn completed(&mut self, head: &mut CompletionHead) -> u64
+        ensures taken { OnCompleted head.old head.new self.old self.new (Ok result) }
+        ensures none { result ≡ 0 → head.new ≡ head.old }
+    {
         let Some((call, ended)) = self.client.take_completion() else {
             return 0;
         };
-        let (how, body) = of_ended(&ended);
-        *head = CompletionHead {
-            body_size: body.map_or(0, |body| count_of(&body.octets)),
-            body_at: body.map_or(0, |body| body.at),
-            call,
-            how,
-            body_order: body.map_or(0, |body| number_of_order(body.order)),
-            reserved: 0,
-        };
+        *head = head_of(call, &ended);
         self.ended = Some(ended);
         1
     }
 
     /// Copies the body of the completion that was taken last.
-    pub fn body(&self, room: &mut [u8]) -> Result<u64, Refusal> {
-        let ended = self.ended.as_ref().ok_or(Refusal::None)?;
-        match of_ended(ended) {
-            (_, Some(body)) => Ok(copied(&body.octets, room)),
-            _ => Err(Refusal::None),
+    pub fn body(&self, room: &mut [u8]) -> Result<u64, Refusal>
+        ensures { OnBody room.old room.new self.now self.now result }
+    {
+        let Some(ended) = &self.ended else {
+            return Err(Refusal::None);
+        };
+        let (_, body) = of_ended(ended);
+        match body {
+            Some(body) => Ok(copied(&body.octets, room)),
+            None => Err(Refusal::None),
         }
     }
 
     /// Moves octets that are due into a room.
-    pub fn output(&mut self, room: &mut [u8]) -> u64 {
+    pub fn output(&mut self, room: &mut [u8]) -> u64
+        ensures { OnOutput room.old room.new self.old self.new (Ok result) }
+    {
         self.due.output(room)
     }
 }

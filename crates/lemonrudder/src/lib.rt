@@ -5,6 +5,7 @@
 #![tactic(auto)]
 
 mod assembling;
+mod called;
 mod calling;
 mod cataloguing;
 mod cdr;

@@ -1,14 +1,17 @@
 //! A client that sends its calls again.
 
+ghost use Rattle.std.specs.Prelude.{◌≡◌, ◌<ℤ◌, ◌≤ℤ◌, pos};
+ghost use Rattle.lemonrudder.specs.Answers.{OnClient};
+ghost use Rattle.lemonrudder.specs.Calls.{OnBody, OnCancel, OnCompleted, OnConnected, OnFeed, OnIsConnected, OnLost, OnOutput, OnTick};
+ghost use Rattle.lemonrudder.specs.Slots.{held_in};
+
+use crate::called;
 use crate::calling::{Call, Calling, CompletionHead};
 use crate::object::Object;
 use crate::opened::open;
-use crate::refusal::{number_of, signed};
+use crate::refusal::Refusal;
 use crate::slot::Slot;
 use std::alloc::Global;
-
-/// The slot has no object of the kind.
-const EMPTY: i64 = -1;
 
 /// Opens a client that is not connected.
 #[unsafe(no_mangle)]
@@ -28,42 +31,39 @@ pub extern "C" fn lr_client_open(
 
 /// The client is connected anew.
 #[unsafe(no_mangle)]
-pub extern "C" fn lr_client_connected(alloc: Global, slot: &mut Slot, now: u64) -> i64 {
+pub extern "C" fn lr_client_connected(alloc: Global, slot: &mut Slot, now: u64) -> i64
+    ensures { OnClient (OnConnected now) (held_in slot.old) (held_in slot.new) result }
+{
     let Some(mut object) = slot.take(alloc) else {
-        return EMPTY;
+        return Refusal::Empty.number();
     };
-    let answer = match &mut *object {
-        Object::Client(it) => number_of(it.connected(now)),
-        _ => EMPTY,
-    };
+    let answer = called::connected(&mut object, now);
     slot.put(object);
     answer
 }
 
 /// The connection is lost.
 #[unsafe(no_mangle)]
-pub extern "C" fn lr_client_lost(alloc: Global, slot: &mut Slot) -> i64 {
+pub extern "C" fn lr_client_lost(alloc: Global, slot: &mut Slot) -> i64
+    ensures { OnClient OnLost (held_in slot.old) (held_in slot.new) result }
+{
     let Some(mut object) = slot.take(alloc) else {
-        return EMPTY;
+        return Refusal::Empty.number();
     };
-    let answer = match &mut *object {
-        Object::Client(it) => signed(it.lost()),
-        _ => EMPTY,
-    };
+    let answer = called::lost(&mut object);
     slot.put(object);
     answer
 }
 
 /// Whether the client is connected.
 #[unsafe(no_mangle)]
-pub extern "C" fn lr_client_is_connected(alloc: Global, slot: &mut Slot) -> i64 {
+pub extern "C" fn lr_client_is_connected(alloc: Global, slot: &mut Slot) -> i64
+    ensures { OnClient OnIsConnected (held_in slot.old) (held_in slot.new) result }
+{
     let Some(object) = slot.take(alloc) else {
-        return EMPTY;
+        return Refusal::Empty.number();
     };
-    let answer = match &*object {
-        Object::Client(it) => signed(it.is_connected()),
-        _ => EMPTY,
-    };
+    let answer = called::is_connected(&object);
     slot.put(object);
     answer
 }
@@ -91,54 +91,48 @@ pub extern "C" fn lr_client_call(
         arguments,
     };
     let Some(mut object) = slot.take(alloc) else {
-        return EMPTY;
+        return Refusal::Empty.number();
     };
-    let answer = match &mut *object {
-        Object::Client(it) => number_of(it.call(&call)),
-        _ => EMPTY,
-    };
+    let answer = called::call(&mut object, &call);
     slot.put(object);
     answer
 }
 
 /// Cancels a call.
 #[unsafe(no_mangle)]
-pub extern "C" fn lr_client_cancel(alloc: Global, slot: &mut Slot, call: i64) -> i64 {
+pub extern "C" fn lr_client_cancel(alloc: Global, slot: &mut Slot, call: i64) -> i64
+    ensures { OnClient (OnCancel call) (held_in slot.old) (held_in slot.new) result }
+{
     let Some(mut object) = slot.take(alloc) else {
-        return EMPTY;
+        return Refusal::Empty.number();
     };
-    let answer = match &mut *object {
-        Object::Client(it) => number_of(it.cancel(call)),
-        _ => EMPTY,
-    };
+    let answer = called::cancel(&mut object, call);
     slot.put(object);
     answer
 }
 
 /// A moment has come.
 #[unsafe(no_mangle)]
-pub extern "C" fn lr_client_tick(alloc: Global, slot: &mut Slot, now: u64) -> i64 {
+pub extern "C" fn lr_client_tick(alloc: Global, slot: &mut Slot, now: u64) -> i64
+    ensures { OnClient (OnTick now) (held_in slot.old) (held_in slot.new) result }
+{
     let Some(mut object) = slot.take(alloc) else {
-        return EMPTY;
+        return Refusal::Empty.number();
     };
-    let answer = match &mut *object {
-        Object::Client(it) => signed(it.tick(now)),
-        _ => EMPTY,
-    };
+    let answer = called::tick(&mut object, now);
     slot.put(object);
     answer
 }
 
 /// Takes octets that came on the connection.
 #[unsafe(no_mangle)]
-pub extern "C" fn lr_client_feed(alloc: Global, slot: &mut Slot, octets: &[u8]) -> i64 {
+pub extern "C" fn lr_client_feed(alloc: Global, slot: &mut Slot, octets: &[u8]) -> i64
+    ensures { OnClient (OnFeed octets.now) (held_in slot.old) (held_in slot.new) result }
+{
     let Some(mut object) = slot.take(alloc) else {
-        return EMPTY;
+        return Refusal::Empty.number();
     };
-    let answer = match &mut *object {
-        Object::Client(it) => number_of(it.feed(octets)),
-        _ => EMPTY,
-    };
+    let answer = called::feed(&mut object, octets);
     slot.put(object);
     answer
 }
@@ -149,42 +143,42 @@ pub extern "C" fn lr_client_completed(
     alloc: Global,
     slot: &mut Slot,
     completion: &mut CompletionHead,
-) -> i64 {
+) -> i64
+    ensures taken { OnClient (OnCompleted completion.old completion.new) (held_in slot.old) (held_in slot.new) result }
+    ensures none { result ≤ℤ pos 0 → completion.new ≡ completion.old }
+{
     let Some(mut object) = slot.take(alloc) else {
-        return EMPTY;
+        return Refusal::Empty.number();
     };
-    let answer = match &mut *object {
-        Object::Client(it) => signed(it.completed(completion)),
-        _ => EMPTY,
-    };
+    let answer = called::completed(&mut object, completion);
     slot.put(object);
     answer
 }
 
 /// Copies the body of the completion that was taken last.
 #[unsafe(no_mangle)]
-pub extern "C" fn lr_client_body(alloc: Global, slot: &mut Slot, room: &mut [u8]) -> i64 {
+pub extern "C" fn lr_client_body(alloc: Global, slot: &mut Slot, room: &mut [u8]) -> i64
+    ensures copied { OnClient (OnBody room.old room.new) (held_in slot.old) (held_in slot.new) result }
+    ensures refused { result <ℤ pos 0 → room.new ≡ room.old }
+{
     let Some(object) = slot.take(alloc) else {
-        return EMPTY;
+        return Refusal::Empty.number();
     };
-    let answer = match &*object {
-        Object::Client(it) => number_of(it.body(room)),
-        _ => EMPTY,
-    };
+    let answer = called::body(&object, room);
     slot.put(object);
     answer
 }
 
 /// Moves octets that are due into a room.
 #[unsafe(no_mangle)]
-pub extern "C" fn lr_client_output(alloc: Global, slot: &mut Slot, room: &mut [u8]) -> i64 {
+pub extern "C" fn lr_client_output(alloc: Global, slot: &mut Slot, room: &mut [u8]) -> i64
+    ensures moved { OnClient (OnOutput room.old room.new) (held_in slot.old) (held_in slot.new) result }
+    ensures refused { result <ℤ pos 0 → room.new ≡ room.old }
+{
     let Some(mut object) = slot.take(alloc) else {
-        return EMPTY;
+        return Refusal::Empty.number();
     };
-    let answer = match &mut *object {
-        Object::Client(it) => signed(it.output(room)),
-        _ => EMPTY,
-    };
+    let answer = called::output(&mut object, room);
     slot.put(object);
     answer
 }

@@ -1,0 +1,127 @@
+-- What a call on a client does.
+use Rattle.std.specs.Prelude.{◌≡◌, ◌≢◌, ℕ, suc, ◌<◌, ℤ, pos, Bool, List, [], ◌∷◌, ◌++◌, length, min, take, drop, is_some, option_map, Option, Some, None, Result, Ok, Err, FitsSigned}
+use Rattle.std.specs.Int.{from_bool, w32}
+use Rattle.std.specs.Option.{option_and_then}
+use Rattle.cdr_core.specs.declared.order.Order.TheVariants.{Big}
+use Rattle.giop_core.specs.Content.{Rest}
+use Rattle.giop_core.specs.declared.reply.ReplyStatus.TheVariants.{LocationForward, NoException, UserException}
+use Rattle.ft_client.specs.Clients.{Cancelled, Client, Ended, Expired, Fed, Happening, Joined, NeedsAddressing, Recalled, Taken, Ticked, Told, after, find_pending, parted, says, told_of}
+use Rattle.ft_client.specs.Directions.{stream}
+use Rattle.ft_client.specs.Ends.{ended_of}
+use Rattle.ft_client.specs.Messages.{octets_said}
+use Rattle.ft_client.specs.Standing.{FtStands, down}
+use Rattle.lemonrudder.specs.declared.calling.Calling.{Calling}
+use Rattle.lemonrudder.specs.declared.calling.CompletionHead.{CompletionHead}
+use Rattle.lemonrudder.specs.declared.refusal.Refusal.{Refusal}
+use Rattle.lemonrudder.specs.declared.refusal.Refusal.TheVariants as refusal
+use Rattle.lemonrudder.specs.Copies.{Copies}
+use Rattle.lemonrudder.specs.Dues.{IsPlaced, owed}
+use Rattle.lemonrudder.specs.Naming.{order_number}
+use Rattle.lemonrudder.specs.Refusals.{filled}
+
+-- a client as C has it: the client, the octets that are due on its connection, and how the call ended whose completion was
+-- taken last
+pub record Standing : Type 0 where
+  pub client : Client
+  pub due : List ℕ
+  pub last : Option Ended
+
+-- how the call ended whose completion was taken last, if one was
+abbrev pub last_end : Calling → Option Ended
+last_end s = option_map ended_of s.ended
+
+-- what the library holds stands for this client
+pub record Stands (s : Calling) (x : Standing) : Type 0 where
+  pub client : FtStands s.client x.client
+  pub placed : IsPlaced s.due
+  pub due : owed s.due ≡ x.due
+  pub last : last_end s ≡ x.last
+
+-- the client that is stood for becomes another
+abbrev pub Becomes : (Standing → Standing) → Calling → Calling → Type 0
+Becomes f s t = (x : Standing) → Stands s x → Stands t (f x)
+
+-- it stays what it was
+abbrev pub Stays : Calling → Calling → Type 0
+Stays = Becomes (λ x. x)
+
+-- something happens to a client, and what it writes is due after what was
+abbrev pub happened : Happening → Standing → Standing
+happened h x = record x { client = after (down x.client.limits) h x.client; due = x.due ++ stream octets_said (says h x.client) }
+
+-- its connection is lost, and what was due there
+abbrev pub lost : Standing → Standing
+lost x = record x { client = parted x.client; due = [] }
+
+-- the connection is lost
+abbrev pub OnLost : Calling → Calling → Result ℕ Refusal → Type 0
+OnLost s t r = (r ≡ Ok 0) × Becomes lost s t
+
+-- it is connected anew; or an allocation failed, which only a call that is to be sent again needs, and it is not connected
+abbrev pub OnConnected : (now : ℕ) → Calling → Calling → Result ℕ Refusal → Type 0
+OnConnected now s t (Ok n) = (n ≡ 0) × Becomes (λ x. happened (Joined now) (lost x)) s t
+OnConnected now s t (Err e) = (e ≡ refusal.Lost) × Becomes lost s t × ((x : Standing) → Stands s x → says (Joined now) (parted x.client) ≢ [])
+
+-- whether it is connected
+abbrev pub OnIsConnected : Calling → Calling → Result ℕ Refusal → Type 0
+OnIsConnected s t r = (t ≡ s) × ((connected : Bool) × (r ≡ Ok (from_bool connected)) × ((x : Standing) → Stands s x → connected ≡ is_some x.client.link))
+
+-- a call is cancelled, where it is pending; a number that is none of 32 bits is refused, and where a CancelRequest is to be
+-- written an allocation may fail
+abbrev pub OnCancel : (call : ℤ) → Calling → Calling → Result ℕ Refusal → Type 0
+OnCancel call s t (Ok n) = (x : Standing) → Stands s x → (n ≡ from_bool (is_some (find_pending call x.client.pending))) × Stands t (happened (Recalled call) x)
+OnCancel call s t (Err refusal.Range) = (t ≡ s) × (¬ (FitsSigned w32 call))
+OnCancel call s t (Err refusal.Memory) = Stays s t × ((x : Standing) → Stands s x → says (Recalled call) x.client ≢ [])
+OnCancel call s t (Err e) = ⊥
+
+-- a moment has come
+abbrev pub OnTick : (now : ℕ) → Calling → Calling → Result ℕ Refusal → Type 0
+OnTick now s t r = (r ≡ Ok 0) × Becomes (happened (Ticked now)) s t
+
+-- octets came; where an allocation failed a front of them, not all, was taken, and the connection is lost
+abbrev pub OnFeed : List ℕ → Calling → Calling → Result ℕ Refusal → Type 0
+OnFeed octets s t (Ok n) = (n ≡ length octets) × Becomes (happened (Fed octets)) s t
+OnFeed octets s t (Err e) = (e ≡ refusal.Lost) × ((x : Standing) → Stands s x → (n : ℕ) × (n < length octets)
+    × Stands t (record x { client = parted (told_of (down x.client.limits) (take n octets) x.client x.client.link) }))
+
+-- the body of the reply by which a call ended, if it ended so
+abbrev pub told : Ended → Option Rest
+told (Told status body) = Some body
+told _ = None
+
+-- how a call ended, as the header numbers it
+abbrev pub how_ended : Ended → ℕ
+how_ended (Told NoException body) = 0
+how_ended (Told UserException body) = 1
+how_ended (Told LocationForward body) = 3
+how_ended (Told _ body) = 2
+how_ended NeedsAddressing = 4
+how_ended Expired = 5
+how_ended Cancelled = 6
+
+-- where there is no body its numbers are 0
+abbrev pub body_or_none : Option Rest → Rest
+body_or_none None = record { order = Big; place = 0; octets = [] }
+body_or_none (Some body) = body
+
+-- what is said of a call that ended
+abbrev pub head_of : ℤ → Ended → CompletionHead
+head_of call ended = let body = body_or_none (told ended) in
+    record { body_size = length body.octets; body_at = body.place; call = call; how = how_ended ended; body_order = order_number body.order; reserved = 0 }
+
+-- the first of these completions is taken, if there is one
+abbrev pub Takes : List (ℕ × Ended) → CompletionHead → CompletionHead → Standing → Calling → Result ℕ Refusal → Type 0
+Takes [] head new x t r = (r ≡ Ok 0) × (new ≡ head) × Stands t x
+Takes (c ∷ later) head new x t r = (r ≡ Ok 1) × (new ≡ head_of (pos c.0) c.1) × Stands t (record x { client = after (down x.client.limits) Taken x.client; last = Some c.1 })
+
+-- the next completion is asked for
+abbrev pub OnCompleted : CompletionHead → CompletionHead → Calling → Calling → Result ℕ Refusal → Type 0
+OnCompleted head new s t r = (x : Standing) → Stands s x → Takes x.client.completions head new x t r
+
+-- the body of the completion that was taken last is copied, if there is one
+abbrev pub OnBody : List ℕ → List ℕ → Calling → Calling → Result ℕ Refusal → Type 0
+OnBody room new s t r = (t ≡ s) × Copies (option_map (λ body. body.octets) (option_and_then told (last_end s))) room new r
+
+-- octets that are due are moved into a room, as many as it has
+abbrev pub OnOutput : List ℕ → List ℕ → Calling → Calling → Result ℕ Refusal → Type 0
+OnOutput room new s t r = (r ≡ Ok (min (length (owed s.due)) (length room))) × (new ≡ filled (owed s.due) room) × Becomes (λ x. record x { due = drop (length room) x.due }) s t

@@ -1,0 +1,10 @@
+-- Octets that are copied into room of the caller.
+use Rattle.std.specs.Prelude.{◌≡◌, ℕ, List, length, Option, Some, None, Result, Ok, Err}
+use Rattle.lemonrudder.specs.declared.refusal.Refusal.{Refusal}
+use Rattle.lemonrudder.specs.declared.refusal.Refusal.TheVariants as refusal
+use Rattle.lemonrudder.specs.Refusals.{filled}
+
+-- as many of some octets are copied as the room has, if there are such, and their length is told
+abbrev pub Copies : Option (List ℕ) → List ℕ → List ℕ → Result ℕ Refusal → Type 0
+Copies None room new r = (r ≡ Err refusal.None) × (new ≡ room)
+Copies (Some octets) room new r = (r ≡ Ok (length octets)) × (new ≡ filled octets room)

@@ -1,0 +1,110 @@
+//! The calls on an object that is a client, if it is one.
+
+ghost use Rattle.std.specs.Prelude.{◌≡◌, ◌<ℤ◌, ◌≤ℤ◌, pos, Some};
+ghost use Rattle.lemonrudder.specs.Answers.{OnClient};
+ghost use Rattle.lemonrudder.specs.Calls.{OnBody, OnCancel, OnCompleted, OnConnected, OnFeed, OnIsConnected, OnLost, OnOutput, OnTick};
+
+use crate::calling::{Call, CompletionHead};
+use crate::object::Object;
+use crate::refusal::{Refusal, number_of, signed};
+
+/// The client is connected anew.
+pub fn connected(object: &mut Object, now: u64) -> i64
+    ensures { OnClient (OnConnected now) (Some object.old) (Some object.new) result }
+{
+    let Object::Client(client) = object else {
+        return Refusal::Empty.number();
+    };
+    number_of(client.connected(now))
+}
+
+/// The connection is lost.
+pub fn lost(object: &mut Object) -> i64
+    ensures { OnClient OnLost (Some object.old) (Some object.new) result }
+{
+    let Object::Client(client) = object else {
+        return Refusal::Empty.number();
+    };
+    signed(client.lost())
+}
+
+/// Whether the client is connected.
+pub fn is_connected(object: &Object) -> i64
+    ensures { OnClient OnIsConnected (Some object.now) (Some object.now) result }
+{
+    let Object::Client(client) = object else {
+        return Refusal::Empty.number();
+    };
+    signed(client.is_connected())
+}
+
+/// Calls an operation.
+pub fn call(object: &mut Object, call: &Call<'_>) -> i64 {
+    let Object::Client(client) = object else {
+        return Refusal::Empty.number();
+    };
+    number_of(client.call(call))
+}
+
+/// Cancels a call.
+pub fn cancel(object: &mut Object, call: i64) -> i64
+    ensures { OnClient (OnCancel call) (Some object.old) (Some object.new) result }
+{
+    let Object::Client(client) = object else {
+        return Refusal::Empty.number();
+    };
+    number_of(client.cancel(call))
+}
+
+/// A moment has come.
+pub fn tick(object: &mut Object, now: u64) -> i64
+    ensures { OnClient (OnTick now) (Some object.old) (Some object.new) result }
+{
+    let Object::Client(client) = object else {
+        return Refusal::Empty.number();
+    };
+    signed(client.tick(now))
+}
+
+/// Takes octets that came on the connection.
+pub fn feed(object: &mut Object, octets: &[u8]) -> i64
+    ensures { OnClient (OnFeed octets.now) (Some object.old) (Some object.new) result }
+{
+    let Object::Client(client) = object else {
+        return Refusal::Empty.number();
+    };
+    number_of(client.feed(octets))
+}
+
+/// Takes the next completion.
+pub fn completed(object: &mut Object, head: &mut CompletionHead) -> i64
+    ensures taken { OnClient (OnCompleted head.old head.new) (Some object.old) (Some object.new) result }
+    ensures none { result ≤ℤ pos 0 → head.new ≡ head.old }
+{
+    let Object::Client(client) = object else {
+        return Refusal::Empty.number();
+    };
+    signed(client.completed(head))
+}
+
+/// Copies the body of the completion that was taken last.
+pub fn body(object: &Object, room: &mut [u8]) -> i64
+    ensures copied { OnClient (OnBody room.old room.new) (Some object.now) (Some object.now) result }
+    ensures refused { result <ℤ pos 0 → room.new ≡ room.old }
+{
+    let Object::Client(client) = object else {
+        return Refusal::Empty.number();
+    };
+    number_of(client.body(room))
+}
+
+/// Moves octets that are due into a room.
+pub fn output(object: &mut Object, room: &mut [u8]) -> i64
+    ensures moved { OnClient (OnOutput room.old room.new) (Some object.old) (Some object.new) result }
+    ensures refused { result <ℤ pos 0 → room.new ≡ room.old }
+{
+    let Object::Client(client) = object else {
+        return Refusal::Empty.number();
+    };
+    signed(client.output(room))
+}
