@@ -1,5 +1,5 @@
 -- A call on a client, in the words of the slot that holds it, and what it stands for afterwards.
-use Rattle.std.proofs.Common.{◌≡◌, ◌∙◌, ℕ, ℤ, ◌≤◌, List, [], ◌∷◌, ◌++◌, length, map, take, drop, Some, None, Result, Ok, Vec, Global, refl, ap, sym, subst, append-nil}
+use Rattle.std.proofs.Common.{◌≡◌, ◌∙◌, ℕ, ℤ, ◌≤◌, List, [], ◌∷◌, ◌++◌, length, map, take, drop, Option, Some, None, Result, Ok, Vec, Global, refl, ap, sym, subst, append-nil}
 use Rattle.ft_client.specs.declared.client.FtClient.{FtClient}
 use Rattle.ft_client.specs.Clients.{Client, Ended, Happening, Pending, after, parted, says, unsent}
 use Rattle.ft_client.specs.Directions.{stream}
@@ -14,6 +14,7 @@ use Rattle.lemonrudder.specs.declared.refusal.Refusal.{Refusal}
 use Rattle.lemonrudder.specs.Answers.{OnClient}
 use Rattle.lemonrudder.specs.Calls.{OnCancel, Stands, Standing, Takes, happened, head_of, last_end}
 use Rattle.lemonrudder.specs.Dues.{IsPlaced, owed}
+use Rattle.lemonrudder.specs.Naming.{or_range}
 use Rattle.lemonrudder.specs.Refusals.{number_in}
 use Rattle.lemonrudder.proofs.Owing.{grows, stays}
 
@@ -87,3 +88,8 @@ pub takes_one : (head new : CompletionHead) (x : Standing) (t : Calling) (k : �
 takes_one head new x t k c later some is told client placed due last =
     subst (λ (cs : List (ℕ × Ended)). Takes cs head new x t (Ok 1)) (sym some)
     (refl, told ∙ ap (λ (j : ℤ × Ended). head_of j.0 j.1) is, record { client = client; placed = placed; due = due; last = last ∙ ap (λ (j : ℤ × Ended). Some j.1) is })
+
+-- a number that was taken names what it gave
+pub named_ok : {A : Type 0} (o : Option A) (x : A) → ◌≡◌ {A = Result A Refusal} (Ok x) (or_range o) → o ≡ Some x
+named_ok None x e = absurd cc
+named_ok (Some y) x e = cc

@@ -1,3 +1,5 @@
+mod Assemblers
+mod Catalogues
 mod Clients
 mod Counts
 mod Ended
@@ -6,6 +8,7 @@ mod Idling
 mod Owing
 mod Raising
 mod Reading
+mod References
 mod Servers
 mod Telling
 mod Values

@@ -1,5 +1,5 @@
 -- What a call on an assembler does.
-use Rattle.std.specs.Prelude.{◌≡◌, ℕ, ◌<◌, ◌≤◌, ◌==◌, if◌then◌else◌, IsTrue, false, List, ◌++◌, length, take, Option, Some, None, Result, Ok, Err}
+use Rattle.std.specs.Prelude.{◌≡◌, ℕ, ◌<◌, ◌≤◌, ◌==◌, if◌then◌else◌, IsTrue, false, List, [], ◌++◌, length, take, Option, Some, None, Result, Ok, Err}
 use Rattle.giop_core.specs.declared.header.HeaderFault.{HeaderFault}
 use Rattle.giop_core.specs.declared.header.HeaderFault.TheVariants as header
 use Rattle.giop_frames.specs.declared.fault.StreamFault.{StreamFault}
@@ -8,7 +8,8 @@ use Rattle.giop_frames.specs.Standing.{IsFault, StandsFor, completed_at}
 use Rattle.giop_frames.specs.Streams.{messages_of}
 use Rattle.lemonrudder.specs.declared.assembling.Assembling.{Assembling}
 use Rattle.lemonrudder.specs.declared.refusal.Refusal.{Refusal}
-use Rattle.lemonrudder.specs.declared.refusal.Refusal.TheVariants.{Stream}
+use Rattle.lemonrudder.specs.declared.refusal.Refusal.TheVariants.{Range, Stream}
+use Rattle.lemonrudder.specs.Naming.{AreLimits, HasLimits}
 
 abbrev pub header_number : HeaderFault → ℕ
 header_number header.BadMagic = 1
@@ -34,6 +35,11 @@ fault_number fault.Failed = 0
 abbrev pub kept_fault : ℕ → StreamFault → ℕ
 kept_fault old f = if old == 0 then fault_number f else old
 
+-- an assembler of a stream of which nothing has come; or its limits are none
+abbrev pub IsNew : (message partials : ℕ) → Result Assembling Refusal → Type 0
+IsNew message partials (Ok s) = StandsFor s.assembler [] × (s.assembler.message ≡ None) × HasLimits message partials s.assembler.limits × (s.fault ≡ 0)
+IsNew message partials (Err e) = (e ≡ Range) × (¬ (AreLimits message partials))
+
 -- octets were taken: the messages are those before, and the one that is lent, if there is one
 abbrev pub Takes : List ℕ → ℕ → Assembling → Assembling → Type 0
 Takes piece n s t =
@@ -52,3 +58,7 @@ Fails piece s t =
 abbrev pub OnFeed : List ℕ → Assembling → Assembling → Result ℕ Refusal → Type 0
 OnFeed piece s t (Ok n) = Takes piece n s t
 OnFeed piece s t (Err e) = (e ≡ Stream) × Fails piece s t
+
+-- the first fault of the stream is asked for
+abbrev pub OnFault : Assembling → Assembling → Result ℕ Refusal → Type 0
+OnFault s t r = (t ≡ s) × (r ≡ Ok s.fault)

@@ -1,11 +1,14 @@
 -- What a call on a client does.
-use Rattle.std.specs.Prelude.{◌≡◌, ◌≢◌, ℕ, suc, ◌<◌, ℤ, pos, Bool, List, [], ◌∷◌, ◌++◌, length, min, take, drop, is_some, option_map, Option, Some, None, Result, Ok, Err, FitsSigned}
+use Rattle.std.specs.Prelude.{◌≡◌, ◌≢◌, ℕ, ◌<◌, ℤ, pos, Bool, List, [], ◌∷◌, ◌++◌, ◌≤◌, length, min, take, drop, is_some, option_map, Option, Some, None, Result, Ok, Err, FitsSigned, ◌⊎◌, ⊤}
 use Rattle.std.specs.Int.{from_bool, w32}
 use Rattle.std.specs.Option.{option_and_then}
 use Rattle.cdr_core.specs.declared.order.Order.TheVariants.{Big}
+use Rattle.cdr_core.specs.Spelling.{IsClean}
 use Rattle.giop_core.specs.Content.{Rest}
 use Rattle.giop_core.specs.declared.reply.ReplyStatus.TheVariants.{LocationForward, NoException, UserException}
-use Rattle.ft_client.specs.Clients.{Cancelled, Client, Ended, Expired, Fed, Happening, Joined, NeedsAddressing, Recalled, Taken, Ticked, Told, after, find_pending, parted, says, told_of}
+use Rattle.giop_core.specs.declared.header.Version.{Version}
+use Rattle.giop_frames.specs.declared.limits.Limits.{Limits}
+use Rattle.ft_client.specs.Clients.{Cancelled, Client, Ended, Expired, Fed, Happening, Joined, NeedsAddressing, Recalled, Taken, Ticked, Told, after, find_pending, new_client, parted, says, told_of}
 use Rattle.ft_client.specs.Directions.{stream}
 use Rattle.ft_client.specs.Ends.{ended_of}
 use Rattle.ft_client.specs.Messages.{octets_said}
@@ -16,7 +19,7 @@ use Rattle.lemonrudder.specs.declared.refusal.Refusal.{Refusal}
 use Rattle.lemonrudder.specs.declared.refusal.Refusal.TheVariants as refusal
 use Rattle.lemonrudder.specs.Copies.{Copies}
 use Rattle.lemonrudder.specs.Dues.{IsPlaced, owed}
-use Rattle.lemonrudder.specs.Naming.{order_number}
+use Rattle.lemonrudder.specs.Naming.{AreLimits, HasLimits, order_number, version_named}
 use Rattle.lemonrudder.specs.Refusals.{filled}
 
 -- a client as C has it: the client, the octets that are due on its connection, and how the call ended whose completion was
@@ -125,3 +128,16 @@ OnBody room new s t r = (t ≡ s) × Copies (option_map (λ body. body.octets) (
 -- octets that are due are moved into a room, as many as it has
 abbrev pub OnOutput : List ℕ → List ℕ → Calling → Calling → Result ℕ Refusal → Type 0
 OnOutput room new s t r = (r ≡ Ok (min (length (owed s.due)) (length room))) × (new ≡ filled (owed s.due) room) × Becomes (λ x. record x { due = drop (length room) x.due }) s t
+
+-- a name that a client may have
+abbrev pub IsName : List ℕ → Type 0
+IsName id = (1 ≤ length id) × (length id ≤ 256) × IsClean id
+
+-- a client is made that has made no call; or a number is not allowed, or the name; or memory is short
+abbrev pub IsMade : (id : List ℕ) → (version message partials : ℕ) → Result Calling Refusal → Type 0
+IsMade id version message partials (Ok s) = (v : Version) × (limits : Limits) × (version_named version ≡ Some v) × HasLimits message partials limits
+    × Stands s (record { client = new_client id v limits; due = []; last = None })
+IsMade id version message partials (Err refusal.Range) = (version_named version ≡ None) ⊎ (¬ (AreLimits message partials))
+IsMade id version message partials (Err refusal.Text) = ¬ (IsName id)
+IsMade id version message partials (Err refusal.Memory) = ⊤
+IsMade id version message partials (Err e) = ⊥

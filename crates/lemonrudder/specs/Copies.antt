@@ -1,5 +1,5 @@
 -- Octets that are copied into room of the caller.
-use Rattle.std.specs.Prelude.{◌≡◌, ℕ, List, length, Option, Some, None, Result, Ok, Err}
+use Rattle.std.specs.Prelude.{◌≡◌, ℕ, ◌<◌, ◌≤◌, List, length, Option, Some, None, Result, Ok, Err}
 use Rattle.lemonrudder.specs.declared.refusal.Refusal.{Refusal}
 use Rattle.lemonrudder.specs.declared.refusal.Refusal.TheVariants as refusal
 use Rattle.lemonrudder.specs.Refusals.{filled}
@@ -8,3 +8,10 @@ use Rattle.lemonrudder.specs.Refusals.{filled}
 abbrev pub Copies : Option (List ℕ) → List ℕ → List ℕ → Result ℕ Refusal → Type 0
 Copies None room new r = (r ≡ Err refusal.None) × (new ≡ room)
 Copies (Some octets) room new r = (r ≡ Ok (length octets)) × (new ≡ filled octets room)
+
+-- all of some octets are copied into a room, and their length is told; or the room is too small, or memory was short
+abbrev pub Fits : List ℕ → (room new : List ℕ) → Result ℕ Refusal → Type 0
+Fits octets room new (Ok n) = (n ≡ length octets) × (length octets ≤ length room) × (new ≡ filled octets room)
+Fits octets room new (Err refusal.Room) = (length room < length octets) × (new ≡ room)
+Fits octets room new (Err refusal.Memory) = new ≡ room
+Fits octets room new (Err e) = ⊥

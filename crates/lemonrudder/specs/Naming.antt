@@ -48,13 +48,21 @@ wish_number wish.None = 0
 wish_number wish.Empty = 1
 wish_number wish.Full = 2
 
--- numbers that the limits of a connection may have
+-- the minor number of a version names it
+abbrev pub version_named : ℕ → Option Version
+version_named n = if n == 0 then Some V10 else (if n == 1 then Some V11 else (if n == 2 then Some V12 else None))
+
+-- numbers that limits may have
 abbrev pub AreLimits : (message partials : ℕ) → Type 0
 AreLimits message partials = (4096 ≤ message) × (message ≤ 16777216) × (1 ≤ partials) × (partials ≤ 16)
 
--- the limits of these numbers
-abbrev pub IsNamed : (message partials : ℕ) → Limits → Type 0
-IsNamed message partials limits = (limits.message ≡ message) × (limits.partials ≡ partials)
+abbrev pub HasLimits : (message partials : ℕ) → Limits → Type 0
+HasLimits message partials limits = (limits.message ≡ message) × (limits.partials ≡ partials)
+
+-- the limits of these numbers, or the refusal of numbers that are not allowed
+abbrev pub GivesLimits : (message partials : ℕ) → Result Limits Refusal → Type 0
+GivesLimits message partials (Ok limits) = HasLimits message partials limits
+GivesLimits message partials (Err e) = (e ≡ Range) × (¬ (AreLimits message partials))
 
 -- GIOP 9.4.3: the status of a reply, a completion, each by its ordinal
 abbrev pub raw_status_named : ℕ → Option RawStatus

@@ -229,10 +229,13 @@ fn context_at(contexts: Contexts<'_>, index: u32) -> Option<(u32, &[u8])> {
 }
 
 impl Assembling {
-    ghost use Rattle.lemonrudder.specs.Assembles.{OnFeed};
+    ghost use Rattle.std.specs.Prelude.{Ok};
+    ghost use Rattle.lemonrudder.specs.Assembles.{IsNew, OnFault, OnFeed};
 
     /// An assembler of which nothing has come.
-    pub fn new(alloc: Global, message: u32, partials: u32) -> Result<Assembling, Refusal> {
+    pub fn new(alloc: Global, message: u32, partials: u32) -> Result<Assembling, Refusal>
+        ensures { IsNew message partials result }
+    {
         let limits = limits_of(message, partials)?;
         Ok(Assembling {
             assembler: Assembler::new(alloc, limits),
@@ -257,7 +260,7 @@ impl Assembling {
 
     /// The first fault of the stream, as a number.
     pub fn fault(&self) -> u64
-        ensures { result ≡ self.now.fault }
+        ensures { OnFault self.now self.now (Ok result) }
     {
         self.fault
     }

@@ -82,7 +82,7 @@ fn head_of(call: i32, ended: &Ended) -> CompletionHead
 
 impl Calling {
     ghost use Rattle.std.specs.Prelude.{◌≡◌, Ok, false, is_some};
-    ghost use Rattle.lemonrudder.specs.Calls.{OnBody, OnCancel, OnCompleted, OnConnected, OnFeed, OnIsConnected, OnLost, OnOutput, OnTick};
+    ghost use Rattle.lemonrudder.specs.Calls.{IsMade, OnBody, OnCancel, OnCompleted, OnConnected, OnFeed, OnIsConnected, OnLost, OnOutput, OnTick};
 
     /// A client that is not connected.
     pub fn new(
@@ -91,7 +91,9 @@ impl Calling {
         version: u32,
         message: u32,
         partials: u32,
-    ) -> Result<Calling, Refusal> {
+    ) -> Result<Calling, Refusal>
+        ensures { IsMade id.now version message partials result }
+    {
         let version = version_of(version)?;
         let limits = limits_of(message, partials)?;
         if id.is_empty() || id.len() > 256 || !has_no_nul(id) {

@@ -33,8 +33,13 @@ fn ids_of(alloc: Global, octets: &[u8]) -> Result<Vec<Vec<u8>>, Refusal> {
 }
 
 impl Cataloguing {
+    ghost use Rattle.std.specs.Prelude.{◌≡◌};
+    ghost use Rattle.lemonrudder.specs.Fills.{OnObject, OnRawObject, OnRawOperation, empty, filling};
+
     /// A catalogue without objects.
-    pub fn new(alloc: Global) -> Cataloguing {
+    pub fn new(alloc: Global) -> Cataloguing
+        ensures { filling result ≡ empty }
+    {
         Cataloguing {
             interfaces: Interfaces::new(alloc),
             alloc,
@@ -43,19 +48,25 @@ impl Cataloguing {
     }
 
     /// Adds an object without operations.
-    pub fn object(&mut self, key: &[u8]) -> Result<u64, Refusal> {
+    pub fn object(&mut self, key: &[u8]) -> Result<u64, Refusal>
+        ensures { OnObject key.now self.old self.new result }
+    {
         self.interfaces.add_object(key)?;
         Ok(0)
     }
 
     /// Adds an object whose every operation is raw.
-    pub fn raw_object(&mut self, key: &[u8]) -> Result<u64, Refusal> {
+    pub fn raw_object(&mut self, key: &[u8]) -> Result<u64, Refusal>
+        ensures { OnRawObject key.now self.old self.new result }
+    {
         self.interfaces.add_raw_object(key)?;
         Ok(0)
     }
 
     /// Adds an operation that is raw.
-    pub fn raw_operation(&mut self, key: &[u8], name: &[u8]) -> Result<u64, Refusal> {
+    pub fn raw_operation(&mut self, key: &[u8], name: &[u8]) -> Result<u64, Refusal>
+        ensures { OnRawOperation key.now name.now self.old self.new result }
+    {
         self.interfaces.add_raw_operation(key, name)?;
         Ok(0)
     }

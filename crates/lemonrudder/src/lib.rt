@@ -4,9 +4,11 @@
 //! error number (`refusal`).
 #![tactic(auto)]
 
+mod assembled;
 mod assembling;
 mod called;
 mod calling;
+mod catalogued;
 mod cataloguing;
 mod cdr;
 mod due;
@@ -16,6 +18,7 @@ mod messages;
 mod named;
 mod object;
 mod opened;
+mod referred;
 mod referring;
 mod refusal;
 mod request;

@@ -1,7 +1,7 @@
 //! Numbers of the header, and what they name.
 
-ghost use Rattle.std.specs.Prelude.{◌≡◌, ◌↔◌, IfErr, IfOk, IsOk};
-ghost use Rattle.lemonrudder.specs.Naming.{AreLimits, IsNamed, completion_named, minor_number, or_range, order_named, order_number, raw_status_named, system_name_named, wish_number};
+ghost use Rattle.std.specs.Prelude.{◌≡◌};
+ghost use Rattle.lemonrudder.specs.Naming.{GivesLimits, completion_named, minor_number, or_range, order_named, order_number, raw_status_named, system_name_named, version_named, wish_number};
 
 use crate::refusal::Refusal;
 use cdr_core::Order;
@@ -10,7 +10,9 @@ use giop_core::{ReplyWish, Version};
 use giop_frames::Limits;
 
 /// The version of a minor number.
-pub fn version_of(minor: u32) -> Result<Version, Refusal> {
+pub fn version_of(minor: u32) -> Result<Version, Refusal>
+    ensures { result ≡ or_range (version_named minor) }
+{
     match minor {
         0 => Ok(Version::V10),
         1 => Ok(Version::V11),
@@ -74,9 +76,7 @@ pub fn number_of_wish(wish: ReplyWish) -> u32
 
 /// The limits of a connection.
 pub fn limits_of(message: u32, partials: u32) -> Result<Limits, Refusal>
-    ensures in_range { IsOk result ↔ AreLimits message partials }
-    ensures named { IfOk result (IsNamed message partials) }
-    ensures err { IfErr result (λ e. e ≡ Refusal.Range) }
+    ensures { GivesLimits message partials result }
 {
     let partials = u8::try_from(partials).map_err(|_| Refusal::Range)?;
     Limits::new(message, partials).ok_or(Refusal::Range)

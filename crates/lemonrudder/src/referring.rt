@@ -63,6 +63,9 @@ fn profile_of(alloc: Global, address: &Address<'_>) -> Result<Profile, Refusal> 
 }
 
 impl Referring {
+    ghost use Rattle.std.specs.Prelude.{Ok};
+    ghost use Rattle.lemonrudder.specs.Refers.{OnPrint, OnProfiles, OnTypeId};
+
     /// The reference that a text spells.
     pub fn parse(alloc: Global, text: &[u8]) -> Result<Referring, Refusal> {
         let text = std::str::from_utf8(text).map_err(|_| Refusal::Reference)?;
@@ -90,7 +93,9 @@ impl Referring {
     }
 
     /// Writes the text of the reference.
-    pub fn print(&self, room: &mut [u8]) -> Result<u64, Refusal> {
+    pub fn print(&self, room: &mut [u8]) -> Result<u64, Refusal>
+        ensures { OnPrint room.old room.new self.now self.now result }
+    {
         if !self.ior.is_writable() {
             return Err(Refusal::Text);
         }
@@ -99,12 +104,16 @@ impl Referring {
     }
 
     /// Copies the repository id of its type.
-    pub fn type_id(&self, room: &mut [u8]) -> u64 {
+    pub fn type_id(&self, room: &mut [u8]) -> u64
+        ensures { OnTypeId room.old room.new self.now self.now (Ok result) }
+    {
         copied(&self.ior.type_id, room)
     }
 
     /// How many profiles it has.
-    pub fn profiles(&self) -> u64 {
+    pub fn profiles(&self) -> u64
+        ensures { OnProfiles self.now self.now (Ok result) }
+    {
         self.ior.profiles.len() as u64
     }
 

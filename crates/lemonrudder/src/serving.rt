@@ -6,7 +6,7 @@ ghost use Rattle.cdr_core.specs.View.{forms_of, values_of};
 ghost use Rattle.ft_log.specs.View.{performed_in};
 ghost use Rattle.ft_orb.specs.Engines.{awaited_lent, waits_in};
 ghost use Rattle.ft_orb.specs.Interfaces.{interface_of, raise_of};
-ghost use Rattle.lemonrudder.specs.Naming.{AreLimits, IsNamed};
+ghost use Rattle.lemonrudder.specs.Naming.{AreLimits, HasLimits};
 ghost use Rattle.lemonrudder.specs.Outcomes.{forms_in, members_in, outcome_read};
 ghost use Rattle.lemonrudder.specs.Serves.{taken_of};
 
@@ -47,9 +47,8 @@ impl Terms {
         share: u32,
         seed: Seed,
     ) -> Result<Terms, Refusal>
-        ensures in_range { IsOk result ↔ AreLimits message partials }
-        ensures terms { IfOk result (λ t. IsNamed message partials t.limits × (t.capacity ≡ capacity) × (t.share ≡ share)) }
-        ensures err { IfErr result (λ e. e ≡ Refusal.Range) }
+        ensures ok { IfOk result (λ t. HasLimits message partials t.limits × (t.capacity ≡ capacity) × (t.share ≡ share)) }
+        ensures err { IfErr result (λ e. (e ≡ Refusal.Range) × (¬ (AreLimits message partials))) }
     {
         Ok(Terms {
             limits: limits_of(message, partials)?,

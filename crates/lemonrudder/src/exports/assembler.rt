@@ -1,14 +1,17 @@
 //! The messages of a stream.
 
+ghost use Rattle.lemonrudder.specs.Answers.{OnAssembler};
+ghost use Rattle.lemonrudder.specs.Assembles.{IsNew, OnFault, OnFeed};
+ghost use Rattle.lemonrudder.specs.Opening.{OpensMade};
+ghost use Rattle.lemonrudder.specs.Slots.{held_in};
+
+use crate::assembled;
 use crate::assembling::{Assembling, MessageHead};
 use crate::object::Object;
 use crate::opened::open;
-use crate::refusal::{number_of, signed};
+use crate::refusal::Refusal;
 use crate::slot::Slot;
 use std::alloc::Global;
-
-/// The slot has no object of the kind.
-const EMPTY: i64 = -1;
 
 /// Opens an assembler of a stream of which nothing has come.
 #[unsafe(no_mangle)]
@@ -17,7 +20,9 @@ pub extern "C" fn lr_assembler_open(
     slot: &mut Slot,
     message_limit: u32,
     partials: u32,
-) -> i64 {
+) -> i64
+    ensures { OpensMade Object.Assembler (IsNew message_limit partials) (held_in slot.old) (held_in slot.new) result }
+{
     match Assembling::new(alloc, message_limit, partials) {
         Ok(assembling) => open(alloc, slot, Object::Assembler(assembling)),
         Err(refusal) => refusal.number(),
@@ -26,28 +31,26 @@ pub extern "C" fn lr_assembler_open(
 
 /// Takes octets up to and with the end of the next message, and answers how many.
 #[unsafe(no_mangle)]
-pub extern "C" fn lr_assembler_feed(alloc: Global, slot: &mut Slot, octets: &[u8]) -> i64 {
+pub extern "C" fn lr_assembler_feed(alloc: Global, slot: &mut Slot, octets: &[u8]) -> i64
+    ensures { OnAssembler (OnFeed octets.now) (held_in slot.old) (held_in slot.new) result }
+{
     let Some(mut object) = slot.take(alloc) else {
-        return EMPTY;
+        return Refusal::Empty.number();
     };
-    let answer = match &mut *object {
-        Object::Assembler(it) => number_of(it.feed(octets)),
-        _ => EMPTY,
-    };
+    let answer = assembled::feed(&mut object, octets);
     slot.put(object);
     answer
 }
 
 /// The first fault of the stream.
 #[unsafe(no_mangle)]
-pub extern "C" fn lr_assembler_fault(alloc: Global, slot: &mut Slot) -> i64 {
+pub extern "C" fn lr_assembler_fault(alloc: Global, slot: &mut Slot) -> i64
+    ensures { OnAssembler OnFault (held_in slot.old) (held_in slot.new) result }
+{
     let Some(object) = slot.take(alloc) else {
-        return EMPTY;
+        return Refusal::Empty.number();
     };
-    let answer = match &*object {
-        Object::Assembler(it) => signed(it.fault()),
-        _ => EMPTY,
-    };
+    let answer = assembled::fault(&object);
     slot.put(object);
     answer
 }
@@ -60,12 +63,9 @@ pub extern "C" fn lr_assembler_message(
     message: &mut MessageHead,
 ) -> i64 {
     let Some(object) = slot.take(alloc) else {
-        return EMPTY;
+        return Refusal::Empty.number();
     };
-    let answer = match &*object {
-        Object::Assembler(it) => signed(it.message(message)),
-        _ => EMPTY,
-    };
+    let answer = assembled::message(&object, message);
     slot.put(object);
     answer
 }
@@ -79,12 +79,9 @@ pub extern "C" fn lr_assembler_part(
     room: &mut [u8],
 ) -> i64 {
     let Some(object) = slot.take(alloc) else {
-        return EMPTY;
+        return Refusal::Empty.number();
     };
-    let answer = match &*object {
-        Object::Assembler(it) => number_of(it.part(part, room)),
-        _ => EMPTY,
-    };
+    let answer = assembled::part(&object, part, room);
     slot.put(object);
     answer
 }
@@ -99,12 +96,9 @@ pub extern "C" fn lr_assembler_context(
     room: &mut [u8],
 ) -> i64 {
     let Some(object) = slot.take(alloc) else {
-        return EMPTY;
+        return Refusal::Empty.number();
     };
-    let answer = match &*object {
-        Object::Assembler(it) => number_of(it.context(index, id, room)),
-        _ => EMPTY,
-    };
+    let answer = assembled::context(&object, index, id, room);
     slot.put(object);
     answer
 }

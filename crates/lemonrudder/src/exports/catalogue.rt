@@ -1,45 +1,47 @@
 //! Which objects a server has.
 
+ghost use Rattle.lemonrudder.specs.Answers.{OnCatalogue};
+ghost use Rattle.lemonrudder.specs.Fills.{OnObject, OnRawObject, OnRawOperation, OpensEmpty};
+ghost use Rattle.lemonrudder.specs.Slots.{held_in};
+
+use crate::catalogued;
 use crate::cataloguing::Cataloguing;
 use crate::object::Object;
 use crate::opened::open;
-use crate::refusal::number_of;
+use crate::refusal::Refusal;
 use crate::slot::Slot;
 use std::alloc::Global;
 
-/// The slot has no object of the kind.
-const EMPTY: i64 = -1;
-
 /// Opens a catalogue without objects.
 #[unsafe(no_mangle)]
-pub extern "C" fn lr_catalogue_open(alloc: Global, slot: &mut Slot) -> i64 {
+pub extern "C" fn lr_catalogue_open(alloc: Global, slot: &mut Slot) -> i64
+    ensures { OpensEmpty (held_in slot.old) (held_in slot.new) result }
+{
     open(alloc, slot, Object::Catalogue(Cataloguing::new(alloc)))
 }
 
 /// Adds an object without operations.
 #[unsafe(no_mangle)]
-pub extern "C" fn lr_catalogue_object(alloc: Global, slot: &mut Slot, key: &[u8]) -> i64 {
+pub extern "C" fn lr_catalogue_object(alloc: Global, slot: &mut Slot, key: &[u8]) -> i64
+    ensures { OnCatalogue (OnObject key.now) (held_in slot.old) (held_in slot.new) result }
+{
     let Some(mut object) = slot.take(alloc) else {
-        return EMPTY;
+        return Refusal::Empty.number();
     };
-    let answer = match &mut *object {
-        Object::Catalogue(it) => number_of(it.object(key)),
-        _ => EMPTY,
-    };
+    let answer = catalogued::object(&mut object, key);
     slot.put(object);
     answer
 }
 
 /// Adds an object whose every operation is raw.
 #[unsafe(no_mangle)]
-pub extern "C" fn lr_catalogue_raw_object(alloc: Global, slot: &mut Slot, key: &[u8]) -> i64 {
+pub extern "C" fn lr_catalogue_raw_object(alloc: Global, slot: &mut Slot, key: &[u8]) -> i64
+    ensures { OnCatalogue (OnRawObject key.now) (held_in slot.old) (held_in slot.new) result }
+{
     let Some(mut object) = slot.take(alloc) else {
-        return EMPTY;
+        return Refusal::Empty.number();
     };
-    let answer = match &mut *object {
-        Object::Catalogue(it) => number_of(it.raw_object(key)),
-        _ => EMPTY,
-    };
+    let answer = catalogued::raw_object(&mut object, key);
     slot.put(object);
     answer
 }
@@ -53,12 +55,9 @@ pub extern "C" fn lr_catalogue_exception(
     members: &[u8],
 ) -> i64 {
     let Some(mut object) = slot.take(alloc) else {
-        return EMPTY;
+        return Refusal::Empty.number();
     };
-    let answer = match &mut *object {
-        Object::Catalogue(it) => number_of(it.exception(id, members)),
-        _ => EMPTY,
-    };
+    let answer = catalogued::exception(&mut object, id, members);
     slot.put(object);
     answer
 }
@@ -74,12 +73,9 @@ pub extern "C" fn lr_catalogue_operation(
     results: &[u8],
 ) -> i64 {
     let Some(mut object) = slot.take(alloc) else {
-        return EMPTY;
+        return Refusal::Empty.number();
     };
-    let answer = match &mut *object {
-        Object::Catalogue(it) => number_of(it.operation(key, name, arguments, results)),
-        _ => EMPTY,
-    };
+    let answer = catalogued::operation(&mut object, key, name, arguments, results);
     slot.put(object);
     answer
 }
@@ -91,14 +87,13 @@ pub extern "C" fn lr_catalogue_raw_operation(
     slot: &mut Slot,
     key: &[u8],
     name: &[u8],
-) -> i64 {
+) -> i64
+    ensures { OnCatalogue (OnRawOperation key.now name.now) (held_in slot.old) (held_in slot.new) result }
+{
     let Some(mut object) = slot.take(alloc) else {
-        return EMPTY;
+        return Refusal::Empty.number();
     };
-    let answer = match &mut *object {
-        Object::Catalogue(it) => number_of(it.raw_operation(key, name)),
-        _ => EMPTY,
-    };
+    let answer = catalogued::raw_operation(&mut object, key, name);
     slot.put(object);
     answer
 }
@@ -112,12 +107,9 @@ pub extern "C" fn lr_catalogue_repository_ids(
     ids: &[u8],
 ) -> i64 {
     let Some(mut object) = slot.take(alloc) else {
-        return EMPTY;
+        return Refusal::Empty.number();
     };
-    let answer = match &mut *object {
-        Object::Catalogue(it) => number_of(it.repository_ids(key, ids)),
-        _ => EMPTY,
-    };
+    let answer = catalogued::repository_ids(&mut object, key, ids);
     slot.put(object);
     answer
 }

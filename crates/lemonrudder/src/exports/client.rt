@@ -2,7 +2,8 @@
 
 ghost use Rattle.std.specs.Prelude.{◌≡◌, ◌<ℤ◌, ◌≤ℤ◌, pos};
 ghost use Rattle.lemonrudder.specs.Answers.{OnClient};
-ghost use Rattle.lemonrudder.specs.Calls.{OnBody, OnCancel, OnCompleted, OnConnected, OnFeed, OnIsConnected, OnLost, OnOutput, OnTick};
+ghost use Rattle.lemonrudder.specs.Calls.{IsMade, OnBody, OnCancel, OnCompleted, OnConnected, OnFeed, OnIsConnected, OnLost, OnOutput, OnTick};
+ghost use Rattle.lemonrudder.specs.Opening.{OpensMade};
 ghost use Rattle.lemonrudder.specs.Slots.{held_in};
 
 use crate::called;
@@ -22,7 +23,9 @@ pub extern "C" fn lr_client_open(
     version: u32,
     message_limit: u32,
     partials: u32,
-) -> i64 {
+) -> i64
+    ensures { OpensMade Object.Client (IsMade id.now version message_limit partials) (held_in slot.old) (held_in slot.new) result }
+{
     match Calling::new(alloc, id, version, message_limit, partials) {
         Ok(calling) => open(alloc, slot, Object::Client(calling)),
         Err(refusal) => refusal.number(),

@@ -1,14 +1,17 @@
 //! References to objects.
 
+ghost use Rattle.std.specs.Prelude.{◌≡◌, ◌<ℤ◌, pos};
+ghost use Rattle.lemonrudder.specs.Answers.{OnReference};
+ghost use Rattle.lemonrudder.specs.Refers.{OnPrint, OnProfiles, OnTypeId};
+ghost use Rattle.lemonrudder.specs.Slots.{held_in};
+
 use crate::object::Object;
 use crate::opened::open;
+use crate::referred;
 use crate::referring::{Address, ProfileHead, Referring};
-use crate::refusal::{number_of, signed};
+use crate::refusal::Refusal;
 use crate::slot::Slot;
 use std::alloc::Global;
-
-/// The slot has no object of the kind.
-const EMPTY: i64 = -1;
 
 /// Reads a stringified reference.
 #[unsafe(no_mangle)]
@@ -44,42 +47,40 @@ pub extern "C" fn lr_ior_iiop(
 
 /// Writes the stringified reference.
 #[unsafe(no_mangle)]
-pub extern "C" fn lr_ior_print(alloc: Global, slot: &mut Slot, room: &mut [u8]) -> i64 {
+pub extern "C" fn lr_ior_print(alloc: Global, slot: &mut Slot, room: &mut [u8]) -> i64
+    ensures { OnReference (OnPrint room.old room.new) (held_in slot.old) (held_in slot.new) result }
+{
     let Some(object) = slot.take(alloc) else {
-        return EMPTY;
+        return Refusal::Empty.number();
     };
-    let answer = match &*object {
-        Object::Reference(it) => number_of(it.print(room)),
-        _ => EMPTY,
-    };
+    let answer = referred::print(&object, room);
     slot.put(object);
     answer
 }
 
 /// Copies the repository id of its type.
 #[unsafe(no_mangle)]
-pub extern "C" fn lr_ior_type_id(alloc: Global, slot: &mut Slot, room: &mut [u8]) -> i64 {
+pub extern "C" fn lr_ior_type_id(alloc: Global, slot: &mut Slot, room: &mut [u8]) -> i64
+    ensures copied { OnReference (OnTypeId room.old room.new) (held_in slot.old) (held_in slot.new) result }
+    ensures refused { result <ℤ pos 0 → room.new ≡ room.old }
+{
     let Some(object) = slot.take(alloc) else {
-        return EMPTY;
+        return Refusal::Empty.number();
     };
-    let answer = match &*object {
-        Object::Reference(it) => signed(it.type_id(room)),
-        _ => EMPTY,
-    };
+    let answer = referred::type_id(&object, room);
     slot.put(object);
     answer
 }
 
 /// How many profiles it has.
 #[unsafe(no_mangle)]
-pub extern "C" fn lr_ior_profiles(alloc: Global, slot: &mut Slot) -> i64 {
+pub extern "C" fn lr_ior_profiles(alloc: Global, slot: &mut Slot) -> i64
+    ensures { OnReference OnProfiles (held_in slot.old) (held_in slot.new) result }
+{
     let Some(object) = slot.take(alloc) else {
-        return EMPTY;
+        return Refusal::Empty.number();
     };
-    let answer = match &*object {
-        Object::Reference(it) => signed(it.profiles()),
-        _ => EMPTY,
-    };
+    let answer = referred::profiles(&object);
     slot.put(object);
     answer
 }
@@ -93,12 +94,9 @@ pub extern "C" fn lr_ior_profile(
     profile: &mut ProfileHead,
 ) -> i64 {
     let Some(object) = slot.take(alloc) else {
-        return EMPTY;
+        return Refusal::Empty.number();
     };
-    let answer = match &*object {
-        Object::Reference(it) => number_of(it.profile(index, profile)),
-        _ => EMPTY,
-    };
+    let answer = referred::profile(&object, index, profile);
     slot.put(object);
     answer
 }
@@ -113,12 +111,9 @@ pub extern "C" fn lr_ior_part(
     room: &mut [u8],
 ) -> i64 {
     let Some(object) = slot.take(alloc) else {
-        return EMPTY;
+        return Refusal::Empty.number();
     };
-    let answer = match &*object {
-        Object::Reference(it) => number_of(it.part(index, part, room)),
-        _ => EMPTY,
-    };
+    let answer = referred::part(&object, index, part, room);
     slot.put(object);
     answer
 }
@@ -134,12 +129,9 @@ pub extern "C" fn lr_ior_component(
     room: &mut [u8],
 ) -> i64 {
     let Some(object) = slot.take(alloc) else {
-        return EMPTY;
+        return Refusal::Empty.number();
     };
-    let answer = match &*object {
-        Object::Reference(it) => number_of(it.component(index, component, tag, room)),
-        _ => EMPTY,
-    };
+    let answer = referred::component(&object, index, component, tag, room);
     slot.put(object);
     answer
 }

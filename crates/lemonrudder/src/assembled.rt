@@ -1,0 +1,53 @@
+//! The calls on an object that is an assembler, if it is one.
+
+ghost use Rattle.std.specs.Prelude.{Some};
+ghost use Rattle.lemonrudder.specs.Answers.{OnAssembler};
+ghost use Rattle.lemonrudder.specs.Assembles.{OnFault, OnFeed};
+
+use crate::assembling::MessageHead;
+use crate::object::Object;
+use crate::refusal::{Refusal, number_of, signed};
+
+/// Takes octets up to and with the end of the next message.
+pub fn feed(object: &mut Object, octets: &[u8]) -> i64
+    ensures { OnAssembler (OnFeed octets.now) (Some object.old) (Some object.new) result }
+{
+    let Object::Assembler(assembler) = object else {
+        return Refusal::Empty.number();
+    };
+    number_of(assembler.feed(octets))
+}
+
+/// The first fault of the stream.
+pub fn fault(object: &Object) -> i64
+    ensures { OnAssembler OnFault (Some object.now) (Some object.now) result }
+{
+    let Object::Assembler(assembler) = object else {
+        return Refusal::Empty.number();
+    };
+    signed(assembler.fault())
+}
+
+/// Says what the message is that the last feed completed.
+pub fn message(object: &Object, head: &mut MessageHead) -> i64 {
+    let Object::Assembler(assembler) = object else {
+        return Refusal::Empty.number();
+    };
+    signed(assembler.message(head))
+}
+
+/// Copies a part of that message.
+pub fn part(object: &Object, part: u32, room: &mut [u8]) -> i64 {
+    let Object::Assembler(assembler) = object else {
+        return Refusal::Empty.number();
+    };
+    number_of(assembler.part(part, room))
+}
+
+/// Copies a service context of that message, and gives its id.
+pub fn context(object: &Object, index: u32, id: &mut u32, room: &mut [u8]) -> i64 {
+    let Object::Assembler(assembler) = object else {
+        return Refusal::Empty.number();
+    };
+    number_of(assembler.context(index, id, room))
+}
