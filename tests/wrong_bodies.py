@@ -57,6 +57,7 @@ COSTS = {
     "giop_run": (350, 18),
     "uses": (200, 20),
     "stream_tests": (120, 20),
+    "lemonrudder": (600, 14),
 }
 
 Pair = namedtuple("Pair", "path old new")
