@@ -203,23 +203,26 @@ class Verdict:
         self.goals = [found.groups() for found in map(OPEN_GOAL.match, lines) if found]
         self.answers = [found.groups() for found in map(FALSE_ANSWER.match, lines) if found]
 
-    def why(self, symbol, function):
-        """The open goals and the false answers of a function, the telling ones first, and whether all are of names."""
-        place = "/".join(symbol.split("::")[1:])
+    def why(self, symbol, function, cycle):
+        """The open goals and the false answers of a function, the telling ones first, and whether all are of names. The
+        answers of a cycle of calls stand in one place."""
+        parts = symbol.split("::")[1:]
+        places = {"/".join(parts)} | {"/".join([*parts[:count], f"+{cycle}"]) for count in range(len(parts)) if cycle}
         goals = [what for path, line, what in self.goals
                  if path == function.path and function.top <= int(line) - 1 <= function.last]
-        answers = [what for at, what in self.answers if at == place]
+        answers = [what for at, what in self.answers if at in places]
         telling = goals + [what for what in answers if not OF_NAMES.search(what)]
         return telling + answers, not telling
 
-    def judge(self, symbol, function):
-        """What the check says of an edit of this function alone, or None where it doesn't tell."""
+    def judge(self, symbol, function, cycle=None):
+        """What the check says of an edit of this function alone, or of it in a cycle of calls, or None where it doesn't
+        tell."""
         line = self.functions.get(symbol, "")
         if line.startswith("proved"):
             return Result(PROVED, "its function is still proved")
         if not OPEN.match(line):
             return None
-        why, are_names = self.why(symbol, function)
+        why, are_names = self.why(symbol, function, cycle)
         return Result(NAMES_ONLY if are_names else REFUSED, short(why[0] if why else line))
 
 
@@ -362,7 +365,8 @@ class Trials:
             symbols = symbols_of(crate.name, function, verdict.functions)
             if len(symbols) != 1:
                 return Result(UNSURE, f"the check has {len(symbols)} lines of {function.name}") if is_alone else None
-            found.append(verdict.judge(symbols[0], function))
+            changed = cycle_of(crate.name, function)
+            found.append(verdict.judge(symbols[0], function, changed[1] if changed[0] == "cycle" else None))
         best = min((it for it in found if it), key=lambda it: (REFUSED, NAMES_ONLY, PROVED).index(it.kind), default=None)
         if best is None:
             return Result(UNSURE, verdict.functions[symbols[0]]) if is_alone else None
