@@ -20,9 +20,9 @@ static void perform(lr_server *server, int64_t *total) {
   lr_place in = {.order = LR_BIG}, out = {.order = LR_BIG};
   int64_t size = sure(lr_server_part(server, LR_PART_BODY, body, sizeof body));
   sure(lr_get_long(body, (size_t)size, &in, &n));
-  *total += n;
-  sure(lr_put_longlong(body, sizeof body, &out, *total));
+  sure(lr_put_longlong(body, sizeof body, &out, *total + n));
   sure(lr_server_answer(server, LR_BIG, body, out.next));
+  *total += n;
 }
 
 int main(void) {

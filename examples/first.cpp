@@ -36,11 +36,12 @@ int main() {
       left = left.from(sure(server.feed(connection, now, left)));
       if (!sure(server.asked())) continue;
       const auto body = sure(server.part(lr::Part::body));
-      total += sure(lr::Reader(body).get_long());
+      const auto after = total + sure(lr::Reader(body).get_long());
       std::uint8_t results[8];
       lr::Writer out(results);
-      sure(out.put_longlong(total));
+      sure(out.put_longlong(after));
       sure(server.answer(lr::Order::big, out.octets()));
+      total = after;
     }
     const auto size = sure(server.output(room));
     if (connection == 1) {

@@ -13,8 +13,9 @@
  * threads.
  *
  * Octets.  A pointer and a size lend octets for the time of the call; the library keeps none of your pointers. A size
- * of 0 lends none, and the pointer may then be NULL. What is written into room of yours is written from its first
- * octet on. Room must not overlap a slot, or octets that are lent to the same call.
+ * of 0 lends none, and the pointer may then be NULL; a pointer to a slot, or to a result, is never NULL. What is
+ * written into room of yours is written from its first octet on. Room must not overlap a slot, or octets that are lent
+ * to the same call.
  *
  * Results.  Each function answers an int64_t: 0 or more, a count where the function says so and else LR_OK, which is
  * 0; below 0, an error LR_E_.., and then nothing has changed, unless the function says otherwise. lr_strerror gives
@@ -182,7 +183,8 @@ int64_t lr_catalogue_object(lr_catalogue *catalogue, const void *key, size_t key
 /* Adds an object whose every operation is raw. LR_E_EMPTY, LR_E_TAKEN, LR_E_MEMORY. */
 int64_t lr_catalogue_raw_object(lr_catalogue *catalogue, const void *key, size_t key_size);
 
-/* Declares an exception of the operation that is added next: its repository id, and the types of its members.
+/* Declares an exception of the operation that lr_catalogue_operation adds next: its repository id, and the types of
+ * its members. Operations that are raw, and repository ids, leave it for that one.
  * LR_E_EMPTY, LR_E_TYPES, LR_E_MEMORY. */
 int64_t lr_catalogue_exception(lr_catalogue *catalogue, const void *id, size_t id_size,
                                const uint8_t *members, size_t members_size);
@@ -203,8 +205,8 @@ int64_t lr_catalogue_raw_operation(lr_catalogue *catalogue, const void *key, siz
 
 /* Names the repository ids of an object, with a NUL after each: "IDL:Bank:1.0" has one, with the NUL that ends it.
  * The object has the operations _is_a and _non_existent then, as a checked narrow of an ORB asks for (CORBA 3.3 Part
- * 1, 8.3); lr_server_identify answers them. LR_E_EMPTY, LR_E_TEXT (the last octet is no NUL), LR_E_OBJECT, LR_E_RAW,
- * LR_E_TAKEN, LR_E_MEMORY. */
+ * 1, 8.3); lr_server_identify answers them. Unlike that of all other texts here, the size counts the NUL.
+ * LR_E_EMPTY, LR_E_TEXT (the last octet is no NUL), LR_E_OBJECT, LR_E_RAW, LR_E_TAKEN, LR_E_MEMORY. */
 int64_t lr_catalogue_repository_ids(lr_catalogue *catalogue, const void *key, size_t key_size,
                                     const void *ids, size_t ids_size);
 
@@ -245,8 +247,9 @@ int64_t lr_server_is_closed(lr_server *server, uint64_t connection);
 
 /* Takes octets of a connection that came at a moment, and answers how many it took: all of them, or those up to a
  * request that waits for its outcome. Feed the rest after it is answered, at the same moment.
- * LR_E_EMPTY, LR_E_ASKING, LR_E_DUE, LR_E_CONNECTION (the clock has moved), and LR_E_LOST, where what was answered
- * before is due. */
+ * Of a connection that has ended, or was said goodbye to, it takes all, which mean nothing.
+ * LR_E_EMPTY, LR_E_ASKING, LR_E_DUE, LR_E_CONNECTION (nothing is taken, but the clock has moved to the moment), and
+ * LR_E_LOST, where what was answered before is due. */
 int64_t lr_server_feed(lr_server *server, uint64_t connection, uint64_t moment, const void *octets, size_t size);
 
 /* A request that waits for its outcome. */
@@ -276,18 +279,21 @@ int64_t lr_server_asked(lr_server *server, lr_request *request);
  * LR_E_EMPTY, LR_E_IDLE, LR_E_NONE, LR_E_MEMORY. */
 int64_t lr_server_part(lr_server *server, uint32_t part, void *room, size_t size);
 
-/* Answers the request that waits by its results: octets of an order, aligned from place 0, and none left over.
+/* Answers the request that waits by its results: octets of an order, aligned from place 0, and none left over. They
+ * are kept as its outcome, where it carries FT_REQUEST. A request that wishes no reply is answered all the same.
  * LR_E_EMPTY, LR_E_IDLE, LR_E_RANGE, LR_E_OUTCOME, LR_E_MEMORY (it waits still), and LR_E_LOST: the outcome counts
  * and is kept, and its reply is lost. */
 int64_t lr_server_answer(lr_server *server, uint32_t order, const void *results, size_t size);
 
-/* Answers by an exception that the operation declares: its repository id, and its members as of lr_server_answer.
+/* Answers by an exception that the operation declares: its repository id, and its members as of lr_server_answer. It is
+ * an outcome as results are: kept, and what each repeat gets.
  * Errors as of lr_server_answer. */
 int64_t lr_server_raise(lr_server *server, const void *id, size_t id_size, uint32_t order,
                         const void *members, size_t size);
 
-/* Answers by a system exception, LR_MARSHAL to LR_TRANSIENT, with a minor code and LR_COMPLETED_... Errors as of
- * lr_server_answer. */
+/* Answers by a system exception, LR_MARSHAL to LR_TRANSIENT, with a minor code and LR_COMPLETED_... It is an outcome as
+ * results are: kept until the request expires, and what each repeat gets; where it may be performed later, give up.
+ * Errors as of lr_server_answer. */
 int64_t lr_server_system(lr_server *server, uint32_t name, uint32_t minor, uint32_t completed);
 
 /* Answers a raw operation by the body of a Reply: its status, LR_NO_EXCEPTION to LR_LOCATION_FORWARD, its order, and
@@ -295,7 +301,8 @@ int64_t lr_server_system(lr_server *server, uint32_t name, uint32_t minor, uint3
 int64_t lr_server_answer_raw(lr_server *server, uint32_t status, uint32_t order, const void *body, size_t size);
 
 /* Answers _is_a and _non_existent of an object that names its repository ids: 1 where that is what waits, and it is
- * answered; else 0. Errors as of lr_server_answer. */
+ * answered; 0 where another request waits. Every object is a CORBA::Object. Errors as of lr_server_answer; LR_E_IDLE
+ * where none waits. */
 int64_t lr_server_identify(lr_server *server);
 
 /* Gives up the request that waits: you can't perform it now, and have done nothing. Nothing is kept, and its
@@ -304,7 +311,7 @@ int64_t lr_server_identify(lr_server *server);
 int64_t lr_server_give_up(lr_server *server);
 
 /* Moves octets that are due into the room, as many as it has, and answers how many: 0 where none are left. They
- * belong to the connection of the last call. LR_E_EMPTY. */
+ * belong to the connection of the last lr_server_feed or lr_server_farewell. LR_E_EMPTY. */
 int64_t lr_server_output(lr_server *server, void *room, size_t size);
 
 /* ---- a client that sends its calls again ---- */

@@ -29,8 +29,10 @@ fn main() -> Result<(), Error> {
         server.connect(connection)?;
         client.connected(now)?;
         server.serve(connection, now, &client.take_output(), |request| {
-            total += i64::from(request.reader().long()?);
-            request.answer(Writer::new(Order::Big).longlong(total)?)
+            let after = total + i64::from(request.reader().long()?);
+            request.answer(Writer::new(Order::Big).longlong(after)?)?;
+            total = after;
+            Ok(())
         })?;
         let reply = server.take_output();
         if connection == 1 {
