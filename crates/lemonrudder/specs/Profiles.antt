@@ -2,7 +2,7 @@
 use Rattle.std.specs.Prelude.{◌≡◌, ◌≢◌, ℕ, ◌==◌, if◌then◌else◌, min, List, length, slice_get, option_map, Option, Some, None, Result, Ok, Err, ◌⊎◌}
 use Rattle.std.specs.Option.{option_and_then}
 use Rattle.ior_core.specs.Keys.{tag_and_octets_of, tag_internet_iop}
-use Rattle.ior_core.specs.Profiles.{ReadsProfile, body_of}
+use Rattle.ior_core.specs.Profiles.{ProfileMayRunOut, ReadsProfile, body_of}
 use Rattle.ior_core.specs.declared.error.IorError.{IorError}
 use Rattle.ior_core.specs.declared.error.IorError.TheVariants.{Memory}
 use Rattle.ior_core.specs.declared.profile.IiopProfile.{IiopProfile}
@@ -18,11 +18,11 @@ use Rattle.lemonrudder.specs.Items.{CopiesItem}
 abbrev pub profile_at : ℕ → Referring → Option Tagged
 profile_at index s = slice_get s.ior.profiles.items index
 
--- a profile is read as one of IIOP; or it is no valid one, of another tag or with a fault; or memory is short
+-- a profile is read as one of IIOP; or it is no valid one, of another tag or with a fault; or memory is short where reading takes some
 abbrev pub IsSeen : Tagged → Result (Option IiopProfile) Refusal → Type 0
 IsSeen p (Ok (Some q)) = (p.tag ≡ tag_internet_iop) × ReadsProfile (body_of p.octets.items) (Ok q)
 IsSeen p (Ok None) = (p.tag ≢ tag_internet_iop) ⊎ ((e : IorError) × (e ≢ Memory) × ReadsProfile (body_of p.octets.items) (Err e))
-IsSeen p (Err e) = (e ≡ refusal.Memory) × (p.tag ≡ tag_internet_iop)
+IsSeen p (Err e) = (e ≡ refusal.Memory) × (p.tag ≡ tag_internet_iop) × ProfileMayRunOut p.octets.items
 
 -- the same of the profile of an index, if there is one
 abbrev pub IsSeenAt : Option Tagged → Result (Option IiopProfile) Refusal → Type 0

@@ -1,4 +1,4 @@
-use Rattle.std.proofs.Common.{rules, ◌≡◌}
+use Rattle.std.proofs.Common.{rules}
 use Rattle.lemonrudder.specs.Lends.{OnContext}
 use Rattle.lemonrudder.proofs.Assemblers.{on_same_assembler}
 use Rattle.lemonrudder.proofs.Refusing.{on_refusal}

@@ -1,4 +1,4 @@
-use Rattle.std.proofs.Common.{◌≡◌, ◌∙◌, slice_get, option_map, ap, refl, sym}
+use Rattle.std.proofs.Common.{◌∙◌, slice_get, option_map, ap, refl, sym}
 use Rattle.std.specs.Option.{option_and_then}
 use Rattle.std.proofs.lemmas.Iterator.Consumers.{YieldsList-from_first, nth_from_yields_List}
 use Rattle.giop_core.specs.Items.{contexts_left, item_at}
