@@ -5,10 +5,12 @@ mod Counts
 mod Ended
 mod Handing
 mod Idling
+mod Lending
 mod Owing
 mod Raising
 mod Reading
 mod References
+mod Refusing
 mod Servers
 mod Telling
 mod Values

@@ -1,8 +1,9 @@
 //! The calls on an object that is an assembler, if it is one.
 
-ghost use Rattle.std.specs.Prelude.{Some};
+ghost use Rattle.std.specs.Prelude.{◌≡◌, ◌<ℤ◌, ◌≤ℤ◌, pos, Some};
 ghost use Rattle.lemonrudder.specs.Answers.{OnAssembler};
 ghost use Rattle.lemonrudder.specs.Assembles.{OnFault, OnFeed};
+ghost use Rattle.lemonrudder.specs.Lends.{OnContext, OnMessage, OnPart};
 
 use crate::assembling::MessageHead;
 use crate::object::Object;
@@ -29,7 +30,10 @@ pub fn fault(object: &Object) -> i64
 }
 
 /// Says what the message is that the last feed completed.
-pub fn message(object: &Object, head: &mut MessageHead) -> i64 {
+pub fn message(object: &Object, head: &mut MessageHead) -> i64
+    ensures told { OnAssembler (OnMessage head.old head.new) (Some object.now) (Some object.now) result }
+    ensures none { result ≤ℤ pos 0 → head.new ≡ head.old }
+{
     let Object::Assembler(assembler) = object else {
         return Refusal::Empty.number();
     };
@@ -37,7 +41,10 @@ pub fn message(object: &Object, head: &mut MessageHead) -> i64 {
 }
 
 /// Copies a part of that message.
-pub fn part(object: &Object, part: u32, room: &mut [u8]) -> i64 {
+pub fn part(object: &Object, part: u32, room: &mut [u8]) -> i64
+    ensures copied { OnAssembler (OnPart part room.old room.new) (Some object.now) (Some object.now) result }
+    ensures refused { result <ℤ pos 0 → room.new ≡ room.old }
+{
     let Object::Assembler(assembler) = object else {
         return Refusal::Empty.number();
     };
@@ -45,7 +52,10 @@ pub fn part(object: &Object, part: u32, room: &mut [u8]) -> i64 {
 }
 
 /// Copies a service context of that message, and gives its id.
-pub fn context(object: &Object, index: u32, id: &mut u32, room: &mut [u8]) -> i64 {
+pub fn context(object: &Object, index: u32, id: &mut u32, room: &mut [u8]) -> i64
+    ensures copied { OnAssembler (OnContext index id.old id.new room.old room.new) (Some object.now) (Some object.now) result }
+    ensures refused { result <ℤ pos 0 → (id.new ≡ id.old) × (room.new ≡ room.old) }
+{
     let Object::Assembler(assembler) = object else {
         return Refusal::Empty.number();
     };

@@ -1,13 +1,18 @@
 //! The messages of a stream.
 
 ghost use Rattle.std.specs.Prelude.{◌≡◌};
+ghost use Rattle.giop_core.specs.Lent.{content_of};
 ghost use Rattle.lemonrudder.specs.Assembles.{fault_number};
+ghost use Rattle.lemonrudder.specs.Lends.{head_of};
 
-use crate::named::{limits_of, minor_of, number_of_order, number_of_wish};
-use crate::refusal::{Refusal, copied, count_of};
-use giop_core::{
-    Body, Content, Contexts, FtField, HeaderFault, Message, Request, Target, ft_request,
+use crate::lent::{
+    body_of, client_of, context_of, count_of_contexts, expiration_of, ft_of, id_of, key_of,
+    kind_of, operation_of, part_of, payload_of, place_of, retention_of, size_of, status_of,
+    wish_of,
 };
+use crate::named::{limits_of, minor_of, number_of_order};
+use crate::refusal::{Refusal, copied};
+use giop_core::{HeaderFault, Message};
 use giop_frames::{Assembler, StreamFault};
 use std::alloc::Global;
 
@@ -63,174 +68,39 @@ fn number_of_fault(fault: &StreamFault) -> u64
     }
 }
 
-impl MessageHead {
-    /// The head of a message without parts.
-    fn of(message: &Message<'_>, kind: u32) -> MessageHead {
-        MessageHead {
-            key_size: 0,
-            operation_size: 0,
-            body_size: 0,
-            body_at: 0,
-            payload_size: 0,
-            kind,
-            version: minor_of(message.version),
-            order: number_of_order(message.order),
-            request_id: 0,
-            status: 0,
-            wish: 0,
-            contexts: 0,
-            has_key: 0,
-            has_client: 0,
-            retention_id: 0,
-            client_size: 0,
-            expiration: 0,
-        }
+/// What is told of a message, but for how many service contexts it has.
+fn head_of(message: &Message<'_>) -> MessageHead
+    ensures { result ≡ record (head_of message.now.version message.now.order (content_of message.now.content)) { contexts = 0 } }
+{
+    let content = &message.content;
+    let key = key_of(content);
+    let ft = ft_of(content);
+    let client = client_of(&ft);
+    MessageHead {
+        key_size: size_of(key),
+        operation_size: size_of(operation_of(content)),
+        body_size: size_of(body_of(content)),
+        body_at: place_of(content),
+        payload_size: size_of(payload_of(content)),
+        kind: kind_of(content),
+        version: minor_of(message.version),
+        order: number_of_order(message.order),
+        request_id: id_of(content),
+        status: status_of(content),
+        wish: wish_of(content),
+        contexts: 0,
+        has_key: u32::from(key.is_some()),
+        has_client: u32::from(client.is_some()),
+        retention_id: retention_of(&ft),
+        client_size: size_of(client),
+        expiration: expiration_of(&ft),
     }
-
-    /// Says where a body stands.
-    fn put_body(&mut self, body: &Body<'_>) {
-        self.body_size = count_of(body.octets);
-        self.body_at = body.at;
-    }
-
-    /// Says which object key a target leads to.
-    fn put_target(&mut self, target: &Target<'_>) {
-        if let Some(key) = target.object_key() {
-            self.has_key = 1;
-            self.key_size = count_of(key);
-        }
-    }
-
-    /// Says what a Request has.
-    fn put_request(&mut self, request: &Request<'_>) {
-        self.request_id = request.request_id;
-        self.wish = number_of_wish(request.reply);
-        self.operation_size = count_of(request.operation);
-        self.put_target(&request.target);
-        self.put_body(&request.body);
-        if let FtField::Present {
-            client_id,
-            retention_id,
-            expiration,
-        } = ft_request(&request.contexts)
-        {
-            self.has_client = 1;
-            self.retention_id = retention_id;
-            self.client_size = count_of(client_id);
-            self.expiration = expiration;
-        }
-    }
-}
-
-/// The head of a message.
-fn head_of(message: &Message<'_>) -> MessageHead {
-    let mut head = MessageHead::of(message, kind_of(&message.content));
-    match &message.content {
-        Content::Request(request) => head.put_request(request),
-        Content::Reply(reply) => {
-            head.request_id = reply.request_id;
-            head.status = reply.status;
-            head.put_body(&reply.body);
-        }
-        Content::Cancel(cancel) => head.request_id = cancel.request_id,
-        Content::LocateRequest(locate) => {
-            head.request_id = locate.request_id;
-            head.put_target(&locate.target);
-        }
-        Content::LocateReply(reply) => {
-            head.request_id = reply.request_id;
-            head.status = reply.status;
-            head.put_body(&reply.body);
-        }
-        Content::Close | Content::Error => {}
-        Content::Fragment(fragment) => {
-            head.request_id = fragment.request_id.unwrap_or(0);
-            head.payload_size = count_of(fragment.payload);
-        }
-    }
-    head
-}
-
-/// The type of a message, as its header has it.
-fn kind_of(content: &Content<'_>) -> u32 {
-    match content {
-        Content::Request(_) => 0,
-        Content::Reply(_) => 1,
-        Content::Cancel(_) => 2,
-        Content::LocateRequest(_) => 3,
-        Content::LocateReply(_) => 4,
-        Content::Close => 5,
-        Content::Error => 6,
-        Content::Fragment(_) => 7,
-    }
-}
-
-/// A part of a request.
-fn part_of_request<'m>(request: &Request<'m>, part: u32) -> Option<&'m [u8]> {
-    match part {
-        0 => request.target.object_key(),
-        1 => Some(request.operation),
-        2 => Some(request.body.octets),
-        3 => match ft_request(&request.contexts) {
-            FtField::Present {
-                client_id,
-                retention_id: _,
-                expiration: _,
-            } => Some(client_id),
-            _ => None,
-        },
-        _ => None,
-    }
-}
-
-/// A part of a message.
-fn part_of<'m>(message: &Message<'m>, part: u32) -> Option<&'m [u8]> {
-    match (&message.content, part) {
-        (Content::Request(request), _) => part_of_request(request, part),
-        (Content::Reply(reply), 2) => Some(reply.body.octets),
-        (Content::LocateRequest(locate), 0) => locate.target.object_key(),
-        (Content::LocateReply(reply), 2) => Some(reply.body.octets),
-        (Content::Fragment(fragment), 4) => Some(fragment.payload),
-        _ => None,
-    }
-}
-
-/// The service contexts of a message.
-fn contexts_of(message: Message<'_>) -> Option<Contexts<'_>> {
-    match message.content {
-        Content::Request(request) => Some(request.contexts),
-        Content::Reply(reply) => Some(reply.contexts),
-        _ => None,
-    }
-}
-
-/// How many service contexts a message has.
-fn count_of_contexts(message: Message<'_>) -> u32 {
-    let mut count: u32 = 0;
-    let Some(contexts) = contexts_of(message) else {
-        return count;
-    };
-    for _ in contexts {
-        count = count.saturating_add(1);
-    }
-    count
-}
-
-/// The service context of an index, counted from 0.
-fn context_at(contexts: Contexts<'_>, index: u32) -> Option<(u32, &[u8])> {
-    let mut left = index;
-    for context in contexts {
-        if left == 0 {
-            return Some(context);
-        }
-        left -= 1;
-    }
-    None
 }
 
 impl Assembling {
-    ghost use Rattle.std.specs.Prelude.{Ok};
+    ghost use Rattle.std.specs.Prelude.{◌≡◌, Ok, OnErr};
     ghost use Rattle.lemonrudder.specs.Assembles.{IsNew, OnFault, OnFeed};
+    ghost use Rattle.lemonrudder.specs.Lends.{OnContext, OnMessage, OnPart};
 
     /// An assembler of which nothing has come.
     pub fn new(alloc: Global, message: u32, partials: u32) -> Result<Assembling, Refusal>
@@ -266,27 +136,34 @@ impl Assembling {
     }
 
     /// Says what the message is that the last feed completed.
-    pub fn message(&self, head: &mut MessageHead) -> u64 {
+    pub fn message(&self, head: &mut MessageHead) -> u64
+        ensures told { OnMessage head.old head.new self.now self.now (Ok result) }
+        ensures none { result ≡ 0 → head.new ≡ head.old }
+    {
         let Some(message) = self.assembler.message() else {
             return 0;
         };
         *head = head_of(&message);
-        head.contexts = count_of_contexts(message);
+        head.contexts = count_of_contexts(message.content);
         1
     }
 
     /// Copies a part of that message.
-    pub fn part(&self, part: u32, room: &mut [u8]) -> Result<u64, Refusal> {
+    pub fn part(&self, part: u32, room: &mut [u8]) -> Result<u64, Refusal>
+        ensures { OnPart part room.old room.new self.now self.now result }
+    {
         let message = self.assembler.message().ok_or(Refusal::None)?;
-        let octets = part_of(&message, part).ok_or(Refusal::None)?;
+        let octets = part_of(&message.content, part).ok_or(Refusal::None)?;
         Ok(copied(octets, room))
     }
 
     /// Copies a service context of that message, and gives its id.
-    pub fn context(&self, index: u32, id: &mut u32, room: &mut [u8]) -> Result<u64, Refusal> {
+    pub fn context(&self, index: u32, id: &mut u32, room: &mut [u8]) -> Result<u64, Refusal>
+        ensures copied { OnContext index id.old id.new room.old room.new self.now self.now result }
+        ensures refused { OnErr result ((id.new ≡ id.old) × (room.new ≡ room.old)) }
+    {
         let message = self.assembler.message().ok_or(Refusal::None)?;
-        let contexts = contexts_of(message).ok_or(Refusal::None)?;
-        let (found, data) = context_at(contexts, index).ok_or(Refusal::None)?;
+        let (found, data) = context_of(message.content, index).ok_or(Refusal::None)?;
         *id = found;
         Ok(copied(data, room))
     }

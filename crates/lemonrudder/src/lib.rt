@@ -14,6 +14,7 @@ mod cdr;
 mod due;
 mod exports;
 mod handle;
+mod lent;
 mod messages;
 mod named;
 mod object;

@@ -2,6 +2,7 @@
 
 ghost use Rattle.std.specs.Prelude.{◌≡◌, ◌<ℤ◌, pos, Some};
 ghost use Rattle.lemonrudder.specs.Answers.{OnReference};
+ghost use Rattle.lemonrudder.specs.Profiles.{OnComponent, OnPart, OnProfile};
 ghost use Rattle.lemonrudder.specs.Refers.{OnPrint, OnProfiles, OnTypeId};
 
 use crate::object::Object;
@@ -10,7 +11,8 @@ use crate::refusal::{Refusal, number_of, signed};
 
 /// Writes the stringified reference.
 pub fn print(object: &Object, room: &mut [u8]) -> i64
-    ensures { OnReference (OnPrint room.old room.new) (Some object.now) (Some object.now) result }
+    ensures printed { OnReference (OnPrint room.old room.new) (Some object.now) (Some object.now) result }
+    ensures refused { result <ℤ pos 0 → room.new ≡ room.old }
 {
     let Object::Reference(reference) = object else {
         return Refusal::Empty.number();
@@ -40,7 +42,10 @@ pub fn profiles(object: &Object) -> i64
 }
 
 /// Says what a profile has.
-pub fn profile(object: &Object, index: u32, head: &mut ProfileHead) -> i64 {
+pub fn profile(object: &Object, index: u32, head: &mut ProfileHead) -> i64
+    ensures told { OnReference (OnProfile index head.old head.new) (Some object.now) (Some object.now) result }
+    ensures refused { result <ℤ pos 0 → head.new ≡ head.old }
+{
     let Object::Reference(reference) = object else {
         return Refusal::Empty.number();
     };
@@ -48,7 +53,10 @@ pub fn profile(object: &Object, index: u32, head: &mut ProfileHead) -> i64 {
 }
 
 /// Copies a part of a profile.
-pub fn part(object: &Object, index: u32, part: u32, room: &mut [u8]) -> i64 {
+pub fn part(object: &Object, index: u32, part: u32, room: &mut [u8]) -> i64
+    ensures copied { OnReference (OnPart index part room.old room.new) (Some object.now) (Some object.now) result }
+    ensures refused { result <ℤ pos 0 → room.new ≡ room.old }
+{
     let Object::Reference(reference) = object else {
         return Refusal::Empty.number();
     };
@@ -56,13 +64,10 @@ pub fn part(object: &Object, index: u32, part: u32, room: &mut [u8]) -> i64 {
 }
 
 /// Copies a tagged component of a profile, and gives its tag.
-pub fn component(
-    object: &Object,
-    index: u32,
-    component: u32,
-    tag: &mut u32,
-    room: &mut [u8],
-) -> i64 {
+pub fn component(object: &Object, index: u32, component: u32, tag: &mut u32, room: &mut [u8]) -> i64
+    ensures copied { OnReference (OnComponent index component tag.old tag.new room.old room.new) (Some object.now) (Some object.now) result }
+    ensures refused { result <ℤ pos 0 → (tag.new ≡ tag.old) × (room.new ≡ room.old) }
+{
     let Object::Reference(reference) = object else {
         return Refusal::Empty.number();
     };

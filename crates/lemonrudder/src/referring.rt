@@ -1,9 +1,13 @@
 //! References to objects.
 
+ghost use Rattle.std.specs.Prelude.{◌≡◌};
+ghost use Rattle.lemonrudder.specs.Makes.{IsProfiled, profile_to};
+ghost use Rattle.lemonrudder.specs.Profiles.{head_of};
+
 use crate::refusal::{Refusal, copied, count_of, fitted};
 use ior_core::{
-    Component, IiopProfile, Ior, Profile, TAG_INTERNET_IOP, parse_text, print_text, read_iiop,
-    write_iiop,
+    Component, IiopProfile, Ior, IorError, Profile, TAG_INTERNET_IOP, parse_text, print_text,
+    read_iiop, write_iiop,
 };
 use std::alloc::Global;
 
@@ -39,7 +43,9 @@ pub struct Address<'a> {
 }
 
 /// The profile of an address.
-fn profile_of(alloc: Global, address: &Address<'_>) -> Result<Profile, Refusal> {
+fn profile_of(alloc: Global, address: &Address<'_>) -> Result<Profile, Refusal>
+    ensures { IsProfiled address.now.minor (profile_to address.now.minor address.now.host.now address.now.port address.now.key.now) result }
+{
     let minor = match u8::try_from(address.minor) {
         Ok(minor) if minor <= 2 => minor,
         _ => return Err(Refusal::Range),
@@ -62,12 +68,42 @@ fn profile_of(alloc: Global, address: &Address<'_>) -> Result<Profile, Refusal> 
     })
 }
 
+/// What is told of a profile, which is one of IIOP or not.
+fn head_of(profile: &Profile, iiop: &Option<IiopProfile>) -> ProfileHead
+    ensures { result ≡ head_of profile.now iiop.now }
+{
+    let mut head = ProfileHead {
+        data_size: count_of(&profile.octets),
+        host_size: 0,
+        key_size: 0,
+        tag: profile.tag,
+        is_iiop: 0,
+        minor: 0,
+        port: 0,
+        components: 0,
+        reserved: 0,
+    };
+    if let Some(iiop) = iiop {
+        head.host_size = count_of(&iiop.host);
+        head.key_size = count_of(&iiop.object_key);
+        head.is_iiop = 1;
+        head.minor = u32::from(iiop.minor);
+        head.port = u32::from(iiop.port);
+        head.components = u32::try_from(iiop.components.len()).unwrap_or(u32::MAX);
+    }
+    head
+}
+
 impl Referring {
-    ghost use Rattle.std.specs.Prelude.{Ok};
+    ghost use Rattle.std.specs.Prelude.{◌≡◌, MatchResult, None, Ok, OnErr, Some};
+    ghost use Rattle.lemonrudder.specs.Makes.{IsAddressed, IsParsed, profile_to};
+    ghost use Rattle.lemonrudder.specs.Profiles.{IsSeenAt, OnComponent, OnPart, OnProfile, profile_at};
     ghost use Rattle.lemonrudder.specs.Refers.{OnPrint, OnProfiles, OnTypeId};
 
     /// The reference that a text spells.
-    pub fn parse(alloc: Global, text: &[u8]) -> Result<Referring, Refusal> {
+    pub fn parse(alloc: Global, text: &[u8]) -> Result<Referring, Refusal>
+        ensures { IsParsed text.now result }
+    {
         let text = std::str::from_utf8(text).map_err(|_| Refusal::Reference)?;
         Ok(Referring {
             alloc,
@@ -76,11 +112,9 @@ impl Referring {
     }
 
     /// A reference of a type to an object at an address.
-    pub fn iiop(
-        alloc: Global,
-        type_id: &[u8],
-        address: &Address<'_>,
-    ) -> Result<Referring, Refusal> {
+    pub fn iiop(alloc: Global, type_id: &[u8], address: &Address<'_>) -> Result<Referring, Refusal>
+        ensures { IsAddressed type_id.now address.now.minor (profile_to address.now.minor address.now.host.now address.now.port address.now.key.now) result }
+    {
         let profile = profile_of(alloc, address)?;
         let ior = Ior {
             type_id: Vec::from_slice(alloc, type_id)?,
@@ -94,7 +128,8 @@ impl Referring {
 
     /// Writes the text of the reference.
     pub fn print(&self, room: &mut [u8]) -> Result<u64, Refusal>
-        ensures { OnPrint room.old room.new self.now self.now result }
+        ensures printed { OnPrint room.old room.new self.now self.now result }
+        ensures refused { OnErr result (room.new ≡ room.old) }
     {
         if !self.ior.is_writable() {
             return Err(Refusal::Text);
@@ -118,53 +153,42 @@ impl Referring {
     }
 
     /// The profile of an index.
-    fn at(&self, index: u32) -> Result<&Profile, Refusal> {
+    fn at(&self, index: u32) -> Result<&Profile, Refusal>
+        ensures { MatchResult result (λ p. profile_at index self.now ≡ Some p.now) (λ e. (e ≡ Refusal.None) × (profile_at index self.now ≡ None)) }
+    {
         self.ior.profiles.get(index as usize).ok_or(Refusal::None)
     }
 
     /// The profile of an index, as one of IIOP. None where it is no valid one.
-    fn iiop_at(&self, index: u32) -> Result<Option<IiopProfile>, Refusal> {
+    fn iiop_at(&self, index: u32) -> Result<Option<IiopProfile>, Refusal>
+        ensures { IsSeenAt (profile_at index self.now) result }
+    {
         let profile = self.at(index)?;
         if profile.tag != TAG_INTERNET_IOP {
             return Ok(None);
         }
         match read_iiop(self.alloc, &profile.octets) {
             Ok(iiop) => Ok(Some(iiop)),
-            Err(error) => match Refusal::from(error) {
-                Refusal::Memory => Err(Refusal::Memory),
-                _ => Ok(None),
-            },
+            Err(IorError::Memory) => Err(Refusal::Memory),
+            Err(_) => Ok(None),
         }
     }
 
     /// Says what a profile has.
-    pub fn profile(&self, index: u32, head: &mut ProfileHead) -> Result<u64, Refusal> {
-        let profile = self.at(index)?;
-        let mut found = ProfileHead {
-            data_size: count_of(&profile.octets),
-            host_size: 0,
-            key_size: 0,
-            tag: profile.tag,
-            is_iiop: 0,
-            minor: 0,
-            port: 0,
-            components: 0,
-            reserved: 0,
-        };
-        if let Some(iiop) = self.iiop_at(index)? {
-            found.host_size = count_of(&iiop.host);
-            found.key_size = count_of(&iiop.object_key);
-            found.is_iiop = 1;
-            found.minor = u32::from(iiop.minor);
-            found.port = u32::from(iiop.port);
-            found.components = u32::try_from(iiop.components.len()).unwrap_or(u32::MAX);
-        }
-        *head = found;
+    pub fn profile(&self, index: u32, head: &mut ProfileHead) -> Result<u64, Refusal>
+        ensures told { OnProfile index head.old head.new self.now self.now result }
+        ensures refused { OnErr result (head.new ≡ head.old) }
+    {
+        let iiop = self.iiop_at(index)?;
+        *head = head_of(self.at(index)?, &iiop);
         Ok(0)
     }
 
     /// Copies a part of a profile.
-    pub fn part(&self, index: u32, part: u32, room: &mut [u8]) -> Result<u64, Refusal> {
+    pub fn part(&self, index: u32, part: u32, room: &mut [u8]) -> Result<u64, Refusal>
+        ensures copied { OnPart index part room.old room.new self.now self.now result }
+        ensures refused { OnErr result (room.new ≡ room.old) }
+    {
         if part == 0 {
             return Ok(copied(&self.at(index)?.octets, room));
         }
@@ -183,7 +207,10 @@ impl Referring {
         component: u32,
         tag: &mut u32,
         room: &mut [u8],
-    ) -> Result<u64, Refusal> {
+    ) -> Result<u64, Refusal>
+        ensures copied { OnComponent index component tag.old tag.new room.old room.new self.now self.now result }
+        ensures refused { OnErr result ((tag.new ≡ tag.old) × (room.new ≡ room.old)) }
+    {
         let iiop = self.iiop_at(index)?.ok_or(Refusal::None)?;
         let found: &Component = iiop
             .components

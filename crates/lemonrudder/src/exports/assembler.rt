@@ -1,7 +1,9 @@
 //! The messages of a stream.
 
+ghost use Rattle.std.specs.Prelude.{◌≡◌, ◌<ℤ◌, ◌≤ℤ◌, pos};
 ghost use Rattle.lemonrudder.specs.Answers.{OnAssembler};
 ghost use Rattle.lemonrudder.specs.Assembles.{IsNew, OnFault, OnFeed};
+ghost use Rattle.lemonrudder.specs.Lends.{OnContext, OnMessage, OnPart};
 ghost use Rattle.lemonrudder.specs.Opening.{OpensMade};
 ghost use Rattle.lemonrudder.specs.Slots.{held_in};
 
@@ -61,7 +63,10 @@ pub extern "C" fn lr_assembler_message(
     alloc: Global,
     slot: &mut Slot,
     message: &mut MessageHead,
-) -> i64 {
+) -> i64
+    ensures told { OnAssembler (OnMessage message.old message.new) (held_in slot.old) (held_in slot.new) result }
+    ensures none { result ≤ℤ pos 0 → message.new ≡ message.old }
+{
     let Some(object) = slot.take(alloc) else {
         return Refusal::Empty.number();
     };
@@ -77,7 +82,10 @@ pub extern "C" fn lr_assembler_part(
     slot: &mut Slot,
     part: u32,
     room: &mut [u8],
-) -> i64 {
+) -> i64
+    ensures copied { OnAssembler (OnPart part room.old room.new) (held_in slot.old) (held_in slot.new) result }
+    ensures refused { result <ℤ pos 0 → room.new ≡ room.old }
+{
     let Some(object) = slot.take(alloc) else {
         return Refusal::Empty.number();
     };
@@ -94,7 +102,10 @@ pub extern "C" fn lr_assembler_context(
     index: u32,
     id: &mut u32,
     room: &mut [u8],
-) -> i64 {
+) -> i64
+    ensures copied { OnAssembler (OnContext index id.old id.new room.old room.new) (held_in slot.old) (held_in slot.new) result }
+    ensures refused { result <ℤ pos 0 → (id.new ≡ id.old) × (room.new ≡ room.old) }
+{
     let Some(object) = slot.take(alloc) else {
         return Refusal::Empty.number();
     };

@@ -2,6 +2,9 @@
 
 ghost use Rattle.std.specs.Prelude.{◌≡◌, ◌<ℤ◌, pos};
 ghost use Rattle.lemonrudder.specs.Answers.{OnReference};
+ghost use Rattle.lemonrudder.specs.Makes.{IsAddressed, IsParsed, profile_to};
+ghost use Rattle.lemonrudder.specs.Opening.{OpensMade};
+ghost use Rattle.lemonrudder.specs.Profiles.{OnComponent, OnPart, OnProfile};
 ghost use Rattle.lemonrudder.specs.Refers.{OnPrint, OnProfiles, OnTypeId};
 ghost use Rattle.lemonrudder.specs.Slots.{held_in};
 
@@ -15,7 +18,9 @@ use std::alloc::Global;
 
 /// Reads a stringified reference.
 #[unsafe(no_mangle)]
-pub extern "C" fn lr_ior_parse(alloc: Global, slot: &mut Slot, text: &[u8]) -> i64 {
+pub extern "C" fn lr_ior_parse(alloc: Global, slot: &mut Slot, text: &[u8]) -> i64
+    ensures { OpensMade Object.Reference (IsParsed text.now) (held_in slot.old) (held_in slot.new) result }
+{
     match Referring::parse(alloc, text) {
         Ok(referring) => open(alloc, slot, Object::Reference(referring)),
         Err(refusal) => refusal.number(),
@@ -32,7 +37,9 @@ pub extern "C" fn lr_ior_iiop(
     host: &[u8],
     port: u16,
     key: &[u8],
-) -> i64 {
+) -> i64
+    ensures { OpensMade Object.Reference (IsAddressed type_id.now minor (profile_to minor host.now port key.now)) (held_in slot.old) (held_in slot.new) result }
+{
     let address = Address {
         minor,
         host,
@@ -48,7 +55,8 @@ pub extern "C" fn lr_ior_iiop(
 /// Writes the stringified reference.
 #[unsafe(no_mangle)]
 pub extern "C" fn lr_ior_print(alloc: Global, slot: &mut Slot, room: &mut [u8]) -> i64
-    ensures { OnReference (OnPrint room.old room.new) (held_in slot.old) (held_in slot.new) result }
+    ensures printed { OnReference (OnPrint room.old room.new) (held_in slot.old) (held_in slot.new) result }
+    ensures refused { result <ℤ pos 0 → room.new ≡ room.old }
 {
     let Some(object) = slot.take(alloc) else {
         return Refusal::Empty.number();
@@ -92,7 +100,10 @@ pub extern "C" fn lr_ior_profile(
     slot: &mut Slot,
     index: u32,
     profile: &mut ProfileHead,
-) -> i64 {
+) -> i64
+    ensures told { OnReference (OnProfile index profile.old profile.new) (held_in slot.old) (held_in slot.new) result }
+    ensures refused { result <ℤ pos 0 → profile.new ≡ profile.old }
+{
     let Some(object) = slot.take(alloc) else {
         return Refusal::Empty.number();
     };
@@ -109,7 +120,10 @@ pub extern "C" fn lr_ior_part(
     index: u32,
     part: u32,
     room: &mut [u8],
-) -> i64 {
+) -> i64
+    ensures copied { OnReference (OnPart index part room.old room.new) (held_in slot.old) (held_in slot.new) result }
+    ensures refused { result <ℤ pos 0 → room.new ≡ room.old }
+{
     let Some(object) = slot.take(alloc) else {
         return Refusal::Empty.number();
     };
@@ -127,7 +141,10 @@ pub extern "C" fn lr_ior_component(
     component: u32,
     tag: &mut u32,
     room: &mut [u8],
-) -> i64 {
+) -> i64
+    ensures copied { OnReference (OnComponent index component tag.old tag.new room.old room.new) (held_in slot.old) (held_in slot.new) result }
+    ensures refused { result <ℤ pos 0 → (tag.new ≡ tag.old) × (room.new ≡ room.old) }
+{
     let Some(object) = slot.take(alloc) else {
         return Refusal::Empty.number();
     };

@@ -1,0 +1,6 @@
+use Rattle.std.proofs.Common.{refl}
+use Rattle.lemonrudder.proofs.Lending.{tells-lent}
+use Rattle.lemonrudder.proofs.assembling.Assembling.message.Goals as goal
+
+pub returns-clause-told : goal.returns-clause-told
+returns-clause-told c = (refl, tells-lent _ c.in-Some.message c.args.head.now c.head_of.result c.count_of_contexts-head.result c.in-Some.ensures.lent c.head_of.ensures c.count_of_contexts-head.ensures)
