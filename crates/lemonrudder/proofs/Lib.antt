@@ -1,10 +1,14 @@
 mod Assemblers
 mod Catalogues
 mod Clients
+mod Coding
 mod Counts
+mod Declaring
 mod Ended
 mod Handing
+mod Hosting
 mod Idling
+mod Machine
 mod Owing
 mod Raising
 mod Reading

@@ -2,6 +2,7 @@
 
 ghost use Rattle.std.specs.Prelude.{Some};
 ghost use Rattle.lemonrudder.specs.Answers.{OnCatalogue};
+ghost use Rattle.lemonrudder.specs.Declares.{OnException, OnOperation};
 ghost use Rattle.lemonrudder.specs.Fills.{OnObject, OnRawObject, OnRawOperation};
 
 use crate::object::Object;
@@ -28,7 +29,9 @@ pub fn raw_object(object: &mut Object, key: &[u8]) -> i64
 }
 
 /// Declares an exception of the operation that is added next.
-pub fn exception(object: &mut Object, id: &[u8], members: &[u8]) -> i64 {
+pub fn exception(object: &mut Object, id: &[u8], members: &[u8]) -> i64
+    ensures { OnCatalogue (OnException id.now members.now) (Some object.old) (Some object.new) result }
+{
     let Object::Catalogue(catalogue) = object else {
         return Refusal::Empty.number();
     };
@@ -42,7 +45,9 @@ pub fn operation(
     name: &[u8],
     arguments: &[u8],
     results: &[u8],
-) -> i64 {
+) -> i64
+    ensures { OnCatalogue (OnOperation key.now name.now arguments.now results.now) (Some object.old) (Some object.new) result }
+{
     let Object::Catalogue(catalogue) = object else {
         return Refusal::Empty.number();
     };

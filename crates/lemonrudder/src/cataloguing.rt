@@ -34,6 +34,7 @@ fn ids_of(alloc: Global, octets: &[u8]) -> Result<Vec<Vec<u8>>, Refusal> {
 
 impl Cataloguing {
     ghost use Rattle.std.specs.Prelude.{◌≡◌};
+    ghost use Rattle.lemonrudder.specs.Declares.{OnException, OnOperation};
     ghost use Rattle.lemonrudder.specs.Fills.{OnObject, OnRawObject, OnRawOperation, empty, filling};
 
     /// A catalogue without objects.
@@ -72,7 +73,9 @@ impl Cataloguing {
     }
 
     /// Declares an exception of the operation that is added next.
-    pub fn exception(&mut self, id: &[u8], members: &[u8]) -> Result<u64, Refusal> {
+    pub fn exception(&mut self, id: &[u8], members: &[u8]) -> Result<u64, Refusal>
+        ensures { OnException id.now members.now self.old self.new result }
+    {
         let members = types_of(self.alloc, members)?;
         let id = Vec::from_slice(self.alloc, id)?;
         self.raises.push((id, members))?;
@@ -86,7 +89,9 @@ impl Cataloguing {
         name: &[u8],
         arguments: &[u8],
         results: &[u8],
-    ) -> Result<u64, Refusal> {
+    ) -> Result<u64, Refusal>
+        ensures { OnOperation key.now name.now arguments.now results.now self.old self.new result }
+    {
         let raises = mem::replace(&mut self.raises, Vec::new(self.alloc));
         let signature = Signature {
             arguments: types_of(self.alloc, arguments)?,

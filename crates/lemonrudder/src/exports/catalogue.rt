@@ -1,6 +1,7 @@
 //! Which objects a server has.
 
 ghost use Rattle.lemonrudder.specs.Answers.{OnCatalogue};
+ghost use Rattle.lemonrudder.specs.Declares.{OnException, OnOperation};
 ghost use Rattle.lemonrudder.specs.Fills.{OnObject, OnRawObject, OnRawOperation, OpensEmpty};
 ghost use Rattle.lemonrudder.specs.Slots.{held_in};
 
@@ -53,7 +54,9 @@ pub extern "C" fn lr_catalogue_exception(
     slot: &mut Slot,
     id: &[u8],
     members: &[u8],
-) -> i64 {
+) -> i64
+    ensures { OnCatalogue (OnException id.now members.now) (held_in slot.old) (held_in slot.new) result }
+{
     let Some(mut object) = slot.take(alloc) else {
         return Refusal::Empty.number();
     };
@@ -71,7 +74,9 @@ pub extern "C" fn lr_catalogue_operation(
     name: &[u8],
     arguments: &[u8],
     results: &[u8],
-) -> i64 {
+) -> i64
+    ensures { OnCatalogue (OnOperation key.now name.now arguments.now results.now) (held_in slot.old) (held_in slot.new) result }
+{
     let Some(mut object) = slot.take(alloc) else {
         return Refusal::Empty.number();
     };
