@@ -8,6 +8,7 @@ mod Ended
 mod Handing
 mod Hosting
 mod Idling
+mod Invoking
 mod Machine
 mod Owing
 mod Raising

@@ -1,12 +1,12 @@
 //! Types that are spelled by codes, and values that are octets of them.
 
-ghost use Rattle.std.specs.Prelude.{◌≡◌, ◌<◌, ◌≤◌, ◌⊎◌, [], ◌∷◌, IfOk, IfSome, IsNone};
+ghost use Rattle.std.specs.Prelude.{◌≡◌, ◌<◌, ◌≤◌, ◌⊎◌, [], ◌∷◌, IfErr, IfOk, IfSome, IsNone};
 ghost use Rattle.cdr_core.specs.Fitting.{AreValid};
 ghost use Rattle.cdr_core.specs.Spelling.{SpellsMembers};
 ghost use Rattle.cdr_core.specs.Value.{Values};
 ghost use Rattle.cdr_core.specs.View.{form_of, forms_of, values_of};
 ghost use Rattle.lemonrudder.specs.Codes.{AreTypes, IsCode};
-ghost use Rattle.lemonrudder.specs.Spelled.{AreThose};
+ghost use Rattle.lemonrudder.specs.Spelled.{AreThose, IsWhyUnread};
 
 use crate::refusal::Refusal;
 use cdr_core::{Order, Ty, Val, are_valid, read_list};
@@ -160,6 +160,7 @@ pub fn values_of(
 ) -> Result<Vec<Val>, Refusal>
     ensures spelled { IfOk result (λ v. SpellsMembers (forms_of types.now) order (values_of v.items) 0 octets.now) }
     ensures only { AreValid (forms_of types.now) → (vs : Values) → SpellsMembers (forms_of types.now) order vs 0 octets.now → AreThose vs result }
+    ensures why { AreValid (forms_of types.now) → IfErr result (λ e. IsWhyUnread (forms_of types.now) order octets.now e) }
 {
     if !are_valid(types) {
         return Err(Refusal::Types);
