@@ -7,6 +7,7 @@ mod Declaring
 mod Ended
 mod Handing
 mod Hosting
+mod Identifying
 mod Idling
 mod Invoking
 mod Machine

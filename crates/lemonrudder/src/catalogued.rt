@@ -4,6 +4,7 @@ ghost use Rattle.std.specs.Prelude.{Some};
 ghost use Rattle.lemonrudder.specs.Answers.{OnCatalogue};
 ghost use Rattle.lemonrudder.specs.Declares.{OnException, OnOperation};
 ghost use Rattle.lemonrudder.specs.Fills.{OnObject, OnRawObject, OnRawOperation};
+ghost use Rattle.lemonrudder.specs.Identifies.{OnRepositoryIds};
 
 use crate::object::Object;
 use crate::refusal::{Refusal, number_of};
@@ -65,7 +66,9 @@ pub fn raw_operation(object: &mut Object, key: &[u8], name: &[u8]) -> i64
 }
 
 /// Names the repository ids of an object.
-pub fn repository_ids(object: &mut Object, key: &[u8], ids: &[u8]) -> i64 {
+pub fn repository_ids(object: &mut Object, key: &[u8], ids: &[u8]) -> i64
+    ensures { OnCatalogue (OnRepositoryIds key.now ids.now) (Some object.old) (Some object.new) result }
+{
     let Object::Catalogue(catalogue) = object else {
         return Refusal::Empty.number();
     };

@@ -1,5 +1,7 @@
 //! Which objects and operations a server has, as its owner fills them in.
 
+ghost use Rattle.lemonrudder.specs.Identifies.{AreIds};
+
 use crate::refusal::Refusal;
 use crate::types::types_of;
 use cdr_core::Ty;
@@ -16,7 +18,9 @@ pub struct Cataloguing {
 }
 
 /// The ids in octets that have a NUL after each.
-fn ids_of(alloc: Global, octets: &[u8]) -> Result<Vec<Vec<u8>>, Refusal> {
+fn ids_of(alloc: Global, octets: &[u8]) -> Result<Vec<Vec<u8>>, Refusal>
+    ensures { AreIds octets.now result }
+{
     let mut ids = Vec::new(alloc);
     let mut id = Vec::new(alloc);
     for octet in octets {
@@ -36,6 +40,7 @@ impl Cataloguing {
     ghost use Rattle.std.specs.Prelude.{◌≡◌};
     ghost use Rattle.lemonrudder.specs.Declares.{OnException, OnOperation};
     ghost use Rattle.lemonrudder.specs.Fills.{OnObject, OnRawObject, OnRawOperation, empty, filling};
+    ghost use Rattle.lemonrudder.specs.Identifies.{OnRepositoryIds};
 
     /// A catalogue without objects.
     pub fn new(alloc: Global) -> Cataloguing
@@ -103,7 +108,9 @@ impl Cataloguing {
     }
 
     /// Names the repository ids of an object.
-    pub fn repository_ids(&mut self, key: &[u8], ids: &[u8]) -> Result<u64, Refusal> {
+    pub fn repository_ids(&mut self, key: &[u8], ids: &[u8]) -> Result<u64, Refusal>
+        ensures { OnRepositoryIds key.now ids.now self.old self.new result }
+    {
         let ids = ids_of(self.alloc, ids)?;
         self.interfaces.add_repository_ids(key, ids)?;
         Ok(0)

@@ -3,6 +3,7 @@
 ghost use Rattle.lemonrudder.specs.Answers.{OnCatalogue};
 ghost use Rattle.lemonrudder.specs.Declares.{OnException, OnOperation};
 ghost use Rattle.lemonrudder.specs.Fills.{OnObject, OnRawObject, OnRawOperation, OpensEmpty};
+ghost use Rattle.lemonrudder.specs.Identifies.{OnRepositoryIds};
 ghost use Rattle.lemonrudder.specs.Slots.{held_in};
 
 use crate::catalogued;
@@ -110,7 +111,9 @@ pub extern "C" fn lr_catalogue_repository_ids(
     slot: &mut Slot,
     key: &[u8],
     ids: &[u8],
-) -> i64 {
+) -> i64
+    ensures { OnCatalogue (OnRepositoryIds key.now ids.now) (held_in slot.old) (held_in slot.new) result }
+{
     let Some(mut object) = slot.take(alloc) else {
         return Refusal::Empty.number();
     };
