@@ -1,11 +1,17 @@
 mod Assemblers
 mod Catalogues
 mod Clients
+mod Coding
 mod Counts
+mod Declaring
 mod Ended
 mod Handing
+mod Hosting
+mod Identifying
 mod Idling
+mod Invoking
 mod Lending
+mod Machine
 mod Owing
 mod Raising
 mod Reading

@@ -3,6 +3,7 @@
 ghost use Rattle.std.specs.Prelude.{◌≡◌, ◌<ℤ◌, ◌≤ℤ◌, pos, Some};
 ghost use Rattle.lemonrudder.specs.Answers.{OnClient};
 ghost use Rattle.lemonrudder.specs.Calls.{OnBody, OnCancel, OnCompleted, OnConnected, OnFeed, OnIsConnected, OnLost, OnOutput, OnTick};
+ghost use Rattle.lemonrudder.specs.Invokes.{OnCall, question_of};
 
 use crate::calling::{Call, CompletionHead};
 use crate::object::Object;
@@ -39,7 +40,9 @@ pub fn is_connected(object: &Object) -> i64
 }
 
 /// Calls an operation.
-pub fn call(object: &mut Object, call: &Call<'_>) -> i64 {
+pub fn call(object: &mut Object, call: &Call<'_>) -> i64
+    ensures { OnClient (OnCall (question_of call.entry.now)) (Some object.old) (Some object.new) result }
+{
     let Object::Client(client) = object else {
         return Refusal::Empty.number();
     };

@@ -83,6 +83,7 @@ fn head_of(call: i32, ended: &Ended) -> CompletionHead
 impl Calling {
     ghost use Rattle.std.specs.Prelude.{◌≡◌, Ok, false, is_some};
     ghost use Rattle.lemonrudder.specs.Calls.{IsMade, OnBody, OnCancel, OnCompleted, OnConnected, OnFeed, OnIsConnected, OnLost, OnOutput, OnTick};
+    ghost use Rattle.lemonrudder.specs.Invokes.{OnCall, question_of};
 
     /// A client that is not connected.
     pub fn new(
@@ -136,9 +137,12 @@ impl Calling {
     }
 
     /// Takes a call, and answers its number.
-    pub fn call(&mut self, call: &Call<'_>) -> Result<u64, Refusal> {
+    pub fn call(&mut self, call: &Call<'_>) -> Result<u64, Refusal>
+        ensures { OnCall (question_of call.entry.now) self.old self.new result }
+    {
         let types = types_of(self.alloc, call.types)?;
-        let arguments = values_of(self.alloc, &types, order_of(call.order)?, call.arguments)?;
+        let order = order_of(call.order)?;
+        let arguments = values_of(self.alloc, &types, order, call.arguments)?;
         if !has_no_nul(call.operation) {
             return Err(Refusal::Text);
         }

@@ -2,7 +2,9 @@
 
 ghost use Rattle.std.specs.Prelude.{Some};
 ghost use Rattle.lemonrudder.specs.Answers.{OnCatalogue};
+ghost use Rattle.lemonrudder.specs.Declares.{OnException, OnOperation};
 ghost use Rattle.lemonrudder.specs.Fills.{OnObject, OnRawObject, OnRawOperation};
+ghost use Rattle.lemonrudder.specs.Identifies.{OnRepositoryIds};
 
 use crate::object::Object;
 use crate::refusal::{Refusal, number_of};
@@ -28,7 +30,9 @@ pub fn raw_object(object: &mut Object, key: &[u8]) -> i64
 }
 
 /// Declares an exception of the operation that is added next.
-pub fn exception(object: &mut Object, id: &[u8], members: &[u8]) -> i64 {
+pub fn exception(object: &mut Object, id: &[u8], members: &[u8]) -> i64
+    ensures { OnCatalogue (OnException id.now members.now) (Some object.old) (Some object.new) result }
+{
     let Object::Catalogue(catalogue) = object else {
         return Refusal::Empty.number();
     };
@@ -42,7 +46,9 @@ pub fn operation(
     name: &[u8],
     arguments: &[u8],
     results: &[u8],
-) -> i64 {
+) -> i64
+    ensures { OnCatalogue (OnOperation key.now name.now arguments.now results.now) (Some object.old) (Some object.new) result }
+{
     let Object::Catalogue(catalogue) = object else {
         return Refusal::Empty.number();
     };
@@ -60,7 +66,9 @@ pub fn raw_operation(object: &mut Object, key: &[u8], name: &[u8]) -> i64
 }
 
 /// Names the repository ids of an object.
-pub fn repository_ids(object: &mut Object, key: &[u8], ids: &[u8]) -> i64 {
+pub fn repository_ids(object: &mut Object, key: &[u8], ids: &[u8]) -> i64
+    ensures { OnCatalogue (OnRepositoryIds key.now ids.now) (Some object.old) (Some object.new) result }
+{
     let Object::Catalogue(catalogue) = object else {
         return Refusal::Empty.number();
     };

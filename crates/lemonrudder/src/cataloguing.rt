@@ -1,5 +1,7 @@
 //! Which objects and operations a server has, as its owner fills them in.
 
+ghost use Rattle.lemonrudder.specs.Identifies.{AreIds};
+
 use crate::refusal::Refusal;
 use crate::types::types_of;
 use cdr_core::Ty;
@@ -16,7 +18,9 @@ pub struct Cataloguing {
 }
 
 /// The ids in octets that have a NUL after each.
-fn ids_of(alloc: Global, octets: &[u8]) -> Result<Vec<Vec<u8>>, Refusal> {
+fn ids_of(alloc: Global, octets: &[u8]) -> Result<Vec<Vec<u8>>, Refusal>
+    ensures { AreIds octets.now result }
+{
     let mut ids = Vec::new(alloc);
     let mut id = Vec::new(alloc);
     for octet in octets {
@@ -34,7 +38,9 @@ fn ids_of(alloc: Global, octets: &[u8]) -> Result<Vec<Vec<u8>>, Refusal> {
 
 impl Cataloguing {
     ghost use Rattle.std.specs.Prelude.{◌≡◌};
+    ghost use Rattle.lemonrudder.specs.Declares.{OnException, OnOperation};
     ghost use Rattle.lemonrudder.specs.Fills.{OnObject, OnRawObject, OnRawOperation, empty, filling};
+    ghost use Rattle.lemonrudder.specs.Identifies.{OnRepositoryIds};
 
     /// A catalogue without objects.
     pub fn new(alloc: Global) -> Cataloguing
@@ -72,7 +78,9 @@ impl Cataloguing {
     }
 
     /// Declares an exception of the operation that is added next.
-    pub fn exception(&mut self, id: &[u8], members: &[u8]) -> Result<u64, Refusal> {
+    pub fn exception(&mut self, id: &[u8], members: &[u8]) -> Result<u64, Refusal>
+        ensures { OnException id.now members.now self.old self.new result }
+    {
         let members = types_of(self.alloc, members)?;
         let id = Vec::from_slice(self.alloc, id)?;
         self.raises.push((id, members))?;
@@ -86,7 +94,9 @@ impl Cataloguing {
         name: &[u8],
         arguments: &[u8],
         results: &[u8],
-    ) -> Result<u64, Refusal> {
+    ) -> Result<u64, Refusal>
+        ensures { OnOperation key.now name.now arguments.now results.now self.old self.new result }
+    {
         let raises = mem::replace(&mut self.raises, Vec::new(self.alloc));
         let signature = Signature {
             arguments: types_of(self.alloc, arguments)?,
@@ -98,7 +108,9 @@ impl Cataloguing {
     }
 
     /// Names the repository ids of an object.
-    pub fn repository_ids(&mut self, key: &[u8], ids: &[u8]) -> Result<u64, Refusal> {
+    pub fn repository_ids(&mut self, key: &[u8], ids: &[u8]) -> Result<u64, Refusal>
+        ensures { OnRepositoryIds key.now ids.now self.old self.new result }
+    {
         let ids = ids_of(self.alloc, ids)?;
         self.interfaces.add_repository_ids(key, ids)?;
         Ok(0)

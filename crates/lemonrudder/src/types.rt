@@ -1,11 +1,12 @@
 //! Types that are spelled by codes, and values that are octets of them.
 
-ghost use Rattle.std.specs.Prelude.{IfOk};
+ghost use Rattle.std.specs.Prelude.{◌≡◌, ◌<◌, ◌≤◌, ◌⊎◌, [], ◌∷◌, IfErr, IfOk, IfSome, IsNone};
 ghost use Rattle.cdr_core.specs.Fitting.{AreValid};
 ghost use Rattle.cdr_core.specs.Spelling.{SpellsMembers};
 ghost use Rattle.cdr_core.specs.Value.{Values};
-ghost use Rattle.cdr_core.specs.View.{forms_of, values_of};
-ghost use Rattle.lemonrudder.specs.Spelled.{AreThose};
+ghost use Rattle.cdr_core.specs.View.{form_of, forms_of, values_of};
+ghost use Rattle.lemonrudder.specs.Codes.{AreTypes, IsCode};
+ghost use Rattle.lemonrudder.specs.Spelled.{AreThose, IsWhyUnread};
 
 use crate::refusal::Refusal;
 use cdr_core::{Order, Ty, Val, are_valid, read_list};
@@ -29,7 +30,10 @@ struct Spelling {
 }
 
 /// The basic type of a code, if it has one.
-fn basic(code: u8) -> Option<Ty> {
+fn basic(code: u8) -> Option<Ty>
+    ensures some { IfSome result (λ ty. IsCode (form_of ty) (code ∷ [])) }
+    ensures none { IsNone result → (code ≡ 0) ⊎ (11 < code) }
+{
     match code {
         1 => Some(Ty::Boolean),
         2 => Some(Ty::Char),
@@ -47,19 +51,26 @@ fn basic(code: u8) -> Option<Ty> {
 }
 
 impl Spelling {
+    ghost use Rattle.std.specs.Prelude.{◌≡◌, None};
+    ghost use Rattle.lemonrudder.specs.Decoding.{ReadsMore, waiting};
+
     /// The last types, as members of a struct.
-    fn join(&mut self, count: u8) -> Result<(), Refusal> {
-        let mut members = Vec::new(self.alloc);
-        for _ in 0..count {
-            members.push(self.types.pop().ok_or(Refusal::Types)?)?;
-        }
-        members.reverse();
+    fn join(&mut self, count: u8) -> Result<(), Refusal>
+        ensures { self.old.waits ≡ None → ReadsMore count (waiting Counted.Struct self.old) self.new result }
+    {
+        let count = usize::from(count);
+        let Some(at) = self.types.len().checked_sub(count) else {
+            return Err(Refusal::Types);
+        };
+        let members = self.types.split_off(at)?;
         self.types.push(Ty::Struct(members))?;
         Ok(())
     }
 
     /// Takes the number after a code.
-    fn count(&mut self, counted: Counted, number: u8) -> Result<(), Refusal> {
+    fn count(&mut self, counted: Counted, number: u8) -> Result<(), Refusal>
+        ensures { self.old.waits ≡ None → ReadsMore number (waiting counted self.old) self.new result }
+    {
         match counted {
             Counted::Enum => {
                 self.types.push(Ty::Enum(u32::from(number)))?;
@@ -69,34 +80,70 @@ impl Spelling {
         }
     }
 
-    /// Takes a code.
-    fn code(&mut self, code: u8) -> Result<(), Refusal> {
-        match code {
-            12 => {
-                let element = self.types.pop().ok_or(Refusal::Types)?;
-                let element = Box::new(self.alloc, element)?;
-                self.types.push(Ty::Seq(u32::MAX, element))?;
-            }
-            13 => self.waits = Some(Counted::Enum),
-            14 => self.waits = Some(Counted::Struct),
-            _ => self.types.push(basic(code).ok_or(Refusal::Types)?)?,
-        }
+    /// The last type, as the element of a sequence.
+    fn sequence(&mut self) -> Result<(), Refusal>
+        ensures { self.old.waits ≡ None → ReadsMore 12 self.old self.new result }
+    {
+        let Some(element) = self.types.pop() else {
+            return Err(Refusal::Types);
+        };
+        let element = Box::new(self.alloc, element)?;
+        self.types.push(Ty::Seq(u32::MAX, element))?;
         Ok(())
+    }
+
+    /// A type of one part.
+    fn basic(&mut self, code: u8) -> Result<(), Refusal>
+        requires { (code ≤ 11) ⊎ (14 < code) }
+        ensures { self.old.waits ≡ None → ReadsMore code self.old self.new result }
+    {
+        let Some(ty) = basic(code) else {
+            return Err(Refusal::Types);
+        };
+        self.types.push(ty)?;
+        Ok(())
+    }
+
+    /// Takes a code.
+    fn code(&mut self, code: u8) -> Result<(), Refusal>
+        ensures { self.old.waits ≡ None → ReadsMore code self.old self.new result }
+    {
+        match code {
+            12 => self.sequence(),
+            13 => {
+                self.waits = Some(Counted::Enum);
+                Ok(())
+            }
+            14 => {
+                self.waits = Some(Counted::Struct);
+                Ok(())
+            }
+            _ => self.basic(code),
+        }
+    }
+
+    /// Takes a code, or the number after one.
+    fn take(&mut self, code: u8) -> Result<(), Refusal>
+        ensures { ReadsMore code self.old self.new result }
+    {
+        match self.waits.take() {
+            Some(counted) => self.count(counted, code),
+            None => self.code(code),
+        }
     }
 }
 
 /// The types that codes spell, which are valid.
-pub fn types_of(alloc: Global, codes: &[u8]) -> Result<Vec<Ty>, Refusal> {
+pub fn types_of(alloc: Global, codes: &[u8]) -> Result<Vec<Ty>, Refusal>
+    ensures { AreTypes codes.now result }
+{
     let mut spelling = Spelling {
         alloc,
         types: Vec::new(alloc),
         waits: None,
     };
     for code in codes {
-        match spelling.waits.take() {
-            Some(counted) => spelling.count(counted, *code)?,
-            None => spelling.code(*code)?,
-        }
+        spelling.take(*code)?;
     }
     if spelling.waits.is_some() || !are_valid(&spelling.types) {
         return Err(Refusal::Types);
@@ -113,6 +160,7 @@ pub fn values_of(
 ) -> Result<Vec<Val>, Refusal>
     ensures spelled { IfOk result (λ v. SpellsMembers (forms_of types.now) order (values_of v.items) 0 octets.now) }
     ensures only { AreValid (forms_of types.now) → (vs : Values) → SpellsMembers (forms_of types.now) order vs 0 octets.now → AreThose vs result }
+    ensures why { AreValid (forms_of types.now) → IfErr result (λ e. IsWhyUnread (forms_of types.now) order octets.now e) }
 {
     if !are_valid(types) {
         return Err(Refusal::Types);

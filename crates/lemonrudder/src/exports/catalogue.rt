@@ -1,7 +1,9 @@
 //! Which objects a server has.
 
 ghost use Rattle.lemonrudder.specs.Answers.{OnCatalogue};
+ghost use Rattle.lemonrudder.specs.Declares.{OnException, OnOperation};
 ghost use Rattle.lemonrudder.specs.Fills.{OnObject, OnRawObject, OnRawOperation, OpensEmpty};
+ghost use Rattle.lemonrudder.specs.Identifies.{OnRepositoryIds};
 ghost use Rattle.lemonrudder.specs.Slots.{held_in};
 
 use crate::catalogued;
@@ -53,7 +55,9 @@ pub extern "C" fn lr_catalogue_exception(
     slot: &mut Slot,
     id: &[u8],
     members: &[u8],
-) -> i64 {
+) -> i64
+    ensures { OnCatalogue (OnException id.now members.now) (held_in slot.old) (held_in slot.new) result }
+{
     let Some(mut object) = slot.take(alloc) else {
         return Refusal::Empty.number();
     };
@@ -71,7 +75,9 @@ pub extern "C" fn lr_catalogue_operation(
     name: &[u8],
     arguments: &[u8],
     results: &[u8],
-) -> i64 {
+) -> i64
+    ensures { OnCatalogue (OnOperation key.now name.now arguments.now results.now) (held_in slot.old) (held_in slot.new) result }
+{
     let Some(mut object) = slot.take(alloc) else {
         return Refusal::Empty.number();
     };
@@ -105,7 +111,9 @@ pub extern "C" fn lr_catalogue_repository_ids(
     slot: &mut Slot,
     key: &[u8],
     ids: &[u8],
-) -> i64 {
+) -> i64
+    ensures { OnCatalogue (OnRepositoryIds key.now ids.now) (held_in slot.old) (held_in slot.new) result }
+{
     let Some(mut object) = slot.take(alloc) else {
         return Refusal::Empty.number();
     };

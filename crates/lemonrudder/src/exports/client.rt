@@ -3,6 +3,7 @@
 ghost use Rattle.std.specs.Prelude.{◌≡◌, ◌<ℤ◌, ◌≤ℤ◌, pos};
 ghost use Rattle.lemonrudder.specs.Answers.{OnClient};
 ghost use Rattle.lemonrudder.specs.Calls.{IsMade, OnBody, OnCancel, OnCompleted, OnConnected, OnFeed, OnIsConnected, OnLost, OnOutput, OnTick};
+ghost use Rattle.lemonrudder.specs.Invokes.{OnCall, question};
 ghost use Rattle.lemonrudder.specs.Opening.{OpensMade};
 ghost use Rattle.lemonrudder.specs.Slots.{held_in};
 
@@ -83,7 +84,9 @@ pub extern "C" fn lr_client_call(
     types: &[u8],
     order: u32,
     arguments: &[u8],
-) -> i64 {
+) -> i64
+    ensures { OnClient (OnCall (question now expiration key.now operation.now types.now order arguments.now)) (held_in slot.old) (held_in slot.new) result }
+{
     let call = Call {
         now,
         expiration,

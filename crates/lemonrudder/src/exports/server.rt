@@ -2,10 +2,11 @@
 
 ghost use Rattle.std.specs.Prelude.{◌≡◌};
 ghost use Rattle.lemonrudder.specs.Answers.{OnServer};
+ghost use Rattle.lemonrudder.specs.Hosting.{Hosts, Leaves, OpensServer};
 ghost use Rattle.lemonrudder.specs.Outcomes.{OnAnswer, OnAnswerRaw, OnIdentify, OnRaise, OnSystem};
 ghost use Rattle.lemonrudder.specs.Questions.{OnAsked, OnPart};
 ghost use Rattle.lemonrudder.specs.Serves.{HasNoServer, OnConnect, OnFarewell, OnFeed, OnGiveUp, OnIsClosed, OnLost, OnOutput};
-ghost use Rattle.lemonrudder.specs.Slots.{held_in};
+ghost use Rattle.lemonrudder.specs.Slots.{held_in, unboxed};
 
 use crate::object::Object;
 use crate::refusal::Refusal;
@@ -19,19 +20,33 @@ use std::alloc::Global;
 use std::hash::RandomState;
 use std::mem;
 
-/// The server of a catalogue's objects. The catalogue stays where it is refused.
-fn opened(alloc: Global, catalogue: &mut Slot, terms: Terms) -> Result<Box<Object>, Refusal> {
+/// Makes a catalogue a server of its objects.
+fn host(alloc: Global, object: &mut Object, terms: Terms) -> Result<(), Refusal>
+    ensures { Hosts terms.limits terms.capacity terms.share object.old object.new result }
+{
+    let Object::Catalogue(catalogue) = object else {
+        return Err(Refusal::Empty);
+    };
     let hasher = RandomState::new(&terms.seed).map_err(|_| Refusal::Memory)?;
+    let interfaces = mem::replace(&mut catalogue.interfaces, Interfaces::new(alloc));
+    *object = Object::Server(Serving::new(alloc, interfaces, terms, hasher));
+    Ok(())
+}
+
+/// The server of a catalogue's objects. The catalogue stays where it is refused.
+fn opened(alloc: Global, catalogue: &mut Slot, terms: Terms) -> Result<Box<Object>, Refusal>
+    ensures { Leaves terms.limits terms.capacity terms.share (held_in catalogue.old) (held_in catalogue.new) (unboxed result) }
+{
     let Some(mut object) = catalogue.take(alloc) else {
         return Err(Refusal::Empty);
     };
-    let Object::Catalogue(it) = &mut *object else {
-        catalogue.put(object);
-        return Err(Refusal::Empty);
-    };
-    let interfaces = mem::replace(&mut it.interfaces, Interfaces::new(alloc));
-    *object = Object::Server(Serving::new(alloc, interfaces, terms, hasher));
-    Ok(object)
+    match host(alloc, &mut object, terms) {
+        Ok(()) => Ok(object),
+        Err(refusal) => {
+            catalogue.put(object);
+            Err(refusal)
+        }
+    }
 }
 
 /// Opens a server of the objects of a catalogue, which is empty afterwards.
@@ -46,7 +61,9 @@ pub extern "C" fn lr_server_open(
     share: u32,
     seed_low: u64,
     seed_high: u64,
-) -> i64 {
+) -> i64
+    ensures { OpensServer message_limit partials capacity share (held_in slot.old) (held_in slot.new) (held_in catalogue.old) (held_in catalogue.new) result }
+{
     if !slot.is_empty() {
         return Refusal::Open.number();
     }
