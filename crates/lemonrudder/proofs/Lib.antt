@@ -3,9 +3,11 @@ mod Catalogues
 mod Clients
 mod Counts
 mod Ended
+mod Finding
 mod Handing
 mod Idling
 mod Owing
+mod Putting
 mod Raising
 mod Reading
 mod References
