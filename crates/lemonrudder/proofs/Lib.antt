@@ -14,3 +14,4 @@ mod References
 mod Servers
 mod Telling
 mod Values
+mod Written
