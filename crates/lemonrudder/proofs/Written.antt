@@ -53,7 +53,7 @@ none_behind V11 o place = refl
 none_behind V12 o place = refl
 
 -- it is no shorter than without its body
-pub shorter : (v : Version) (o : Order) (fields : List Value) (body : Values) → length (behind_header v kind.Request o fields no_values) ≤ length (behind_header v kind.Request o fields body)
+shorter : (v : Version) (o : Order) (fields : List Value) (body : Values) → length (behind_header v kind.Request o fields no_values) ≤ length (behind_header v kind.Request o fields body)
 unfolding behind_header
 shorter v o fields body =
     let front : List ℕ = octets_of_all o (values fields) 12 in
@@ -69,11 +69,11 @@ same_body V11 o octets place = same_octets o octets place
 same_body V12 o octets place = ap (behind_gap (padding place 8)) (same_octets o octets (place + padding place 8))
 
 -- octets as values, one after another, are the body of these octets
-pub same_request : (v : Version) (o : Order) (fields : List Value) (octets : List ℕ) → behind_header v kind.Request o fields (values (map octet_value octets)) ≡ behind_header v kind.Request o fields (octets_body octets)
+same_request : (v : Version) (o : Order) (fields : List Value) (octets : List ℕ) → behind_header v kind.Request o fields (values (map octet_value octets)) ≡ behind_header v kind.Request o fields (octets_body octets)
 unfolding behind_header
 same_request v o fields octets = ap (λ ys. octets_of_all o (values fields) 12 ++ ys) (same_body v o octets (12 + length (octets_of_all o (values fields) 12)))
 
-pub read_request : (v : Version) (o : Order) (fields : List Value) (vs : List Val) (octets : List ℕ) → map value_of vs ≡ map octet_value octets → behind_header v kind.Request o fields (values_of vs) ≡ behind_header v kind.Request o fields (octets_body octets)
+read_request : (v : Version) (o : Order) (fields : List Value) (vs : List Val) (octets : List ℕ) → map value_of vs ≡ map octet_value octets → behind_header v kind.Request o fields (values_of vs) ≡ behind_header v kind.Request o fields (octets_body octets)
 read_request v o fields vs octets is = ap (λ all. behind_header v kind.Request o fields (values all)) is ∙ same_request v o fields octets
 
 -- what a Request is refused, before its body is written and with it
@@ -97,8 +97,8 @@ asks Can whole out octets room new r can few is all none = subst (λ xs. placed 
 -- without a body
 pub asks_bare : (v : Version) (o : Order) (fields : List Value) (place : ℕ) (body old made out room new : List ℕ) (b : Bool) (r : Result ℕ Refusal) → b ≡ (length body == 0) → b ≡ true → old ≡ [] → Wrote {A = Unit {0}} v kind.Request o (behind_header v kind.Request o fields no_values) (Ok tt) old made → out ≡ made
     → (length out ≤ length room → (r ≡ Ok (length out)) × (new ≡ filled out room)) → (length room < length out → (r ≡ Err refusal.Room) × (new ≡ room)) → placed (CanStand v place body) (message v kind.Request o (behind_header v kind.Request o fields (octets_body body))) room new r
-asks_bare v o fields place body old made out room new b r empty some none wrote lent all nothing =
-    let bare : body ≡ [] = no_octets body b empty some in
+asks_bare v o fields place body old made out room new b r counts is_empty none wrote lent all nothing =
+    let bare : body ≡ [] = no_octets body b counts is_empty in
     let is : out ≡ message_octets v kind.Request o (behind_header v kind.Request o fields no_values) = lent ∙ wrote.1 ∙ ap (λ xs. xs ++ message_octets v kind.Request o (behind_header v kind.Request o fields no_values)) none in
     subst (λ xs. placed (CanStand v place xs) (message v kind.Request o (behind_header v kind.Request o fields (octets_body xs))) room new r) (sym bare)
     (subst (λ after. placed (CanStand v place []) (message v kind.Request o after) room new r) (same_request v o fields [])
