@@ -5,6 +5,7 @@ mod Coding
 mod Counts
 mod Declaring
 mod Ended
+mod Finding
 mod Handing
 mod Hosting
 mod Identifying
@@ -13,6 +14,7 @@ mod Invoking
 mod Lending
 mod Machine
 mod Owing
+mod Putting
 mod Raising
 mod Reading
 mod References
@@ -20,3 +22,4 @@ mod Refusing
 mod Servers
 mod Telling
 mod Values
+mod Written

@@ -1,5 +1,5 @@
 -- Numbers of the header, and what they name.
-use Rattle.std.specs.Prelude.{◌≡◌, ℕ, ◌≤◌, List, [], ◌∷◌, slice_get, Option, Some, None, Result, Ok, Err, ◌==◌, if◌then◌else◌}
+use Rattle.std.specs.Prelude.{◌≡◌, ℕ, ◌≤◌, [], ◌∷◌, slice_get, Option, Some, None, Result, Ok, Err, ◌==◌, if◌then◌else◌}
 use Rattle.cdr_core.specs.declared.order.Order.{Order}
 use Rattle.cdr_core.specs.declared.order.Order.TheVariants.{Big, Little}
 use Rattle.giop_core.specs.declared.header.Version.{Version}
@@ -47,6 +47,10 @@ abbrev pub wish_number : ReplyWish → ℕ
 wish_number wish.None = 0
 wish_number wish.Empty = 1
 wish_number wish.Full = 2
+
+-- the number of a wish names it
+abbrev pub wish_named : ℕ → Option ReplyWish
+wish_named n = if n == 0 then Some wish.None else (if n == 1 then Some wish.Empty else (if n == 2 then Some wish.Full else None))
 
 -- the minor number of a version names it
 abbrev pub version_named : ℕ → Option Version

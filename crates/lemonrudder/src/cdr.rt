@@ -1,12 +1,17 @@
 //! CDR (CORBA 3.3 Part 2, 9.3) in octets of the caller, without an allocation.
 
 ghost use Rattle.std.specs.Prelude.{◌≡◌, ◌<◌, ◌≤◌, ◌+◌, ◌^◌, [], ◌∷◌, ◌++◌, length, replicate, Err};
+ghost use Rattle.cdr_core.specs.Parts.{raw, text};
+ghost use Rattle.cdr_core.specs.Reading.{value_at};
 ghost use Rattle.cdr_core.specs.Spelling.{IsClean};
+ghost use Rattle.cdr_core.specs.Value as value;
+ghost use Rattle.lemonrudder.specs.Finds.{Lends, behind_length, inside, order_in};
 ghost use Rattle.lemonrudder.specs.Naming.{by_order, order_named};
-ghost use Rattle.lemonrudder.specs.Places.{before, padded, position_at, put_counted, written, Writes};
+ghost use Rattle.lemonrudder.specs.Places.{before, padded, position_at, put_counted, read_at, written, Writes};
 
 use crate::named::{number_of_order, order_of};
 use crate::refusal::{Refusal, count_of};
+use cdr_core::laws::read_is_spelled;
 use cdr_core::{Cursor, Order, has_no_nul};
 
 /// Where reading or writing stands: `lr_place`.
@@ -22,10 +27,11 @@ pub struct Place {
 }
 
 /// The order of an encapsulation, by its first octet.
-pub fn order_in(octets: &[u8]) -> Result<Order, Refusal> {
+pub fn order_in(octets: &[u8]) -> Result<Order, Refusal>
+    ensures { result ≡ order_in octets.now }
+{
     match octets.first() {
-        Some(octet) if *octet <= 1 => order_of(u32::from(*octet)),
-        Some(_) => Err(Refusal::Value),
+        Some(octet) => order_of(u32::from(*octet)).map_err(|_| Refusal::Value),
         None => Err(Refusal::Short),
     }
 }
@@ -67,22 +73,43 @@ impl Place {
         self.next = count_of(octets).saturating_sub(count_of(cursor.rest()));
     }
 
-    /// Moves past octets that were read, the first of which stands at a cursor, and says where they lie: the index of
-    /// the first, and how many there are.
-    pub fn pass(
-        &mut self,
-        octets: &[u8],
-        first: &Cursor<'_>,
-        cursor: &Cursor<'_>,
-        read: &[u8],
-    ) -> (u64, u64) {
-        self.follow(octets, cursor);
-        let start = count_of(octets).saturating_sub(count_of(first.rest()));
-        (start, count_of(read))
+    /// The index of the first octet after a length that is to be read.
+    fn behind_length(&self) -> u64
+        requires { self.now.at + self.now.next < 2 ^ 32 }
+        ensures { result ≡ behind_length self.now }
+    {
+        let padding = (4 - (self.at + self.next) % 4) % 4;
+        self.next + (padding + 4)
+    }
+
+    /// Reads a sequence of octets: the index of the first, and the octets.
+    pub fn octets<'o>(&mut self, octets: &'o [u8]) -> Result<(u64, &'o [u8]), Refusal>
+        ensures { Lends value.octets (read_at (value_at raw) self.old octets.now) octets.now self.old self.new result }
+    {
+        read_is_spelled();
+        let mut cursor = self.cursor(octets)?;
+        let start = self.behind_length();
+        let found = cursor.octets()?;
+        self.follow(octets, &cursor);
+        Ok((start, found))
+    }
+
+    /// Reads a string: the index of its first octet, and its octets without the NUL.
+    pub fn string<'o>(&mut self, octets: &'o [u8]) -> Result<(u64, &'o [u8]), Refusal>
+        ensures { Lends value.string (read_at (value_at text) self.old octets.now) octets.now self.old self.new result }
+    {
+        read_is_spelled();
+        let mut cursor = self.cursor(octets)?;
+        let start = self.behind_length();
+        let found = cursor.string()?;
+        self.follow(octets, &cursor);
+        Ok((start, found))
     }
 
     /// The place in an encapsulation after its octet of the byte order.
-    pub fn inner(order: Order) -> Place {
+    pub fn inner(order: Order) -> Place
+        ensures { result ≡ inside order }
+    {
         Place {
             at: 0,
             next: 1,

@@ -1,11 +1,20 @@
 //! Messages that are written into the caller's room.
 
+ghost use Rattle.std.specs.Prelude.{◌≡◌, ◌↔◌, IsTrue, MatchResult, map};
+ghost use Rattle.cdr_core.specs.Parts.{octet_value};
+ghost use Rattle.cdr_core.specs.Spelling.{IsClean};
+ghost use Rattle.cdr_core.specs.View.{value_of, values_of};
+ghost use Rattle.cdr_core.specs.Writing.{AreWritable};
+ghost use Rattle.giop_core.specs.declared.header.MessageKind.TheVariants as kind;
+ghost use Rattle.giop_core.specs.Written.{CanAsk, Wrote, behind_header};
+ghost use Rattle.lemonrudder.specs.Writes.{CanBegin, IsManner, asked, asked_fields, bare, cancel, ft_context, locate_reply, locate_request, reply, request, said_by};
+
 use crate::named::{order_of, version_of, wish_of};
 use crate::refusal::{Refusal, fitted};
 use cdr_core::{Order, Val, has_no_nul};
 use giop_core::{
-    Target, Version, write_cancel, write_close, write_error, write_ft, write_locate_reply,
-    write_locate_request, write_raw_reply, write_request,
+    ReplyWish, Target, Version, WriteError, write_cancel, write_close, write_error, write_ft,
+    write_locate_reply, write_locate_request, write_raw_reply, write_request,
 };
 use std::alloc::Global;
 
@@ -29,45 +38,77 @@ pub struct Manner {
 }
 
 impl Manner {
-    pub fn new(version: u32, order: u32) -> Result<Manner, Refusal> {
+    pub fn new(version: u32, order: u32) -> Result<Manner, Refusal>
+        ensures { IsManner version order result }
+    {
         Ok(Manner {
             version: version_of(version)?,
             order: order_of(order)?,
         })
     }
 
-    /// Appends a Request with a body of these octets.
-    fn put_request(
+    /// Appends a Request with these values in its body.
+    fn append(
         self,
         asking: &Asking<'_>,
+        wish: ReplyWish,
         body: &[Val],
         out: &mut Vec<u8>,
-    ) -> Result<(), Refusal> {
-        let wish = wish_of(asking.wish)?;
-        let target = Target::Key(asking.key);
-        if !self.version.can_ask(wish) || !self.version.can_address(&target) {
-            return Err(Refusal::Range);
-        }
-        if !has_no_nul(asking.operation) {
-            return Err(Refusal::Text);
-        }
+    ) -> Result<(), WriteError>
+        requires wish { CanAsk self.version wish }
+        requires clean { IsClean asking.now.operation.now }
+        requires writable { AreWritable (values_of body.now) }
+        ensures { Wrote self.version kind.Request self.order (behind_header self.version kind.Request self.order (asked_fields self.version wish (said_by asking.now)) (values_of body.now)) result out.old.items out.new.items }
+    {
         let one = [(asking.context_id, asking.context)];
         let contexts = &one[..usize::from(!asking.context.is_empty())];
-        if !cdr_core::are_writable(body) {
-            return Err(Refusal::Long);
-        }
         write_request(
             self.version,
             self.order,
             asking.request_id,
             wish,
-            &target,
+            &Target::Key(asking.key),
             asking.operation,
             contexts,
             body,
             out,
-        )?;
-        Ok(())
+        )
+    }
+
+    /// Whether a body that is written for a place divisible by 8 can begin at a place: 1.2 has padding before it.
+    fn can_begin(self, place: usize) -> bool
+        ensures { IsTrue result ↔ CanBegin self.version place }
+    {
+        match self.version {
+            Version::V10 | Version::V11 => place % 8 == 0,
+            Version::V12 => true,
+        }
+    }
+
+    /// Writes a Request of this wish.
+    fn ask(
+        self,
+        alloc: Global,
+        asking: &Asking<'_>,
+        wish: ReplyWish,
+        room: &mut [u8],
+    ) -> Result<u64, Refusal>
+        requires wish { CanAsk self.version wish }
+        requires clean { IsClean asking.now.operation.now }
+        ensures { asked self.version self.order wish (said_by asking.now) room.old room.new result }
+    {
+        let mut out = Vec::new(alloc);
+        self.append(asking, wish, &[], &mut out)?;
+        if asking.body.is_empty() {
+            return fitted(&out, room);
+        }
+        if !self.can_begin(out.len()) {
+            return Err(Refusal::Place);
+        }
+        out.clear();
+        let body = values_of_octets(alloc, asking.body)?;
+        self.append(asking, wish, &body, &mut out)?;
+        fitted(&out, room)
     }
 
     /// Writes a Request.
@@ -76,23 +117,17 @@ impl Manner {
         alloc: Global,
         asking: &Asking<'_>,
         room: &mut [u8],
-    ) -> Result<u64, Refusal> {
-        let mut out = Vec::new(alloc);
-        self.put_request(asking, &[], &mut out)?;
-        if asking.body.is_empty() {
-            return fitted(&out, room);
+    ) -> Result<u64, Refusal>
+        ensures { request self.version self.order (said_by asking.now) room.old room.new result }
+    {
+        let wish = wish_of(asking.wish)?;
+        if !self.version.can_ask(wish) {
+            return Err(Refusal::Range);
         }
-        let is_aligned = match self.version {
-            Version::V12 => true,
-            _ => out.len() % 8 == 0,
-        };
-        if !is_aligned {
-            return Err(Refusal::Place);
+        if !has_no_nul(asking.operation) {
+            return Err(Refusal::Text);
         }
-        out.clear();
-        let body = values_of_octets(alloc, asking.body)?;
-        self.put_request(asking, &body, &mut out)?;
-        fitted(&out, room)
+        self.ask(alloc, asking, wish, room)
     }
 
     /// Writes a Reply.
@@ -103,7 +138,9 @@ impl Manner {
         status: u32,
         body: &[u8],
         room: &mut [u8],
-    ) -> Result<u64, Refusal> {
+    ) -> Result<u64, Refusal>
+        ensures { reply self.version self.order request_id status body.now room.old room.new result }
+    {
         if !self.version.has_reply_status(status) {
             return Err(Refusal::Range);
         }
@@ -121,7 +158,9 @@ impl Manner {
     }
 
     /// Writes a CancelRequest.
-    pub fn cancel(self, alloc: Global, request_id: u32, room: &mut [u8]) -> Result<u64, Refusal> {
+    pub fn cancel(self, alloc: Global, request_id: u32, room: &mut [u8]) -> Result<u64, Refusal>
+        ensures { cancel self.version self.order request_id room.old room.new result }
+    {
         let mut out = Vec::new(alloc);
         write_cancel(self.version, self.order, request_id, &mut out)?;
         fitted(&out, room)
@@ -134,12 +173,11 @@ impl Manner {
         request_id: u32,
         key: &[u8],
         room: &mut [u8],
-    ) -> Result<u64, Refusal> {
-        let target = Target::Key(key);
-        if !self.version.can_address(&target) {
-            return Err(Refusal::Range);
-        }
+    ) -> Result<u64, Refusal>
+        ensures { locate_request self.version self.order request_id key.now room.old room.new result }
+    {
         let mut out = Vec::new(alloc);
+        let target = Target::Key(key);
         write_locate_request(self.version, self.order, request_id, &target, &mut out)?;
         fitted(&out, room)
     }
@@ -151,7 +189,9 @@ impl Manner {
         request_id: u32,
         status: u32,
         room: &mut [u8],
-    ) -> Result<u64, Refusal> {
+    ) -> Result<u64, Refusal>
+        ensures { locate_reply self.version self.order request_id status room.old room.new result }
+    {
         if !self.version.has_locate_status(status) {
             return Err(Refusal::Range);
         }
@@ -162,7 +202,9 @@ impl Manner {
 }
 
 /// Octets as values, one after another.
-fn values_of_octets(alloc: Global, octets: &[u8]) -> Result<Vec<Val>, Refusal> {
+fn values_of_octets(alloc: Global, octets: &[u8]) -> Result<Vec<Val>, Refusal>
+    ensures { MatchResult result (λ all. map value_of all.items ≡ map octet_value octets.now) (λ e. e ≡ Refusal.Memory) }
+{
     let mut values = Vec::with_capacity(alloc, octets.len())?;
     for octet in octets {
         values.push(Val::Octet(*octet))?;
@@ -171,14 +213,18 @@ fn values_of_octets(alloc: Global, octets: &[u8]) -> Result<Vec<Val>, Refusal> {
 }
 
 /// Writes CloseConnection.
-pub fn close(alloc: Global, room: &mut [u8]) -> Result<u64, Refusal> {
+pub fn close(alloc: Global, room: &mut [u8]) -> Result<u64, Refusal>
+    ensures { bare kind.CloseConnection room.old room.new result }
+{
     let mut out = Vec::new(alloc);
     write_close(&mut out)?;
     fitted(&out, room)
 }
 
 /// Writes MessageError.
-pub fn error(alloc: Global, room: &mut [u8]) -> Result<u64, Refusal> {
+pub fn error(alloc: Global, room: &mut [u8]) -> Result<u64, Refusal>
+    ensures { bare kind.MessageError room.old room.new result }
+{
     let mut out = Vec::new(alloc);
     write_error(&mut out)?;
     fitted(&out, room)
@@ -192,7 +238,9 @@ pub fn ft(
     retention_id: i32,
     expiration: u64,
     room: &mut [u8],
-) -> Result<u64, Refusal> {
+) -> Result<u64, Refusal>
+    ensures { ft_context order client.now retention_id expiration room.old room.new result }
+{
     let order = order_of(order)?;
     if !has_no_nul(client) {
         return Err(Refusal::Text);

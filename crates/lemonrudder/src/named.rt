@@ -1,7 +1,7 @@
 //! Numbers of the header, and what they name.
 
 ghost use Rattle.std.specs.Prelude.{◌≡◌};
-ghost use Rattle.lemonrudder.specs.Naming.{GivesLimits, completion_named, minor_number, or_range, order_named, order_number, raw_status_named, system_name_named, version_named, wish_number};
+ghost use Rattle.lemonrudder.specs.Naming.{GivesLimits, completion_named, minor_number, or_range, order_named, order_number, raw_status_named, system_name_named, version_named, wish_named, wish_number};
 
 use crate::refusal::Refusal;
 use cdr_core::Order;
@@ -54,7 +54,9 @@ pub fn number_of_order(order: Order) -> u32
 }
 
 /// The wish of a number.
-pub fn wish_of(number: u32) -> Result<ReplyWish, Refusal> {
+pub fn wish_of(number: u32) -> Result<ReplyWish, Refusal>
+    ensures { result ≡ or_range (wish_named number) }
+{
     match number {
         0 => Ok(ReplyWish::None),
         1 => Ok(ReplyWish::Empty),

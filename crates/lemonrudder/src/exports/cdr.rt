@@ -2,14 +2,15 @@
 
 ghost use Rattle.std.specs.Prelude.{◌<◌, ◌≤◌, ◌+◌, [], ◌∷◌, length, Err};
 ghost use Rattle.cdr_core.specs.Form as form;
-ghost use Rattle.cdr_core.specs.Parts.{char, char_value, long, long_value, longlong, longlong_value, octet, octet_value, short, short_value, ulong, ulong_value, ulonglong, ulonglong_value, ushort, ushort_value};
+ghost use Rattle.cdr_core.specs.Parts.{char, char_value, long, long_value, longlong, longlong_value, octet, octet_value, raw, short, short_value, text, ulong, ulong_value, ulonglong, ulonglong_value, ushort, ushort_value};
 ghost use Rattle.cdr_core.specs.Reading.{value_at};
 ghost use Rattle.cdr_core.specs.Spelling.{IsClean};
 ghost use Rattle.cdr_core.specs.Value as value;
+ghost use Rattle.lemonrudder.specs.Finds.{Enters, Finds};
 ghost use Rattle.lemonrudder.specs.Places.{flag_value, put_at, put_long, read_at, written, Gets, Puts};
 
 use crate::cdr::{Place, order_in};
-use crate::refusal::{Refusal, number_of};
+use crate::refusal::{Refusal, count_of, number_of};
 
 /// Reads an octet.
 #[unsafe(no_mangle)]
@@ -189,19 +190,15 @@ pub extern "C" fn lr_get_string(
     place: &mut Place,
     start: &mut u64,
     length: &mut u64,
-) -> i64 {
-    let mut cursor = match place.cursor(octets) {
-        Ok(cursor) => cursor,
-        Err(refusal) => return refusal.number(),
-    };
-    let mut first = cursor.fork();
-    let _length = first.ulong();
-    match cursor.string() {
-        Ok(found) => {
-            (*start, *length) = place.pass(octets, &first, &cursor, found);
+) -> i64
+    ensures { Finds value.string (read_at (value_at text) place.old octets.now) octets.now place.old place.new start.old start.new length.old length.new result }
+{
+    match place.string(octets) {
+        Ok((at, found)) => {
+            (*start, *length) = (at, count_of(found));
             0
         }
-        Err(fault) => Refusal::from(fault).number(),
+        Err(refusal) => refusal.number(),
     }
 }
 
@@ -212,19 +209,15 @@ pub extern "C" fn lr_get_octets(
     place: &mut Place,
     start: &mut u64,
     length: &mut u64,
-) -> i64 {
-    let mut cursor = match place.cursor(octets) {
-        Ok(cursor) => cursor,
-        Err(refusal) => return refusal.number(),
-    };
-    let mut first = cursor.fork();
-    let _length = first.ulong();
-    match cursor.octets() {
-        Ok(found) => {
-            (*start, *length) = place.pass(octets, &first, &cursor, found);
+) -> i64
+    ensures { Finds value.octets (read_at (value_at raw) place.old octets.now) octets.now place.old place.new start.old start.new length.old length.new result }
+{
+    match place.octets(octets) {
+        Ok((at, found)) => {
+            (*start, *length) = (at, count_of(found));
             0
         }
-        Err(fault) => Refusal::from(fault).number(),
+        Err(refusal) => refusal.number(),
     }
 }
 
@@ -236,21 +229,19 @@ pub extern "C" fn lr_get_encapsulation(
     start: &mut u64,
     length: &mut u64,
     inner: &mut Place,
-) -> i64 {
-    let mut cursor = match place.cursor(octets) {
-        Ok(cursor) => cursor,
-        Err(refusal) => return refusal.number(),
-    };
-    let mut first = cursor.fork();
-    let _length = first.ulong();
-    let found = match cursor.octets() {
+) -> i64
+    ensures { Enters (read_at (value_at raw) place.old octets.now) octets.now place.old place.new start.old start.new length.old length.new inner.old inner.new result }
+{
+    let mut behind = *place;
+    let (at, found) = match behind.octets(octets) {
         Ok(found) => found,
-        Err(fault) => return Refusal::from(fault).number(),
+        Err(refusal) => return refusal.number(),
     };
     match order_in(found) {
         Ok(order) => {
             *inner = Place::inner(order);
-            (*start, *length) = place.pass(octets, &first, &cursor, found);
+            (*start, *length) = (at, count_of(found));
+            *place = behind;
             0
         }
         Err(refusal) => refusal.number(),
@@ -307,7 +298,9 @@ pub extern "C" fn lr_put_ulong(room: &mut [u8], place: &mut Place, value: u32) -
 
 /// Writes a long long.
 #[unsafe(no_mangle)]
-pub extern "C" fn lr_put_longlong(room: &mut [u8], place: &mut Place, value: i64) -> i64 {
+pub extern "C" fn lr_put_longlong(room: &mut [u8], place: &mut Place, value: i64) -> i64
+    ensures { Puts (put_at (longlong_value value) place.old room.old) place.old place.new room.old room.new result }
+{
     number_of(place.put_number(room, &value.to_be_bytes(), &value.to_le_bytes()))
 }
 

@@ -1,5 +1,8 @@
 //! Messages that are written into the caller's room.
 
+ghost use Rattle.giop_core.specs.declared.header.MessageKind.TheVariants as kind;
+ghost use Rattle.lemonrudder.specs.Writes.{Writes, bare, cancel, context_of, ft_context, locate_reply, locate_request, manner, reply, request};
+
 use crate::messages::{Asking, Manner, close, error, ft};
 use crate::refusal::number_of;
 use std::alloc::Global;
@@ -18,7 +21,9 @@ pub extern "C" fn lr_write_request(
     context_id: u32,
     context: &[u8],
     body: &[u8],
-) -> i64 {
+) -> i64
+    ensures { Writes (manner version order (λ v o. request v o (record { id = request_id; wish = wish; key = key.now; operation = operation.now; contexts = context_of context_id context.now; body = body.now }))) room.old room.new result }
+{
     let asking = Asking {
         request_id,
         wish,
@@ -44,7 +49,9 @@ pub extern "C" fn lr_write_reply(
     request_id: u32,
     status: u32,
     body: &[u8],
-) -> i64 {
+) -> i64
+    ensures { Writes (manner version order (λ v o. reply v o request_id status body.now)) room.old room.new result }
+{
     match Manner::new(version, order) {
         Ok(manner) => number_of(manner.reply(alloc, request_id, status, body, room)),
         Err(refusal) => refusal.number(),
@@ -59,7 +66,9 @@ pub extern "C" fn lr_write_cancel(
     version: u32,
     order: u32,
     request_id: u32,
-) -> i64 {
+) -> i64
+    ensures { Writes (manner version order (λ v o. cancel v o request_id)) room.old room.new result }
+{
     match Manner::new(version, order) {
         Ok(manner) => number_of(manner.cancel(alloc, request_id, room)),
         Err(refusal) => refusal.number(),
@@ -75,7 +84,9 @@ pub extern "C" fn lr_write_locate_request(
     order: u32,
     request_id: u32,
     key: &[u8],
-) -> i64 {
+) -> i64
+    ensures { Writes (manner version order (λ v o. locate_request v o request_id key.now)) room.old room.new result }
+{
     match Manner::new(version, order) {
         Ok(manner) => number_of(manner.locate_request(alloc, request_id, key, room)),
         Err(refusal) => refusal.number(),
@@ -91,7 +102,9 @@ pub extern "C" fn lr_write_locate_reply(
     order: u32,
     request_id: u32,
     status: u32,
-) -> i64 {
+) -> i64
+    ensures { Writes (manner version order (λ v o. locate_reply v o request_id status)) room.old room.new result }
+{
     match Manner::new(version, order) {
         Ok(manner) => number_of(manner.locate_reply(alloc, request_id, status, room)),
         Err(refusal) => refusal.number(),
@@ -100,13 +113,17 @@ pub extern "C" fn lr_write_locate_reply(
 
 /// Writes CloseConnection.
 #[unsafe(no_mangle)]
-pub extern "C" fn lr_write_close(alloc: Global, room: &mut [u8]) -> i64 {
+pub extern "C" fn lr_write_close(alloc: Global, room: &mut [u8]) -> i64
+    ensures { Writes (bare kind.CloseConnection) room.old room.new result }
+{
     number_of(close(alloc, room))
 }
 
 /// Writes MessageError.
 #[unsafe(no_mangle)]
-pub extern "C" fn lr_write_error(alloc: Global, room: &mut [u8]) -> i64 {
+pub extern "C" fn lr_write_error(alloc: Global, room: &mut [u8]) -> i64
+    ensures { Writes (bare kind.MessageError) room.old room.new result }
+{
     number_of(error(alloc, room))
 }
 
@@ -119,6 +136,8 @@ pub extern "C" fn lr_write_ft(
     client: &[u8],
     retention_id: i32,
     expiration: u64,
-) -> i64 {
+) -> i64
+    ensures { Writes (ft_context order client.now retention_id expiration) room.old room.new result }
+{
     number_of(ft(alloc, order, client, retention_id, expiration, room))
 }

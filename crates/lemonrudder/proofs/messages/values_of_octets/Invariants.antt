@@ -1,0 +1,7 @@
+use Rattle.std.proofs.Common.{◌≡◌, map, take}
+use Rattle.cdr_core.specs.Parts.{octet_value}
+use Rattle.cdr_core.specs.View.{value_of}
+use Rattle.lemonrudder.proofs.messages.values_of_octets.Given as goal
+
+abbrev pub invariant-loop-octet : goal.invariant-loop-octet
+invariant-loop-octet l = map value_of l.values.items ≡ map octet_value (take l.octet-index l.octets)
