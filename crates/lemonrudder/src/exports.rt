@@ -1,5 +1,9 @@
 //! What the header declares.
 
+ghost use Rattle.std.specs.Prelude.{◌≡◌, None};
+ghost use Rattle.lemonrudder.specs.Moments.{moment_of};
+ghost use Rattle.lemonrudder.specs.Slots.{held_in};
+
 mod assembler;
 mod catalogue;
 mod cdr;
@@ -13,13 +17,17 @@ use std::alloc::Global;
 
 /// The version of the library: major * 65536 + minor * 256 + patch.
 #[unsafe(no_mangle)]
-pub extern "C" fn lr_version() -> u32 {
+pub extern "C" fn lr_version() -> u32
+    ensures { result ≡ 256 }
+{
     256
 }
 
 /// Empties a slot of any kind, and frees what it held.
 #[unsafe(no_mangle)]
-pub extern "C" fn lr_close(alloc: Global, slot: &mut Slot) {
+pub extern "C" fn lr_close(alloc: Global, slot: &mut Slot)
+    ensures { held_in slot.new ≡ None }
+{
     let _object = slot.take(alloc);
 }
 
@@ -31,7 +39,9 @@ const UNITS: u64 = 10_000_000;
 
 /// The moment of seconds and nanoseconds since 1970. The greatest, where it lies beyond.
 #[unsafe(no_mangle)]
-pub extern "C" fn lr_moment(seconds: u64, nanoseconds: u32) -> u64 {
+pub extern "C" fn lr_moment(seconds: u64, nanoseconds: u32) -> u64
+    ensures { result ≡ moment_of seconds nanoseconds }
+{
     seconds
         .saturating_mul(UNITS)
         .saturating_add(u64::from(nanoseconds / 100))
