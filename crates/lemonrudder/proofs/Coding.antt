@@ -6,7 +6,7 @@ use Rattle.cdr_core.specs.Fitting.{AreValid}
 use Rattle.cdr_core.specs.Form as form
 use Rattle.cdr_core.specs.Form.{Form, Forms}
 use Rattle.cdr_core.specs.Parts.{most}
-use Rattle.cdr_core.specs.View.{form_of, forms, forms_of}
+use Rattle.cdr_core.specs.View.{form_of, forms_of}
 use Rattle.cdr_core.specs.declared.types.Ty.{Ty, the_lemmas as ty_lemmas}
 use Rattle.cdr_core.specs.declared.types.Ty.TheVariants as ty
 use Rattle.lemonrudder.specs.declared.refusal.Refusal.{Refusal}

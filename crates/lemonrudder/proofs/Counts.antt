@@ -1,5 +1,5 @@
 -- A count is not below 0, where a refusal is.
-use Rattle.std.proofs.Common.{◌≡◌, ◌∙◌, ℕ, ℤ, pos, ◌<ℤ◌, ◌≤ℤ◌, List, length, Option, Some, None, Result, ap, sym, subst, arith}
+use Rattle.std.proofs.Common.{◌≡◌, ◌∙◌, ℕ, ℤ, pos, ◌<ℤ◌, ◌≤ℤ◌, List, length, Option, Some, None, Result, ap, subst, arith}
 use Rattle.std.proofs.lemmas.Int.{ints}
 use Rattle.lemonrudder.specs.declared.refusal.Refusal.{Refusal}
 use Rattle.lemonrudder.specs.Copies.{Copies}

@@ -1,5 +1,5 @@
 -- What comes of an outcome: by what waits, by the octets that are read, and by the numbers that name its parts.
-use Rattle.std.proofs.Common.{◌≡◌, ◌∙◌, ℕ, List, Option, Some, None, Result, Ok, Err, Vec, Global, inl, inr, ap, refl, subst, sym}
+use Rattle.std.proofs.Common.{◌≡◌, ℕ, List, Option, Some, None, Result, Ok, Err, Vec, Global, inl, inr, ap, refl, subst, sym}
 use Rattle.std.proofs.lemmas.Option.{none-some}
 use Rattle.std.specs.Option.{IsSome}
 use Rattle.std.specs.Result.{IfOk}

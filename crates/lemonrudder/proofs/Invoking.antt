@@ -1,5 +1,5 @@
 -- A call that a client makes, in the words of what it stands for.
-use Rattle.std.proofs.Common.{◌≡◌, ◌∙◌, ◌↔◌, inl, inr, ℕ, suc, Bool, true, false, IsTrue, List, ◌++◌, Result, Ok, Err, Vec, Global, refl, subst, sym}
+use Rattle.std.proofs.Common.{◌≡◌, ◌∙◌, ◌↔◌, inr, ℕ, suc, Bool, true, false, IsTrue, List, ◌++◌, Result, Ok, Err, Vec, Global, refl, subst, sym}
 use Rattle.std.proofs.lemmas.Bool.{false≢true}
 use Rattle.cdr_core.specs.declared.order.Order.{Order}
 use Rattle.cdr_core.specs.declared.types.Ty.{Ty}

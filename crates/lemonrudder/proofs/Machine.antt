@@ -1,5 +1,5 @@
 -- A machine that codes of types drive: what codes spell no types, and that codes spell one list of types.
-use Rattle.std.proofs.Common.{◌≡◌, ◌∙◌, ℕ, zero, suc, ◌+◌, ◌-◌, ◌<◌, ◌≤◌, List, [], ◌∷◌, ◌++◌, length, Option, Some, None, refl, ap, sym, subst, arith, append_assoc, append-nil}
+use Rattle.std.proofs.Common.{◌≡◌, ◌∙◌, ℕ, zero, suc, ◌+◌, ◌-◌, ◌<◌, ◌≤◌, List, [], ◌∷◌, ◌++◌, length, Option, Some, None, refl, ap, sym, arith, append_assoc, append-nil}
 use Rattle.std.proofs.lemmas.Option.{none-some}
 use Rattle.cdr_core.specs.Form as form
 use Rattle.cdr_core.specs.Form.{Form, Forms, Number}

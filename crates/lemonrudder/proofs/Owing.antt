@@ -1,5 +1,5 @@
 -- What is written after what was due is due too, whatever of it was taken before.
-use Rattle.std.proofs.Common.{◌≡◌, ℕ, ◌+◌, ◌≤◌, min, List, ◌++◌, length, drop, take, Option, Result, Ok, Err, ap, arith, ◌∙◌, length-append}
+use Rattle.std.proofs.Common.{◌≡◌, ℕ, ◌≤◌, min, List, ◌++◌, length, drop, take, Option, Result, Ok, Err, ap, arith, ◌∙◌, length-append}
 use Rattle.std.proofs.lemmas.List.{drop-append-le, drop_min}
 use Rattle.ft_orb.specs.declared.engine.Engine.{Engine}
 use Rattle.ft_orb.specs.declared.engine.Fed.{Fed}

@@ -1,5 +1,5 @@
 -- A number that is written in the order of its place, in the words of its value.
-use Rattle.std.proofs.Common.{◌≡◌, ◌∙◌, ℕ, ◌+◌, ℤ, List, Result, Ok, Err, ap, sym, subst}
+use Rattle.std.proofs.Common.{◌≡◌, ◌∙◌, ℕ, ◌+◌, ℤ, List, Result, Ok, Err, ap, subst}
 use Rattle.cdr_core.specs.declared.order.Order.TheVariants.{Big, Little}
 use Rattle.cdr_core.specs.Value.{Value}
 use Rattle.cdr_core.specs.Writing.{octets_of}

@@ -1,5 +1,5 @@
 -- A call on a server, in the words of the slot that holds it.
-use Rattle.std.proofs.Common.{◌≡◌, ℕ, ℤ, Option, Some, Result, refl, subst, sym}
+use Rattle.std.proofs.Common.{◌≡◌, ℕ, ℤ, Some, Result, refl, subst, sym}
 use Rattle.lemonrudder.specs.declared.object.Object.{Object}
 use Rattle.lemonrudder.specs.declared.object.Object.TheVariants.{Server}
 use Rattle.lemonrudder.specs.declared.refusal.Refusal.{Refusal}

@@ -1,5 +1,5 @@
 -- What waits is a request that came, and says what its question says.
-use Rattle.std.proofs.Common.{◌≡◌, ◌∙◌, ℕ, ℤ, List, length, Bor, Option, Some, None, option_map, ap, refl, sym}
+use Rattle.std.proofs.Common.{◌≡◌, ◌∙◌, ℕ, ℤ, List, Bor, Option, Some, None, option_map, ap, refl, sym}
 use Rattle.std.proofs.lemmas.Option.{none-some}
 use Rattle.giop_core.specs.declared.ft.FtField.{FtField}
 use Rattle.giop_core.specs.declared.ft.FtField.TheVariants as field

@@ -1,5 +1,5 @@
 -- What a call on an assembler does.
-use Rattle.std.specs.Prelude.{◌≡◌, ℕ, ◌<◌, ◌≤◌, ◌==◌, if◌then◌else◌, IsTrue, false, List, [], ◌++◌, length, take, Option, Some, None, Result, Ok, Err}
+use Rattle.std.specs.Prelude.{◌≡◌, ℕ, ◌<◌, ◌≤◌, ◌==◌, if◌then◌else◌, IsTrue, false, List, [], ◌++◌, length, take, None, Result, Ok, Err}
 use Rattle.giop_core.specs.declared.header.HeaderFault.{HeaderFault}
 use Rattle.giop_core.specs.declared.header.HeaderFault.TheVariants as header
 use Rattle.giop_frames.specs.declared.fault.StreamFault.{StreamFault}

@@ -1,7 +1,6 @@
 -- Opening a server of the objects of a catalogue.
 use Rattle.std.specs.Prelude.{◌≡◌, ℕ, ℤ, pos, Option, Some, None, Result, Ok, Err}
 use Rattle.giop_frames.specs.declared.limits.Limits.{Limits}
-use Rattle.ft_orb.specs.declared.interfaces.Interfaces.{Interfaces}
 use Rattle.lemonrudder.specs.declared.object.Object.{Object}
 use Rattle.lemonrudder.specs.declared.object.Object.TheVariants.{Catalogue, Server}
 use Rattle.lemonrudder.specs.declared.refusal.Refusal.{Refusal}

@@ -1,5 +1,5 @@
 -- A call that a client makes.
-use Rattle.std.specs.Prelude.{◌≡◌, ◌⊎◌, ℕ, suc, true, List, Option, Some, None, Result, Ok, Err, ⊤}
+use Rattle.std.specs.Prelude.{◌≡◌, ◌⊎◌, ℕ, suc, true, List, Some, None, Result, Ok, Err, ⊤}
 use Rattle.cdr_core.specs.declared.order.Order.{Order}
 use Rattle.cdr_core.specs.Form.{Forms}
 use Rattle.cdr_core.specs.Spelling.{IsClean, SpellsMembers}

@@ -1,5 +1,5 @@
 -- What a call does that answers the request that waits.
-use Rattle.std.specs.Prelude.{◌≡◌, ◌⊎◌, ℕ, Bool, false, not, bytes_eq, codes, if◌then◌else◌, List, [], ◌∷◌, ◌++◌, IsSome, Option, Some, None, option_and_then, option_map, Result, Ok, Err}
+use Rattle.std.specs.Prelude.{◌≡◌, ◌⊎◌, ℕ, Bool, false, not, bytes_eq, codes, if◌then◌else◌, List, [], ◌∷◌, ◌++◌, IsSome, Option, Some, None, option_map, Result, Ok, Err}
 use Rattle.std.proofs.Common.{Bor, Vec, Global}
 use Rattle.cdr_core.specs.declared.order.Order.{Order}
 use Rattle.cdr_core.specs.declared.types.Ty.{Ty}
@@ -15,7 +15,7 @@ use Rattle.ft_orb.specs.Accessors.{string_at}
 use Rattle.ft_orb.specs.Engines.{Asks, Awaited, CanAnswer, Resumes, ResumesOnce, waits_in}
 use Rattle.ft_orb.specs.Filling.{ids_of, is_a_name, names_id, non_existent_name, offer_of}
 use Rattle.ft_orb.specs.History.{Event}
-use Rattle.ft_orb.specs.Interfaces.{Interface, no_object, no_operation, operation, raw_operation}
+use Rattle.ft_orb.specs.Interfaces.{Interface, operation}
 use Rattle.ft_orb.specs.Owners.{Owner}
 use Rattle.ft_orb.specs.Requests.{Call}
 use Rattle.ft_orb.specs.Standing.{note_of}

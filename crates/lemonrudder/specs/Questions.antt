@@ -5,8 +5,6 @@ use Rattle.std.specs.Option.{option_map_or}
 use Rattle.cdr_core.specs.declared.order.Order.TheVariants.{Big}
 use Rattle.cdr_core.specs.Value.{Values}
 use Rattle.cdr_core.specs.Writing.{AreWritable, octets_of_all}
-use Rattle.giop_core.specs.declared.header.Version.{Version}
-use Rattle.giop_core.specs.declared.request.ReplyWish.{ReplyWish}
 use Rattle.giop_core.specs.Ft as ft
 use Rattle.giop_core.specs.Ft.{Ft, ft_in}
 use Rattle.giop_link.specs.Hearing.{Question}
@@ -14,7 +12,7 @@ use Rattle.ft_orb.specs.Accessors.{boolean_at, octets_at, ulong_at}
 use Rattle.ft_orb.specs.Engines.{Asks, Awaited, waits_in}
 use Rattle.ft_orb.specs.Filling.{offer_of}
 use Rattle.ft_orb.specs.History.{Event}
-use Rattle.ft_orb.specs.Interfaces.{Interface, no_object, no_operation, operation, raw_operation}
+use Rattle.ft_orb.specs.Interfaces.{Interface, raw_operation}
 use Rattle.ft_orb.specs.Owners.{Owner}
 use Rattle.ft_orb.specs.Requests.{Call}
 use Rattle.lemonrudder.specs.declared.refusal.Refusal.{Refusal}

@@ -1,4 +1,4 @@
-use Rattle.std.proofs.Common.{rules, ◌≡◌}
+use Rattle.std.proofs.Common.{rules}
 use Rattle.lemonrudder.specs.Assembles.{OnFault}
 use Rattle.lemonrudder.proofs.Assemblers.{on_same_assembler}
 use Rattle.lemonrudder.proofs.assembled.fault.Goals as goal

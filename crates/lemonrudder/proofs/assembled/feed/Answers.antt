@@ -1,4 +1,4 @@
-use Rattle.std.proofs.Common.{rules, ◌≡◌}
+use Rattle.std.proofs.Common.{rules}
 use Rattle.lemonrudder.specs.Assembles.{OnFeed}
 use Rattle.lemonrudder.proofs.Assemblers.{on_assembler}
 use Rattle.lemonrudder.proofs.assembled.feed.Goals as goal

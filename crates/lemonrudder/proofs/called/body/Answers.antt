@@ -1,4 +1,4 @@
-use Rattle.std.proofs.Common.{rules, ◌≡◌}
+use Rattle.std.proofs.Common.{rules}
 use Rattle.lemonrudder.specs.Calls.{OnBody}
 use Rattle.lemonrudder.proofs.Clients.{on_same_client}
 use Rattle.lemonrudder.proofs.Counts.{copies_refused}

@@ -1,4 +1,4 @@
-use Rattle.std.proofs.Common.{rules, ◌≡◌}
+use Rattle.std.proofs.Common.{rules}
 use Rattle.lemonrudder.specs.Invokes.{OnCall, question_of}
 use Rattle.lemonrudder.proofs.Clients.{on_client}
 use Rattle.lemonrudder.proofs.called.call.Goals as goal

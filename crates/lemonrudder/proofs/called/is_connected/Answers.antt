@@ -1,4 +1,4 @@
-use Rattle.std.proofs.Common.{rules, ◌≡◌}
+use Rattle.std.proofs.Common.{rules}
 use Rattle.lemonrudder.specs.Calls.{OnIsConnected}
 use Rattle.lemonrudder.proofs.Clients.{on_same_client}
 use Rattle.lemonrudder.proofs.called.is_connected.Goals as goal

@@ -1,4 +1,4 @@
-use Rattle.std.proofs.Common.{rules, ◌≡◌}
+use Rattle.std.proofs.Common.{rules}
 use Rattle.lemonrudder.specs.Calls.{OnLost}
 use Rattle.lemonrudder.proofs.Clients.{on_client}
 use Rattle.lemonrudder.proofs.called.lost.Goals as goal

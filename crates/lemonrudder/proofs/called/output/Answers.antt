@@ -1,4 +1,4 @@
-use Rattle.std.proofs.Common.{rules, ◌≡◌}
+use Rattle.std.proofs.Common.{rules}
 use Rattle.lemonrudder.specs.Calls.{OnOutput}
 use Rattle.lemonrudder.proofs.Clients.{on_client}
 use Rattle.lemonrudder.proofs.Counts.{no_count}

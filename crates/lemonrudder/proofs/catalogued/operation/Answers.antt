@@ -1,4 +1,4 @@
-use Rattle.std.proofs.Common.{rules, ◌≡◌}
+use Rattle.std.proofs.Common.{rules}
 use Rattle.lemonrudder.specs.Declares.{OnOperation}
 use Rattle.lemonrudder.proofs.Catalogues.{on_catalogue}
 use Rattle.lemonrudder.proofs.catalogued.operation.Goals as goal

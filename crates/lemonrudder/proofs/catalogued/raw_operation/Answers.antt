@@ -1,4 +1,4 @@
-use Rattle.std.proofs.Common.{rules, ◌≡◌}
+use Rattle.std.proofs.Common.{rules}
 use Rattle.lemonrudder.specs.Fills.{OnRawOperation}
 use Rattle.lemonrudder.proofs.Catalogues.{on_catalogue}
 use Rattle.lemonrudder.proofs.catalogued.raw_operation.Goals as goal

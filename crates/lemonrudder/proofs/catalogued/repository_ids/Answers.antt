@@ -1,4 +1,4 @@
-use Rattle.std.proofs.Common.{rules, ◌≡◌}
+use Rattle.std.proofs.Common.{rules}
 use Rattle.lemonrudder.specs.Identifies.{OnRepositoryIds}
 use Rattle.lemonrudder.proofs.Catalogues.{on_catalogue}
 use Rattle.lemonrudder.proofs.catalogued.repository_ids.Goals as goal

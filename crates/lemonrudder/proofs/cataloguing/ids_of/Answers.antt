@@ -1,4 +1,4 @@
-use Rattle.std.proofs.Common.{◌≡◌, ◌∙◌, ◌+◌, ◌∷◌, ◌++◌, [], ℕ, List, Vec, Global, inl, inr, ap, subst, sym, take, get_or, arith}
+use Rattle.std.proofs.Common.{◌≡◌, ◌∙◌, ◌+◌, ◌∷◌, ◌++◌, [], inl, inr, ap, subst, sym, take, arith}
 use Rattle.std.proofs.lemmas.List.{take_all, take_more}
 use Rattle.lemonrudder.proofs.Identifying.{HaveRead, no_items, read_no_ids, read_nul, read_octet, some_items}
 use Rattle.lemonrudder.proofs.cataloguing.ids_of.Goals as goal

@@ -1,4 +1,4 @@
-use Rattle.std.proofs.Common.{rules, ◌≡◌}
+use Rattle.std.proofs.Common.{rules}
 use Rattle.lemonrudder.specs.Refers.{OnProfiles}
 use Rattle.lemonrudder.proofs.References.{on_same_reference}
 use Rattle.lemonrudder.proofs.referred.profiles.Goals as goal

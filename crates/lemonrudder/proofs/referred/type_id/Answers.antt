@@ -1,4 +1,4 @@
-use Rattle.std.proofs.Common.{rules, ◌≡◌}
+use Rattle.std.proofs.Common.{rules}
 use Rattle.lemonrudder.specs.Refers.{OnTypeId}
 use Rattle.lemonrudder.proofs.Counts.{no_count}
 use Rattle.lemonrudder.proofs.References.{on_same_reference}

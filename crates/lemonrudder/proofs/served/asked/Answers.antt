@@ -1,4 +1,4 @@
-use Rattle.std.proofs.Common.{rules, ◌≡◌}
+use Rattle.std.proofs.Common.{rules}
 use Rattle.lemonrudder.specs.Questions.{OnAsked}
 use Rattle.lemonrudder.proofs.Servers.{has_server, of_server}
 use Rattle.lemonrudder.proofs.served.asked.Goals as goal

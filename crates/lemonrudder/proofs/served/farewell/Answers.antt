@@ -1,4 +1,4 @@
-use Rattle.std.proofs.Common.{rules, ◌≡◌}
+use Rattle.std.proofs.Common.{rules}
 use Rattle.lemonrudder.specs.Serves.{OnFarewell}
 use Rattle.lemonrudder.proofs.Servers.{on_server}
 use Rattle.lemonrudder.proofs.served.farewell.Goals as goal

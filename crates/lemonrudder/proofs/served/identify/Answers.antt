@@ -1,4 +1,4 @@
-use Rattle.std.proofs.Common.{rules, ◌≡◌}
+use Rattle.std.proofs.Common.{rules}
 use Rattle.lemonrudder.specs.Outcomes.{OnIdentify}
 use Rattle.lemonrudder.proofs.Servers.{on_server}
 use Rattle.lemonrudder.proofs.served.identify.Goals as goal

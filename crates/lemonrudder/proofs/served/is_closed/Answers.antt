@@ -1,4 +1,4 @@
-use Rattle.std.proofs.Common.{rules, ◌≡◌}
+use Rattle.std.proofs.Common.{rules}
 use Rattle.lemonrudder.specs.Serves.{OnIsClosed}
 use Rattle.lemonrudder.proofs.Servers.{of_server}
 use Rattle.lemonrudder.proofs.served.is_closed.Goals as goal

@@ -1,4 +1,4 @@
-use Rattle.std.proofs.Common.{rules, ◌≡◌}
+use Rattle.std.proofs.Common.{rules}
 use Rattle.lemonrudder.specs.Serves.{OnOutput}
 use Rattle.lemonrudder.proofs.Servers.{has_server, on_server}
 use Rattle.lemonrudder.proofs.served.output.Goals as goal

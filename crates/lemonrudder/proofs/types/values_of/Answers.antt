@@ -1,6 +1,5 @@
-use Rattle.std.proofs.Common.{◌≡◌, ◌∙◌, ◌≤◌, [], length, Err, refl, sym, subst, arith, append-nil}
+use Rattle.std.proofs.Common.{◌∙◌, [], length, sym, arith, append-nil}
 use Rattle.std.proofs.lemmas.Result.{err_from_is_err_and}
-use Rattle.cdr_core.specs.Answering.{ListReads}
 use Rattle.lemonrudder.proofs.Reading.{short-only}
 use Rattle.lemonrudder.proofs.types.values_of.Goals as goal
 

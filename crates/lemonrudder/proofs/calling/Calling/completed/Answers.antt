@@ -1,4 +1,4 @@
-use Rattle.std.proofs.Common.{◌≡◌, ◌∙◌, ℤ, ap, arith, rules}
+use Rattle.std.proofs.Common.{◌∙◌, ℤ, ap, arith, rules}
 use Rattle.std.proofs.lemmas.Int.{ints}
 use Rattle.ft_client.specs.Ends.{completion_of, ended_of}
 use Rattle.lemonrudder.specs.Calls.{head_of}

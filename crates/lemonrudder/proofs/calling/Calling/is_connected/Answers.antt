@@ -1,4 +1,4 @@
-use Rattle.std.proofs.Common.{◌≡◌, Ok, ap, refl, rules}
+use Rattle.std.proofs.Common.{Ok, ap, refl, rules}
 use Rattle.lemonrudder.proofs.calling.Calling.is_connected.Goals as goal
 
 pub returns : goal.returns

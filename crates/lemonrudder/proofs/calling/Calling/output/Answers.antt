@@ -1,4 +1,4 @@
-use Rattle.std.proofs.Common.{◌∙◌, length, drop, Ok, refl, ap}
+use Rattle.std.proofs.Common.{◌∙◌, length, drop, Ok, ap}
 use Rattle.lemonrudder.specs.Dues.{owed}
 use Rattle.lemonrudder.proofs.Owing.{drop_taken}
 use Rattle.lemonrudder.proofs.calling.Calling.output.Goals as goal

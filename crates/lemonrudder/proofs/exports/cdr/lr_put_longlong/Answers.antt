@@ -1,4 +1,4 @@
-use Rattle.std.proofs.Common.{rules, ◌≡◌}
+use Rattle.std.proofs.Common.{rules}
 use Rattle.cdr_core.specs.Parts.{longlong_value}
 use Rattle.lemonrudder.proofs.Putting.{puts_number}
 use Rattle.lemonrudder.proofs.exports.cdr.lr_put_longlong.Goals as goal

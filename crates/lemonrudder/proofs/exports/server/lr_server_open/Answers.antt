@@ -1,4 +1,4 @@
-use Rattle.std.proofs.Common.{◌≡◌, Ok, Err, refl, rules}
+use Rattle.std.proofs.Common.{Ok, Err, refl, rules}
 use Rattle.lemonrudder.proofs.Hosting.{not_held, opens_server}
 use Rattle.lemonrudder.proofs.exports.server.lr_server_open.Goals as goal
 

@@ -1,4 +1,4 @@
-use Rattle.std.proofs.Common.{◌≡◌, ◌∙◌, ap, Err, inl, inr, refl, sym}
+use Rattle.std.proofs.Common.{◌∙◌, ap, Err, inl, inr, refl, sym}
 use Rattle.std.proofs.lemmas.Result.{err_from_is_err_and}
 use Rattle.ft_log.specs.Performed.{raw}
 use Rattle.lemonrudder.specs.Naming.{order_named}

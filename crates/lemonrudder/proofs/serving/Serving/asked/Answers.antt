@@ -1,6 +1,5 @@
 use Rattle.std.proofs.Common.{◌≡◌, ◌∙◌, Some, ap, refl, sym}
 use Rattle.std.proofs.lemmas.Option.{none-some}
-use Rattle.cdr_core.specs.View.{values_of}
 use Rattle.giop_core.specs.Items.{contexts_left}
 use Rattle.giop_link.specs.Hearing.{Question}
 use Rattle.ft_orb.specs.Engines.{Awaited, awaited_lent}

@@ -1,4 +1,4 @@
-use Rattle.std.proofs.Common.{◌≡◌, ◌∙◌, Ok, Some, None, Option, List, ℕ, ap, refl, subst, sym}
+use Rattle.std.proofs.Common.{◌∙◌, Ok, Option, List, ℕ, ap, refl, subst, sym}
 use Rattle.giop_core.specs.Ft.{ft_in, ft_seen}
 use Rattle.giop_link.specs.Hearing.{Question}
 use Rattle.lemonrudder.specs.Questions.{TellsIfSome, client_in}

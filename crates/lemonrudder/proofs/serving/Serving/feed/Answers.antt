@@ -1,4 +1,4 @@
-use Rattle.std.proofs.Common.{rules, ◌≡◌, refl}
+use Rattle.std.proofs.Common.{refl}
 use Rattle.ft_orb.specs.Filling.{offer_of}
 use Rattle.lemonrudder.proofs.Idling.{not_both, not_so}
 use Rattle.lemonrudder.proofs.Owing.{feeds-once-owed, feeds-owed, feeds-stays}

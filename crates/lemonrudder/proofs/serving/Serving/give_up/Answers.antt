@@ -1,4 +1,4 @@
-use Rattle.std.proofs.Common.{rules, ◌≡◌, ℕ, refl}
+use Rattle.std.proofs.Common.{rules, refl}
 use Rattle.lemonrudder.proofs.Idling.{not_both}
 use Rattle.lemonrudder.proofs.serving.Serving.give_up.Goals as goal
 

@@ -1,4 +1,4 @@
-use Rattle.std.proofs.Common.{◌≡◌, refl}
+use Rattle.std.proofs.Common.{refl}
 use Rattle.ft_log.specs.View.{performed_in}
 use Rattle.ft_orb.specs.Engines.{waits_in}
 use Rattle.ft_orb.specs.Filling.{offer_of}

@@ -1,9 +1,8 @@
-use Rattle.std.proofs.Common.{◌≡◌, ◌∙◌, [], ◌∷◌, Some, ap, inr, refl, subst, sym, rules}
-use Rattle.cdr_core.specs.Value as value
+use Rattle.std.proofs.Common.{◌∙◌, [], ◌∷◌, ap, inr, subst, sym}
 use Rattle.cdr_core.specs.Value.{Value, Values, values}
 use Rattle.cdr_core.specs.View.{values_of}
 use Rattle.ft_log.specs.Performed.{returned}
-use Rattle.ft_orb.specs.Engines.{Awaited, awaited_lent}
+use Rattle.ft_orb.specs.Engines.{awaited_lent}
 use Rattle.lemonrudder.specs.Outcomes.{HandsIn, Identifies, identity_at}
 use Rattle.lemonrudder.proofs.Handing.{by_awaited}
 use Rattle.lemonrudder.proofs.Reading.{value-boolean}

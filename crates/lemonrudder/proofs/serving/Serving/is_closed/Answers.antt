@@ -1,4 +1,4 @@
-use Rattle.std.proofs.Common.{rules, ◌≡◌, refl}
+use Rattle.std.proofs.Common.{rules, refl}
 use Rattle.lemonrudder.proofs.serving.Serving.is_closed.Goals as goal
 
 pub returns : goal.returns

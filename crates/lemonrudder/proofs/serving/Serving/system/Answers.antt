@@ -1,4 +1,4 @@
-use Rattle.std.proofs.Common.{◌≡◌, ◌∙◌, ap, Err, refl, sym}
+use Rattle.std.proofs.Common.{◌∙◌, ap, Err, sym}
 use Rattle.std.proofs.lemmas.Result.{err_from_is_err_and}
 use Rattle.ft_log.specs.Performed.{system}
 use Rattle.lemonrudder.specs.Naming.{completion_named}

@@ -1,4 +1,3 @@
-use Rattle.std.proofs.Common.{◌≡◌}
 use Rattle.cdr_core.specs.View.{forms_of}
 use Rattle.lemonrudder.proofs.Handing.{read-is}
 use Rattle.lemonrudder.proofs.serving.Serving.values.Goals as goal

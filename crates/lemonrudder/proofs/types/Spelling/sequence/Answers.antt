@@ -1,4 +1,4 @@
-use Rattle.std.proofs.Common.{◌≡◌, ◌∙◌, sym}
+use Rattle.std.proofs.Common.{◌∙◌, sym}
 use Rattle.lemonrudder.proofs.Coding.{takes_no_element, takes_sequence}
 use Rattle.lemonrudder.proofs.types.Spelling.sequence.Goals as goal
 
