@@ -14,8 +14,8 @@
  *
  * Octets.  A pointer and a size lend octets for the time of the call; the library keeps none of your pointers. A size
  * of 0 lends none, and the pointer may then be NULL; a pointer to a slot, or to a result, is never NULL. What is
- * written into room of yours is written from its first octet on. Room must not overlap a slot, or octets that are lent
- * to the same call.
+ * written into room of yours is written from its first octet on. What a call writes to, room, a slot or a result,
+ * overlaps nothing else that it is given.
  *
  * Results.  Each function answers an int64_t: 0 or more, a count where the function says so and else LR_OK, which is
  * 0; below 0, an error LR_E_.., and then nothing has changed, unless the function says otherwise. lr_strerror gives
@@ -485,6 +485,7 @@ int64_t lr_write_cancel(void *room, size_t size, uint32_t version, uint32_t orde
 int64_t lr_write_locate_request(void *room, size_t size, uint32_t version, uint32_t order, uint32_t request_id,
                                 const void *key, size_t key_size);
 
+/* Without a body, so LR_UNKNOWN_OBJECT or LR_OBJECT_HERE. */
 int64_t lr_write_locate_reply(void *room, size_t size, uint32_t version, uint32_t order, uint32_t request_id,
                               uint32_t status);
 
@@ -549,8 +550,9 @@ int64_t lr_ior_component(lr_ior *ior, uint32_t index, uint32_t component, uint32
  * octet, from which numbers are aligned (0 for an encapsulation, body_at for a body), and `order` the order of
  * numbers. Each function moves `next` past what it read or wrote, padding included, and answers LR_OK. At an error
  * the place and the room are as they were: LR_E_SHORT (reading: octets are missing), LR_E_ROOM (writing), LR_E_VALUE
- * (no value of the type), LR_E_TEXT (text with a NUL), LR_E_RANGE (the order; or `next` lies beyond the octets, or at
- * 4294967296 or more, counted from `at`), LR_E_LONG (text or octets whose length is over 4294967295).
+ * (no value of the type), LR_E_TEXT (writing: text with a NUL), LR_E_RANGE (the order; or `next` lies beyond the
+ * octets, or at 4294967296 or more, counted from `at`), LR_E_LONG (text or octets whose length, with the NUL of a text,
+ * is over 4294967295).
  */
 typedef struct {
   uint64_t at;

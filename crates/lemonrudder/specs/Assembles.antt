@@ -40,10 +40,11 @@ abbrev pub IsNew : (message partials : ℕ) → Result Assembling Refusal → Ty
 IsNew message partials (Ok s) = StandsFor s.assembler [] × (s.assembler.message ≡ None) × HasLimits message partials s.assembler.limits × (s.fault ≡ 0)
 IsNew message partials (Err e) = (e ≡ Range) × (¬ (AreLimits message partials))
 
--- octets were taken: the messages are those before, and the one that is lent, if there is one
+-- octets were taken, of a stream without a fault: the messages are those before, and the one that is lent, if there is one
 abbrev pub Takes : List ℕ → ℕ → Assembling → Assembling → Type 0
 Takes piece n s t =
-    (n ≤ length piece) × (0 < length piece → 0 < n) × (t.assembler.message ≡ None → n ≡ length piece) × (t.assembler.failed ≡ false) × (t.fault ≡ s.fault)
+    (¬ (IsTrue s.assembler.failed)) × (t.assembler.limits ≡ s.assembler.limits)
+    × (n ≤ length piece) × (0 < length piece → 0 < n) × (t.assembler.message ≡ None → n ≡ length piece) × (t.assembler.failed ≡ false) × (t.fault ≡ s.fault)
     × ((all : List ℕ) → StandsFor s.assembler all
     → StandsFor t.assembler (all ++ take n piece)
     × (messages_of s.assembler.limits (all ++ take n piece) ≡ messages_of s.assembler.limits all ++ completed_at (length (all ++ take n piece)) t.assembler.message))
@@ -51,7 +52,7 @@ Takes piece n s t =
 -- the stream has a fault, or an allocation failed, now or before: nothing is lent
 abbrev pub Fails : List ℕ → Assembling → Assembling → Type 0
 Fails piece s t =
-    IsTrue t.assembler.failed × (t.assembler.message ≡ None)
+    IsTrue t.assembler.failed × (t.assembler.limits ≡ s.assembler.limits) × (t.assembler.message ≡ None)
     × ((f : StreamFault) × (t.fault ≡ kept_fault s.fault f) × ((all : List ℕ) → StandsFor s.assembler all → IsFault s.assembler.limits all piece f))
 
 -- octets are fed

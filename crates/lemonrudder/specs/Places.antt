@@ -57,7 +57,7 @@ overwritten at octets room = take at room ++ octets ++ drop (at + length octets)
 
 -- octets are written into a room at a place, which goes behind them; or why not
 abbrev pub written : Place → List ℕ → List ℕ → Result (Place × List ℕ) Refusal
-written place octets room = if nat_lt place.at (2 ^ 32) && nat_lt place.next (2 ^ 32) && not (nat_lt (length room) place.next) then (if nat_lt (length room) (place.next + length octets) then Err Room else Ok (record place { next = place.next + length octets }, overwritten place.next octets room)) else Err Range
+written place octets room = if nat_lt (place.at + place.next) (2 ^ 32) && not (nat_lt (length room) place.next) then (if nat_lt (length room) (place.next + length octets) then Err Room else Ok (record place { next = place.next + length octets }, overwritten place.next octets room)) else Err Range
 
 -- a value is written at a place, in the place's order
 abbrev pub put_at : Value → Place → List ℕ → Result (Place × List ℕ) Refusal

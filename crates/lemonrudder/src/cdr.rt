@@ -131,7 +131,7 @@ impl Place {
         requires long { length head.now + length octets.now + length tail.now < 2 ^ 62 }
         ensures { Writes (written self.old (padded self.old size (head.now ++ (octets.now ++ tail.now))) room.old) self.old self.new room.old room.new result }
     {
-        if self.at >= END || self.next >= END {
+        if self.at >= END || self.next >= END || END <= self.at + self.next {
             return Err(Refusal::Range);
         }
         let padding = (size - (self.at + self.next) % size) % size;
