@@ -3,12 +3,10 @@ use Rattle.std.proofs.Common.{◌≡◌, ℕ, zero, suc, ◌+◌, ◌-◌, ◌<�
 use Rattle.std.proofs.lemmas.List.{take_more}
 use Rattle.cdr_core.specs.declared.order.Order.{Order}
 use Rattle.cdr_core.specs.declared.values.Val.{Val}
-use Rattle.cdr_core.specs.Numbers.{padding}
 use Rattle.cdr_core.specs.Value as value
 use Rattle.cdr_core.specs.View.{value_of, values_of}
-use Rattle.cdr_core.specs.Writing.{number_octets, octets_of, octets_of_all, AreWritable}
+use Rattle.cdr_core.specs.Writing.{octets_of, octets_of_all, place_in, AreWritable, PutsAll, Writing}
 use Rattle.cdr_core.proofs.Appending.{appended, octets-last, place_behind}
-use Rattle.cdr_core.proofs.Lengths.{number_length}
 use Rattle.cdr_core.proofs.Views.{values_of-push}
 
 -- the next of some values is appended after those before it
@@ -48,15 +46,15 @@ drop_drop (suc i) n (x ∷ xs) =
     drop_drop i n xs ∙ ap (λ m. drop m (x ∷ xs)) (sym next)
 
 -- what is left once a run of those that were left was appended
-pub run_left : (order : Order) (at start : ℕ) (all : List Val) (i n : ℕ) (old new : List ℕ) → start ≤ length old → new ≡ old ++ octets_of_all order (values_of (take n (drop i all))) (at + (length old - start))
-    → new ++ octets_of_all order (values_of (drop (i + n) all)) (at + (length new - start)) ≡ old ++ octets_of_all order (values_of (drop i all)) (at + (length old - start))
-run_left order at start all i n old new le e =
-    let o = at + (length old - start) in
+pub run_left : (w : Writing) (all : List Val) (i n : ℕ) (old new : List ℕ) → w.start ≤ length old → PutsAll w (values_of (take n (drop i all))) old new
+    → new ++ octets_of_all w.order (values_of (drop (i + n) all)) (place_in w new) ≡ old ++ octets_of_all w.order (values_of (drop i all)) (place_in w old)
+run_left w all i n old new le e =
+    let o = place_in w old in
     let run = take n (drop i all) in
     let rest = drop (i + n) all in
     let parts : run ++ rest ≡ drop i all = ap (λ xs. run ++ xs) (sym (drop_drop i n all)) ∙ take_drop n (drop i all) in
-    appended at start old (octets_of_all order (values_of run) o) new (new ++ octets_of_all order (values_of rest) (at + (length new - start))) (octets_of_all order (values_of rest)) le e refl
-    ∙ ap (λ xs. old ++ xs) (sym (octets_split order run rest o)) ∙ ap (λ xs. old ++ octets_of_all order (values_of xs) o) parts
+    appended w.at w.start old (octets_of_all w.order (values_of run) o) new (new ++ octets_of_all w.order (values_of rest) (place_in w new)) (octets_of_all w.order (values_of rest)) le e refl
+    ∙ ap (λ xs. old ++ xs) (sym (octets_split w.order run rest o)) ∙ ap (λ xs. old ++ octets_of_all w.order (values_of xs) o) parts
 
 pub writable_left : (n : ℕ) (xs : List Val) → AreWritable (values_of xs) → AreWritable (values_of (drop n xs))
 writable_left zero xs h = h
@@ -71,11 +69,7 @@ pub on_ok : {T E P Q : Type 0} (r : Result T E) → (P → Q) → OnOk r P → O
 on_ok (Ok x) f h = f h
 on_ok (Err e) f h = tt
 
--- the room for the first of two parts, and for the second once the first was appended
-
-pub room_one : (old front rest : List ℕ) (room : ℕ) → length old + length (front ++ rest) ≤ room → length old + length front ≤ room
-room_one old front rest room le = omega (arith, le, length-append front rest)
-
+-- the room for the second of two parts, once the first was appended
 pub room_two : (at start room cap : ℕ) (old front mid : List ℕ) (g : ℕ → List ℕ) → start ≤ length old → mid ≡ old ++ front → room ≤ cap
     → length old + length (front ++ g ((at + (length old - start)) + length front)) ≤ room → length mid + length (g (at + (length mid - start))) ≤ cap
 room_two at start room cap old front mid g le e more h =
@@ -84,31 +78,9 @@ room_two at start room cap old front mid g le e more h =
     let same : length (g (at + (length mid - start))) ≡ length (g p) = ap (λ q. length (g q)) place in
     omega (arith, h, more, same, ap length e, length-append old front, length-append front (g p))
 
--- the room for an ordinal, a string and octets
-
-pub ordinal_room : (order : Order) (v : Val) (n at start here : ℕ) (old : List ℕ) (room : ℕ) → value_of v ≡ value.enumeration n → here ≡ length old
-    → length old + length (octets_of order (value_of v) (at + (length old - start))) ≤ room → length old + (padding (at + (here - start)) 4 + 4) ≤ room
-ordinal_room order v n at start here old room is e le =
-    let w = rw is at le in
-    rw e (omega (arith, w, number_length order 4 (at + (length old - start)) n))
-
-pub string_room : (order : Order) (v : Val) (text : List ℕ) (at start here : ℕ) (old : List ℕ) (room : ℕ) → value_of v ≡ value.string text → here ≡ length old
-    → length old + length (octets_of order (value_of v) (at + (length old - start))) ≤ room → length old + (padding (at + (here - start)) 4 + 4 + length text + 1) ≤ room
-string_room order v text at start here old room is e le =
-    let o = at + (length old - start) in
-    let w = rw is at le in
-    rw e (omega (arith, w, number_length order 4 o (length text + 1), length-append (number_octets order 4 o (length text + 1)) (text ++ 0 ∷ []), length-append text (0 ∷ []), length-append (number_octets order 4 o (length text + 1)) text, length-append (number_octets order 4 o (length text + 1) ++ text) (0 ∷ [])))
-
-pub octets_room : (order : Order) (v : Val) (all : List ℕ) (at start here : ℕ) (old : List ℕ) (room : ℕ) → value_of v ≡ value.octets all → here ≡ length old
-    → length old + length (octets_of order (value_of v) (at + (length old - start))) ≤ room → length old + (padding (at + (here - start)) 4 + 4 + length all) ≤ room
-octets_room order v all at start here old room is e le =
-    let o = at + (length old - start) in
-    let w = rw is at le in
-    rw e (omega (arith, w, number_length order 4 o (length all), length-append (number_octets order 4 o (length all)) all))
-
 -- the room that a run takes, and what is left
-pub run_room : (order : Order) (at start : ℕ) (all : List Val) (i n : ℕ) (old new : List ℕ) → start ≤ length old → new ≡ old ++ octets_of_all order (values_of (take n (drop i all))) (at + (length old - start))
-    → length new + length (octets_of_all order (values_of (drop (i + n) all)) (at + (length new - start))) ≡ length old + length (octets_of_all order (values_of (drop i all)) (at + (length old - start)))
-run_room order at start all i n old new le e =
-    let w = ap length (run_left order at start all i n old new le e) in
-    omega (arith, w, length-append new (octets_of_all order (values_of (drop (i + n) all)) (at + (length new - start))), length-append old (octets_of_all order (values_of (drop i all)) (at + (length old - start))))
+pub run_room : (w : Writing) (all : List Val) (i n : ℕ) (old new : List ℕ) → w.start ≤ length old → PutsAll w (values_of (take n (drop i all))) old new
+    → length new + length (octets_of_all w.order (values_of (drop (i + n) all)) (place_in w new)) ≡ length old + length (octets_of_all w.order (values_of (drop i all)) (place_in w old))
+run_room w all i n old new le e =
+    let h = ap length (run_left w all i n old new le e) in
+    omega (arith, h, length-append new (octets_of_all w.order (values_of (drop (i + n) all)) (place_in w new)), length-append old (octets_of_all w.order (values_of (drop i all)) (place_in w old)))

@@ -8,7 +8,7 @@ ghost use Rattle.cdr_core.specs.Value as value;
 ghost use Rattle.cdr_core.specs.View.{form_of, value_of};
 ghost use Rattle.cdr_core.specs.Writing.{octets_of};
 
-use crate::numbers::{digits_eight, digits_four, digits_two};
+use crate::numbers::put_octets;
 use crate::order::Order;
 use crate::types::Ty;
 use crate::values::Val;
@@ -116,13 +116,19 @@ impl Basic {
             (Basic::Boolean, Val::Boolean(b)) => out.push_reserved(u8::from(*b)),
             (Basic::Char, Val::Char(c)) => out.push_reserved(*c),
             (Basic::Octet, Val::Octet(n)) => out.push_reserved(*n),
-            (Basic::Short, Val::Short(n)) => digits_two(order, n.cast_unsigned(), out),
-            (Basic::UShort, Val::UShort(n)) => digits_two(order, *n, out),
-            (Basic::Long, Val::Long(n)) => digits_four(order, n.cast_unsigned(), out),
-            (Basic::ULong, Val::ULong(n)) => digits_four(order, *n, out),
-            (Basic::LongLong, Val::LongLong(n)) => digits_eight(order, n.cast_unsigned(), out),
-            (Basic::ULongLong, Val::ULongLong(n)) => digits_eight(order, *n, out),
-            (Basic::Enum(_), Val::Enum(n)) => digits_four(order, *n, out),
+            (Basic::Short, Val::Short(n)) => put_octets(
+                &order.ushort_octets(n.cast_unsigned()),
+                out,
+            ),
+            (Basic::UShort, Val::UShort(n)) => put_octets(&order.ushort_octets(*n), out),
+            (Basic::Long, Val::Long(n)) => put_octets(&order.ulong_octets(n.cast_unsigned()), out),
+            (Basic::ULong, Val::ULong(n)) => put_octets(&order.ulong_octets(*n), out),
+            (Basic::LongLong, Val::LongLong(n)) => put_octets(
+                &order.ulonglong_octets(n.cast_unsigned()),
+                out,
+            ),
+            (Basic::ULongLong, Val::ULongLong(n)) => put_octets(&order.ulonglong_octets(*n), out),
+            (Basic::Enum(_), Val::Enum(n)) => put_octets(&order.ulong_octets(*n), out),
             _ => return false,
         }
         true

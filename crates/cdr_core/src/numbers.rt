@@ -1,10 +1,8 @@
 //! Alignment, and numbers that are appended to an output.
 
 ghost use Rattle.std.specs.Prelude.{◌≡◌, ◌≤◌, ◌<◌, ◌+◌, ◌^◌, ◌++◌, ◌⊎◌, [], ◌∷◌, length, replicate, drop, IsOk, OnErr, OnOk, vec_capacity};
-ghost use Rattle.cdr_core.specs.Numbers.{digits_of, padding};
-ghost use Rattle.cdr_core.specs.Writing.{number_octets};
+ghost use Rattle.cdr_core.specs.Numbers.{padding};
 
-use crate::order::Order;
 use std::alloc::AllocError;
 
 /// How many octets of padding stand between a place and the next place divisible by `size`.
@@ -65,125 +63,32 @@ pub(crate) fn add_one(octet: u8, out: &mut Vec<u8>) -> Result<(), AllocError>
     Ok(())
 }
 
-/// Appends a number of two octets at a place, after its padding. `out` has room for both.
+/// Appends the octets of a number at a place, after their padding. `out` has room for both.
 #[inline(always)]
-pub(crate) fn put_two(order: Order, place: u64, number: u16, out: &mut Vec<u8>)
-    requires { length out.old.items + (padding place 2 + 2) ≤ vec_capacity out.old }
-    ensures items { out.new.items ≡ out.old.items ++ number_octets order 2 place number }
+pub(crate) fn put_number<const N: usize>(place: u64, number: [u8; N], out: &mut Vec<u8>)
+    requires size { (N ≡ 1) ⊎ ((N ≡ 2) ⊎ ((N ≡ 4) ⊎ (N ≡ 8))) }
+    requires room { length out.old.items + (padding place N + N) ≤ vec_capacity out.old }
+    ensures items { out.new.items ≡ out.old.items ++ (replicate (padding place N) 0 ++ number.entry) }
     ensures capacity { vec_capacity out.old ≤ vec_capacity out.new }
 {
-    put_zeros(gap(place, 2), out);
-    digits_two(order, number, out);
+    put_zeros(gap(place, N as u64), out);
+    put_octets(&number, out);
 }
 
-/// Appends the two octets of a number, for which `out` has room.
+/// Appends the octets of a number at a place, after their padding, or nothing.
 #[inline(always)]
-pub(crate) fn digits_two(order: Order, number: u16, out: &mut Vec<u8>)
-    requires { length out.old.items + 2 ≤ vec_capacity out.old }
-    ensures items { out.new.items ≡ out.old.items ++ digits_of order 2 number }
-    ensures capacity { vec_capacity out.old ≤ vec_capacity out.new }
-{
-    let mut octets = [0; 2];
-    order.put_ushort(number, &mut octets);
-    put_octets(&octets, out);
-}
-
-/// Appends a number of two octets at a place, after its padding, or nothing.
-#[inline(always)]
-pub(crate) fn add_two(
-    order: Order,
+pub(crate) fn add_number<const N: usize>(
     place: u64,
-    number: u16,
+    number: [u8; N],
     out: &mut Vec<u8>,
 ) -> Result<(), AllocError>
-    ensures ok { OnOk result (out.new.items ≡ out.old.items ++ number_octets order 2 place number) }
+    requires { (N ≡ 1) ⊎ ((N ≡ 2) ⊎ ((N ≡ 4) ⊎ (N ≡ 8))) }
+    ensures ok { OnOk result (out.new.items ≡ out.old.items ++ (replicate (padding place N) 0 ++ number.entry)) }
     ensures err { OnErr result (out.new.items ≡ out.old.items) }
-    ensures succeeds { length out.old.items + (padding place 2 + 2) ≤ vec_capacity out.old → IsOk result }
+    ensures succeeds { length out.old.items + (padding place N + N) ≤ vec_capacity out.old → IsOk result }
     ensures capacity { vec_capacity out.old ≤ vec_capacity out.new }
 {
-    out.reserve(gap(place, 2) as usize + 2)?;
-    put_two(order, place, number, out);
-    Ok(())
-}
-
-/// Appends a number of four octets at a place, after its padding. `out` has room for both.
-#[inline(always)]
-pub(crate) fn put_four(order: Order, place: u64, number: u32, out: &mut Vec<u8>)
-    requires { length out.old.items + (padding place 4 + 4) ≤ vec_capacity out.old }
-    ensures items { out.new.items ≡ out.old.items ++ number_octets order 4 place number }
-    ensures capacity { vec_capacity out.old ≤ vec_capacity out.new }
-{
-    put_zeros(gap(place, 4), out);
-    digits_four(order, number, out);
-}
-
-/// Appends the four octets of a number, for which `out` has room.
-#[inline(always)]
-pub(crate) fn digits_four(order: Order, number: u32, out: &mut Vec<u8>)
-    requires { length out.old.items + 4 ≤ vec_capacity out.old }
-    ensures items { out.new.items ≡ out.old.items ++ digits_of order 4 number }
-    ensures capacity { vec_capacity out.old ≤ vec_capacity out.new }
-{
-    let mut octets = [0; 4];
-    order.put_ulong(number, &mut octets);
-    put_octets(&octets, out);
-}
-
-/// Appends a number of four octets at a place, after its padding, or nothing.
-#[inline(always)]
-pub(crate) fn add_four(
-    order: Order,
-    place: u64,
-    number: u32,
-    out: &mut Vec<u8>,
-) -> Result<(), AllocError>
-    ensures ok { OnOk result (out.new.items ≡ out.old.items ++ number_octets order 4 place number) }
-    ensures err { OnErr result (out.new.items ≡ out.old.items) }
-    ensures succeeds { length out.old.items + (padding place 4 + 4) ≤ vec_capacity out.old → IsOk result }
-    ensures capacity { vec_capacity out.old ≤ vec_capacity out.new }
-{
-    out.reserve(gap(place, 4) as usize + 4)?;
-    put_four(order, place, number, out);
-    Ok(())
-}
-
-/// Appends a number of eight octets at a place, after its padding. `out` has room for both.
-#[inline(always)]
-pub(crate) fn put_eight(order: Order, place: u64, number: u64, out: &mut Vec<u8>)
-    requires { length out.old.items + (padding place 8 + 8) ≤ vec_capacity out.old }
-    ensures items { out.new.items ≡ out.old.items ++ number_octets order 8 place number }
-    ensures capacity { vec_capacity out.old ≤ vec_capacity out.new }
-{
-    put_zeros(gap(place, 8), out);
-    digits_eight(order, number, out);
-}
-
-/// Appends the eight octets of a number, for which `out` has room.
-#[inline(always)]
-pub(crate) fn digits_eight(order: Order, number: u64, out: &mut Vec<u8>)
-    requires { length out.old.items + 8 ≤ vec_capacity out.old }
-    ensures items { out.new.items ≡ out.old.items ++ digits_of order 8 number }
-    ensures capacity { vec_capacity out.old ≤ vec_capacity out.new }
-{
-    let mut octets = [0; 8];
-    order.put_ulonglong(number, &mut octets);
-    put_octets(&octets, out);
-}
-
-/// Appends a number of eight octets at a place, after its padding, or nothing.
-#[inline(always)]
-pub(crate) fn add_eight(
-    order: Order,
-    place: u64,
-    number: u64,
-    out: &mut Vec<u8>,
-) -> Result<(), AllocError>
-    ensures ok { OnOk result (out.new.items ≡ out.old.items ++ number_octets order 8 place number) }
-    ensures err { OnErr result (out.new.items ≡ out.old.items) }
-    ensures succeeds { length out.old.items + (padding place 8 + 8) ≤ vec_capacity out.old → IsOk result }
-    ensures capacity { vec_capacity out.old ≤ vec_capacity out.new }
-{
-    out.reserve(gap(place, 8) as usize + 8)?;
-    put_eight(order, place, number, out);
+    out.reserve(gap(place, N as u64) as usize + N)?;
+    put_number(place, number, out);
     Ok(())
 }

@@ -42,6 +42,16 @@ impl Order {
         }
     }
 
+    /// The four octets of an unsigned long.
+    #[inline(always)]
+    pub(crate) fn ulong_octets(self, number: u32) -> [u8; 4]
+        ensures { result ≡ digits_of self 4 number }
+    {
+        let mut octets = [0; 4];
+        self.put_ulong(number, &mut octets);
+        octets
+    }
+
     /// The first octet, the same in either order.
     #[inline(always)]
     pub(crate) fn octet_of(self, octets: &[u8]) -> u8
@@ -63,16 +73,17 @@ impl Order {
         }
     }
 
-    /// Writes an unsigned short over the first two octets.
+    /// The two octets of an unsigned short.
     #[inline(always)]
-    pub(crate) fn put_ushort(self, number: u16, octets: &mut [u8])
-        requires { 2 ≤ length octets.old }
-        ensures { octets.new ≡ digits_of self 2 number ++ drop 2 octets.old }
+    pub(crate) fn ushort_octets(self, number: u16) -> [u8; 2]
+        ensures { result ≡ digits_of self 2 number }
     {
+        let mut octets = [0; 2];
         match self {
-            Order::Big => BigEndian::write_u16(octets, number),
-            Order::Little => LittleEndian::write_u16(octets, number),
+            Order::Big => BigEndian::write_u16(&mut octets, number),
+            Order::Little => LittleEndian::write_u16(&mut octets, number),
         }
+        octets
     }
 
     /// The unsigned long long in the first eight octets.
@@ -87,16 +98,17 @@ impl Order {
         }
     }
 
-    /// Writes an unsigned long long over the first eight octets.
+    /// The eight octets of an unsigned long long.
     #[inline(always)]
-    pub(crate) fn put_ulonglong(self, number: u64, octets: &mut [u8])
-        requires { 8 ≤ length octets.old }
-        ensures { octets.new ≡ digits_of self 8 number ++ drop 8 octets.old }
+    pub(crate) fn ulonglong_octets(self, number: u64) -> [u8; 8]
+        ensures { result ≡ digits_of self 8 number }
     {
+        let mut octets = [0; 8];
         match self {
-            Order::Big => BigEndian::write_u64(octets, number),
-            Order::Little => LittleEndian::write_u64(octets, number),
+            Order::Big => BigEndian::write_u64(&mut octets, number),
+            Order::Little => LittleEndian::write_u64(&mut octets, number),
         }
+        octets
     }
 
     /// The order that the first octet of an encapsulation names, a boolean: true for little-endian.

@@ -7,7 +7,7 @@ ghost use Rattle.cdr_core.specs.Spelling.{IsClean};
 ghost use Rattle.cdr_core.specs.Writing.{number_octets};
 
 use crate::fault::{Fault, Kind};
-use crate::numbers::{gap, put_four, put_octets};
+use crate::numbers::{gap, put_number, put_octets};
 use crate::order::Order;
 use std::alloc::AllocError;
 
@@ -90,31 +90,7 @@ pub(crate) fn text_of(place: u64, rest: &[u8], size: usize) -> Result<(&[u8], u6
     Ok((&octets[..size - 1], after, others))
 }
 
-/// Appends a string at a place: its length with the NUL, its octets, and the NUL. `out` has room for
-/// them.
-pub(crate) fn put_string(order: Order, place: u64, text: &[u8], out: &mut Vec<u8>)
-    requires long { length text.now + 1 < 2 ^ 32 }
-    requires room { length out.old.items + (padding place 4 + 4 + length text.now + 1) ≤ vec_capacity out.old }
-    ensures items { out.new.items ≡ out.old.items ++ (number_octets order 4 place (length text.now + 1) ++ text.now ++ 0 ∷ []) }
-    ensures capacity { vec_capacity out.old ≤ vec_capacity out.new }
-{
-    put_four(order, place, text.len() as u32 + 1, out);
-    put_octets(text, out);
-    out.push_reserved(0);
-}
-
-/// Appends a sequence of octets at a place: its length and its octets. `out` has room for them.
-pub(crate) fn put_raw(order: Order, place: u64, all: &[u8], out: &mut Vec<u8>)
-    requires long { length all.now < 2 ^ 32 }
-    requires room { length out.old.items + (padding place 4 + 4 + length all.now) ≤ vec_capacity out.old }
-    ensures items { out.new.items ≡ out.old.items ++ (number_octets order 4 place (length all.now) ++ all.now) }
-    ensures capacity { vec_capacity out.old ≤ vec_capacity out.new }
-{
-    put_four(order, place, all.len() as u32, out);
-    put_octets(all, out);
-}
-
-/// Appends a string at a place, or nothing.
+/// Appends a string at a place, or nothing: its length with the NUL, its octets, and the NUL.
 #[inline]
 pub(crate) fn add_string(
     order: Order,
@@ -129,11 +105,13 @@ pub(crate) fn add_string(
     ensures capacity { vec_capacity out.old ≤ vec_capacity out.new }
 {
     out.reserve(gap(place, 4) as usize + text.len() + 5)?;
-    put_string(order, place, text, out);
+    put_number(place, order.ulong_octets(text.len() as u32 + 1), out);
+    put_octets(text, out);
+    out.push_reserved(0);
     Ok(())
 }
 
-/// Appends a sequence of octets at a place, or nothing.
+/// Appends a sequence of octets at a place, or nothing: its length and its octets.
 #[inline]
 pub(crate) fn add_raw(
     order: Order,
@@ -148,6 +126,7 @@ pub(crate) fn add_raw(
     ensures capacity { vec_capacity out.old ≤ vec_capacity out.new }
 {
     out.reserve(gap(place, 4) as usize + all.len() + 4)?;
-    put_raw(order, place, all, out);
+    put_number(place, order.ulong_octets(all.len() as u32), out);
+    put_octets(all, out);
     Ok(())
 }

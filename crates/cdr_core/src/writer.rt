@@ -9,9 +9,9 @@ ghost use Rattle.cdr_core.specs.Value as value;
 ghost use Rattle.cdr_core.specs.View.{values_of};
 ghost use Rattle.cdr_core.specs.Writing.{place_in, AreWritable, Puts, PutsAll};
 
-use crate::numbers::{gap, put_eight, put_four, put_two, put_zeros};
+use crate::numbers::{add_number, add_one, gap, put_zeros};
 use crate::order::Order;
-use crate::parts::{put_raw, put_string};
+use crate::parts::{add_raw, add_string};
 use crate::values::Val;
 use crate::writing::append_all;
 use std::alloc::AllocError;
@@ -62,9 +62,16 @@ impl Writer {
             (λ w. (out.new.items ≡ out.old.items ++ byte_order order ∷ []) × (w ≡ record { order = order; at = 1; start = length out.new.items }))
             (λ e. out.new.items ≡ out.old.items) }
     {
-        out.reserve(1)?;
-        out.push_reserved(order.flag());
+        add_one(order.flag(), out)?;
         Ok(Writer::new(order, 1, out))
+    }
+
+    /// The byte order.
+    #[inline(always)]
+    pub(crate) fn order(&self) -> Order
+        ensures { result ≡ self.now.order }
+    {
+        self.order
     }
 
     /// The place of the next octet.
@@ -96,9 +103,7 @@ impl Writer {
         requires { self.now.start ≤ length out.old.items }
         ensures { Puts self.now (octet_value octet) result out.old.items out.new.items }
     {
-        out.reserve(1)?;
-        out.push_reserved(octet);
-        Ok(())
+        add_one(octet, out)
     }
 
     /// Appends a boolean, the octet 0 or 1.
@@ -107,9 +112,7 @@ impl Writer {
         requires { self.now.start ≤ length out.old.items }
         ensures { Puts self.now (value.boolean truth) result out.old.items out.new.items }
     {
-        out.reserve(1)?;
-        out.push_reserved(u8::from(truth));
-        Ok(())
+        add_one(u8::from(truth), out)
     }
 
     /// Appends a short.
@@ -118,10 +121,11 @@ impl Writer {
         requires { self.now.start ≤ length out.old.items }
         ensures { Puts self.now (short_value number) result out.old.items out.new.items }
     {
-        let place = self.place(out);
-        out.reserve(gap(place, 2) as usize + 2)?;
-        put_two(self.order, place, number.cast_unsigned(), out);
-        Ok(())
+        add_number(
+            self.place(out),
+            self.order.ushort_octets(number.cast_unsigned()),
+            out,
+        )
     }
 
     /// Appends an unsigned short.
@@ -130,10 +134,7 @@ impl Writer {
         requires { self.now.start ≤ length out.old.items }
         ensures { Puts self.now (ushort_value number) result out.old.items out.new.items }
     {
-        let place = self.place(out);
-        out.reserve(gap(place, 2) as usize + 2)?;
-        put_two(self.order, place, number, out);
-        Ok(())
+        add_number(self.place(out), self.order.ushort_octets(number), out)
     }
 
     /// Appends a long.
@@ -142,10 +143,11 @@ impl Writer {
         requires { self.now.start ≤ length out.old.items }
         ensures { Puts self.now (long_value number) result out.old.items out.new.items }
     {
-        let place = self.place(out);
-        out.reserve(gap(place, 4) as usize + 4)?;
-        put_four(self.order, place, number.cast_unsigned(), out);
-        Ok(())
+        add_number(
+            self.place(out),
+            self.order.ulong_octets(number.cast_unsigned()),
+            out,
+        )
     }
 
     /// Appends an unsigned long.
@@ -154,10 +156,7 @@ impl Writer {
         requires { self.now.start ≤ length out.old.items }
         ensures { Puts self.now (ulong_value number) result out.old.items out.new.items }
     {
-        let place = self.place(out);
-        out.reserve(gap(place, 4) as usize + 4)?;
-        put_four(self.order, place, number, out);
-        Ok(())
+        add_number(self.place(out), self.order.ulong_octets(number), out)
     }
 
     /// Appends an unsigned long long.
@@ -166,10 +165,7 @@ impl Writer {
         requires { self.now.start ≤ length out.old.items }
         ensures { Puts self.now (ulonglong_value number) result out.old.items out.new.items }
     {
-        let place = self.place(out);
-        out.reserve(gap(place, 8) as usize + 8)?;
-        put_eight(self.order, place, number, out);
-        Ok(())
+        add_number(self.place(out), self.order.ulonglong_octets(number), out)
     }
 
     /// Appends a string: its length with the NUL, the text, and a NUL. `has_no_nul` tests the text.
@@ -180,10 +176,7 @@ impl Writer {
         requires clean { IsClean text.now }
         ensures { Puts self.now (value.string text.now) result out.old.items out.new.items }
     {
-        let place = self.place(out);
-        out.reserve(gap(place, 4) as usize + text.len() + 5)?;
-        put_string(self.order, place, text, out);
-        Ok(())
+        add_string(self.order, self.place(out), text, out)
     }
 
     /// Appends a sequence of octets: its length, and the octets.
@@ -193,10 +186,7 @@ impl Writer {
         requires long { length all.now < 2 ^ 32 }
         ensures { Puts self.now (value.octets all.now) result out.old.items out.new.items }
     {
-        let place = self.place(out);
-        out.reserve(gap(place, 4) as usize + all.len() + 4)?;
-        put_raw(self.order, place, all, out);
-        Ok(())
+        add_raw(self.order, self.place(out), all, out)
     }
 
     /// Appends values one after another. `are_writable` tests them.
@@ -207,7 +197,7 @@ impl Writer {
         ensures err { OnErr result (out.new.items ≡ out.old.items) }
     {
         let end = out.len();
-        let appended = append_all(self.order, self.at, self.start, false, values, out);
+        let appended = append_all(self, values, out);
         if appended.is_err() {
             out.truncate(end);
         }

@@ -1,17 +1,18 @@
 //! Writing values, and which of them can be written.
 
-ghost use Rattle.std.specs.Prelude.{◌≡◌, ◌≤◌, ◌<◌, ◌+◌, ◌-◌, ◌^◌, ◌++◌, ◌↔◌, IsTrue, length, IsOk, OnErr, OnOk, vec_capacity};
+ghost use Rattle.std.specs.Prelude.{◌≡◌, ◌≤◌, ◌<◌, ◌+◌, ◌^◌, ◌++◌, ◌↔◌, IsTrue, length, IsOk, OnErr, OnOk, vec_capacity};
 ghost use Rattle.cdr_core.specs.Private.{Keeps};
 ghost use Rattle.cdr_core.specs.Value as value;
 ghost use Rattle.cdr_core.specs.Value.{count};
 ghost use Rattle.cdr_core.specs.View.{value_of, values_of};
-ghost use Rattle.cdr_core.specs.Writing.{octets_of, octets_of_all, AreWritable, IsWritable};
+ghost use Rattle.cdr_core.specs.Writing.{octets_of, octets_of_all, place_in, Appends, AreWritable, IsWritable, PutsAll};
 
-use crate::numbers::{add_eight, add_four, add_one, add_two};
+use crate::numbers::{add_number, add_one};
 use crate::order::Order;
 use crate::parts::{add_raw, add_string, has_no_nul};
 use crate::runs::follow;
 use crate::values::Val;
+use crate::writer::Writer;
 use std::alloc::AllocError;
 
 /// Whether the count of the values fits an unsigned long.
@@ -52,47 +53,40 @@ pub fn are_writable(all: &[Val]) -> bool
     true
 }
 
-/// Appends a value. The octet of `out` at `start` stands at the place `at`. At an error `out` keeps what it
-/// held, and octets may have been appended.
+/// Appends a value. At an error `out` keeps what it held, and octets may have been appended.
 #[cycle(writing)]
 #[tactic(auto, using(crate::proofs::Views::count_values_of, crate::proofs::Lengths::number_length))]
-fn append(
-    order: Order,
-    at: u64,
-    start: usize,
-    value: &Val,
-    out: &mut Vec<u8>,
-) -> Result<(), AllocError>
-    requires at { at < 2 ^ 32 }
-    requires start { start ≤ length out.old.items }
+fn append(writer: &Writer, value: &Val, out: &mut Vec<u8>) -> Result<(), AllocError>
+    requires start { writer.now.start ≤ length out.old.items }
     requires writable { IsWritable (value_of value.now) }
-    ensures ok { OnOk result (out.new.items ≡ out.old.items ++ octets_of order (value_of value.now) (at + (length out.old.items - start))) }
+    ensures ok { OnOk result (Appends writer.now (value_of value.now) out.old.items out.new.items) }
     ensures err { OnErr result (Keeps out.old.items out.new.items) }
-    ensures succeeds { length out.old.items + length (octets_of order (value_of value.now) (at + (length out.old.items - start))) ≤ vec_capacity out.old → IsOk result }
+    ensures succeeds { length out.old.items + length (octets_of writer.now.order (value_of value.now) (place_in writer.now out.old.items)) ≤ vec_capacity out.old → IsOk result }
     ensures capacity { vec_capacity out.old ≤ vec_capacity out.new }
 {
-    let place = at + (out.len() - start) as u64;
+    let order = writer.order();
+    let place = writer.place(out);
     match value {
         Val::Boolean(b) => add_one(u8::from(*b), out),
         Val::Char(c) => add_one(*c, out),
         Val::Octet(n) => add_one(*n, out),
-        Val::Short(n) => add_two(order, place, n.cast_unsigned(), out),
-        Val::UShort(n) => add_two(order, place, *n, out),
-        Val::Long(n) => add_four(order, place, n.cast_unsigned(), out),
-        Val::ULong(n) => add_four(order, place, *n, out),
-        Val::LongLong(n) => add_eight(order, place, n.cast_unsigned(), out),
-        Val::ULongLong(n) => add_eight(order, place, *n, out),
+        Val::Short(n) => add_number(place, order.ushort_octets(n.cast_unsigned()), out),
+        Val::UShort(n) => add_number(place, order.ushort_octets(*n), out),
+        Val::Long(n) => add_number(place, order.ulong_octets(n.cast_unsigned()), out),
+        Val::ULong(n) => add_number(place, order.ulong_octets(*n), out),
+        Val::LongLong(n) => add_number(place, order.ulonglong_octets(n.cast_unsigned()), out),
+        Val::ULongLong(n) => add_number(place, order.ulonglong_octets(*n), out),
         Val::Str(text) => add_string(order, place, text, out),
         Val::Octets(all) => add_raw(order, place, all, out),
-        Val::Seq(all) => append_sequence(order, at, start, all, out),
-        Val::Array(all) => append_all(order, at, start, true, all, out),
-        Val::Enum(n) => add_four(order, place, *n, out),
-        Val::Struct(all) => append_all(order, at, start, false, all, out),
+        Val::Seq(all) => append_sequence(writer, all, out),
+        Val::Array(all) => append_elements(writer, all, out),
+        Val::Enum(n) => add_number(place, order.ulong_octets(*n), out),
+        Val::Struct(all) => append_all(writer, all, out),
         Val::Union(discriminator, member) => {
-            append(order, at, start, discriminator, out)?;
+            append(writer, discriminator, out)?;
             match member {
                 None => Ok(()),
-                Some(member) => append(order, at, start, member, out),
+                Some(member) => append(writer, member, out),
             }
         }
     }
@@ -101,54 +95,58 @@ fn append(
 /// Appends a sequence: its count and its elements.
 #[cycle(writing)]
 #[tactic(auto, using(crate::proofs::Views::count_values_of, crate::proofs::Lengths::number_length, crate::proofs::Appending::place_behind))]
-fn append_sequence(
-    order: Order,
-    at: u64,
-    start: usize,
-    all: &[Val],
-    out: &mut Vec<u8>,
-) -> Result<(), AllocError>
-    requires at { at < 2 ^ 32 }
-    requires start { start ≤ length out.old.items }
+fn append_sequence(writer: &Writer, all: &[Val], out: &mut Vec<u8>) -> Result<(), AllocError>
+    requires start { writer.now.start ≤ length out.old.items }
     requires count { count (values_of all.now) < 2 ^ 32 }
     requires writable { AreWritable (values_of all.now) }
-    ensures ok { OnOk result (out.new.items ≡ out.old.items ++ octets_of order (value.sequence (values_of all.now)) (at + (length out.old.items - start))) }
+    ensures ok { OnOk result (Appends writer.now (value.sequence (values_of all.now)) out.old.items out.new.items) }
     ensures err { OnErr result (Keeps out.old.items out.new.items) }
-    ensures succeeds { length out.old.items + length (octets_of order (value.sequence (values_of all.now)) (at + (length out.old.items - start))) ≤ vec_capacity out.old → IsOk result }
+    ensures succeeds { length out.old.items + length (octets_of writer.now.order (value.sequence (values_of all.now)) (place_in writer.now out.old.items)) ≤ vec_capacity out.old → IsOk result }
     ensures capacity { vec_capacity out.old ≤ vec_capacity out.new }
 {
-    let place = at + (out.len() - start) as u64;
-    add_four(order, place, all.len() as u32, out)?;
-    append_all(order, at, start, true, all, out)
+    let count = writer.order().ulong_octets(all.len() as u32);
+    add_number(writer.place(out), count, out)?;
+    append_elements(writer, all, out)
 }
 
-/// Appends values one after another, which may be of the `same` type.
+/// Appends values of one type, one after another: what follows a value of a basic type at once.
 #[cycle(writing)]
-pub(crate) fn append_all(
-    order: Order,
-    at: u64,
-    start: usize,
-    same: bool,
-    all: &[Val],
-    out: &mut Vec<u8>,
-) -> Result<(), AllocError>
-    requires at { at < 2 ^ 32 }
-    requires start { start ≤ length out.old.items }
+fn append_elements(writer: &Writer, all: &[Val], out: &mut Vec<u8>) -> Result<(), AllocError>
+    requires start { writer.now.start ≤ length out.old.items }
     requires writable { AreWritable (values_of all.now) }
-    ensures ok { OnOk result (out.new.items ≡ out.old.items ++ octets_of_all order (values_of all.now) (at + (length out.old.items - start))) }
+    ensures ok { OnOk result (PutsAll writer.now (values_of all.now) out.old.items out.new.items) }
     ensures err { OnErr result (Keeps out.old.items out.new.items) }
-    ensures succeeds { length out.old.items + length (octets_of_all order (values_of all.now) (at + (length out.old.items - start))) ≤ vec_capacity out.old → IsOk result }
+    ensures succeeds { length out.old.items + length (octets_of_all writer.now.order (values_of all.now) (place_in writer.now out.old.items)) ≤ vec_capacity out.old → IsOk result }
     ensures capacity { vec_capacity out.old ≤ vec_capacity out.new }
 {
     let mut next = 0;
     while next < all.len() {
         let value = &all[next];
-        append(order, at, start, value, out)?;
+        append(writer, value, out)?;
         next += 1;
-        if same {
-            let place = at + (out.len() - start) as u64;
-            next += follow(order, place, value, all.split_at(next).1, out);
-        }
+        next += follow(
+            writer.order(),
+            writer.place(out),
+            value,
+            all.split_at(next).1,
+            out,
+        );
+    }
+    Ok(())
+}
+
+/// Appends values one after another.
+#[cycle(writing)]
+pub(crate) fn append_all(writer: &Writer, all: &[Val], out: &mut Vec<u8>) -> Result<(), AllocError>
+    requires start { writer.now.start ≤ length out.old.items }
+    requires writable { AreWritable (values_of all.now) }
+    ensures ok { OnOk result (PutsAll writer.now (values_of all.now) out.old.items out.new.items) }
+    ensures err { OnErr result (Keeps out.old.items out.new.items) }
+    ensures succeeds { length out.old.items + length (octets_of_all writer.now.order (values_of all.now) (place_in writer.now out.old.items)) ≤ vec_capacity out.old → IsOk result }
+    ensures capacity { vec_capacity out.old ≤ vec_capacity out.new }
+{
+    for value in all {
+        append(writer, value, out)?;
     }
     Ok(())
 }
@@ -165,7 +163,7 @@ pub fn write(order: Order, at: u64, value: &Val, out: &mut Vec<u8>) -> Result<()
     ensures capacity { vec_capacity out.old ≤ vec_capacity out.new }
 {
     let start = out.len();
-    let appended = append(order, at, start, value, out);
+    let appended = append(&Writer::new(order, at, out), value, out);
     if appended.is_err() {
         out.truncate(start);
     }
@@ -188,7 +186,7 @@ pub fn write_list(
     ensures capacity { vec_capacity out.old ≤ vec_capacity out.new }
 {
     let start = out.len();
-    let appended = append_all(order, at, start, false, values, out);
+    let appended = append_all(&Writer::new(order, at, out), values, out);
     if appended.is_err() {
         out.truncate(start);
     }

@@ -1,8 +1,0 @@
-use Rattle.std.proofs.Common.{rules}
-use Rattle.cdr_core.proofs.writer.Writer.encapsulated.Goals as goal
-
-pub returns-in_err-reserve : goal.returns-in_err-reserve
-returns-in_err-reserve c = search rules
-
-pub returns : goal.returns
-returns c = search rules
