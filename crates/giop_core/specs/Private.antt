@@ -1,6 +1,6 @@
 -- The words of private functions: what their contracts say on the way to those of the public ones. Nobody who takes the
 -- public contracts has to read this file.
-use Rattle.std.specs.Prelude.{◌≡◌, ℕ, ◌+◌, ◌<◌, ◌≤◌, ◌^◌, ℤ, List, [], ◌∷◌, ◌++◌, length, map, replicate, Result, Ok, Err}
+use Rattle.std.specs.Prelude.{◌≡◌, ℕ, ◌+◌, ◌<◌, ◌≤◌, ◌^◌, List, [], ◌∷◌, ◌++◌, length, map, replicate, Result, Ok, Err}
 use Rattle.std.specs.Borrow.{Bor}
 use Rattle.cdr_core.specs.declared.fault.Fault.{Fault}
 use Rattle.cdr_core.specs.declared.order.Order.{Order}
@@ -14,6 +14,7 @@ use Rattle.cdr_core.specs.Value.{Value, Values, values}
 use Rattle.cdr_core.specs.Writing.{octets_of, octets_of_all, IsWritable, PutsAll, Writing}
 use Rattle.giop_core.specs.declared.error.WriteError.{WriteError}
 use Rattle.giop_core.specs.declared.error.WriteError.TheVariants.{TooLong, Memory}
+use Rattle.giop_core.specs.declared.ft.FtFields.{FtFields}
 use Rattle.giop_core.specs.declared.header.MessageKind.{MessageKind}
 use Rattle.giop_core.specs.declared.header.Version.{Version}
 use Rattle.giop_core.specs.declared.ior_view.IorView.{IorView}
@@ -45,8 +46,8 @@ abbrev pub contexts_value : Contexts → Value
 contexts_value c = list_value (contexts_left c)
 
 -- .. three reserved octets, ..
-abbrev pub three_value : ℕ × ℕ × ℕ → Value
-three_value x = value.array (values (octet_value x.0 ∷ octet_value x.1 ∷ octet_value x.2 ∷ []))
+abbrev pub three_value : List ℕ → Value
+three_value octets = value.array (values (map octet_value octets))
 
 -- .. a reference, ..
 abbrev pub reference_value : IorView → Value
@@ -61,8 +62,8 @@ abbrev pub target_value : Target → Value
 target_value t = target_of (addressed_by t)
 
 -- .. and the fields of FT_REQUEST
-abbrev pub ft_value : Bor (List ℕ) × ℤ × ℕ → Value
-ft_value x = value.structure (values (text_value x.0 ∷ long_value x.1 ∷ ulonglong_value x.2 ∷ []))
+abbrev pub ft_value : FtFields → Value
+ft_value f = value.structure (values (text_value f.client_id ∷ long_value f.retention_id ∷ ulonglong_value f.expiration ∷ []))
 
 -- values too long for a message: their octets alone are more than a message size can count
 

@@ -1,5 +1,5 @@
 -- The grammar of the messages: what stands after each header, in order.
-use Rattle.std.specs.Prelude.{pos, List, [], ◌∷◌}
+use Rattle.std.specs.Prelude.{◌≡◌, Bool, true, false, pos, List, [], ◌∷◌}
 use Rattle.cdr_core.specs.Form as form
 use Rattle.cdr_core.specs.Form.{Form}
 use Rattle.cdr_core.specs.Parts.{long, octet, raw, short, text, ulong, ulonglong}
@@ -46,6 +46,20 @@ row V12 Fragment = ulong ∷ []
 row _ Fragment = []
 row _ CloseConnection = []
 row _ MessageError = []
+
+-- GIOP 9.4.2, 9.4.3, 9.4.9: whether the request id, an unsigned long, comes first of what stands after the header of a
+-- Request, a Reply and a Fragment: only in 1.2
+abbrev pub has_id_first : Version → Bool
+has_id_first V12 = true
+has_id_first _ = false
+
+-- the same by the grammar: their fields begin with an unsigned long
+abbrev pub BeginsWith : Form → List Form → Type 0
+BeginsWith t [] = ⊥
+BeginsWith t (first ∷ others) = first ≡ t
+
+abbrev pub BeginWithId : Version → Type 0
+BeginWithId version = BeginsWith ulong (row version Request) × BeginsWith ulong (row version Reply) × BeginsWith ulong (row version Fragment)
 
 -- FT 23.2.7: struct FTRequestServiceContext { string client_id; long retention_id; TimeBase::TimeT expiration_time; }
 abbrev pub ft_request : Form

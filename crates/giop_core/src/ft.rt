@@ -36,20 +36,32 @@ pub enum FtField<'m> {
     },
 }
 
+/// The fields of an FT_REQUEST, as they are read.
+#[derive(Clone, Copy)]
+struct FtFields<'m> {
+    client_id: &'m [u8],
+    retention_id: i32,
+    expiration: u64,
+}
+
 /// Reads the fields of an FT_REQUEST.
 #[tactic(auto, using(crate::proofs::Steps::ft_is))]
-fn read_fields<'m>(cursor: &mut Cursor<'m>) -> Result<(&'m [u8], i32, u64), Fault>
+fn read_fields<'m>(cursor: &mut Cursor<'m>) -> Result<FtFields<'m>, Fault>
     ensures { Reads ft_value result ft_request cursor.old cursor.new }
 {
     let client_id = cursor.string()?;
     let retention_id = cursor.long()?;
     let expiration = cursor.ulonglong()?;
-    Ok((client_id, retention_id, expiration))
+    Ok(FtFields {
+        client_id,
+        retention_id,
+        expiration,
+    })
 }
 
 /// The fields in the octets of an FT_REQUEST, which are an encapsulation.
 #[tactic(auto, using(crate::proofs::Enclosed::order_fails, crate::proofs::Enclosed::value_fails, crate::proofs::Enclosed::value_is))]
-fn fields_in(octets: &[u8]) -> Result<(&[u8], i32, u64), Fault>
+fn fields_in(octets: &[u8]) -> Result<FtFields<'_>, Fault>
     ensures { Shows ft_value result (encapsulated (value_at ft_request) octets.now) }
 {
     let mut cursor = Cursor::encapsulated(octets)?;
@@ -61,10 +73,10 @@ fn field_in(octets: &[u8]) -> FtField<'_>
     ensures { ft_seen result ≡ ft_by (encapsulated (value_at ft_request) octets.now) }
 {
     match fields_in(octets) {
-        Ok((client_id, retention_id, expiration)) => FtField::Present {
-            client_id,
-            retention_id,
-            expiration,
+        Ok(fields) => FtField::Present {
+            client_id: fields.client_id,
+            retention_id: fields.retention_id,
+            expiration: fields.expiration,
         },
         Err(_) => FtField::Bad,
     }

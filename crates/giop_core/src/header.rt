@@ -1,7 +1,8 @@
 //! The header of a message (CORBA 3.3 Part 2, 9.4.1).
 
-ghost use Rattle.std.specs.Prelude.{◌≡◌, Ok, Some, IsTrue};
+ghost use Rattle.std.specs.Prelude.{◌≡◌, ◌↔◌, Ok, Some, IsTrue};
 ghost use Rattle.giop_core.specs.Headers.{can_be_cut, flags_octet, flags_of, has_kind, has_magic, header_octets, header_of, is_possible, kind_number, kind_of, minor_of, version_of};
+ghost use Rattle.giop_core.specs.Rows.{has_id_first, BeginWithId};
 ghost use Rattle.giop_core.specs.Texts.{kind_text, version_text};
 
 use cdr_core::Order;
@@ -14,6 +15,20 @@ pub enum Version {
     V10,
     V11,
     V12,
+}
+
+impl Version {
+    /// Whether the request id comes right after the header of a Request, a Reply and a Fragment, as in 1.2. In 1.0
+    /// and 1.1 it comes after the service contexts of a Request and a Reply, and a Fragment has none (CORBA 3.3
+    /// Part 2, 9.4.2, 9.4.3, 9.4.9).
+    #[inline]
+    #[tactic(auto, unfolding(crate::specs::Rows::row))]
+    pub fn has_id_first(self) -> bool
+        ensures is { result ≡ has_id_first self }
+        ensures rows { IsTrue result ↔ BeginWithId self }
+    {
+        matches!(self, Version::V12)
+    }
 }
 
 /// `1.0`, `1.1` or `1.2`.

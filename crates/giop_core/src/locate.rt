@@ -104,14 +104,20 @@ impl fmt::Display for LocateStatus {
     }
 }
 
+/// How many statuses a LocateReply of 1.0 or 1.1 can have: the numbers below it.
+const STATUSES_10: u32 = 3;
+
+/// The same in 1.2.
+const STATUSES_12: u32 = 6;
+
 impl Version {
     /// Whether a LocateReply of this version can have the status of this number: 0 to 2 in 1.0 and 1.1, 0 to 5 in 1.2.
     pub fn has_locate_status(self, status: u32) -> bool
         ensures { IsTrue result ↔ status < locate_statuses self }
     {
         match self {
-            Version::V10 | Version::V11 => status < 3,
-            Version::V12 => status < 6,
+            Version::V10 | Version::V11 => status < STATUSES_10,
+            Version::V12 => status < STATUSES_12,
         }
     }
 }
@@ -243,7 +249,7 @@ fn read_locate_reply_10(order: Order, octets: &[u8]) -> Result<LocateReply<'_>, 
 {
     let mut cursor = Cursor::new(octets, order, AFTER_HEADER);
     let request_id = cursor.ulong()?;
-    let status = cursor.ordinal(3)?;
+    let status = cursor.ordinal(STATUSES_10)?;
     Ok(LocateReply {
         request_id,
         status,
@@ -258,7 +264,7 @@ fn read_locate_reply_12(order: Order, octets: &[u8]) -> Result<LocateReply<'_>, 
 {
     let mut cursor = Cursor::new(octets, order, AFTER_HEADER);
     let request_id = cursor.ulong()?;
-    let status = cursor.ordinal(6)?;
+    let status = cursor.ordinal(STATUSES_12)?;
     Ok(LocateReply {
         request_id,
         status,

@@ -100,14 +100,20 @@ impl fmt::Display for ReplyStatus {
     }
 }
 
+/// How many statuses a Reply of 1.0 or 1.1 can have: the numbers below it.
+const STATUSES_10: u32 = 4;
+
+/// The same in 1.2.
+const STATUSES_12: u32 = 6;
+
 impl Version {
     /// Whether a Reply of this version can have the status of this number: 0 to 3 in 1.0 and 1.1, 0 to 5 in 1.2.
     pub fn has_reply_status(self, status: u32) -> bool
         ensures { IsTrue result ↔ status < reply_statuses self }
     {
         match self {
-            Version::V10 | Version::V11 => status < 4,
-            Version::V12 => status < 6,
+            Version::V10 | Version::V11 => status < STATUSES_10,
+            Version::V12 => status < STATUSES_12,
         }
     }
 }
@@ -121,7 +127,7 @@ fn read_reply_10(version: Version, order: Order, octets: &[u8]) -> Result<Messag
     let mut cursor = Cursor::new(octets, order, AFTER_HEADER);
     let contexts = read_contexts(&mut cursor)?;
     let request_id = cursor.ulong()?;
-    let status = cursor.ordinal(4)?;
+    let status = cursor.ordinal(STATUSES_10)?;
     Ok(Message {
         version,
         order,
@@ -142,7 +148,7 @@ fn read_reply_12(order: Order, octets: &[u8]) -> Result<Message<'_>, MessageFaul
 {
     let mut cursor = Cursor::new(octets, order, AFTER_HEADER);
     let request_id = cursor.ulong()?;
-    let status = cursor.ordinal(6)?;
+    let status = cursor.ordinal(STATUSES_12)?;
     let contexts = read_contexts(&mut cursor)?;
     cursor.align(8);
     Ok(Message {

@@ -107,13 +107,13 @@ fn wish_if(expected: bool) -> ReplyWish
 /// Reads three reserved octets, which may be any.
 #[inline(always)]
 #[tactic(auto, using(crate::proofs::Steps::three_reads, crate::proofs::Steps::three_stop_1, crate::proofs::Steps::three_stop_2, crate::proofs::Steps::three_stop_3))]
-fn read_reserved(cursor: &mut Cursor) -> Result<(u8, u8, u8), Fault>
+fn read_reserved(cursor: &mut Cursor) -> Result<[u8; 3], Fault>
     ensures { Reads three_value result reserved cursor.old cursor.new }
 {
     let a = cursor.octet()?;
     let b = cursor.octet()?;
     let c = cursor.octet()?;
-    Ok((a, b, c))
+    Ok([a, b, c])
 }
 
 /// Reads a Request of 1.0. Each reader of a Request or a Reply makes the whole message in its place,
