@@ -77,15 +77,17 @@ fn role_of(header: &Header) -> Role
     }
 }
 
+/// How many octets a request id has.
+const ID_LEN: usize = 4;
+
 /// Whether a frame must begin with a request id.
 fn has_id(role: Role, version: Version) -> bool
     ensures { result ≡ has_id role version }
 {
-    match (role, version) {
-        (Role::Drops, _) => true,
-        (Role::Apart, _) => false,
-        (_, Version::V12) => true,
-        _ => false,
+    match role {
+        Role::Drops => true,
+        Role::Apart => false,
+        Role::Opens | Role::Carries | Role::Ends | Role::Uncut => version.has_id_first(),
     }
 }
 
@@ -110,17 +112,14 @@ fn interrupts(role: Role, version: Version, parts: &[Part]) -> bool
 fn lacks_id(role: Role, version: Version, frame: &[u8]) -> bool
     ensures { result ≡ (has_id role version && nat_lt (length frame.now) 16) }
 {
-    frame.len() < 16 && has_id(role, version)
+    frame.len() < Header::LEN + ID_LEN && has_id(role, version)
 }
 
 /// How many octets of a Fragment come before its payload.
 pub(crate) fn id_length(version: Version) -> usize
     ensures { result ≡ id_length version }
 {
-    match version {
-        Version::V12 => 4,
-        Version::V10 | Version::V11 => 0,
-    }
+    if version.has_id_first() { ID_LEN } else { 0 }
 }
 
 /// The key of the message that a frame is a part of.
@@ -128,13 +127,11 @@ fn key_of(header: &Header, frame: &[u8]) -> Key
     requires { 12 + id_length header.now.version ≤ length frame.now }
     ensures { result ≡ key_of (framed header.now frame.now) }
 {
-    match header.version {
-        Version::V12 => {
-            let (_, octets) = frame.split_at(Header::LEN);
-            Key::Of12(header.order.ulong_of(octets))
-        }
-        Version::V10 | Version::V11 => Key::Of11,
+    if !header.version.has_id_first() {
+        return Key::Of11;
     }
+    let (_, octets) = frame.split_at(Header::LEN);
+    Key::Of12(header.order.ulong_of(octets))
 }
 
 /// What a whole frame is judged to be.
@@ -355,7 +352,7 @@ pub(crate) fn settle(
     if lacks_id(role, header.version, frame.as_slice()) {
         let short = Fault {
             kind: Kind::Short,
-            at: 12,
+            at: Header::LEN as u64,
         };
         return Ok(Settled::Bad(StreamFault::Body(MessageFault::Cdr(short))));
     }
