@@ -11,7 +11,6 @@ use Rattle.giop_core.specs.Laws.{CanBeWritten, rest_after, with_rest, written_fi
 use Rattle.giop_core.specs.Written.{behind_header, ft_octets, message_octets}
 use Rattle.giop_frames.specs.declared.fault.StreamFault.TheVariants.{TooLarge}
 use Rattle.giop_frames.specs.declared.limits.Limits.{Limits}
-use Rattle.giop_link.specs.Answering.{Answer, answer_in}
 use Rattle.giop_link.specs.Hearing.{Course, Sound, before, ends, faulty, says}
 
 -- a message to be written: its version, the byte order in which it is written, what it says, and the values of its body, if it
@@ -74,10 +73,6 @@ ft_alone order client_id retention_id expiration = (13, ft_octets order client_i
 abbrev pub heard_by : {Heard : Type 0} → Sound Heard → Option Heard
 heard_by (says x) = Some x
 heard_by (ends e) = None
-
--- what a message is to a client, in any version
-abbrev pub answer_to : Version → Content → Sound Answer
-answer_to version m = answer_in m
 
 -- what a reader hears, to whom messages are this: `meaning_in` for a server, `answer_to` for a client
 module _ {Heard : Type 0} (to_reader : Version → Content → Sound Heard) where

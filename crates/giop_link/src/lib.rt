@@ -11,12 +11,14 @@ mod fault;
 mod inbound;
 pub mod laws;
 mod link;
+mod listener;
 mod outstanding;
 mod send_error;
 
-pub use client::ClientLink;
+pub use client::{Client, ClientLink};
 pub use delivery::Delivery;
 pub use fault::LinkFault;
 pub use inbound::Inbound;
-pub use link::ServerLink;
+pub use link::{Server, ServerLink};
+pub use listener::{Listener, PeerEnd, Side};
 pub use send_error::SendError;

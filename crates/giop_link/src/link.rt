@@ -4,83 +4,39 @@ ghost use Rattle.std.specs.Prelude.{◌≡◌, ◌≢◌, ◌<◌, ◌≤◌, �
 ghost use Rattle.std.specs.Option.{option_map};
 ghost use Rattle.giop_frames.specs.Standing.{StandsFor, parts_held};
 ghost use Rattle.giop_frames.specs.declared.limits.Limits.{Limits};
-ghost use Rattle.giop_link.specs.Hearing.{ending, heard};
-ghost use Rattle.giop_link.specs.Linking.{IsFaultOf, IsNear, IsQuiet, LinkStands, close_connection, ending_in, heard_in, meaning_at, shut};
-ghost use Rattle.giop_link.specs.Private.{IsHeard, LendsHeard, told_with, spoken_by, turn_by};
+ghost use Rattle.giop_link.specs.Hearing.{Incoming, ending, heard, meaning_in};
+ghost use Rattle.giop_link.specs.Listening.{ending_in, heard_in};
+ghost use Rattle.giop_link.specs.Linking.{IsFaultOf, IsNear, IsQuiet, LinkStands, close_connection, meaning_at, shut};
 
 use crate::fault::LinkFault;
 use crate::inbound::{Inbound, spoken};
+use crate::listener::{Listener, PeerEnd, Side};
 use giop_core::{MessageKind, write_close};
-use giop_frames::{Assembler, Limits};
+use giop_frames::Limits;
 use std::alloc::{AllocError, Global};
 use std::marker::Model;
 
-/// The message by which a peer ended its stream.
-#[derive(Clone, Copy, Debug)]
-pub(crate) enum PeerEnd {
-    Closed,
-    Error,
-}
+/// A server, which hears requests, locates and cancels.
+#[derive(Debug, Drop)]
+pub struct Server;
 
-/// Octets that were taken, and the end of the stream in them, if the peer made one.
-#[derive(Drop)]
-pub(crate) struct Heard {
-    pub taken: usize,
-    pub end: Option<PeerEnd>,
-}
+impl Side for Server {
+    ghost Heard = { Incoming };
 
-/// What a message of a kind is to a server: one that it hears, or the end that the peer made. An error is that
-/// it has the wrong direction.
-fn turn_of(kind: MessageKind) -> Result<Option<PeerEnd>, LinkFault>
-    ensures { result ≡ turn_by kind }
-{
-    match kind {
-        MessageKind::Request | MessageKind::LocateRequest | MessageKind::CancelRequest => Ok(None),
-        MessageKind::CloseConnection => Ok(Some(PeerEnd::Closed)),
-        MessageKind::MessageError => Ok(Some(PeerEnd::Error)),
-        MessageKind::Reply | MessageKind::LocateReply | MessageKind::Fragment => {
-            Err(LinkFault::WrongDirection)
+    ghost meaning = { meaning_in };
+
+    fn turn_of(kind: MessageKind) -> Result<Option<PeerEnd>, LinkFault> {
+        match kind {
+            MessageKind::Request | MessageKind::LocateRequest | MessageKind::CancelRequest => {
+                Ok(None)
+            }
+            MessageKind::CloseConnection => Ok(Some(PeerEnd::Closed)),
+            MessageKind::MessageError => Ok(Some(PeerEnd::Error)),
+            MessageKind::Reply | MessageKind::LocateReply | MessageKind::Fragment => {
+                Err(LinkFault::WrongDirection)
+            }
         }
     }
-}
-
-/// Takes octets up to and with the end of the next message, or all.
-fn hear(assembler: &mut Assembler, piece: &[u8]) -> Result<Heard, LinkFault>
-    requires { assembler.old.failed ≡ false }
-    ensures heard { (s : List ℕ) → StandsFor assembler.old s → ending assembler.old.limits s ≡ None
-        → IfOk result (λ h. IsHeard assembler.old.limits s (take h.taken piece.now) (told_with h.end (spoken_by assembler.new.message)) assembler.new) }
-    ensures first { (s : List ℕ) → StandsFor assembler.old s → ending assembler.old.limits s ≡ None
-        → IfOk result (λ h. (k : ℕ) → k < h.taken → IsQuiet assembler.old.limits s (take k piece.now)) }
-    ensures fault { (s : List ℕ) → StandsFor assembler.old s → ending assembler.old.limits s ≡ None
-        → IfErr result (λ e. IsFaultOf assembler.old.limits s piece.now e) }
-    ensures within { IfOk result (λ h. h.taken ≤ length piece.now) }
-    ensures some { IfOk result (λ h. 0 < length piece.now → 0 < h.taken) }
-    ensures all { IfOk result (λ h. told_with h.end (spoken_by assembler.new.message) ≡ None → h.taken ≡ length piece.now) }
-    ensures empty { piece.now ≡ [] → (result ≡ Ok (record { taken = 0; end = None })) × (assembler.new ≡ record assembler.old { message = None }) }
-    ensures live { OnOk result (assembler.new.failed ≡ false) }
-    ensures lent { IfOk result (λ h. h.end ≡ None → LendsHeard assembler.new) }
-    ensures limits { assembler.new.limits ≡ assembler.old.limits }
-{
-    crate::laws::streams_are_heard();
-    giop_frames::laws::streams_grow();
-    giop_frames::laws::messages_are_whole();
-    let taken = assembler.feed(piece)?;
-    let end = match assembler.header() {
-        Some(header) => turn_of(header.kind)?,
-        None => None,
-    };
-    Ok(Heard { taken, end })
-}
-
-/// What a link does with what comes.
-#[derive(Debug, Drop)]
-pub(crate) enum State {
-    /// It hears the messages that the assembler lends.
-    Live(Assembler),
-    /// The last call of `feed` took the message by which the peer ended the stream. It is lent until the next.
-    Parting(PeerEnd),
-    /// Nothing that comes counts.
-    Closed,
 }
 
 /// The server's end of a connection: it takes the octets of a client, and lends each message that is heard,
@@ -89,19 +45,16 @@ pub(crate) enum State {
 /// It opens no socket. A closed link holds no octets.
 #[derive(Debug, Drop)]
 pub struct ServerLink {
-    limits: Limits,
-    state: State,
+    listener: Listener<Server>,
 }
 
 impl Model for ServerLink {
     ghost use Rattle.giop_link.specs.Linking.{Linked};
-    ghost use Rattle.giop_link.specs.Private.{IsSound, linked};
+    ghost use Rattle.giop_link.specs.Private.{linked};
 
     ghost Value = { Linked };
 
-    ghost view = { λ l. linked l.limits l.state };
-
-    ghost invariant = { λ l. IsSound l.limits l.state };
+    ghost view = { λ l. linked l.listener };
 }
 
 impl ServerLink {
@@ -111,8 +64,7 @@ impl ServerLink {
         ensures inbound { result.inbound ≡ None }
     {
         ServerLink {
-            limits,
-            state: State::Live(Assembler::new(alloc, limits)),
+            listener: Listener::new(alloc, limits),
         }
     }
 
@@ -120,7 +72,7 @@ impl ServerLink {
     pub fn is_closed(&self) -> bool
         ensures { result ≡ self.now.is_closed }
     {
-        !matches!(self.state, State::Live(_))
+        self.listener.is_closed()
     }
 
     /// The message that the last call of `feed` completed, if it did.
@@ -130,11 +82,10 @@ impl ServerLink {
         // the place of a request's body fits 32 bits, as its arguments' reader asks
         ensures near { IfSome result IsNear }
     {
-        match &self.state {
-            State::Live(assembler) => spoken(assembler.message()?),
-            State::Parting(PeerEnd::Closed) => Some(Inbound::PeerClosed),
-            State::Parting(PeerEnd::Error) => Some(Inbound::PeerError),
-            State::Closed => None,
+        match self.listener.end() {
+            Some(PeerEnd::Closed) => Some(Inbound::PeerClosed),
+            Some(PeerEnd::Error) => Some(Inbound::PeerError),
+            None => spoken(self.listener.message()?),
         }
     }
 
@@ -147,10 +98,7 @@ impl ServerLink {
         ensures closed { self.now.is_closed ≡ true → result ≡ 0 }
         ensures bound { result ≤ (self.now.limits.partials + 1) * self.now.limits.message }
     {
-        match &self.state {
-            State::Live(assembler) => assembler.held(),
-            State::Parting(_) | State::Closed => 0,
-        }
+        self.listener.held()
     }
 
     /// Takes octets of a piece up to and with the end of the next message that completes, or all of them, and
@@ -178,26 +126,7 @@ impl ServerLink {
         ensures empty { self.old.is_closed ≡ false → piece.now ≡ [] → (result ≡ Ok 0) × (self.new ≡ record self.old { inbound = None }) }
         ensures limits { self.new.limits ≡ self.old.limits }
     {
-        crate::laws::streams_are_heard();
-        let next = match &mut self.state {
-            State::Live(assembler) => hear(assembler, piece),
-            State::Parting(_) | State::Closed => {
-                self.state = State::Closed;
-                return Ok(piece.len());
-            }
-        };
-        match next {
-            Ok(Heard { taken, end }) => {
-                if let Some(end) = end {
-                    self.state = State::Parting(end);
-                }
-                Ok(taken)
-            }
-            Err(fault) => {
-                self.state = State::Closed; // what was held is dropped
-                Err(fault)
-            }
-        }
+        self.listener.feed(piece)
     }
 
     /// Closes the link, and appends CloseConnection (CORBA 3.3 Part 2, 9.4.7), unless it was closed before. Where
@@ -210,7 +139,7 @@ impl ServerLink {
         if !self.is_closed() {
             write_close(out)?;
         }
-        self.state = State::Closed; // nothing more counts
+        self.listener.close(); // nothing more counts
         Ok(())
     }
 }
