@@ -231,7 +231,7 @@ impl FtClient {
         ensures needed { OnErr result ((m : Client) → FtStands self.old m → says (Joined now) m ≢ []) }
         ensures unwritten { OnErr result (out.new.items ≡ out.old.items) }
     {
-        giop_link::laws::answers_are_heard();
+        giop_link::laws::streams_are_heard::<giop_link::Client>();
         let start = out.len();
         let mut link = ClientLink::new(self.alloc, self.limits, self.version, 64);
         if let Err(error) = send_again(&mut link, &mut self.pending, now, out) {

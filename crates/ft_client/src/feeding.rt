@@ -75,7 +75,7 @@ pub(crate) fn feed_on(
     ensures room { deque_len completions.new + vec_len pending.new ≤ deque_capacity completions.new }
     ensures few { vec_len pending.new ≤ vec_len pending.old }
 {
-    giop_link::laws::answers_are_heard();
+    giop_link::laws::streams_are_heard::<giop_link::Client>();
     let mut taken = 0;
     while taken < piece.len() {
         let (_, left) = piece.split_at(taken);
