@@ -8,7 +8,7 @@ use Rattle.giop_link.specs.declared.fault.LinkFault.{LinkFault}
 use Rattle.giop_link.specs.declared.fault.LinkFault.TheVariants.{Stream, WrongDirection}
 use Rattle.giop_link.specs.Answering.{Answer, answer_to, client_ending, client_heard, client_news}
 use Rattle.giop_link.specs.ClientLinking.{ClientLinked, ClientStands, IsClientFaultOf, TakesIn, Terms, all_left, client_link_after, end_in, left_at}
-use Rattle.giop_link.specs.Hearing.{Ending, faulty, wrong_direction}
+use Rattle.giop_link.specs.Hearing.{Ending, Hearing, faulty, news, wrong_direction}
 use Rattle.giop_link.specs.Ids.{Ids}
 use Rattle.giop_link.specs.Laws.{EndingsStay, EndsAreSilent, HearingGrows}
 use Rattle.giop_link.specs.Listening.{EndsTo, heard_in}
@@ -16,7 +16,6 @@ use Rattle.ft_client.specs.declared.client.FtClient.{FtClient}
 use Rattle.ft_client.specs.declared.ended.Ended.{Ended as CodeEnded}
 use Rattle.ft_client.specs.declared.pending.Pending.{Pending as CodePending}
 use Rattle.ft_client.specs.Clients.{Client, Ended, Linked, completed_if, ended_by, fed_on, parted, parted_at, settled, settled_all, told_of, waiting}
-use Rattle.ft_client.specs.Directions.{Hearing, news}
 use Rattle.ft_client.specs.Messages.{located, replied}
 use Rattle.ft_client.specs.Private.{CallsStand, IsFedTo, answered_by, reply_lent}
 use Rattle.ft_client.specs.Standing.{FieldsStand, FtStands, IsLinked, LinkFor, down, exchange_of, sent_ids, terms_of, waiting_ids}
