@@ -13,8 +13,8 @@ use Rattle.giop_frames.specs.Frames.{Frame}
 use Rattle.giop_frames.specs.Laws.{FaultsEnd, FaultsStay, MessagesGrow, PlacesRise}
 use Rattle.giop_frames.specs.Standing.{IsFault, OnFault, Standing, StandsFor, completed_at}
 use Rattle.giop_frames.specs.Streams.{Completed, Faults, fault_of, messages_of}
-use Rattle.giop_link.specs.declared.fault.LinkFault.{LinkFault}
-use Rattle.giop_link.specs.declared.fault.LinkFault.TheVariants.{Stream, WrongDirection}
+use Rattle.giop_link.specs.declared.error.LinkFault.{LinkFault}
+use Rattle.giop_link.specs.declared.error.LinkFault.TheVariants.{Stream, WrongDirection}
 use Rattle.giop_link.specs.declared.listener.PeerEnd.{PeerEnd}
 use Rattle.giop_link.specs.declared.listener.PeerEnd.TheVariants as peer
 use Rattle.giop_link.specs.Hearing.{Course, Ending, Sound, before, course_by, course_from, ending_as, ends, faulty, heard_as, peer_closed, peer_error, says, sound_of, wrong_direction}

@@ -6,8 +6,8 @@ use Rattle.giop_core.specs.declared.message.Message.{Message}
 use Rattle.giop_core.specs.Lent as lent
 use Rattle.giop_frames.specs.Frames.{Frame}
 use Rattle.giop_frames.specs.Standing.{IsLent}
-use Rattle.giop_link.specs.declared.outstanding.Outstanding.{Outstanding}
-use Rattle.giop_link.specs.declared.outstanding.Wanted.TheVariants as wanted
+use Rattle.giop_link.specs.declared.awaited.Outstanding.{Outstanding}
+use Rattle.giop_link.specs.declared.awaited.Wanted.TheVariants as wanted
 use Rattle.giop_link.specs.Answering.{Answer, answer_in, answer_to, located, replied}
 use Rattle.giop_link.specs.Hearing.{Sound, ends, meaning_in, says, sound_of, sound_read}
 use Rattle.giop_link.specs.Ids.{is_of, without}

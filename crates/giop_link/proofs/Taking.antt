@@ -4,9 +4,9 @@ use Rattle.std.proofs.Math.Seq.{drop-append_seam}
 use Rattle.giop_core.specs.declared.header.Version.{Version}
 use Rattle.giop_frames.specs.declared.limits.Limits.{Limits}
 use Rattle.giop_frames.specs.Frames.{Frame}
-use Rattle.giop_link.specs.declared.fault.LinkFault.{LinkFault}
+use Rattle.giop_link.specs.declared.error.LinkFault.{LinkFault}
 use Rattle.giop_link.specs.declared.listener.PeerEnd.{PeerEnd}
-use Rattle.giop_link.specs.declared.outstanding.Outstanding.{Outstanding}
+use Rattle.giop_link.specs.declared.awaited.Outstanding.{Outstanding}
 use Rattle.giop_link.specs.Answering.{Answer, answer_to, client_ending, client_heard, client_news}
 use Rattle.giop_link.specs.ClientLinking.{ClientLinked, ClientStands, Exchange, IsCalm, TakesIn, Terms, all_left, delivered, end_in, left_at}
 use Rattle.giop_link.specs.Hearing.{Ending, Sound, ends, says, sound_of}

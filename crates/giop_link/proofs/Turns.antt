@@ -16,8 +16,8 @@ use Rattle.giop_frames.specs.Completing.{AreMessages}
 use Rattle.giop_frames.specs.Fragments.{content_of}
 use Rattle.giop_frames.specs.Frames.{Frame}
 use Rattle.giop_frames.specs.Streams.{Completed}
-use Rattle.giop_link.specs.declared.fault.LinkFault.{LinkFault}
-use Rattle.giop_link.specs.declared.fault.LinkFault.TheVariants.{WrongDirection}
+use Rattle.giop_link.specs.declared.error.LinkFault.{LinkFault}
+use Rattle.giop_link.specs.declared.error.LinkFault.TheVariants.{WrongDirection}
 use Rattle.giop_link.specs.declared.listener.PeerEnd.{PeerEnd}
 use Rattle.giop_link.specs.declared.listener.PeerEnd.TheVariants as peer
 use Rattle.giop_link.specs.Answering.{answer_to}

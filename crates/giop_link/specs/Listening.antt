@@ -7,8 +7,8 @@ use Rattle.giop_frames.specs.declared.limits.Limits.{Limits}
 use Rattle.giop_frames.specs.Frames.{Frame}
 use Rattle.giop_frames.specs.Standing.{OnFault}
 use Rattle.giop_frames.specs.Streams.{Entry, Stands}
-use Rattle.giop_link.specs.declared.fault.LinkFault.{LinkFault}
-use Rattle.giop_link.specs.declared.fault.LinkFault.TheVariants.{Stream, WrongDirection}
+use Rattle.giop_link.specs.declared.error.LinkFault.{LinkFault}
+use Rattle.giop_link.specs.declared.error.LinkFault.TheVariants.{Stream, WrongDirection}
 use Rattle.giop_link.specs.declared.listener.PeerEnd.{PeerEnd}
 use Rattle.giop_link.specs.declared.listener.PeerEnd.TheVariants as peer
 use Rattle.giop_link.specs.Hearing.{Ending, Sound, ending_as, ends, faulty, heard_as, peer_closed, peer_error, says, sound_of, wrong_direction}

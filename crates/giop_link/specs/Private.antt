@@ -12,10 +12,10 @@ use Rattle.giop_frames.specs.Streams.{Entry}
 use Rattle.giop_link.specs.declared.listener.PeerEnd.{PeerEnd}
 use Rattle.giop_link.specs.declared.listener.State.{State}
 use Rattle.giop_link.specs.declared.listener.State.TheVariants as state
-use Rattle.giop_link.specs.declared.outstanding.Outstanding.{Outstanding}
-use Rattle.giop_link.specs.declared.outstanding.Wanted.TheVariants as wanted
-use Rattle.giop_link.specs.declared.send_error.SendError.{SendError}
-use Rattle.giop_link.specs.declared.send_error.SendError.TheVariants as send
+use Rattle.giop_link.specs.declared.awaited.Outstanding.{Outstanding}
+use Rattle.giop_link.specs.declared.awaited.Wanted.TheVariants as wanted
+use Rattle.giop_link.specs.declared.error.SendError.{SendError}
+use Rattle.giop_link.specs.declared.error.SendError.TheVariants as send
 use Rattle.giop_link.specs.Hearing.{Sound, ends, meaning_in, says}
 use Rattle.giop_link.specs.Listening.{Brings, Listened, lent_by, spoken_by, told_with}
 use Rattle.giop_link.specs.Linking.{Linked}

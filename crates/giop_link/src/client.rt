@@ -11,18 +11,17 @@ ghost use Rattle.giop_core.specs.Items.{item_at};
 ghost use Rattle.giop_core.specs.Lent.{addressed_by, content_of};
 ghost use Rattle.giop_core.specs.Written.{CanAddress, CanAsk, message_octets};
 ghost use Rattle.giop_frames.specs.Standing.{frame_held, parts_held};
-ghost use Rattle.giop_link.specs.declared.outstanding.Wanted.TheVariants as wanted;
+ghost use Rattle.giop_link.specs.declared.awaited.Wanted.TheVariants as wanted;
 ghost use Rattle.giop_link.specs.Answering.{Answer, answer_in, answer_to};
 ghost use Rattle.giop_link.specs.ClientLinking.{CanBeSent, ClientStands, Exchange, IsClientFaultOf, IsNearBody, IsSendError, TakesIn, Terms, cancel_octets, delivered_at, ended, locate_after, no_exchange, refusal_of, request_after};
 ghost use Rattle.giop_link.specs.Ids.{given_up, is_outstanding, one_more, wanted_by};
 ghost use Rattle.giop_link.specs.Listening.{spoken_by};
 ghost use Rattle.giop_link.specs.Private.{answered_one, settled_left, settles};
 
+use crate::awaited::{Outstanding, Wanted, enter, place_of, wanted_by};
 use crate::delivery::{Delivery, delivered};
-use crate::fault::LinkFault;
+use crate::error::{LinkFault, SendError};
 use crate::listener::{Listener, PeerEnd, Side};
-use crate::outstanding::{Outstanding, Wanted, enter, place_of, wanted_by};
-use crate::send_error::SendError;
 use cdr_core::{Order, Val};
 use giop_core::{
     Content, MessageKind, ReplyWish, Target, Version, write_cancel, write_locate_request,

@@ -7,12 +7,12 @@ ghost use Rattle.giop_core.specs.Lent.{content_of};
 ghost use Rattle.giop_core.specs.Messages.{OnBody};
 ghost use Rattle.giop_frames.specs.Standing.{HasPlace, IsLent, StandsFor, frame_held, parts_held};
 ghost use Rattle.giop_frames.specs.declared.limits.Limits.{Limits};
-ghost use Rattle.giop_link.specs.declared.fault.LinkFault.TheVariants.{WrongDirection};
+ghost use Rattle.giop_link.specs.declared.error.LinkFault.TheVariants.{WrongDirection};
 ghost use Rattle.giop_link.specs.Hearing.{Sound, ending_as};
 ghost use Rattle.giop_link.specs.Listening.{Brings, IsFaultTo, IsQuietTo, IsTurn, ListenerStands, closed, lent_by, spoken_by, told_with};
 ghost use Rattle.giop_link.specs.Private.{IsHeard, LendsHeard};
 
-use crate::fault::LinkFault;
+use crate::error::LinkFault;
 use giop_core::{Message, MessageKind};
 use giop_frames::{Assembler, Limits};
 use std::alloc::Global;

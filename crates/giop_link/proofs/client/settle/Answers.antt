@@ -1,7 +1,7 @@
 use Rattle.std.proofs.Common.{List, Option, Some, sym, ap, ◌∙◌}
 use Rattle.std.specs.List.{position}
 use Rattle.giop_core.specs.Lent as lent
-use Rattle.giop_link.specs.declared.outstanding.Outstanding.{Outstanding}
+use Rattle.giop_link.specs.declared.awaited.Outstanding.{Outstanding}
 use Rattle.giop_link.specs.Answering.{Answer, answer_in}
 use Rattle.giop_link.specs.Hearing.{Sound}
 use Rattle.giop_link.specs.Ids.{is_of}

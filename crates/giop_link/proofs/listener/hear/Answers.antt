@@ -1,5 +1,5 @@
 use Rattle.std.proofs.Common.{take, Option, ap, ◌∙◌}
-use Rattle.giop_link.specs.declared.fault.LinkFault.TheVariants.{Stream}
+use Rattle.giop_link.specs.declared.error.LinkFault.TheVariants.{Stream}
 use Rattle.giop_link.specs.declared.listener.PeerEnd.{PeerEnd}
 use Rattle.giop_link.specs.Listening.{IsFaultTo, spoken_by, told_with}
 use Rattle.giop_link.proofs.Comings.{comes-to, err-by, fault-of, fewer-quiet, hears-none, hears-some, strays-to, told-header}

@@ -1,6 +1,6 @@
 use Rattle.std.proofs.Common.{List, None, sym, ap, ◌∙◌}
 use Rattle.std.specs.List.{position}
-use Rattle.giop_link.specs.declared.outstanding.Outstanding.{Outstanding}
+use Rattle.giop_link.specs.declared.awaited.Outstanding.{Outstanding}
 use Rattle.giop_link.specs.ClientLinking.{Terms}
 use Rattle.giop_link.specs.Ids.{is_of}
 use Rattle.giop_link.proofs.Taking.{gives-up, stands-without}

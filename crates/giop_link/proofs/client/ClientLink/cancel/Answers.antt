@@ -1,6 +1,6 @@
 use Rattle.std.proofs.Common.{List, None, refl, sym, ap, ◌∙◌, rules}
 use Rattle.std.specs.List.{list_any, position}
-use Rattle.giop_link.specs.declared.outstanding.Outstanding.{Outstanding}
+use Rattle.giop_link.specs.declared.awaited.Outstanding.{Outstanding}
 use Rattle.giop_link.specs.ClientLinking.{Terms}
 use Rattle.giop_link.specs.Ids.{is_of}
 use Rattle.giop_link.proofs.Taking.{gives-up, is-awaited, on-err, stands-without}

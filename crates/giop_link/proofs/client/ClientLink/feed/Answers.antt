@@ -1,5 +1,5 @@
 use Rattle.std.proofs.Common.{◌≡◌, ◌≤◌, Bool, true, false, cond, List, [], length, sym, ap, subst, ◌∙◌, arith}
-use Rattle.giop_link.specs.declared.outstanding.Outstanding.{Outstanding}
+use Rattle.giop_link.specs.declared.awaited.Outstanding.{Outstanding}
 use Rattle.giop_link.specs.Answering.{answer_to}
 use Rattle.giop_link.specs.ClientLinking.{ClientLinked, ClientStands}
 use Rattle.giop_link.specs.Ids.{Ids}

@@ -8,7 +8,7 @@ ghost use Rattle.giop_link.specs.Hearing.{Incoming, ending, heard, meaning_in};
 ghost use Rattle.giop_link.specs.Listening.{ending_in, heard_in};
 ghost use Rattle.giop_link.specs.Linking.{IsFaultOf, IsNear, IsQuiet, LinkStands, close_connection, meaning_at, shut};
 
-use crate::fault::LinkFault;
+use crate::error::LinkFault;
 use crate::inbound::{Inbound, spoken};
 use crate::listener::{Listener, PeerEnd, Side};
 use giop_core::{MessageKind, write_close};

@@ -4,7 +4,7 @@ use Rattle.giop_link.specs.Hearing.{meaning_in}
 use Rattle.giop_link.specs.Linking.{Linked}
 use Rattle.giop_link.specs.Listening.{spoken_by, told_with}
 use Rattle.giop_link.proofs.Lending.{lent-spoken}
-use Rattle.giop_link.proofs.link.ServerLink.inbound.Goals as goal
+use Rattle.giop_link.proofs.server.ServerLink.inbound.Goals as goal
 
 pub returns-in_ok-message-in-None-clause-lent : goal.returns-in_ok-message-in-None-clause-lent
 returns-in_ok-message-in-None-clause-lent c =

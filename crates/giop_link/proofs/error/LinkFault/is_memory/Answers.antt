@@ -1,5 +1,5 @@
 use Rattle.std.proofs.Common.{rules}
-use Rattle.giop_link.proofs.fault.LinkFault.is_memory.Goals as goal
+use Rattle.giop_link.proofs.error.LinkFault.is_memory.Goals as goal
 
 pub returns-in-Stream-Memory : goal.returns-in-Stream-Memory
 returns-in-Stream-Memory c = search rules

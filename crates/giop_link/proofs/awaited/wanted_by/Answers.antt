@@ -1,5 +1,5 @@
 use Rattle.std.proofs.Common.{rules}
-use Rattle.giop_link.proofs.outstanding.wanted_by.Goals as goal
+use Rattle.giop_link.proofs.awaited.wanted_by.Goals as goal
 
 pub returns-in-None : goal.returns-in-None
 returns-in-None c = search rules

@@ -1,5 +1,5 @@
 use Rattle.std.proofs.Common.{rules}
-use Rattle.giop_link.proofs.outstanding.Outstanding.is_of.Goals as goal
+use Rattle.giop_link.proofs.awaited.Outstanding.is_of.Goals as goal
 
 pub returns-in-None : goal.returns-in-None
 returns-in-None c = search rules

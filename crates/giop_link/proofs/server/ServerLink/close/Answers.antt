@@ -1,5 +1,5 @@
 use Rattle.std.proofs.Common.{rules}
-use Rattle.giop_link.proofs.link.ServerLink.close.Goals as goal
+use Rattle.giop_link.proofs.server.ServerLink.close.Goals as goal
 
 pub returns-in_err-write_close-clause-err : goal.returns-in_err-write_close-clause-err
 returns-in_err-write_close-clause-err c = search rules
