@@ -6,8 +6,8 @@ use Rattle.std.proofs.lemmas.Bool.Decides.{nat_tests}
 use Rattle.giop_core.specs.Statuses.{reply_status_of}
 use Rattle.giop_core.specs.declared.reply.ReplyStatus.{ReplyStatus}
 use Rattle.giop_core.specs.declared.reply.ReplyStatus.TheVariants as status
-use Rattle.giop_link.specs.declared.outstanding.Outstanding.{Outstanding}
-use Rattle.giop_link.specs.declared.outstanding.Wanted.TheVariants as wanted
+use Rattle.giop_link.specs.declared.awaited.Outstanding.{Outstanding}
+use Rattle.giop_link.specs.declared.awaited.Wanted.TheVariants as wanted
 use Rattle.giop_link.specs.Answering.{Answer, Shown, located, replied}
 use Rattle.giop_link.specs.ClientLinking.{all_left, delivered, delivered_as, is_awaited, left_after, reply_by}
 use Rattle.giop_link.specs.Hearing.{Sound, ends, says}

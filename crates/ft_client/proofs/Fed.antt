@@ -4,8 +4,8 @@ use Rattle.std.specs.Option.{IsSome, is_some}
 use Rattle.std.proofs.lemmas.List.{append-nil}
 use Rattle.giop_frames.specs.declared.fault.StreamFault.TheVariants as fault
 use Rattle.giop_frames.specs.declared.limits.Limits.{Limits}
-use Rattle.giop_link.specs.declared.fault.LinkFault.{LinkFault}
-use Rattle.giop_link.specs.declared.fault.LinkFault.TheVariants.{Stream, WrongDirection}
+use Rattle.giop_link.specs.declared.error.LinkFault.{LinkFault}
+use Rattle.giop_link.specs.declared.error.LinkFault.TheVariants.{Stream, WrongDirection}
 use Rattle.giop_link.specs.Answering.{Answer, answer_to, client_ending, client_heard, client_news}
 use Rattle.giop_link.specs.ClientLinking.{ClientLinked, ClientStands, IsClientFaultOf, TakesIn, Terms, all_left, client_link_after, end_in, left_at}
 use Rattle.giop_link.specs.Hearing.{Ending, Hearing, faulty, news, wrong_direction}
