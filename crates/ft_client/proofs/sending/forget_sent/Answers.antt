@@ -1,7 +1,7 @@
 use Rattle.std.proofs.Common.{◌<◌, length, map, sym, ◌∙◌, add-one, arith}
 use Rattle.ft_client.specs.Keeping.{kept_by}
 use Rattle.ft_client.proofs.Marking.{length_kept, unmarked_all, unmarked_step}
-use Rattle.ft_client.proofs.marks.forget_sent.Goals as goal
+use Rattle.ft_client.proofs.sending.forget_sent.Goals as goal
 
 pub loop-place-preserved : goal.loop-place-preserved
 loop-place-preserved c =

@@ -1,6 +1,6 @@
 use Rattle.std.proofs.Common.{◌≡◌, ◌++◌, length, map, take, drop}
 use Rattle.ft_client.specs.Keeping.{kept_by, unmarked}
-use Rattle.ft_client.proofs.marks.forget_sent.Given as goal
+use Rattle.ft_client.proofs.sending.forget_sent.Given as goal
 
 abbrev pub invariant-loop-place : goal.invariant-loop-place
 invariant-loop-place l = record {
