@@ -21,9 +21,8 @@ use Rattle.giop_link.specs.declared.error.LinkFault.TheVariants.{WrongDirection}
 use Rattle.giop_link.specs.declared.listener.PeerEnd.{PeerEnd}
 use Rattle.giop_link.specs.declared.listener.PeerEnd.TheVariants as peer
 use Rattle.giop_link.specs.Answering.{answer_to}
-use Rattle.giop_link.specs.Hearing.{Sound, meaning_in, sound_of, sound_read}
+use Rattle.giop_link.specs.Hearing.{Sound, kind_of, meaning_in, sound_of, sound_read}
 use Rattle.giop_link.specs.Messages.{IsAnswerByKind, IsByKind}
-use Rattle.giop_link.specs.Outgoing.{kind_of}
 use Rattle.giop_link.specs.Listening.{IsTurn, turned}
 
 -- a message of a kind says what is of that kind

@@ -17,9 +17,9 @@ use Rattle.giop_frames.specs.declared.limits.Limits.{Limits}
 use Rattle.giop_frames.specs.Frames.{split}
 use Rattle.giop_frames.specs.ReadAgain.{IsReadable, NothingIsClear, Sent, SentAreReadUpToTheLimit, sent_fault, sent_from, sent_octets, sent_within, written}
 use Rattle.giop_frames.specs.Streams.{fault_of, messages_of}
-use Rattle.giop_link.specs.Hearing.{Course, Sound, before, course_by, course_from, ending_as, ends, faulty, heard_as, says, sound_of, sound_read}
+use Rattle.giop_link.specs.Hearing.{Course, Sound, before, course_by, course_from, ending_as, ends, faulty, heard_as, kind_of, says, sound_of, sound_read}
 use Rattle.giop_link.specs.Laws.{HeardIsMeant, WrittenIsHeard}
-use Rattle.giop_link.specs.Outgoing.{CanGoOut, IsFront, Outgoing, course_to, heard_by, kind_of, meant, octets_after, octets_in, octets_of, octets_of_each, said_in, sound_to}
+use Rattle.giop_link.specs.Outgoing.{CanGoOut, IsFront, Outgoing, course_to, heard_by, meant, octets_after, octets_in, octets_of, octets_of_each, said_in, sound_to}
 
 -- a message without fields reads
 

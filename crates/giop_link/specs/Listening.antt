@@ -11,8 +11,7 @@ use Rattle.giop_link.specs.declared.error.LinkFault.{LinkFault}
 use Rattle.giop_link.specs.declared.error.LinkFault.TheVariants.{Stream, WrongDirection}
 use Rattle.giop_link.specs.declared.listener.PeerEnd.{PeerEnd}
 use Rattle.giop_link.specs.declared.listener.PeerEnd.TheVariants as peer
-use Rattle.giop_link.specs.Hearing.{Ending, Sound, ending_as, ends, faulty, heard_as, peer_closed, peer_error, says, sound_of, wrong_direction}
-use Rattle.giop_link.specs.Outgoing.{kind_of}
+use Rattle.giop_link.specs.Hearing.{Ending, Sound, ending_as, ends, faulty, heard_as, kind_of, peer_closed, peer_error, says, sound_of, wrong_direction}
 
 -- sides
 

@@ -23,24 +23,6 @@ pub enum LinkFault {
     WrongDirection,
 }
 
-impl LinkFault {
-    /// Tells whether it is that an allocation failed, which is no fault of the stream.
-    pub fn is_memory(&self) -> bool
-        ensures { (result ≡ true) ↔ (self.now ≡ Stream Memory) }
-    {
-        matches!(self, LinkFault::Stream(StreamFault::Memory))
-    }
-}
-
-/// The stream has a fault, or an allocation failed.
-impl From<StreamFault> for LinkFault {
-    ghost from_gives = { λ e f. f ≡ Stream e };
-
-    fn from(fault: StreamFault) -> LinkFault {
-        LinkFault::Stream(fault)
-    }
-}
-
 /// Why a request or a locate was not sent: the first of these that holds, or `Memory` in place of `TooLong`.
 /// The link and the output are as they were.
 #[derive(Clone, Copy, Debug, PartialEq, Eq, Error)]
@@ -62,15 +44,6 @@ pub enum SendError {
     Memory,
 }
 
-/// An allocation failed.
-impl From<AllocError> for SendError {
-    ghost from_gives = { λ e f. f ≡ send.Memory };
-
-    fn from(_error: AllocError) -> SendError {
-        SendError::Memory
-    }
-}
-
 /// The message is too long, or an allocation failed.
 impl From<WriteError> for SendError {
     ghost from_gives = { λ e f. f ≡ send_error_of e };
@@ -80,5 +53,32 @@ impl From<WriteError> for SendError {
             WriteError::TooLong => SendError::TooLong,
             WriteError::Memory => SendError::Memory,
         }
+    }
+}
+
+/// An allocation failed.
+impl From<AllocError> for SendError {
+    ghost from_gives = { λ e f. f ≡ send.Memory };
+
+    fn from(_error: AllocError) -> SendError {
+        SendError::Memory
+    }
+}
+
+impl LinkFault {
+    /// Tells whether it is that an allocation failed, which is no fault of the stream.
+    pub fn is_memory(&self) -> bool
+        ensures { (result ≡ true) ↔ (self.now ≡ Stream Memory) }
+    {
+        matches!(self, LinkFault::Stream(StreamFault::Memory))
+    }
+}
+
+/// The stream has a fault, or an allocation failed.
+impl From<StreamFault> for LinkFault {
+    ghost from_gives = { λ e f. f ≡ Stream e };
+
+    fn from(fault: StreamFault) -> LinkFault {
+        LinkFault::Stream(fault)
     }
 }
