@@ -6,14 +6,14 @@ use Rattle.std.proofs.lemmas.Bool.Decides.{nat_tests}
 use Rattle.giop_core.specs.Statuses.{reply_status_of}
 use Rattle.giop_core.specs.declared.reply.ReplyStatus.{ReplyStatus}
 use Rattle.giop_core.specs.declared.reply.ReplyStatus.TheVariants as status
-use Rattle.giop_link.specs.declared.outstanding.Outstanding.{Outstanding}
-use Rattle.giop_link.specs.declared.outstanding.Wanted.TheVariants as wanted
+use Rattle.giop_link.specs.declared.awaited.Outstanding.{Outstanding}
+use Rattle.giop_link.specs.declared.awaited.Wanted.TheVariants as wanted
 use Rattle.giop_link.specs.Answering.{Answer, Shown, located, replied}
 use Rattle.giop_link.specs.ClientLinking.{all_left, delivered, delivered_as, is_awaited, left_after, reply_by}
 use Rattle.giop_link.specs.Hearing.{Sound, ends, says}
 use Rattle.giop_link.specs.Ids.{is_of}
+use Rattle.giop_link.specs.Listening.{heard_in}
 use Rattle.giop_link.specs.Ids as ids
-use Rattle.giop_link.specs.Linking.{heard_in}
 use Rattle.ft_client.specs.Clients.{Client, Ended, Pending, completed_if, ended_as, ended_by, is_sent_as, settled, settled_all, waiting, without}
 use Rattle.ft_client.specs.Lives.{AreRising}
 use Rattle.ft_client.specs.Private.{answered_by, plain_end, reply_in, reply_lent}

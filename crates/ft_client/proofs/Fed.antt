@@ -4,19 +4,18 @@ use Rattle.std.specs.Option.{IsSome, is_some}
 use Rattle.std.proofs.lemmas.List.{append-nil}
 use Rattle.giop_frames.specs.declared.fault.StreamFault.TheVariants as fault
 use Rattle.giop_frames.specs.declared.limits.Limits.{Limits}
-use Rattle.giop_link.specs.declared.fault.LinkFault.{LinkFault}
-use Rattle.giop_link.specs.declared.fault.LinkFault.TheVariants.{Stream, WrongDirection}
-use Rattle.giop_link.specs.Answering.{Answer, client_ending, client_heard, client_news}
-use Rattle.giop_link.specs.ClientLinking.{AnswersEndBy, ClientLinked, ClientStands, IsClientFaultOf, TakesIn, Terms, all_left, client_link_after, end_in, left_at}
-use Rattle.giop_link.specs.Hearing.{Ending, faulty, wrong_direction}
+use Rattle.giop_link.specs.declared.error.LinkFault.{LinkFault}
+use Rattle.giop_link.specs.declared.error.LinkFault.TheVariants.{Stream, WrongDirection}
+use Rattle.giop_link.specs.Answering.{Answer, answer_to, client_ending, client_heard, client_news}
+use Rattle.giop_link.specs.ClientLinking.{ClientLinked, ClientStands, IsClientFaultOf, TakesIn, Terms, all_left, client_link_after, end_in, left_at}
+use Rattle.giop_link.specs.Hearing.{Ending, Hearing, faulty, news, wrong_direction}
 use Rattle.giop_link.specs.Ids.{Ids}
-use Rattle.giop_link.specs.Laws.{AnswerEndingsStay, AnswerEndsAreSilent, AnswersGrow}
-use Rattle.giop_link.specs.Linking.{heard_in}
+use Rattle.giop_link.specs.Laws.{EndingsStay, EndsAreSilent, HearingGrows}
+use Rattle.giop_link.specs.Listening.{EndsTo, heard_in}
 use Rattle.ft_client.specs.declared.client.FtClient.{FtClient}
 use Rattle.ft_client.specs.declared.ended.Ended.{Ended as CodeEnded}
 use Rattle.ft_client.specs.declared.pending.Pending.{Pending as CodePending}
 use Rattle.ft_client.specs.Clients.{Client, Ended, Linked, completed_if, ended_by, fed_on, parted, parted_at, settled, settled_all, told_of, waiting}
-use Rattle.ft_client.specs.Directions.{Hearing, news}
 use Rattle.ft_client.specs.Messages.{located, replied}
 use Rattle.ft_client.specs.Private.{CallsStand, IsFedTo, answered_by, reply_lent}
 use Rattle.ft_client.specs.Standing.{FieldsStand, FtStands, IsLinked, LinkFor, down, exchange_of, sent_ids, terms_of, waiting_ids}
@@ -25,7 +24,7 @@ use Rattle.ft_client.proofs.Feeds.{IsSteady, fed-at, fed-going, news-is, news-si
 use Rattle.ft_client.proofs.Models.{waiting_given}
 
 -- what a client hears only grows
-pub steady : (limits : Limits) → AnswersGrow → AnswerEndingsStay → AnswerEndsAreSilent → IsSteady (down limits)
+pub steady : (limits : Limits) → HearingGrows answer_to → EndingsStay answer_to → EndsAreSilent answer_to → IsSteady (down limits)
 steady limits grows stays silent = record { grows = grows limits; stays = stays limits; silent = silent limits }
 
 -- What answers leave as it is.
@@ -134,7 +133,7 @@ step-going n k left b old link qs qs1 cs cs1 st was t end h =
 
 -- A fault.
 
-step-fault : (n : Client) (k : Linked) (left : List ℕ) (link : ClientLinked) (qs : List CodePending) (cs : List (ℤ × CodeEnded)) (e : Ending) → CallsStand qs cs n → AnswersEndBy n.limits k.received left e → IsFedTo n k left true qs cs link
+step-fault : (n : Client) (k : Linked) (left : List ℕ) (link : ClientLinked) (qs : List CodePending) (cs : List (ℤ × CodeEnded)) (e : Ending) → CallsStand qs cs n → EndsTo answer_to n.limits k.received left e → IsFedTo n k left true qs cs link
 step-fault n k left link qs cs e st by =
     let nothing : news (down n.limits) k.received left ≡ [] = news-is (down n.limits) k.received left [] (by.same ∙ sym (append-nil (client_heard n.limits k.received))) in
     (calls_told (down n.limits) left n k qs cs [] nothing st, ap is_some by.by)

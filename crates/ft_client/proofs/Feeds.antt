@@ -1,9 +1,8 @@
 -- However octets are cut, a client comes to the same: what is under the loop of `FtClient::feed`.
 use Rattle.std.proofs.Common.{◌≡◌, ℕ, List, [], ◌∷◌, ◌++◌, drop, length, Option, Some, None, refl, sym, ap, ◌∙◌, append_assoc}
 use Rattle.std.proofs.lemmas.List.{drop_at}
-use Rattle.giop_link.specs.Hearing.{Ending}
+use Rattle.giop_link.specs.Hearing.{Ending, Hearing, news}
 use Rattle.ft_client.specs.Clients.{Client, Ended, Linked, completed_if, ended_by, ending_of, fed_on, parted, parted_at, settled, settled_all, told_of, waiting}
-use Rattle.ft_client.specs.Directions.{Hearing, news}
 use Rattle.ft_client.specs.Messages.{Answer, located, replied}
 
 -- more octets never take back what was heard; an ending stays, and nothing is heard after it

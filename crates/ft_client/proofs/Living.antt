@@ -8,9 +8,8 @@ use Rattle.std.proofs.lemmas.List.{append-nil, take-append-drop}
 use Rattle.std.proofs.lemmas.Option.{none-some, same_Some}
 use Rattle.giop_core.specs.declared.header.Version.{Version}
 use Rattle.giop_frames.specs.declared.limits.Limits.{Limits}
-use Rattle.giop_link.specs.Hearing.{Ending}
+use Rattle.giop_link.specs.Hearing.{Ending, Hearing, news}
 use Rattle.ft_client.specs.Clients.{Called, Cancelled, Client, Ended, Expired, Fed, Happening, Joined, Linked, Parted, Pending, Recalled, Taken, Ticked, after, completed, completed_if, ended_by, ending_of, fed_on, find_pending, gives, ids_after, is_sent_as, is_taken, late, made, on_time, parted, parted_at, placed, recalled, resent, says, says_again, says_placed, says_recalled, settled, settled_all, told_of, transmission, unsent, waiting, withdrawn, without}
-use Rattle.ft_client.specs.Directions.{Hearing, news}
 use Rattle.ft_client.specs.Laws.{CallsCompleteOnce}
 use Rattle.ft_client.specs.Lives.{AreRising, IsAlive, IsLife, IsOfCall, Life, call_at, ended_count, goes_on, lived, moment_of, new_life, one_if, pending_count, sent_at}
 use Rattle.ft_client.specs.Messages.{Answer, Asked, Call, Transmission, located, replied}

@@ -8,7 +8,8 @@ use Rattle.giop_link.specs.Ids.{Ids}
 use Rattle.ft_client.specs.declared.client.FtClient.{FtClient}
 use Rattle.ft_client.specs.declared.pending.Pending.{Pending as CodePending}
 use Rattle.ft_client.specs.Clients.{Called, Client, Linked, Pending, after, is_taken, placed, says, says_placed, transmission}
-use Rattle.ft_client.specs.Directions.{Hearing, stream}
+use Rattle.ft_client.specs.Directions.{stream}
+use Rattle.giop_link.specs.Hearing.{Hearing}
 use Rattle.ft_client.specs.Keeping.{Kept, kept_by, kept_of, under}
 use Rattle.ft_client.specs.Messages.{Answer, Call, octets_said, request_behind, request_octets}
 use Rattle.ft_client.specs.Standing.{FtStands, IsLinked, LinkFor, sent_ids}

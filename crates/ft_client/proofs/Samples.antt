@@ -7,9 +7,8 @@ use Rattle.giop_core.specs.Written.{behind_header}
 use Rattle.giop_core.specs.declared.header.Version.TheVariants.{V12}
 use Rattle.giop_core.specs.declared.reply.ReplyStatus.TheVariants.{NoException}
 use Rattle.giop_frames.specs.declared.limits.Limits.{Limits}
-use Rattle.giop_link.specs.Hearing.{Ending, peer_closed}
+use Rattle.giop_link.specs.Hearing.{Ending, Hearing, peer_closed}
 use Rattle.ft_client.specs.Clients.{Called, Cancelled, Expired, Fed, Happening, Joined, Parted, Recalled, Taken, Ticked, Told, fits, new_client, says, transmission}
-use Rattle.ft_client.specs.Directions.{Hearing}
 use Rattle.ft_client.specs.Lives.{Life, lived, new_life}
 use Rattle.ft_client.specs.Messages.{Answer, Call, Transmission, Withdrawn, located, replied}
 

@@ -3,7 +3,7 @@ use Rattle.std.specs.Prelude.{◌≡◌, ℕ, ◌<◌, ◌≤◌, ◌^◌, List,
 use Rattle.cdr_core.specs.View.{values_of}
 use Rattle.cdr_core.specs.declared.values.Val.{Val}
 use Rattle.giop_core.specs.declared.header.Version.{Version}
-use Rattle.ft_client.specs.declared.asked.Asked.{Asked}
+use Rattle.ft_client.specs.declared.pending.Asked.{Asked}
 use Rattle.ft_client.specs.declared.error.CallError.{CallError}
 use Rattle.ft_client.specs.declared.error.CallError.TheVariants.{Expired, IdsUsed, Memory, TooLong, TooManyCalls}
 use Rattle.ft_client.specs.Clients.{Client, fits, transmission}

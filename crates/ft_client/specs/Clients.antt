@@ -7,8 +7,7 @@ use Rattle.giop_core.specs.declared.header.Version.{Version}
 use Rattle.giop_core.specs.declared.reply.ReplyStatus.{ReplyStatus}
 use Rattle.giop_core.specs.declared.reply.ReplyStatus.TheVariants.{LocationForward, LocationForwardPerm, NeedsAddressingMode, NoException, SystemException, UserException}
 use Rattle.giop_frames.specs.declared.limits.Limits.{Limits}
-use Rattle.giop_link.specs.Hearing.{Ending}
-use Rattle.ft_client.specs.Directions.{Hearing, news}
+use Rattle.giop_link.specs.Hearing.{Ending, Hearing, news}
 use Rattle.ft_client.specs.Messages.{Answer, Asked, Call, Said, Shown, Transmission, Withdrawn, located, replied, request_behind}
 
 -- How a call ends: by a reply with its body, by one that needs another addressing, by its expiration, or by its caller.

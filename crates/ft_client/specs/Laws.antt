@@ -3,7 +3,7 @@ use Rattle.std.specs.Prelude.{◌≡◌, ℕ, List, length}
 use Rattle.giop_core.specs.declared.header.Version.{Version}
 use Rattle.giop_frames.specs.declared.limits.Limits.{Limits}
 use Rattle.ft_client.specs.Clients.{Happening, transmission}
-use Rattle.ft_client.specs.Directions.{Hearing}
+use Rattle.giop_link.specs.Hearing.{Hearing}
 use Rattle.ft_client.specs.Lives.{IsLife, Life, goes_on, lived, new_life}
 use Rattle.ft_client.specs.Messages.{Answer, Call, request_behind}
 

@@ -4,7 +4,7 @@ use Rattle.std.specs.List.{AllByRecursion}
 use Rattle.giop_core.specs.declared.header.Version.{Version}
 use Rattle.giop_frames.specs.declared.limits.Limits.{Limits}
 use Rattle.ft_client.specs.Clients.{Called, Client, Ended, Happening, Joined, Pending, after, gives, made, new_client, says}
-use Rattle.ft_client.specs.Directions.{Hearing}
+use Rattle.giop_link.specs.Hearing.{Hearing}
 use Rattle.ft_client.specs.Messages.{Answer, Asked, Call, Said, Transmission, Withdrawn}
 
 -- a client with all its calls, the first first, its transmissions, each with its moment, and the completions that were taken

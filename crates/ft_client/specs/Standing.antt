@@ -3,12 +3,12 @@ use Rattle.std.specs.Prelude.{◌≡◌, ℕ, ◌<◌, ◌≤◌, List, [], ◌�
 use Rattle.std.specs.List.{AllByRecursion, filter_map}
 use Rattle.giop_core.specs.declared.request.ReplyWish.TheVariants.{Full}
 use Rattle.giop_frames.specs.declared.limits.Limits.{Limits}
-use Rattle.giop_link.specs.Answering.{client_ending, client_heard}
+use Rattle.giop_link.specs.Answering.{answer_to, client_ending}
 use Rattle.giop_link.specs.ClientLinking.{ClientLinked, ClientStands, Exchange, Terms}
+use Rattle.giop_link.specs.Hearing.{Hearing, hearing_of}
 use Rattle.giop_link.specs.Ids.{Ids, entered, wanted_by}
 use Rattle.ft_client.specs.declared.client.FtClient.{FtClient}
 use Rattle.ft_client.specs.Clients.{Client, Linked, Pending, parted, told_of}
-use Rattle.ft_client.specs.Directions.{Hearing}
 use Rattle.ft_client.specs.Ends.{completion_of, numbered}
 use Rattle.ft_client.specs.Keeping.{kept_by, kept_of}
 use Rattle.ft_client.specs.Lives.{AreRising}
@@ -16,7 +16,7 @@ use Rattle.ft_client.specs.Messages.{Answer}
 
 -- what a client hears of its server
 abbrev pub down : Limits → Hearing Answer
-down limits = record { heard = client_heard limits; ending = client_ending limits }
+down limits = hearing_of answer_to limits
 
 -- the request ids under which pending calls were sent on the present link
 abbrev pub sent_ids : List Pending → List ℕ

@@ -8,16 +8,13 @@ ghost use Rattle.cdr_core.specs.View.{values_of};
 ghost use Rattle.ft_client.specs.Facts.{clean_prop};
 ghost use Rattle.cdr_core.specs.Writing.{AreWritable};
 
-use crate::asked::Asked;
 use crate::ended::Ended;
-use crate::ending::{complete, place_of, withdraw};
+use crate::ending::{complete, give_up, place_of, withdraw};
 use crate::error::CallError;
-use crate::expiring::give_up;
 use crate::feeding::feed_on;
-use crate::marks::forget_sent;
-use crate::pending::Pending;
+use crate::pending::{Asked, Pending};
 use crate::requests::{transmit, written};
-use crate::sending::send_again;
+use crate::sending::{forget_sent, send_again};
 use cdr_core::Val;
 use giop_core::Version;
 use giop_frames::Limits;
@@ -231,7 +228,7 @@ impl FtClient {
         ensures needed { OnErr result ((m : Client) → FtStands self.old m → says (Joined now) m ≢ []) }
         ensures unwritten { OnErr result (out.new.items ≡ out.old.items) }
     {
-        giop_link::laws::answers_are_heard();
+        giop_link::laws::streams_are_heard::<giop_link::Client>();
         let start = out.len();
         let mut link = ClientLink::new(self.alloc, self.limits, self.version, 64);
         if let Err(error) = send_again(&mut link, &mut self.pending, now, out) {

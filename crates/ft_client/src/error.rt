@@ -29,15 +29,6 @@ pub enum CallError {
     Memory,
 }
 
-/// An allocation failed.
-impl From<AllocError> for CallError {
-    ghost from_gives = { λ e f. f ≡ Memory };
-
-    fn from(_error: AllocError) -> CallError {
-        CallError::Memory
-    }
-}
-
 /// The message is too long, or an allocation failed.
 impl From<WriteError> for CallError {
     ghost from_gives = { λ e f. f ≡ call_error_of e };
@@ -47,5 +38,14 @@ impl From<WriteError> for CallError {
             WriteError::TooLong => CallError::TooLong,
             WriteError::Memory => CallError::Memory,
         }
+    }
+}
+
+/// An allocation failed.
+impl From<AllocError> for CallError {
+    ghost from_gives = { λ e f. f ≡ Memory };
+
+    fn from(_error: AllocError) -> CallError {
+        CallError::Memory
     }
 }

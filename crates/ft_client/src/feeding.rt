@@ -4,7 +4,7 @@ ghost use Rattle.std.specs.Prelude.{◌≡◌, ◌≢◌, ◌<◌, ◌≤◌, �
 ghost use Rattle.std.specs.VecDeque.{deque_capacity, deque_len};
 ghost use Rattle.giop_frames.specs.declared.fault.StreamFault.TheVariants.{Memory};
 ghost use Rattle.giop_link.specs.ClientLinking.{delivered_at, end_in};
-ghost use Rattle.giop_link.specs.declared.fault.LinkFault.TheVariants.{Stream};
+ghost use Rattle.giop_link.specs.declared.error.LinkFault.TheVariants.{Stream};
 ghost use Rattle.ft_client.specs.Clients.{Client, Linked, told_of};
 ghost use Rattle.ft_client.specs.Private.{CallsStand, IsFedTo, answered_by, reply_lent};
 ghost use Rattle.ft_client.specs.Standing.{IsLinked, down};
@@ -75,7 +75,7 @@ pub(crate) fn feed_on(
     ensures room { deque_len completions.new + vec_len pending.new ≤ deque_capacity completions.new }
     ensures few { vec_len pending.new ≤ vec_len pending.old }
 {
-    giop_link::laws::answers_are_heard();
+    giop_link::laws::streams_are_heard::<giop_link::Client>();
     let mut taken = 0;
     while taken < piece.len() {
         let (_, left) = piece.split_at(taken);

@@ -2,15 +2,12 @@
 //! chapter 9; Fault Tolerant CORBA 23.2.7).
 #![tactic(auto)]
 
-mod asked;
 mod client;
 mod ended;
 mod ending;
 mod error;
-mod expiring;
 mod feeding;
 pub mod laws;
-mod marks;
 mod pending;
 mod requests;
 mod sending;

@@ -1,6 +1,17 @@
-//! A call that has not ended.
+//! What a call asks, and a call that has not ended.
 
 ghost use Rattle.std.specs.Prelude.{◌≤◌, ◌+◌, vec_len};
+
+use cdr_core::Val;
+
+/// What a call asks, and until when.
+#[derive(Clone, Copy)]
+pub(crate) struct Asked<'a> {
+    pub object_key: &'a [u8],
+    pub operation: &'a [u8],
+    pub arguments: &'a [Val],
+    pub expiration: u64,
+}
 
 /// A pending call: its number, its expiration, the octets of its Request under the request id 1, the place of that
 /// id in them, and its request id on the present link, if it was sent there.

@@ -10,8 +10,7 @@ ghost use Rattle.giop_core.specs.declared.error.WriteError.TheVariants.{TooLong}
 ghost use Rattle.ft_client.specs.Calling.{IsLong, IsShort, call_asked, first_transmission};
 ghost use Rattle.ft_client.specs.Keeping.{id_place, kept_by, kept_of, under};
 
-use crate::asked::Asked;
-use crate::pending::Pending;
+use crate::pending::{Asked, Pending};
 use cdr_core::Order;
 use giop_core::{FT_REQUEST, ReplyWish, Target, Version, WriteError, write_ft, write_request};
 use giop_link::ClientLink;

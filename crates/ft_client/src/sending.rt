@@ -1,15 +1,32 @@
-//! What a client does with a new link: it sends its calls again.
+//! Which pending calls were sent on the present link, and how they are sent again on a new one.
 
 ghost use Rattle.std.specs.Prelude.{◌≡◌, ◌≢◌, ◌≤◌, ◌<◌, ◌+◌, ◌++◌, [], length, map, take, vec_len, IfOk, IfErr, OnOk, OnErr};
-ghost use Rattle.ft_client.specs.Keeping.{ids_after_sending, ids_sent, kept_by, octets_again, sent_again, unmarked};
+ghost use Rattle.ft_client.specs.Keeping.{ids_after_sending, ids_sent, kept_by, marked, octets_again, sent_again, unmarked};
 ghost use Rattle.ft_client.specs.Private.{IsSentOn};
 ghost use Rattle.ft_client.specs.Standing.{waiting_ids};
 
-use crate::marks::mark;
 use crate::pending::Pending;
 use crate::requests::transmit;
 use giop_link::ClientLink;
 use std::alloc::AllocError;
+
+/// Notes under which request id the call at a place was sent on the present link, if it was.
+pub(crate) fn mark(pending: &mut [Pending], place: usize, sent: Option<u32>)
+    requires { place < length pending.old }
+    ensures { map kept_by pending.new ≡ marked place sent (map kept_by pending.old) }
+{
+    pending[place].sent = sent;
+}
+
+/// Notes that no call was sent on the present link.
+pub(crate) fn forget_sent(pending: &mut [Pending])
+    ensures kept { map kept_by pending.new ≡ unmarked (map kept_by pending.old) }
+    ensures len { length pending.new ≡ length pending.old }
+{
+    for place in 0..pending.len() {
+        mark(pending, place, None);
+    }
+}
 
 /// Sends a kept call on a link, unless it is past its expiration, and returns the request id. Where an allocation
 /// fails nothing is appended.

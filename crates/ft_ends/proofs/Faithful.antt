@@ -13,10 +13,10 @@ use Rattle.giop_core.specs.Content.{Content, Rest, by_key}
 use Rattle.giop_core.specs.Ft.{Ft, ft_in, present}
 use Rattle.giop_core.specs.Written.{CanAsk, locate_statuses, reply_statuses}
 use Rattle.giop_frames.specs.declared.limits.Limits.{Limits}
-use Rattle.giop_link.specs.Answering.{Answer, client_heard}
+use Rattle.giop_link.specs.Answering.{Answer, answer_to, client_heard}
 use Rattle.giop_link.specs.Hearing.{Incoming, heard, meaning_in}
-use Rattle.giop_link.specs.Laws.{AnswersAreMeant, AnswersGrow, CancelsGoOut, FarewellsGoOut, HeardIsMeant, LocateRepliesGoOut, RepliesGoOut, RequestsGoOut}
-use Rattle.giop_link.specs.Outgoing.{CanGoOut, Outgoing, answer_to, heard_by, meant, octets_of_each}
+use Rattle.giop_link.specs.Laws.{CancelsGoOut, FarewellsGoOut, HeardIsMeant, HearingGrows, LocateRepliesGoOut, RepliesGoOut, RequestsGoOut}
+use Rattle.giop_link.specs.Outgoing.{CanGoOut, Outgoing, heard_by, meant, octets_of_each}
 use Rattle.ft_client.specs.Directions.{stream}
 use Rattle.ft_client.specs.Messages.{Asked, Said, Transmission, Withdrawn, contexts_of, incoming_of, octets_said}
 use Rattle.ft_orb.specs.ExactlyOnce.{Present}
@@ -63,7 +63,7 @@ module _ (asked : RequestsGoOut) where
   carried : (t : Transmission) → IsFine t → field_of (contexts_of t) ≡ Present (key_of t) t.call.expiration
   carried t fine = ap (λ (x : Ft). field_by x) (request t fine).1
 
-  module _ (withdrawn : CancelsGoOut) (heard_is : HeardIsMeant) where
+  module _ (withdrawn : CancelsGoOut) (heard_is : HeardIsMeant meaning_in) where
     said-goes : (m : Said) → IsFineSaid m → CanGoOut (said_out m)
     said-goes (Asked t) fine = (request t fine).0
     said-goes (Withdrawn version request_id) fine = withdrawn version Big request_id no_values fine
@@ -124,12 +124,12 @@ module _ (replies : RepliesGoOut) (locates : LocateRepliesGoOut) (farewells : Fa
   told-meant (Failed ∷ ts) fine = told-meant ts fine.1
   told-meant (Closing ∷ ts) fine = told-meant ts fine.1
 
-  told-heard : AnswersAreMeant → (own : Limits) (ts : List Telling) → AllByRecursion IsFineTelling ts → IsFront (client_heard own (stream octets_told ts)) (filter_map answer_in ts)
+  told-heard : HeardIsMeant answer_to → (own : Limits) (ts : List Telling) → AllByRecursion IsFineTelling ts → IsFront (client_heard own (stream octets_told ts)) (filter_map answer_in ts)
   told-heard meant_is own ts fine =
       let f = meant_is own (map told_out ts) (all-told ts fine) in
       (f.0, sym (told-meant ts fine) ∙ f.1 ∙ ap (λ (s : List ℕ). client_heard own s ++ f.0) (told-octets ts))
 
-pub directions-faithful : RequestsGoOut → CancelsGoOut → HeardIsMeant → RepliesGoOut → LocateRepliesGoOut → FarewellsGoOut → AnswersAreMeant → AnswersGrow → DirectionsAreFaithful
+pub directions-faithful : RequestsGoOut → CancelsGoOut → HeardIsMeant meaning_in → RepliesGoOut → LocateRepliesGoOut → FarewellsGoOut → HeardIsMeant answer_to → HearingGrows answer_to → DirectionsAreFaithful
 directions-faithful asked withdrawn heard_is replies locates farewells meant_is grow limits = record {
   asked = said-heard asked withdrawn heard_is limits;
   carried = carried asked;

@@ -8,7 +8,8 @@ use Rattle.giop_core.specs.declared.header.Version.{Version}
 use Rattle.giop_frames.specs.declared.limits.Limits.{Limits}
 use Rattle.ft_log.specs.Keys.{RequestKey}
 use Rattle.ft_client.specs.Clients.{Called, Cancelled, Client, Ended, Expired, Linked, NeedsAddressing, Pending, Recalled, Ticked, Told, completed_if, ended_by, find_pending, is_taken, late, on_time, placed, recalled, says_placed, says_recalled, settled, settled_all, transmission, waiting, withdrawn, without}
-use Rattle.ft_client.specs.Directions.{Hearing, news, stream}
+use Rattle.ft_client.specs.Directions.{stream}
+use Rattle.giop_link.specs.Hearing.{Hearing, news}
 use Rattle.ft_client.specs.Lives.{IsLife, IsOfCall, Life, ended_count, sent_at}
 use Rattle.ft_client.specs.Messages.{Answer, Asked, Call, Said, Shown, Transmission, Withdrawn, located, replied}
 use Rattle.ft_orb.specs.ExactlyOnce.{Arrival}

@@ -7,10 +7,10 @@ use Rattle.std.proofs.lemmas.Option.{none-some, same_Some}
 use Rattle.cdr_core.specs.Spelling.{IsClean}
 use Rattle.giop_core.specs.declared.header.Version.{Version}
 use Rattle.giop_frames.specs.declared.limits.Limits.{Limits}
-use Rattle.giop_link.specs.Hearing.{Ending}
+use Rattle.giop_link.specs.Hearing.{Ending, Hearing, meaning_in, news}
 use Rattle.giop_link.specs.Laws.{HearingGrows}
 use Rattle.ft_client.specs.Clients.{Called, Client, Ended, Fed, Happening, Joined, Linked, Parted, Pending, Recalled, Ticked, completed_if, ended_by, ending_of, gives, ids_after, parted_at, resent, says as client_says, settled, settled_all, told_of, waiting}
-use Rattle.ft_client.specs.Directions.{Hearing, news, stream}
+use Rattle.ft_client.specs.Directions.{stream}
 use Rattle.ft_client.specs.Lives.{IsLife, Life, goes_on, moment_of, sent_at}
 use Rattle.ft_client.specs.Messages.{Answer, Said, Transmission, located, octets_said, replied}
 use Rattle.ft_orb.specs.ExactlyOnce.{Arrival}
@@ -213,7 +213,7 @@ module _ {State : Type 0} (meaning : Meaning State) (made : Made State) (hears :
           let down' = hears m.life.client.limits in
           move-lost (goes_on down' Parted m.life) (of_clients.goes_on id version down' Parted m.life is.life) (small-after of_clients.as_long down' Parted m.life.client tt is.small) is.told refl refl (append-nil m.life.taken)
 
-      module _ (faithful : AreFaithful made.limits hears) (grow : HearingGrows) (sends : AreShort meaning made) (plain : ArePlain (arrivals made.limits past)) where
+      module _ (faithful : AreFaithful made.limits hears) (grow : HearingGrows meaning_in) (sends : AreShort meaning made) (plain : ArePlain (arrivals made.limits past)) where
         move-up : (n now : ℕ) → IsMove past opened id version m (up (sides_of meaning made hears) past opened n now m (Some x))
         move-up n now =
             let k = linked.0 in
@@ -389,7 +389,7 @@ module _ {State : Type 0} (meaning : Meaning State) (made : Made State) (hears :
           number = λ y here. let same : number ≡ y.number = ap (λ (z : Wire). z.number) (same_Some x' y here) in inl (omega (arith, same), omega (arith, same));
         }
 
-    pub move-is : AreFaithful made.limits hears → HearingGrows → AreShort meaning made → ArePlain (arrivals made.limits past) → IsClean id → (s : Step) → IsFineStep s → IsMove past opened id version m (moved (sides_of meaning made hears) past opened s m)
+    pub move-is : AreFaithful made.limits hears → HearingGrows meaning_in → AreShort meaning made → ArePlain (arrivals made.limits past) → IsClean id → (s : Step) → IsFineStep s → IsMove past opened id version m (moved (sides_of meaning made hears) past opened s m)
     move-is faithful grow sends plain clean (CallNow k now call) fine = move-acted (Called now call) refl (member-called meaning made hears past opened id version clean of_clients now call m fine is)
     move-is faithful grow sends plain clean (Connect k now) fine = by-wire m.wire refl
       where

@@ -10,6 +10,7 @@ use Rattle.cdr_core.specs.Spelling.{IsClean}
 use Rattle.cdr_core.specs.Value.{structure}
 use Rattle.cdr_core.specs.View.{values_of}
 use Rattle.giop_link.specs.Laws.{HearingGrows}
+use Rattle.giop_link.specs.Hearing.{meaning_in}
 use Rattle.ft_client.specs.declared.client.FtClient.{FtClient}
 use Rattle.ft_client.specs.Clients.{Linked, Pending}
 use Rattle.ft_client.specs.Messages.{Transmission}
@@ -34,7 +35,7 @@ use Rattle.ft_ends.proofs.Members.{IsWired}
 use Rattle.ft_ends.proofs.Moves.{IsOff, move-is}
 use Rattle.ft_ends.proofs.Worlds.{IsWorld, one-expiration, run-is, start-is, step-is}
 
-module _ {State : Type 0} (meaning : Meaning State) (made : Made State) (newcomers : List Newcomer) (distinct : AreDistinct newcomers) (of_clients : ClientLaws) (faithful : AreFaithful made.limits down) (grow : HearingGrows) (sends : AreShort meaning made)
+module _ {State : Type 0} (meaning : Meaning State) (made : Made State) (newcomers : List Newcomer) (distinct : AreDistinct newcomers) (of_clients : ClientLaws) (faithful : AreFaithful made.limits down) (grow : HearingGrows meaning_in) (sends : AreShort meaning made)
     (clean : AllByRecursion (λ n. IsClean n.client_id) newcomers) where
   -- a client has a link where it has a connection, whose number is not past the last
   wired-linked : (past : List Event) (opened : ℕ) (sent : List (ℕ × Transmission)) (pending : List Pending) (last : ℕ) (l : Option Linked) (o : Option Wire) → IsWired meaning made past opened sent pending last l o → is_some l ≡ is_some o

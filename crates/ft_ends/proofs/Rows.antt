@@ -21,8 +21,7 @@ use Rattle.giop_frames.specs.Fragments.{judged_as, judged_by}
 use Rattle.giop_frames.specs.Frames.{sight, split}
 use Rattle.giop_frames.specs.Streams.{fault_of, messages_of, rest_of}
 use Rattle.giop_frames.specs.declared.limits.Limits.{Limits}
-use Rattle.giop_link.specs.Answering.{answer_of, client_ending, client_heard}
-use Rattle.giop_link.specs.Hearing.{ending, heard, meaning_of}
+use Rattle.giop_link.specs.Hearing.{ending_as, heard_as, sound_of}
 use Rattle.ft_log.specs.Performed.{Performed, raw, returned, system}
 use Rattle.ft_log.specs.declared.outcome.RawStatus.TheVariants as raw_status
 use Rattle.ft_log.specs.declared.system_exception.Completion.TheVariants.{No}
@@ -93,37 +92,37 @@ comes_too_late = (0, 1, ended_of (system BadContext 0 No))
 
 -- the reply is lost with the connection; the request that is sent again is not performed again, and gets its outcome
 again : shown_by (after_call (UpTo 0 84 50 ∷ Cut 0 ∷ Connect 0 60 ∷ UpTo 0 84 60 ∷ Down 0 32 ∷ [])) ≡ (gives_seven ∷ [], pos 7)
-unfolding arrivals_in front_in rendering heard ending meaning_of client_heard client_ending answer_of content items_in messages_of fault_of rest_of split sight header_of judged_by judged_as message_of row encapsulated order_at ft_in behind_header value_at each_at boolean_at string_at text_at whole_at number_at part_at octets_at length_at ordinal_at
+unfolding arrivals_in front_in rendering heard_as ending_as sound_of content items_in messages_of fault_of rest_of split sight header_of judged_by judged_as message_of row encapsulated order_at ft_in behind_header value_at each_at boolean_at string_at text_at whole_at number_at part_at octets_at length_at ordinal_at
 again = refl
 
 -- a request of which an octet is missing is none
 expires : shown_by (after_call (UpTo 0 83 50 ∷ Cut 0 ∷ Tick 0 101 ∷ [])) ≡ ((0, 1, Expired) ∷ [], pos 0)
-unfolding arrivals_in front_in rendering heard ending meaning_of client_heard client_ending answer_of content items_in messages_of fault_of rest_of split sight header_of judged_by judged_as message_of row encapsulated order_at ft_in behind_header value_at each_at boolean_at string_at text_at whole_at number_at part_at octets_at length_at ordinal_at
+unfolding arrivals_in front_in rendering heard_as ending_as sound_of content items_in messages_of fault_of rest_of split sight header_of judged_by judged_as message_of row encapsulated order_at ft_in behind_header value_at each_at boolean_at string_at text_at whole_at number_at part_at octets_at length_at ordinal_at
 expires = refl
 
 -- one that comes too late is refused, and not performed
 late : shown_by (after_call (UpTo 0 84 101 ∷ Down 0 72 ∷ [])) ≡ (comes_too_late ∷ [], pos 0)
-unfolding arrivals_in front_in rendering heard ending meaning_of client_heard client_ending answer_of content items_in messages_of fault_of rest_of split sight header_of judged_by judged_as message_of row encapsulated order_at ft_in behind_header value_at each_at boolean_at string_at text_at whole_at number_at part_at octets_at length_at ordinal_at
+unfolding arrivals_in front_in rendering heard_as ending_as sound_of content items_in messages_of fault_of rest_of split sight header_of judged_by judged_as message_of row encapsulated order_at ft_in behind_header value_at each_at boolean_at string_at text_at whole_at number_at part_at octets_at length_at ordinal_at
 late = refl
 
 -- so is the repeat of one that was performed
 late_again : shown_by (after_call (UpTo 0 84 50 ∷ Cut 0 ∷ Connect 0 60 ∷ UpTo 0 84 101 ∷ Down 0 72 ∷ [])) ≡ (comes_too_late ∷ [], pos 7)
-unfolding arrivals_in front_in rendering heard ending meaning_of client_heard client_ending answer_of content items_in messages_of fault_of rest_of split sight header_of judged_by judged_as message_of row encapsulated order_at ft_in behind_header value_at each_at boolean_at string_at text_at whole_at number_at part_at octets_at length_at ordinal_at
+unfolding arrivals_in front_in rendering heard_as ending_as sound_of content items_in messages_of fault_of rest_of split sight header_of judged_by judged_as message_of row encapsulated order_at ft_in behind_header value_at each_at boolean_at string_at text_at whole_at number_at part_at octets_at length_at ordinal_at
 late_again = refl
 
 -- after the server has closed the connection the client still gets the reply
 closing : shown_by (after_call (UpTo 0 84 50 ∷ Shut 0 ∷ Down 0 44 ∷ [])) ≡ (gives_seven ∷ [], pos 7)
-unfolding arrivals_in front_in rendering heard ending meaning_of client_heard client_ending answer_of content items_in messages_of fault_of rest_of split sight header_of judged_by judged_as message_of row encapsulated order_at ft_in behind_header value_at each_at boolean_at string_at text_at whole_at number_at part_at octets_at length_at ordinal_at
+unfolding arrivals_in front_in rendering heard_as ending_as sound_of content items_in messages_of fault_of rest_of split sight header_of judged_by judged_as message_of row encapsulated order_at ft_in behind_header value_at each_at boolean_at string_at text_at whole_at number_at part_at octets_at length_at ordinal_at
 closing = refl
 
 -- it leaves a connection that was closed, and calls again on the next
 closed : shown_by (after_call (Shut 0 ∷ Down 0 12 ∷ Connect 0 60 ∷ UpTo 0 84 60 ∷ Down 0 32 ∷ [])) ≡ (gives_seven ∷ [], pos 7)
-unfolding arrivals_in front_in rendering heard ending meaning_of client_heard client_ending answer_of content items_in messages_of fault_of rest_of split sight header_of judged_by judged_as message_of row encapsulated order_at ft_in behind_header value_at each_at boolean_at string_at text_at whole_at number_at part_at octets_at length_at ordinal_at
+unfolding arrivals_in front_in rendering heard_as ending_as sound_of content items_in messages_of fault_of rest_of split sight header_of judged_by judged_as message_of row encapsulated order_at ft_in behind_header value_at each_at boolean_at string_at text_at whole_at number_at part_at octets_at length_at ordinal_at
 closed = refl
 
 -- the late reply to a call that was cancelled gives nothing
 cancelled : shown_by (after_call (UpTo 0 84 50 ∷ Cancel 0 (pos 1) ∷ Down 0 32 ∷ [])) ≡ ((0, 1, Cancelled) ∷ [], pos 7)
-unfolding arrivals_in front_in rendering heard ending meaning_of client_heard client_ending answer_of content items_in messages_of fault_of rest_of split sight header_of judged_by judged_as message_of row encapsulated order_at ft_in behind_header value_at each_at boolean_at string_at text_at whole_at number_at part_at octets_at length_at ordinal_at
+unfolding arrivals_in front_in rendering heard_as ending_as sound_of content items_in messages_of fault_of rest_of split sight header_of judged_by judged_as message_of row encapsulated order_at ft_in behind_header value_at each_at boolean_at string_at text_at whole_at number_at part_at octets_at length_at ordinal_at
 cancelled = refl
 
 -- a servant of the same object whose operations are raw: it counts its calls, and sends each on with the octets that it brought, as
@@ -143,5 +142,5 @@ sender = record {
 
 -- the call ends as forwarded, with these octets in their order; it is performed once, also where its first reply is lost
 forwarded : shown_of sender (world_of sender (UpTo 0 84 50 ∷ Cut 0 ∷ Connect 0 60 ∷ UpTo 0 84 60 ∷ Down 0 28 ∷ [])) ≡ ((0, 1, Told LocationForward (record { order = Little; place = 24; octets = 0 ∷ 0 ∷ 0 ∷ 7 ∷ [] })) ∷ [], pos 1)
-unfolding arrivals_in front_in rendering heard ending meaning_of client_heard client_ending answer_of content items_in messages_of fault_of rest_of split sight header_of judged_by judged_as message_of row encapsulated order_at ft_in behind_header value_at each_at boolean_at string_at text_at whole_at number_at part_at octets_at length_at ordinal_at
+unfolding arrivals_in front_in rendering heard_as ending_as sound_of content items_in messages_of fault_of rest_of split sight header_of judged_by judged_as message_of row encapsulated order_at ft_in behind_header value_at each_at boolean_at string_at text_at whole_at number_at part_at octets_at length_at ordinal_at
 forwarded = refl

@@ -13,14 +13,14 @@ use Rattle.giop_core.specs.declared.header.MessageKind.TheVariants.{Request}
 use Rattle.giop_core.specs.declared.header.Version.{Version}
 use Rattle.giop_core.specs.declared.header.Version.TheVariants.{V10, V11, V12}
 use Rattle.giop_frames.specs.declared.limits.Limits.{Limits}
-use Rattle.giop_link.specs.Hearing.{Ending, Incoming, asks, cancels, ending, faulty, heard, locates, peer_closed, peer_error, wrong_direction}
+use Rattle.giop_link.specs.Hearing.{Ending, Hearing, Incoming, asks, cancels, ending, faulty, heard, locates, meaning_in, peer_closed, peer_error, wrong_direction}
 use Rattle.giop_link.specs.Laws.{HearingGrows}
 use Rattle.ft_log.specs.Keys.{RequestKey}
 use Rattle.ft_log.specs.Performed.{Performed, raised, raw, returned, system}
 use Rattle.ft_log.specs.declared.outcome.RawStatus.TheVariants as raw_status
 use Rattle.ft_log.specs.declared.system_exception.SystemName.{SystemName}
 use Rattle.ft_client.specs.Clients.{Ended, ended_by}
-use Rattle.ft_client.specs.Directions.{Hearing, stream}
+use Rattle.ft_client.specs.Directions.{stream}
 use Rattle.ft_client.specs.Messages.{Answer, Asked, Call, Said, fields_of, Transmission, Withdrawn, incoming_of, located, octets_said, question_of, replied}
 use Rattle.ft_orb.specs.ExactlyOnce.{Arrival, Present, answer_of, answers_after}
 use Rattle.ft_orb.specs.History.{Close, Event, Gone, Line, Lost, Opened, Piece, Shut, Up, arrivals, arrivals_in, arrivals_on, completed, connection_of, does_count, heard_after, line, longer, shut}
@@ -114,7 +114,7 @@ said-heard : (said : List Said) (s : Said) → IsListed said s × IsFineSaid s �
 said-heard said (Asked t) h = (t, h.0, refl, h.1)
 said-heard said (Withdrawn version i) h = tt
 
-module _ (limits : Limits) (hears : Limits → Hearing Answer) (faithful : AreFaithful limits hears) (grow : HearingGrows) where
+module _ (limits : Limits) (hears : Limits → Hearing Answer) (faithful : AreFaithful limits hears) (grow : HearingGrows meaning_in) where
   -- in a front of what was said is heard what was said
   heard-all : (said : List Said) (s rest : List ℕ) → stream octets_said said ≡ s ++ rest → AllByRecursion (λ m. IsListed said m) said → AllByRecursion IsFineSaid said → AllByRecursion (λ x. IsHeardOf said x) (heard limits s)
   heard-all said s rest is listed fine =

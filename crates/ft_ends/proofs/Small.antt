@@ -4,9 +4,8 @@ use Rattle.std.specs.List.{AllByRecursion}
 use Rattle.std.specs.Ordering.{int_eq}
 use Rattle.std.proofs.lemmas.Bool.{and_parts, ltb-true}
 use Rattle.std.proofs.lemmas.Option.{none-some, same_Some}
-use Rattle.giop_link.specs.Hearing.{Ending}
+use Rattle.giop_link.specs.Hearing.{Ending, Hearing, news}
 use Rattle.ft_client.specs.Clients.{Called, Cancelled, Client, Ended, Fed, Happening, Joined, Linked, Parted, Pending, Recalled, Taken, Ticked, after, completed, completed_if, ended_by, ending_of, find_pending, fits, ids_after, is_taken, on_time, parted, parted_at, placed, recalled, resent, settled, settled_all, told_of, transmission, unsent, waiting, without}
-use Rattle.ft_client.specs.Directions.{Hearing, news}
 use Rattle.ft_client.specs.Laws.{RequestsAreAsLong}
 use Rattle.ft_client.specs.Messages.{Answer, Call, located, replied, request_behind}
 use Rattle.ft_ends.specs.Fine.{IsFineCall}

@@ -11,7 +11,7 @@ use Rattle.giop_frames.specs.declared.limits.Limits.{Limits}
 use Rattle.giop_link.specs.Laws.{HearingGrows}
 use Rattle.ft_log.specs.Keys.{RequestKey}
 use Rattle.ft_client.specs.Clients.{Cancelled, Ended, Expired, Linked, NeedsAddressing, Pending, Told}
-use Rattle.ft_client.specs.Directions.{Hearing}
+use Rattle.giop_link.specs.Hearing.{Hearing, meaning_in}
 use Rattle.ft_client.specs.Laws.{CallsCompleteOnce}
 use Rattle.ft_client.specs.Lives.{IsOfCall, call_at, ended_count, one_if}
 use Rattle.ft_client.specs.Messages.{Answer, Call, Transmission}
@@ -322,7 +322,7 @@ module _ {State : Type 0} (meaning : Meaning State) (made : Made State) (hears :
 
   -- A schedule.
 
-  module _ (of_clients : ClientLaws) (faithful : AreFaithful made.limits hears) (grow : HearingGrows) (sends : AreShort meaning made) (clean : AllByRecursion (λ n. IsClean n.client_id) newcomers) where
+  module _ (of_clients : ClientLaws) (faithful : AreFaithful made.limits hears) (grow : HearingGrows meaning_in) (sends : AreShort meaning made) (clean : AllByRecursion (λ n. IsClean n.client_id) newcomers) where
     pub step-is : (w : World) (s : Step) → IsFineStep s → IsWorld w → IsWorld (step (sides_of meaning made hears) w s)
     step-is w s fine h = by-member (slice_get w.members (client_of s)) refl
       where
@@ -459,7 +459,7 @@ world-push sides newcomers steps s = run-push (start newcomers) steps
     run-push w [] = refl
     run-push w (x ∷ steps) = run-push (step sides w x) steps
 
-pub both-ends-act-once : {State : Type 0} (meaning : Meaning State) → ClientLaws → ((capacity share : ℕ) → KeysActOnce (rules_of meaning capacity share)) → HearingGrows → AnswersAreShort meaning → DirectionsAreFaithful → BothEndsActOnce meaning
+pub both-ends-act-once : {State : Type 0} (meaning : Meaning State) → ClientLaws → ((capacity share : ℕ) → KeysActOnce (rules_of meaning capacity share)) → HearingGrows meaning_in → AnswersAreShort meaning → DirectionsAreFaithful → BothEndsActOnce meaning
 both-ends-act-once meaning of_clients keys grow short faithful made newcomers steps state distinct clean fine =
     acts-once meaning made down newcomers distinct (world (sides_of meaning made down) newcomers steps)
     (run-is meaning made down newcomers of_clients (faithful made.limits) grow (short made state) clean (start newcomers) steps fine (start-is meaning made down newcomers of_clients.once)) keys

@@ -6,8 +6,8 @@ use Rattle.cdr_core.specs.Spelling.{IsClean}
 use Rattle.cdr_core.specs.Writing.{octets_of_all}
 use Rattle.cdr_core.specs.declared.order.Order.TheVariants.{Big}
 use Rattle.giop_frames.specs.declared.limits.Limits.{Limits}
-use Rattle.giop_link.specs.Hearing.{heard}
-use Rattle.ft_client.specs.Directions.{Hearing, stream}
+use Rattle.giop_link.specs.Hearing.{Hearing, heard}
+use Rattle.ft_client.specs.Directions.{stream}
 use Rattle.ft_client.specs.Messages.{Answer, Asked, Call, Said, Transmission, Withdrawn, contexts_of, incoming_of, octets_said, request_behind}
 use Rattle.ft_orb.specs.ExactlyOnce.{Present}
 use Rattle.ft_orb.specs.Requests.{field_of}

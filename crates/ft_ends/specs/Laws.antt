@@ -6,7 +6,8 @@ use Rattle.cdr_core.specs.Spelling.{IsClean}
 use Rattle.cdr_core.specs.Writing.{octets_of_all}
 use Rattle.giop_frames.specs.declared.limits.Limits.{Limits}
 use Rattle.ft_log.specs.Performed.{Performed}
-use Rattle.ft_client.specs.Directions.{Hearing, stream}
+use Rattle.ft_client.specs.Directions.{stream}
+use Rattle.giop_link.specs.Hearing.{Hearing}
 use Rattle.ft_client.specs.Messages.{Answer, Call, octets_said}
 use Rattle.ft_client.specs.Standing.{down}
 use Rattle.ft_orb.specs.ExactlyOnce.{Arrival, answer_of}

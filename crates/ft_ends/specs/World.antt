@@ -3,7 +3,8 @@ use Rattle.std.specs.Prelude.{ℕ, suc, ◌+◌, ℤ, List, [], ◌∷◌, ◌++
 use Rattle.giop_core.specs.declared.header.Version.{Version}
 use Rattle.giop_frames.specs.declared.limits.Limits.{Limits}
 use Rattle.ft_client.specs.Clients.{Called, Ended, Fed, Happening, Joined, Linked, Parted, Recalled, Ticked, says}
-use Rattle.ft_client.specs.Directions.{Hearing, stream}
+use Rattle.ft_client.specs.Directions.{stream}
+use Rattle.giop_link.specs.Hearing.{Hearing}
 use Rattle.ft_client.specs.Lives.{Life, goes_on, new_life}
 use Rattle.ft_client.specs.Messages.{Answer, Call, Said}
 use Rattle.ft_orb.specs.History.{Close, Event, Lost, Opened, Piece}

@@ -24,10 +24,10 @@ pub fn answers_are_short<S: Servant>()
 pub fn directions_are_faithful()
     ensures { DirectionsAreFaithful }
 {
-    giop_link::laws::answers_are_heard();
+    giop_link::laws::streams_are_heard::<giop_link::Client>();
     giop_link::laws::messages_go_out();
-    giop_link::laws::written_messages_are_heard();
-    giop_link::laws::written_answers_are_heard();
+    giop_link::laws::written_messages_are_heard::<giop_link::Server>();
+    giop_link::laws::written_messages_are_heard::<giop_link::Client>();
 }
 
 /// The calls that a client made in a schedule are among those that its steps have it make, in order.
@@ -49,7 +49,7 @@ pub(crate) fn clients_keep_their_laws()
 pub fn both_ends_act_once<S: Servant>()
     ensures { BothEndsActOnce S.meaning }
 {
-    giop_link::laws::streams_are_heard();
+    giop_link::laws::streams_are_heard::<giop_link::Server>();
     clients_keep_their_laws();
     ft_orb::laws::keys_act_once::<S>();
     answers_are_short::<S>();

@@ -131,7 +131,7 @@ fn run<S: Servant + Drop>(
         → AreClientsOf (world.world (sides_of S.meaning made down) newcomers (map step_as steps.now)).members clients.new) }
     ensures err { OnErr result (events_played (length steps.now) result < length steps.now) }
 {
-    giop_link::laws::streams_are_heard();
+    giop_link::laws::streams_are_heard::<giop_link::Server>();
     crate::laws::clients_keep_their_laws();
     crate::laws::answers_are_short::<S>();
     crate::laws::directions_are_faithful();

@@ -2,7 +2,7 @@
 use Rattle.std.proofs.Common.{◌≡◌, ◌==◌, ℕ, suc, max, Bool, true, false, if◌then◌else◌, List, [], ◌∷◌, ◌++◌, length, Option, Some, None, Result, refl, sym, ap, ◌∙◌, arith, append_assoc}
 use Rattle.std.proofs.lemmas.List.{append-nil}
 use Rattle.giop_frames.specs.declared.limits.Limits.{Limits}
-use Rattle.giop_link.specs.Hearing.{Ending, ending}
+use Rattle.giop_link.specs.Hearing.{Ending, ending, meaning_in}
 use Rattle.giop_link.specs.Laws.{EndingsStay, EndsAreSilent, HearingGrows}
 use Rattle.ft_log.specs.Performed.{Performed}
 use Rattle.ft_log.specs.declared.system_exception.SystemName.{SystemName}
@@ -45,7 +45,7 @@ module _ (limits : Limits) (past : List Event) (c moment : ℕ) (x y : List ℕ)
   abbrev pub First : List Event
   First = Piece c moment x ∷ past
 
-  pub on-cut : HearingGrows → (now : ℕ) (l : Line) → arrivals_on limits c now l (x ++ y) ≡ arrivals_on limits c now l x ++ arrivals_on limits c now (longer x l) y
+  pub on-cut : HearingGrows meaning_in → (now : ℕ) (l : Line) → arrivals_on limits c now l (x ++ y) ≡ arrivals_on limits c now l x ++ arrivals_on limits c now (longer x l) y
   on-cut grow now Gone = refl
   on-cut grow now Shut = refl
   on-cut grow now (Up s) =
@@ -61,10 +61,10 @@ module _ (limits : Limits) (past : List Event) (c moment : ℕ) (x y : List ℕ)
   second-is : completed limits First (Piece c moment y) ≡ arrivals_on limits c (max (clock past) moment) (longer x (line past c)) y
   second-is = λ i. arrivals_on limits c (now-same i) (line-here i) y
 
-  pub completed-cut : HearingGrows → completed limits past (Piece c moment (x ++ y)) ≡ completed limits past (Piece c moment x) ++ completed limits First (Piece c moment y)
+  pub completed-cut : HearingGrows meaning_in → completed limits past (Piece c moment (x ++ y)) ≡ completed limits past (Piece c moment x) ++ completed limits First (Piece c moment y)
   completed-cut grow = on-cut grow (max (clock past) moment) (line past c) ∙ ap (λ (l : List (Arrival Wanted)). completed limits past (Piece c moment x) ++ l) (sym second-is)
 
-  arrivals-cut : HearingGrows → arrivals limits (Piece c moment y ∷ First) ≡ arrivals limits (Piece c moment (x ++ y) ∷ past)
+  arrivals-cut : HearingGrows meaning_in → arrivals limits (Piece c moment y ∷ First) ≡ arrivals limits (Piece c moment (x ++ y) ∷ past)
   arrivals-cut grow =
       append_assoc (arrivals limits past) (completed limits past (Piece c moment x)) (completed limits First (Piece c moment y)) ∙ ap (λ (l : List (Arrival Wanted)). arrivals limits past ++ l) (sym (completed-cut grow))
 
@@ -75,11 +75,11 @@ module _ (limits : Limits) (past : List Event) (c moment : ℕ) (x y : List ℕ)
       [ true ↦ longer-twice x y l | false ↦ refl ]
 
   -- what comes after the end of a stream brings nothing
-  silent-second : EndsAreSilent → (now : ℕ) (s : List ℕ) (e : Ending) → ending limits (s ++ x) ≡ Some e → arrivals_on limits c now (longer x (Up s)) y ≡ []
+  silent-second : EndsAreSilent meaning_in → (now : ℕ) (s : List ℕ) (e : Ending) → ending limits (s ++ x) ≡ Some e → arrivals_on limits c now (longer x (Up s)) y ≡ []
   silent-second silent now s e is = arrivals_in-ended limits c now silent (s ++ x) y e is
 
   -- the answers of both, and mid-is MessageError where it is due
-  up-errors : EndingsStay → (s before more : List ℕ) (was mid : Option Ending) → ending limits s ≡ was → ending limits (s ++ x) ≡ mid → ((e : Ending) → mid ≡ Some e → more ≡ [])
+  up-errors : EndingsStay meaning_in → (s before more : List ℕ) (was mid : Option Ending) → ending limits s ≡ was → ending limits (s ++ x) ≡ mid → ((e : Ending) → mid ≡ Some e → more ≡ [])
       → (before ++ more) ++ error_on limits (Up s) (x ++ y) ≡ (before ++ error_on limits (Up s) x) ++ (more ++ error_on limits (Up (s ++ x)) y)
   up-errors stays s before more (Some e) mid at mid-is none =
       let first : error_on limits (Up s) x ≡ [] = ap (λ (o : Option Ending). error_at o (ending limits (s ++ x))) at in
@@ -103,14 +103,14 @@ module _ (limits : Limits) (past : List Event) (c moment : ℕ) (x y : List ℕ)
       ap (λ (l : List ℕ). (before ++ l) ++ error_on limits (Up s) (x ++ y)) gone ∙ ap (λ (l : List ℕ). l ++ error_on limits (Up s) (x ++ y)) (append-nil before) ∙ ap (λ (l : List ℕ). before ++ l) both
       ∙ sym (ap (λ (l : List ℕ). (before ++ error_on limits (Up s) x) ++ (l ++ error_on limits (Up (s ++ x)) y)) gone ∙ ap (λ (l : List ℕ). (before ++ error_on limits (Up s) x) ++ l) second ∙ append-nil (before ++ error_on limits (Up s) x))
 
-  errors-cut : EndingsStay → (l : Line) (before more : List ℕ) → ((s : List ℕ) (e : Ending) → l ≡ Up s → ending limits (s ++ x) ≡ Some e → more ≡ [])
+  errors-cut : EndingsStay meaning_in → (l : Line) (before more : List ℕ) → ((s : List ℕ) (e : Ending) → l ≡ Up s → ending limits (s ++ x) ≡ Some e → more ≡ [])
       → (before ++ more) ++ error_on limits l (x ++ y) ≡ (before ++ error_on limits l x) ++ (more ++ error_on limits (longer x l) y)
   errors-cut stays Gone before more none = append-nil (before ++ more) ∙ sym (ap (λ (l : List ℕ). l ++ (more ++ [])) (append-nil before) ∙ ap (λ (l : List ℕ). before ++ l) (append-nil more))
   errors-cut stays Shut before more none = append-nil (before ++ more) ∙ sym (ap (λ (l : List ℕ). l ++ (more ++ [])) (append-nil before) ∙ ap (λ (l : List ℕ). before ++ l) (append-nil more))
   errors-cut stays (Up s) before more none = up-errors stays s before more (ending limits s) (ending limits (s ++ x)) refl refl (λ e is. none s e refl is)
 
   module _ (knows : List ℕ → Bool) (answers : List Event → Event → List (Result Performed SystemName)) where
-    output-cut : HearingGrows → EndingsStay → EndsAreSilent → answers past (Piece c moment (x ++ y)) ≡ answers past (Piece c moment x) ++ answers First (Piece c moment y) → length (answers past (Piece c moment x)) ≡ length (completed limits past (Piece c moment x))
+    output-cut : HearingGrows meaning_in → EndingsStay meaning_in → EndsAreSilent meaning_in → answers past (Piece c moment (x ++ y)) ≡ answers past (Piece c moment x) ++ answers First (Piece c moment y) → length (answers past (Piece c moment x)) ≡ length (completed limits past (Piece c moment x))
         → output limits knows answers past (Piece c moment (x ++ y)) ≡ output limits knows answers past (Piece c moment x) ++ output limits knows answers First (Piece c moment y)
     output-cut grow stays silent says size =
         let before = rendered knows (completed limits past (Piece c moment x)) (answers past (Piece c moment x)) in
@@ -123,10 +123,10 @@ module _ (limits : Limits) (past : List Event) (c moment : ℕ) (x y : List ℕ)
         ap (λ (l : List (Arrival Wanted)). rendered knows l (answers First (Piece c moment y))) none)
         ∙ ap (λ (l : Line). (before ++ error_on limits (line past c) x) ++ (more ++ error_on limits l y)) (sym line-here)
 
-pub pieces-may-be-cut : HearingGrows → PiecesMayBeCut
+pub pieces-may-be-cut : HearingGrows meaning_in → PiecesMayBeCut
 pieces-may-be-cut grow limits past c moment x y = (arrivals-cut limits past c moment x y grow, now-same limits past c moment x y, refl, lines-cut limits past c moment x y)
 
-pub cut-pieces-write : HearingGrows → EndingsStay → EndsAreSilent → {State : Type 0} (meaning : Meaning State) → CutPiecesWriteTheSame meaning
+pub cut-pieces-write : HearingGrows meaning_in → EndingsStay meaning_in → EndsAreSilent meaning_in → {State : Type 0} (meaning : Meaning State) → CutPiecesWriteTheSame meaning
 cut-pieces-write grow stays silent {State} meaning made past c moment x y =
     let rules = rules_of meaning made.capacity made.share in
     let first : List Event = Piece c moment x ∷ past in

@@ -4,6 +4,7 @@ use Rattle.std.proofs.Math.Seq.{take-add, take-length}
 use Rattle.std.proofs.lemmas.List.{append-nil, length-drop, map-append, take_all}
 use Rattle.giop_frames.specs.declared.limits.Limits.{Limits}
 use Rattle.giop_link.specs.Laws.{EndingsStay, EndsAreSilent, HearingGrows}
+use Rattle.giop_link.specs.Hearing.{meaning_in}
 use Rattle.ft_log.specs.Performed.{Performed}
 use Rattle.ft_orb.specs.declared.engine.Engine.{Engine}
 use Rattle.ft_orb.specs.declared.error.ServeError.{ServeError}
@@ -167,7 +168,7 @@ module _ {C : Type 0} (offers : C → Offer) (owner : Owner) where
       let there = there-going owner.limits (line past c) going in
       elim so [ inl z ↦ (past, z.1, there) | inr e ↦ (Piece c moment (take j piece) ∷ past, e.rests, there-still past c moment (take j piece) there) ]
 
-  module _ (grow : HearingGrows) (stays : EndingsStay) (silent : EndsAreSilent) (past : List Event) (c moment : ℕ) where
+  module _ (grow : HearingGrows meaning_in) (stays : EndingsStay meaning_in) (silent : EndsAreSilent meaning_in) (past : List Event) (c moment : ℕ) where
     ends-within : (calls : List Call) (piece : List ℕ) (n : ℕ) (note : Note) (engine : Engine C) (before out : List ℕ) → n ≤ length piece → is_memory note ≡ true
         → Ends offers owner calls past (Piece c moment (take n piece)) note engine before out → Ends offers owner calls past (Piece c moment piece) note engine before out
     ends-within calls piece n Done engine before out within is x = absurd cc

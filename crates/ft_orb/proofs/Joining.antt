@@ -7,7 +7,7 @@ use Rattle.std.proofs.Math.Seq.{take-add, take-append-add, take-length}
 use Rattle.std.proofs.lemmas.Bool.{le-leb, leb-false, leb-true, ltb-false, ltb-true}
 use Rattle.std.proofs.lemmas.List.{append-nil, length-drop, length-take-le, take-append-drop, take-take}
 use Rattle.giop_frames.specs.declared.limits.Limits.{Limits}
-use Rattle.giop_link.specs.Hearing.{Ending, ending}
+use Rattle.giop_link.specs.Hearing.{Ending, ending, meaning_in}
 use Rattle.giop_link.specs.Laws.{EndingsStay, EndsAreSilent, HearingGrows}
 use Rattle.ft_log.specs.Performed.{Performed}
 use Rattle.ft_orb.specs.declared.events.Note.TheVariants.{Done}
@@ -92,7 +92,7 @@ module _ {S : Type 0} (rules : Rules S Wanted Call Performed) (knows : List ℕ 
       (λ i less. subst (λ (l : List ℕ). length (Here l) < k) (take-take i n octets (omega (arith, less, small))) (f.4 i less))
       ∙ sym (f.2 ∙ same)
 
-module _ {S : Type 0} (rules : Rules S Wanted Call Performed) (knows : List ℕ → Bool) (limits : Limits) (c now : ℕ) (t : Table S Performed) (s octets : List ℕ) (j : ℕ) (grow : HearingGrows) where
+module _ {S : Type 0} (rules : Rules S Wanted Call Performed) (knows : List ℕ → Bool) (limits : Limits) (c now : ℕ) (t : Table S Performed) (s octets : List ℕ) (j : ℕ) (grow : HearingGrows meaning_in) where
   abbrev Size : ℕ → ℕ
   Size n = length (arrivals_in limits c now s (take n octets))
 
@@ -145,7 +145,7 @@ module _ {S : Type 0} (meaning : Meaning S) (made : Made S) (server : Server S) 
   }
 
 -- Two pieces of a connection at one moment, one after the other: x and then y.
-module _ {S : Type 0} (meaning : Meaning S) (made : Made S) (past : List Event) (c moment : ℕ) (x y : List ℕ) (grow : HearingGrows) (stays : EndingsStay) (silent : EndsAreSilent) where
+module _ {S : Type 0} (meaning : Meaning S) (made : Made S) (past : List Event) (c moment : ℕ) (x y : List ℕ) (grow : HearingGrows meaning_in) (stays : EndingsStay meaning_in) (silent : EndsAreSilent meaning_in) where
   abbrev Rules-of : Rules S Wanted Call Performed
   Rules-of = rules_of meaning made.capacity made.share
 
@@ -184,7 +184,7 @@ module _ {S : Type 0} (meaning : Meaning S) (made : Made S) (past : List Event) 
       ∙ ap (λ (u : Table S Performed). rendered meaning.knows First (table_answers Rules-of t First) ++ rendered meaning.knows (take a rest) (table_answers Rules-of u rest)) (sym table)
 
 -- A piece of which the first j octets were taken as a piece, and an allocation failed in the rest.
-module _ {S : Type 0} (meaning : Meaning S) (made : Made S) (past : List Event) (c moment : ℕ) (piece : List ℕ) (j : ℕ) (grow : HearingGrows) (stays : EndingsStay) (silent : EndsAreSilent)
+module _ {S : Type 0} (meaning : Meaning S) (made : Made S) (past : List Event) (c moment : ℕ) (piece : List ℕ) (j : ℕ) (grow : HearingGrows meaning_in) (stays : EndingsStay meaning_in) (silent : EndsAreSilent meaning_in)
     (within : j ≤ length piece) (shortest : IsShortest made.limits past c moment piece j) where
   abbrev Before : List ℕ
   Before = take j piece
@@ -280,7 +280,7 @@ module _ {S : Type 0} (meaning : Meaning S) (made : Made S) (past : List Event) 
         (stands-lost meaning made past c moment Before (Front handled) grow stays silent server st)
 
 -- A piece of which the first n octets are a piece in which an allocation failed.
-module _ {S : Type 0} (meaning : Meaning S) (made : Made S) (past : List Event) (c moment : ℕ) (piece : List ℕ) (n : ℕ) (grow : HearingGrows) (within : n ≤ length piece) (written : List ℕ) (handled answered : ℕ)
+module _ {S : Type 0} (meaning : Meaning S) (made : Made S) (past : List Event) (c moment : ℕ) (piece : List ℕ) (n : ℕ) (grow : HearingGrows meaning_in) (within : n ≤ length piece) (written : List ℕ) (handled answered : ℕ)
     (cut : IsCutShort made.limits meaning.knows (table_says meaning made) past (Piece c moment (take n piece)) written handled answered) where
   going-here : (0 < length (take n piece)) × (is_going made.limits (line past c) ≡ true)
   going-here = needs-going made.limits past c moment (take n piece) cut.needs
@@ -324,7 +324,7 @@ module _ {S : Type 0} (meaning : Meaning S) (made : Made S) (past : List Event) 
   cut-within-stands server st = subst (λ (e : Event). Stands meaning made server (Lost c ∷ e ∷ past)) (sym same-short) st
 
 -- Shortest fronts, one after the other.
-module _ (limits : Limits) (past : List Event) (c moment : ℕ) (piece : List ℕ) (grow : HearingGrows) where
+module _ (limits : Limits) (past : List Event) (c moment : ℕ) (piece : List ℕ) (grow : HearingGrows meaning_in) where
   abbrev Counted : ℕ → ℕ
   Counted n = count_to limits past c moment piece n
 

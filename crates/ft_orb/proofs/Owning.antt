@@ -9,7 +9,7 @@ use Rattle.std.proofs.lemmas.List.{append-nil, append_cancel_left, length-take, 
 use Rattle.cdr_core.specs.View.{values_of}
 use Rattle.giop_frames.specs.declared.limits.Limits.{Limits}
 use Rattle.giop_link.specs.Hearing as hearing
-use Rattle.giop_link.specs.Hearing.{Question, says}
+use Rattle.giop_link.specs.Hearing.{Question, meaning_in, says}
 use Rattle.giop_link.specs.Laws.{HearingGrows}
 use Rattle.giop_link.specs.Linking.{LinkStands, Linked}
 use Rattle.ft_log.specs.Kept.{KeptOutcome}
@@ -263,7 +263,7 @@ module _ {C : Type 0} (offers : C → Offer) (owner : Owner) where
   finishes-more w outcome mid new Unanswered out grown written d = ([], d.1 ∙ sym (append-nil out), (d.0, append-nil written, d.2))
   finishes-more w outcome mid new Unhandled out grown written d = absurd d
 
-  module _ (grow : HearingGrows) (calls : List Call) (old new : Engine C) (past : List Event) (moment : ℕ) (octets written : List ℕ) (p : Pending) (a : Keeps offers owner calls old past moment octets written p) (outcome : Performed)
+  module _ (grow : HearingGrows meaning_in) (calls : List Call) (old new : Engine C) (past : List Event) (moment : ℕ) (octets written : List ℕ) (p : Pending) (a : Keeps offers owner calls old past moment octets written p) (outcome : Performed)
       (gave : owner.answers calls (call_of p.waiting) ≡ outcome) (step : Step) (out grown : List ℕ) (r : Result ℕ Cut)
       (done : Finishes p.waiting outcome (logged old.keeper.log).entries step (logged new.keeper.log).entries out grown) (by : r ≡ counted_by p.place.handled step)
       (are : new.catalogue ≡ old.catalogue) (idle : waits_in new ≡ None) (same : IsSameBut p.connection (as_server old calls) (as_server new (calls ++ call_of p.waiting ∷ []))) (clock : new.keeper.clock ≡ old.keeper.clock) where
@@ -336,7 +336,7 @@ module _ {C : Type 0} (offers : C → Offer) (owner : Owner) where
       let one = kept-is calls old past moment octets written x w is a in
       (subst (λ (y : Pending). Keeps offers owner calls old past moment octets written y) one a.keeps, ap awaited_of (sym one) ∙ a.is)
 
-  pub answered-done : HearingGrows → (calls : List Call) (old new : Engine C) (past : List Event) (moment : ℕ) (octets written : List ℕ) (x : Pending) (w : Awaited) → old.pending ≡ Some x → Asks offers owner calls old past moment octets written w
+  pub answered-done : HearingGrows meaning_in → (calls : List Call) (old new : Engine C) (past : List Event) (moment : ℕ) (octets written : List ℕ) (x : Pending) (w : Awaited) → old.pending ≡ Some x → Asks offers owner calls old past moment octets written w
       → (outcome : Performed) → owner.answers calls w.call ≡ outcome → (step : Step) (out grown : List ℕ) (r : Result ℕ Cut)
       → Finishes x.waiting outcome (logged old.keeper.log).entries step (logged new.keeper.log).entries out grown → r ≡ counted_by x.place.handled step
       → new.catalogue ≡ old.catalogue → waits_in new ≡ None → IsSameBut x.connection (as_server old calls) (as_server new (calls ++ call_of x.waiting ∷ [])) → new.keeper.clock ≡ old.keeper.clock
@@ -347,7 +347,7 @@ module _ {C : Type 0} (offers : C → Offer) (owner : Owner) where
       subst (λ (v : Awaited). Resumes offers owner (calls ++ v.call ∷ []) past v.connection moment octets written Done new out grown) k.1
       (resumes-done grow calls old new past moment octets written x k.0 outcome gives step out grown r done by are idle same clock h ok (ap (λ e. get nat_cmp e x.connection) held ∙ k.0.held))
 
-  pub answered-cut : HearingGrows → (calls : List Call) (old new : Engine C) (past : List Event) (moment : ℕ) (octets written : List ℕ) (x : Pending) (w : Awaited) → old.pending ≡ Some x → Asks offers owner calls old past moment octets written w
+  pub answered-cut : HearingGrows meaning_in → (calls : List Call) (old new : Engine C) (past : List Event) (moment : ℕ) (octets written : List ℕ) (x : Pending) (w : Awaited) → old.pending ≡ Some x → Asks offers owner calls old past moment octets written w
       → (outcome : Performed) → owner.answers calls w.call ≡ outcome → (step : Step) (out grown : List ℕ) (r : Result ℕ Cut)
       → Finishes x.waiting outcome (logged old.keeper.log).entries step (logged new.keeper.log).entries out grown → r ≡ counted_by x.place.handled step
       → new.catalogue ≡ old.catalogue → waits_in new ≡ None → IsSameBut x.connection (as_server old calls) (as_server new (calls ++ call_of x.waiting ∷ [])) → new.keeper.clock ≡ old.keeper.clock
@@ -440,7 +440,7 @@ module _ {C : Type 0} (offers : C → Offer) (owner : Owner) where
       subst (λ (v : Awaited). IsFor owner.limits (get nat_cmp engine.links d) (line (Piece v.connection moment octets ∷ past) d)) a.is (keeps-lines calls engine past moment octets written a.pending a.keeps d)
 
   -- what waited is given up: it counts as not handled, and the connection is lost
-  give-up-cut : HearingGrows → (calls : List Call) (old new : Engine C) (past : List Event) (moment : ℕ) (octets written : List ℕ) (x : Pending) (b : Keeps offers owner calls old past moment octets written x)
+  give-up-cut : HearingGrows meaning_in → (calls : List Call) (old new : Engine C) (past : List Event) (moment : ℕ) (octets written : List ℕ) (x : Pending) (b : Keeps offers owner calls old past moment octets written x)
       → IsSameBut x.connection b.server (as_server new calls) → new.keeper ≡ old.keeper → get nat_cmp new.links x.connection ≡ None
       → (w : List ℕ) × (written ≡ [] ++ w) × Writes owner.limits owner.offer.knows (table_says (meaning_of owner) (made_of owner)) past (Piece x.connection moment octets) w (Memory x.place.handled x.place.handled)
       × Stands (meaning_of owner) (made_of owner) (as_server new calls) (after owner.limits past (Piece x.connection moment octets) (Memory x.place.handled x.place.handled))
@@ -469,7 +469,7 @@ module _ {C : Type 0} (offers : C → Offer) (owner : Owner) where
     rests = record { offer_is = are; idle = idle; stands = r.3 };
   }
 
-  give-up-here : HearingGrows → (calls : List Call) (old new : Engine C) (past : List Event) (moment : ℕ) (octets written : List ℕ) (x : Pending) → Keeps offers owner calls old past moment octets written x
+  give-up-here : HearingGrows meaning_in → (calls : List Call) (old new : Engine C) (past : List Event) (moment : ℕ) (octets written : List ℕ) (x : Pending) → Keeps offers owner calls old past moment octets written x
       → new.catalogue ≡ old.catalogue → waits_in new ≡ None → IsSameBut x.connection (as_server old calls) (as_server new calls) → new.keeper ≡ old.keeper → get nat_cmp new.links x.connection ≡ None
       → Resumes offers owner calls past x.connection moment octets written (Memory x.place.handled x.place.handled) new [] []
   give-up-here grow calls old new past moment octets written x b are idle same kept gone =
@@ -478,7 +478,7 @@ module _ {C : Type 0} (offers : C → Offer) (owner : Owner) where
       (record { limits = same.limits ∙ b.same.limits; capacity = same.capacity ∙ b.same.capacity; share = same.share ∙ b.same.share; greatest = same.greatest ∙ b.same.greatest; others = λ q n. same.others q n ∙ b.same.others q n })
       kept gone)
 
-  pub given-up : HearingGrows → (calls : List Call) (old new : Engine C) (past : List Event) (moment : ℕ) (octets written : List ℕ) (x : Pending) (w : Awaited) → old.pending ≡ Some x → Asks offers owner calls old past moment octets written w
+  pub given-up : HearingGrows meaning_in → (calls : List Call) (old new : Engine C) (past : List Event) (moment : ℕ) (octets written : List ℕ) (x : Pending) (w : Awaited) → old.pending ≡ Some x → Asks offers owner calls old past moment octets written w
       → new.catalogue ≡ old.catalogue → waits_in new ≡ None → IsSameBut x.connection (as_server old calls) (as_server new calls) → new.keeper ≡ old.keeper → get nat_cmp new.links x.connection ≡ None
       → Resumes offers owner calls past w.connection moment octets written (Memory x.place.handled x.place.handled) new [] []
   given-up grow calls old new past moment octets written x w is a are idle same kept gone =

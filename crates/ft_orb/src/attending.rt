@@ -84,7 +84,7 @@ fn attend_part<C: Catalogue + Drop, O: Performer>(
         → is_gone (line past connection) ≡ false → Agrees o.answers calls (handed_in log) → AreHandedIn o.offer log
         × TakesPart C.offers o (calls_with calls log) past connection moment piece.now result engine.new out.old.items out.new.items) }
 {
-    giop_link::laws::streams_are_heard();
+    giop_link::laws::streams_are_heard::<giop_link::Server>();
     match engine.feed(connection, moment, piece, out) {
         Ok(Fed::Whole) => Ok(piece.len()),
         Ok(Fed::Asks(taken)) => {
@@ -113,7 +113,7 @@ fn attend_piece<C: Catalogue + Drop, O: Performer>(
         → is_going o.limits (line past connection) ≡ true → Agrees o.answers calls (handed_in log) → AreHandedIn o.offer log × (note : Note) × IsEnded result note
         × Ends C.offers o (calls_with calls log) past (history.Piece connection moment piece.now) note engine.new out.old.items out.new.items) }
 {
-    giop_link::laws::streams_are_heard();
+    giop_link::laws::streams_are_heard::<giop_link::Server>();
     let mut taken = 0;
     while taken < piece.len() {
         let (_, left) = piece.split_at(taken);

@@ -2,7 +2,8 @@
 use Rattle.std.proofs.Common.{◌≡◌, ℕ, ◌<◌, ◌≤◌, List, [], ◌∷◌, ◌++◌, length, take, drop, Option, Some, None, Result, Ok, Err, IfErr, IsErrAnd, IsOk, IsSomeAnd, refl, sym, ap, subst, ◌∙◌, arith, length-append}
 use Rattle.std.proofs.lemmas.List.{append-nil, append_assoc, append_cancel_left, length-take-le, take-append-drop, take-append-le}
 use Rattle.giop_core.specs.declared.header.Header.{Header}
-use Rattle.giop_core.specs.declared.header.MessageKind.{MessageKind}
+use Rattle.giop_core.specs.declared.header.Version.{Version}
+use Rattle.giop_core.specs.Content.{Content}
 use Rattle.giop_frames.specs.declared.fault.StreamFault.{StreamFault}
 use Rattle.giop_frames.specs.declared.fault.StreamFault.TheVariants as fault
 use Rattle.giop_frames.specs.declared.limits.Limits.{Limits}
@@ -10,15 +11,17 @@ use Rattle.giop_frames.specs.Completing.{AreRising}
 use Rattle.giop_frames.specs.Fragments.{content_of}
 use Rattle.giop_frames.specs.Frames.{Frame}
 use Rattle.giop_frames.specs.Laws.{FaultsEnd, FaultsStay, MessagesGrow, PlacesRise}
-use Rattle.giop_frames.specs.Standing.{OnFault, Standing, StandsFor, completed_at}
+use Rattle.giop_frames.specs.Standing.{IsFault, OnFault, Standing, StandsFor, completed_at}
 use Rattle.giop_frames.specs.Streams.{Completed, Faults, fault_of, messages_of}
-use Rattle.giop_link.specs.declared.fault.LinkFault.{LinkFault}
-use Rattle.giop_link.specs.declared.fault.LinkFault.TheVariants.{WrongDirection}
-use Rattle.giop_link.specs.declared.link.PeerEnd.{PeerEnd}
-use Rattle.giop_link.specs.declared.link.PeerEnd.TheVariants as peer
-use Rattle.giop_link.specs.Hearing.{Course, Ending, Sound, before, course_by, course_from, ends, faulty, peer_closed, peer_error, says, wrong_direction}
-use Rattle.giop_link.specs.Linking.{ending_in, heard_in}
-use Rattle.giop_link.specs.Private.{spoken, told_with, turned}
+use Rattle.giop_link.specs.declared.error.LinkFault.{LinkFault}
+use Rattle.giop_link.specs.declared.error.LinkFault.TheVariants.{Stream, WrongDirection}
+use Rattle.giop_link.specs.declared.listener.PeerEnd.{PeerEnd}
+use Rattle.giop_link.specs.declared.listener.PeerEnd.TheVariants as peer
+use Rattle.giop_link.specs.Hearing.{Course, Ending, Sound, before, course_by, course_from, ending_as, ends, faulty, heard_as, peer_closed, peer_error, says, sound_of, wrong_direction}
+use Rattle.giop_link.specs.Laws.{CompletedIsHeard}
+use Rattle.giop_link.specs.Listening.{Brings, EndsTo, IsFaultTo, IsQuietTo, IsTurn, ending_in, heard_in, spoken, spoken_by, told_with, turned}
+use Rattle.giop_link.specs.Private.{IsHeard}
+use Rattle.giop_link.proofs.Turns.{reads-as}
 use Rattle.giop_link.proofs.Courses.{after, course-faultless, course-next, course-stays}
 
 -- an error that is known
@@ -113,109 +116,128 @@ module _ {H : Type 0} where
 abbrev pub IsHeader : Option Frame → Header → Type 0
 IsHeader m h = IsSomeAnd m (λ f. (f.header ≡ h) × IsOk (content_of f.header f.octets))
 
-module _ {H : Type 0} (sound : Frame → Sound H) where
-  -- octets t after the stream s bring what is told
-  pub record Brings (limits : Limits) (s t : List ℕ) (told : Option (Sound H)) : Type 0 where
-    pub heard_is : (course_by sound limits (s ++ t)).heard ≡ (course_by sound limits s).heard ++ heard_in told
-    pub ending_is : (course_by sound limits (s ++ t)).ending ≡ ending_in None told
-
+module _ {H : Type 0} (meaning : Version → Content → Sound H) where
   -- octets t after a stream s that goes on bring no fault, and this message, if it is one
   pub record Comes (limits : Limits) (s t : List ℕ) (m : Option Frame) : Type 0 where
-    pub going : (course_by sound limits s).ending ≡ None
+    pub going : ending_as meaning limits s ≡ None
     pub messages : messages_of limits (s ++ t) ≡ messages_of limits s ++ completed_at (length (s ++ t)) m
     pub faultless : fault_of limits (s ++ t) ≡ None
 
-  -- a stream that had not ended ends so with the piece, and no message is heard in it
-  pub record Ends (limits : Limits) (s piece : List ℕ) (e : Ending) : Type 0 where
-    pub by : (course_by sound limits (s ++ piece)).ending ≡ Some e
-    pub same : (course_by sound limits (s ++ piece)).heard ≡ (course_by sound limits s).heard
-
   -- what a call of the assembler ensures
-  pub comes-by : (limits : Limits) (s t : List ℕ) (b : Standing) → (course_by sound limits s).ending ≡ None → messages_of limits (s ++ t) ≡ messages_of limits s ++ completed_at (length (s ++ t)) b.message → StandsFor b (s ++ t) → b.limits ≡ limits
+  pub comes-to : (limits : Limits) (s t : List ℕ) (b : Standing) → ending_as meaning limits s ≡ None → messages_of limits (s ++ t) ≡ messages_of limits s ++ completed_at (length (s ++ t)) b.message → StandsFor b (s ++ t) → b.limits ≡ limits
       → Comes limits s t b.message
-  comes-by limits s t b going messages stands same = record {
+  comes-to limits s t b going messages stands same = record {
     going = going;
     messages = messages;
     faultless = ap (λ (l : Limits). fault_of l (s ++ t)) (sym same) ∙ stands.stands.faultless;
   }
 
   -- the course of both
-  course-comes : (limits : Limits) (s t : List ℕ) (m : Option Frame) → Comes limits s t m → course_by sound limits (s ++ t) ≡ after (course_by sound limits s) (course_from sound None (completed_at (length (s ++ t)) m))
+  course-comes : (limits : Limits) (s t : List ℕ) (m : Option Frame) → Comes limits s t m → course_by (sound_of meaning) limits (s ++ t) ≡ after (course_by (sound_of meaning) limits s) (course_from (sound_of meaning) None (completed_at (length (s ++ t)) m))
+  unfolding ending_as
   course-comes limits s t m k =
-      course-next sound limits s t (completed_at (length (s ++ t)) m) k.messages k.going
-      ∙ ap (λ (last : Option StreamFault). after (course_by sound limits s) (course_from sound last (completed_at (length (s ++ t)) m))) k.faultless
+      course-next (sound_of meaning) limits s t (completed_at (length (s ++ t)) m) k.messages k.going
+      ∙ ap (λ (last : Option StreamFault). after (course_by (sound_of meaning) limits s) (course_from (sound_of meaning) last (completed_at (length (s ++ t)) m))) k.faultless
 
   -- by the course
-  brings-course : (limits : Limits) (s t : List ℕ) (told : Option (Sound H)) (later : Course H) → course_by sound limits (s ++ t) ≡ after (course_by sound limits s) later → later.heard ≡ heard_in told → later.ending ≡ ending_in None told
-      → Brings limits s t told
-  brings-course limits s t told later is h e = record {
-    heard_is = ap (λ (a : Course H). a.heard) is ∙ ap (λ (xs : List H). (course_by sound limits s).heard ++ xs) h;
-    ending_is = ap (λ (a : Course H). a.ending) is ∙ e;
+  brings-course : (limits : Limits) (s t : List ℕ) (told : Option (Sound H)) (later : Course H) → ending_as meaning limits s ≡ None → course_by (sound_of meaning) limits (s ++ t) ≡ after (course_by (sound_of meaning) limits s) later → later.heard ≡ heard_in told
+      → later.ending ≡ ending_in None told → Brings meaning limits s t told
+  unfolding heard_as ending_as
+  brings-course limits s t told later going is h e = record {
+    heard_is = ap (λ (a : Course H). a.heard) is ∙ ap (λ (xs : List H). (course_by (sound_of meaning) limits s).heard ++ xs) h;
+    ending_is = ap (λ (a : Course H). a.ending) is ∙ e ∙ ap (λ (end : Option Ending). ending_in end told) (sym going);
   }
 
   -- no message
-  pub brings-none : (limits : Limits) (s t : List ℕ) → Comes limits s t None → Brings limits s t None
-  brings-none limits s t k = brings-course limits s t None (record { heard = []; ending = None }) (course-comes limits s t None k) refl refl
+  brings-none : (limits : Limits) (s t : List ℕ) → Comes limits s t None → Brings meaning limits s t None
+  brings-none limits s t k = brings-course limits s t None (record { heard = []; ending = None }) k.going (course-comes limits s t None k) refl refl
 
   -- one message more
-  pub brings-message : (limits : Limits) (s t : List ℕ) (f : Frame) → Comes limits s t (Some f) → Brings limits s t (Some (sound f))
+  brings-message : (limits : Limits) (s t : List ℕ) (f : Frame) → Comes limits s t (Some f) → Brings meaning limits s t (Some (sound_of meaning f))
   brings-message limits s t f k =
-      brings-course limits s t (Some (sound f)) (before (sound f) (record { heard = []; ending = None })) (course-comes limits s t (Some f) k) (alone-heard (sound f)) (alone-ending (sound f))
+      brings-course limits s t (Some (sound_of meaning f)) (before (sound_of meaning f) (record { heard = []; ending = None })) k.going (course-comes limits s t (Some f) k) (alone-heard (sound_of meaning f)) (alone-ending (sound_of meaning f))
+
+  -- a message that completes alone
+  pub completed-heard : CompletedIsHeard meaning
+  completed-heard limits s c m going k = brings-message limits s c m (record { going = going; messages = k.messages; faultless = k.faultless })
 
   -- octets of a piece with which the stream ends
-  pub ends-by : MessagesGrow → FaultsStay → FaultsEnd → (limits : Limits) (s t rest piece : List ℕ) (e : Ending) → t ++ rest ≡ piece → Ends limits s t e → Ends limits s piece e
+  ends-by : MessagesGrow → FaultsStay → FaultsEnd → (limits : Limits) (s t rest piece : List ℕ) (e : Ending) → t ++ rest ≡ piece → EndsTo meaning limits s t e → EndsTo meaning limits s piece e
+  unfolding heard_as ending_as
   ends-by grow stay end limits s t rest piece e parts k =
       let whole : (s ++ t) ++ rest ≡ s ++ piece = append_assoc s t rest ∙ ap (λ (xs : List ℕ). s ++ xs) parts in
-      let same : course_by sound limits (s ++ piece) ≡ course_by sound limits (s ++ t) = ap (course_by sound limits) (sym whole) ∙ course-stays sound grow stay end limits (s ++ t) rest e k.by in
-      record { by = ap (λ (a : Course H). a.ending) same ∙ k.by; same = ap (λ (a : Course H). a.heard) same ∙ k.same }
+      let same : course_by (sound_of meaning) limits (s ++ piece) ≡ course_by (sound_of meaning) limits (s ++ t) = ap (course_by (sound_of meaning) limits) (sym whole) ∙ course-stays (sound_of meaning) grow stay end limits (s ++ t) rest e k.by in
+      record { going = k.going; by = ap (λ (a : Course H). a.ending) same ∙ k.by; same = ap (λ (a : Course H). a.heard) same ∙ k.same }
 
   -- a fault of the stream
-  pub faults-end : (limits : Limits) (s piece : List ℕ) (e : StreamFault) → (course_by sound limits s).ending ≡ None → Faults limits s piece e → Ends limits s piece (faulty e)
+  faults-end : (limits : Limits) (s piece : List ℕ) (e : StreamFault) → ending_as meaning limits s ≡ None → Faults limits s piece e → EndsTo meaning limits s piece (faulty e)
+  unfolding heard_as ending_as
   faults-end limits s piece e going k =
-      let next = course-next sound limits s piece [] (k.same ∙ sym (append-nil (messages_of limits s))) going in
-      let is : course_by sound limits (s ++ piece) ≡ after (course_by sound limits s) (course_from sound (Some e) []) = next ∙ ap (λ (last : Option StreamFault). after (course_by sound limits s) (course_from sound last [])) k.is in
-      record { by = ap (λ (a : Course H). a.ending) is; same = ap (λ (a : Course H). a.heard) is ∙ append-nil (course_by sound limits s).heard }
+      let next = course-next (sound_of meaning) limits s piece [] (k.same ∙ sym (append-nil (messages_of limits s))) going in
+      let is : course_by (sound_of meaning) limits (s ++ piece) ≡ after (course_by (sound_of meaning) limits s) (course_from (sound_of meaning) (Some e) []) = next ∙ ap (λ (last : Option StreamFault). after (course_by (sound_of meaning) limits s) (course_from (sound_of meaning) last [])) k.is in
+      record { going = going; by = ap (λ (a : Course H). a.ending) is; same = ap (λ (a : Course H). a.heard) is ∙ append-nil (course_by (sound_of meaning) limits s).heard }
+
+  pub fault-of : (limits : Limits) (s piece : List ℕ) (e : StreamFault) → ending_as meaning limits s ≡ None → IsFault limits s piece e → IsFaultTo meaning limits s piece (Stream e)
+  fault-of limits s piece e going k = on-fault e (Faults limits s piece e) (EndsTo meaning limits s piece (faulty e)) (faults-end limits s piece e going) k
 
   -- before the last octet that is taken nothing comes
-  front-same : MessagesGrow → FaultsStay → PlacesRise → (limits : Limits) (s u r t : List ℕ) (m : Option Frame) → u ++ r ≡ t → 0 < length r → Comes limits s t m → course_by sound limits (s ++ u) ≡ course_by sound limits s
+  front-same : MessagesGrow → FaultsStay → PlacesRise → (limits : Limits) (s u r t : List ℕ) (m : Option Frame) → u ++ r ≡ t → 0 < length r → Comes limits s t m → course_by (sound_of meaning) limits (s ++ u) ≡ course_by (sound_of meaning) limits s
+  unfolding ending_as
   front-same grow stay rise limits s u r t m parts some k =
       let whole : (s ++ u) ++ r ≡ s ++ t = append_assoc s u r ∙ ap (λ (xs : List ℕ). s ++ xs) parts in
       let faultless : fault_of limits (s ++ u) ≡ None = front-faultless stay limits (s ++ u) r (ap (fault_of limits) whole ∙ k.faultless) in
-      let before : fault_of limits s ≡ None = course-faultless sound (fault_of limits s) (messages_of limits s) k.going in
+      let before : fault_of limits s ≡ None = course-faultless (sound_of meaning) (fault_of limits s) (messages_of limits s) k.going in
       let silent = front-silent grow rise limits s u r m some (ap (messages_of limits) whole ∙ k.messages ∙ ap (λ (xs : List ℕ). messages_of limits s ++ completed_at (length xs) m) (sym whole)) in
-      ap (λ (last : Option StreamFault). course_from sound last (messages_of limits (s ++ u))) (faultless ∙ sym before) ∙ ap (course_from sound (fault_of limits s)) silent
+      ap (λ (last : Option StreamFault). course_from (sound_of meaning) last (messages_of limits (s ++ u))) (faultless ∙ sym before) ∙ ap (course_from (sound_of meaning) (fault_of limits s)) silent
 
-  pub fewer-same : MessagesGrow → FaultsStay → PlacesRise → (limits : Limits) (s piece : List ℕ) (n k : ℕ) (m : Option Frame) → n ≤ length piece → k < n → Comes limits s (take n piece) m
-      → course_by sound limits (s ++ take k piece) ≡ course_by sound limits s
-  fewer-same grow stay rise limits s piece n k m within less comes =
+  pub fewer-quiet : MessagesGrow → FaultsStay → PlacesRise → (limits : Limits) (s piece : List ℕ) (n k : ℕ) (m : Option Frame) → n ≤ length piece → k < n → Comes limits s (take n piece) m → IsQuietTo meaning limits s (take k piece)
+  unfolding heard_as ending_as
+  fewer-quiet grow stay rise limits s piece n k m within less comes =
       let t = take n piece in
       let long : length t ≡ n = length-take-le n piece within in
       let same : take k piece ≡ take k t = ap (take k) (sym (take-append-drop n piece)) ∙ take-append-le k t (drop n piece) (omega arith) in
       let parts = take-append-drop k t in
       let front : length (take k t) ≡ k = length-take-le k t (omega arith) in
       let some : 0 < length (drop k t) = omega (arith, length-append (take k t) (drop k t), ap length parts) in
-      subst (λ (xs : List ℕ). course_by sound limits (s ++ xs) ≡ course_by sound limits s) (sym same) (front-same grow stay rise limits s (take k t) (drop k t) t m parts some comes)
+      let is = ap (λ (xs : List ℕ). course_by (sound_of meaning) limits (s ++ xs)) same ∙ front-same grow stay rise limits s (take k t) (drop k t) t m parts some comes in
+      record { heard_is = ap (λ (a : Course H). a.heard) is; ending_is = ap (λ (a : Course H). a.ending) is }
 
--- messages by their kinds: what is done with each, and that an error of it is a wrong direction
-module _ {H : Type 0} (sound : Frame → Sound H) (turn : MessageKind → Result (Option PeerEnd) LinkFault)
-    (turn-of : (f : Frame) → IsOk (content_of f.header f.octets) → turned (sound f) ≡ turn f.header.kind)
-    (strays : (k : MessageKind) (e : LinkFault) → turn k ≡ Err e → e ≡ WrongDirection) where
-  turn-header : (f : Frame) (h : Header) (r : Result (Option PeerEnd) LinkFault) → f.header ≡ h → IsOk (content_of f.header f.octets) → turn h.kind ≡ r → turned (sound f) ≡ r
-  turn-header f h r is ok by = turn-of f ok ∙ ap (λ (x : Header). turn x.kind) is ∙ by
+  -- no message
+  pub hears-none : (limits : Limits) (s t : List ℕ) (m : Option Frame) (a : Standing) → m ≡ None → Comes limits s t m → StandsFor a (s ++ t) → IsHeard meaning limits s t (spoken_by meaning m) a
+  hears-none limits s t None a is k st = record { brings = brings-none limits s t k; stands = st }
+  hears-none limits s t (Some f) a is k st = absurd cc
 
-  -- a message that is heard, or the peer's end
-  pub told-some : (f : Frame) (h : Header) (end : Option PeerEnd) → IsHeader (Some f) h → turn h.kind ≡ Ok end → told_with end (spoken (sound f)) ≡ Some (sound f)
-  told-some f h end is by = turn-told (sound f) end (turn-header f h (Ok end) is.0 is.1 by)
+  -- a message by its kind
+  turn-header : (f : Frame) (h : Header) (r d : Result (Option PeerEnd) LinkFault) → IsHeader (Some f) h → IsTurn meaning h.kind r → r ≡ d → turned (sound_of meaning f) ≡ d
+  turn-header f h r d is by was =
+      let x = reads-as meaning f is.1 in
+      ap turned x.1 ∙ by f.header.version x.0 (x.2 ∙ ap (λ (g : Header). g.kind) is.0) ∙ was
 
-  pub brings-some : (limits : Limits) (s t : List ℕ) (f : Frame) (h : Header) (end : Option PeerEnd) → Comes sound limits s t (Some f) → IsHeader (Some f) h → turn h.kind ≡ Ok end
-      → Brings sound limits s t (told_with end (spoken (sound f)))
-  brings-some limits s t f h end k is by = subst (Brings sound limits s t) (sym (told-some f h end is by)) (brings-message sound limits s t f k)
+  -- one that is heard, or the peer's end
+  pub hears-some : (limits : Limits) (s t : List ℕ) (m : Option Frame) (h : Header) (r : Result (Option PeerEnd) LinkFault) (end : Option PeerEnd) (a : Standing) → Comes limits s t m → IsHeader m h → IsTurn meaning h.kind r → r ≡ Ok end
+      → StandsFor a (s ++ t) → IsHeard meaning limits s t (told_with end (spoken_by meaning m)) a
+  hears-some limits s t None h r end a k is by was st = absurd is
+  hears-some limits s t (Some f) h r end a k is by was st = record {
+    brings = subst (Brings meaning limits s t) (sym (turn-told (sound_of meaning f) end (turn-header f h r (Ok end) is by was))) (brings-message limits s t f k);
+    stands = st;
+  }
+
+  -- something is told of it
+  pub told-header : (m : Option Frame) (h : Header) (r : Result (Option PeerEnd) LinkFault) (end : Option PeerEnd) → IsHeader m h → IsTurn meaning h.kind r → r ≡ Ok end → told_with end (spoken_by meaning m) ≡ None → ⊥
+  told-header None h r end is by was none = is
+  told-header (Some f) h r end is by was none = let k : Some (sound_of meaning f) ≡ None = sym (turn-told (sound_of meaning f) end (turn-header f h r (Ok end) is by was)) ∙ none in cc
 
   -- a message of the wrong direction
-  pub strays-by : MessagesGrow → FaultsStay → FaultsEnd → (limits : Limits) (s piece : List ℕ) (n : ℕ) (f : Frame) (h : Header) (e : LinkFault) → Comes sound limits s (take n piece) (Some f) → IsHeader (Some f) h → turn h.kind ≡ Err e
-      → (e ≡ WrongDirection) × Ends sound limits s piece wrong_direction
-  strays-by grow stay end limits s piece n f h e k is by =
-      let wrong = strays h.kind e by in
-      let stray = turn-strays (sound f) (turn-header f h (Err WrongDirection) is.0 is.1 (by ∙ ap (λ (d : LinkFault). Err d) wrong)) in
-      let b : Brings sound limits s (take n piece) (Some (ends wrong_direction)) = subst (λ (μ : Sound H). Brings sound limits s (take n piece) (Some μ)) stray (brings-message sound limits s (take n piece) f k) in
-      (wrong, ends-by sound grow stay end limits s (take n piece) (drop n piece) piece wrong_direction (take-append-drop n piece) (record { by = b.ending_is; same = b.heard_is ∙ append-nil (course_by sound limits s).heard }))
+  pub strays-to : MessagesGrow → FaultsStay → FaultsEnd → (limits : Limits) (s piece : List ℕ) (n : ℕ) (m : Option Frame) (h : Header) (r : Result (Option PeerEnd) LinkFault) (e : LinkFault) → Comes limits s (take n piece) m → IsHeader m h
+      → IsTurn meaning h.kind r → r ≡ Err e → e ≡ WrongDirection → IsFaultTo meaning limits s piece e
+  strays-to grow stay end limits s piece n None h r e k is by was wrong = absurd is
+  strays-to grow stay end limits s piece n (Some f) h r e k is by was wrong =
+      let t = take n piece in
+      let stray = turn-strays (sound_of meaning f) (turn-header f h r (Err WrongDirection) is by (was ∙ ap (λ (d : LinkFault). Err d) wrong)) in
+      let b : Brings meaning limits s t (Some (ends wrong_direction)) = subst (λ (μ : Sound H). Brings meaning limits s t (Some μ)) stray (brings-message limits s t f k) in
+      let by_then : EndsTo meaning limits s t wrong_direction = record {
+        going = k.going;
+        by = b.ending_is ∙ ap (λ (o : Option Ending). ending_in {Heard = H} o (Some (ends wrong_direction))) k.going;
+        same = b.heard_is ∙ append-nil (heard_as meaning limits s);
+      } in
+      subst (IsFaultTo meaning limits s piece) (sym wrong) (ends-by grow stay end limits s t (drop n piece) piece wrong_direction (take-append-drop n piece) by_then)

@@ -6,25 +6,26 @@ use Rattle.giop_core.specs.declared.message.Message.{Message}
 use Rattle.giop_core.specs.Lent as lent
 use Rattle.giop_frames.specs.Frames.{Frame}
 use Rattle.giop_frames.specs.Standing.{IsLent}
-use Rattle.giop_link.specs.declared.outstanding.Outstanding.{Outstanding}
-use Rattle.giop_link.specs.declared.outstanding.Wanted.TheVariants as wanted
-use Rattle.giop_link.specs.Answering.{Answer, answer_in, answer_of, answer_read, located, replied}
-use Rattle.giop_link.specs.Hearing.{Sound, ends, meaning_in, meaning_of, meaning_read, says}
+use Rattle.giop_link.specs.declared.awaited.Outstanding.{Outstanding}
+use Rattle.giop_link.specs.declared.awaited.Wanted.TheVariants as wanted
+use Rattle.giop_link.specs.Answering.{Answer, answer_in, answer_to, located, replied}
+use Rattle.giop_link.specs.Hearing.{Sound, ends, meaning_in, says, sound_of, sound_read}
 use Rattle.giop_link.specs.Ids.{is_of, without}
-use Rattle.giop_link.specs.Private.{answered_by, answered_one, settled_left, settles, spoken, spoken_by}
+use Rattle.giop_link.specs.Listening.{spoken, spoken_by}
+use Rattle.giop_link.specs.Private.{answered_one, settled_left, settles}
 
 -- a lent message is what its octets say
-pub lent-spoken : (m : Option Frame) (x : Message) → IsSomeAnd m (λ f. IsLent x f) → spoken (meaning_in x.version (lent.content_of x.content)) ≡ spoken_by m
-unfolding meaning_of
+pub lent-spoken : (m : Option Frame) (x : Message) → IsSomeAnd m (λ f. IsLent x f) → spoken (meaning_in x.version (lent.content_of x.content)) ≡ spoken_by meaning_in m
+unfolding sound_of
 lent-spoken None x is = absurd is
 lent-spoken (Some f) x is =
-    ap (λ (v : Version). spoken (meaning_in v (lent.content_of x.content))) is.version ∙ ap (λ r. spoken (meaning_read f.header.version r)) (sym is.content)
+    ap (λ (v : Version). spoken (meaning_in v (lent.content_of x.content))) is.version ∙ ap (λ r. spoken (sound_read meaning_in f.header.version r)) (sym is.content)
 
 -- so is a lent answer
-pub lent-answer : (m : Option Frame) (x : Message) → IsSomeAnd m (λ f. IsLent x f) → answered_by m ≡ spoken (answer_in (lent.content_of x.content))
-unfolding answer_of
+pub lent-answer : (m : Option Frame) (x : Message) → IsSomeAnd m (λ f. IsLent x f) → spoken_by answer_to m ≡ spoken (answer_in (lent.content_of x.content))
+unfolding sound_of
 lent-answer None x is = absurd is
-lent-answer (Some f) x is = ap (λ r. spoken (answer_read r)) is.content
+lent-answer (Some f) x is = ap (λ r. spoken (sound_read answer_to f.header.version r)) is.content
 
 -- and the id that it answers is looked for
 pub settles-by : (μ : Sound Answer) (o : Outstanding) (os : List Outstanding) → answered_one μ ≡ Some o

@@ -18,10 +18,10 @@ use Rattle.giop_frames.specs.declared.limits.Limits.{Limits}
 use Rattle.giop_frames.specs.Frames.{sight, split}
 use Rattle.giop_frames.specs.Fragments.{judged_as, judged_by}
 use Rattle.giop_frames.specs.Streams.{fault_of, messages_of}
-use Rattle.giop_link.specs.Answering.{Answer, answer_of, client_ending, client_heard, replied}
-use Rattle.giop_link.specs.Hearing.{Incoming, asks, cancels, faulty, heard, meaning_in, meaning_of, peer_closed, wrong_direction}
+use Rattle.giop_link.specs.Answering.{Answer, answer_to, client_ending, client_heard, replied}
+use Rattle.giop_link.specs.Hearing.{Incoming, asks, cancels, ending_as, faulty, heard, heard_as, meaning_in, peer_closed, sound_of, wrong_direction}
 use Rattle.giop_link.specs.Linking.{close_connection}
-use Rattle.giop_link.specs.Outgoing.{Outgoing, answer_to, course_to, meant, octets_of, octets_of_each}
+use Rattle.giop_link.specs.Outgoing.{Outgoing, course_to, meant, octets_of, octets_of_each}
 
 limits : Limits
 limits = record { message = 4096; partials = 1; message_in_range = (lit≤ tt, lit≤ tt); partials_in_range = (lit≤ tt, lit≤ tt) }
@@ -88,7 +88,7 @@ unfolding asking withdrawing closing the_request nothing
 all_that_is_said = refl
 
 heard_in_octets : heard limits (octets_of_each (withdrawing ∷ closing ∷ withdrawing ∷ [])) ≡ cancels 5 ∷ []
-unfolding limits withdrawing closing behind_header heard messages_of fault_of split sight header_of judged_by judged_as message_of row value_at whole_at number_at part_at meaning_of content.content
+unfolding limits withdrawing closing behind_header heard_as messages_of fault_of split sight header_of judged_by judged_as message_of row value_at whole_at number_at part_at sound_of content.content
 heard_in_octets = refl
 
 -- to a client
@@ -105,13 +105,13 @@ unfolding limits replying withdrawing the_reply behind_header nothing
 no_answer = refl
 
 heard_by_the_client : client_heard limits (octets_of_each (replying ∷ closing ∷ replying ∷ [])) ≡ the_reply ∷ []
-unfolding limits replying closing the_reply nothing behind_header client_heard messages_of fault_of split sight header_of judged_by judged_as message_of row value_at whole_at number_at part_at octets_at length_at each_at ordinal_at answer_of content.content
+unfolding limits replying closing the_reply nothing behind_header heard_as messages_of fault_of split sight header_of judged_by judged_as message_of row value_at whole_at number_at part_at octets_at length_at each_at ordinal_at sound_of content.content
 heard_by_the_client = refl
 
 heard_in_either_order : client_heard limits (octets_of_each (replying_in_little ∷ replying ∷ closing ∷ [])) ≡ the_little_reply ∷ the_reply ∷ []
-unfolding limits replying replying_in_little closing the_reply the_little_reply nothing behind_header client_heard messages_of fault_of split sight header_of judged_by judged_as message_of row value_at whole_at number_at part_at octets_at length_at each_at ordinal_at answer_of content.content
+unfolding limits replying replying_in_little closing the_reply the_little_reply nothing behind_header heard_as messages_of fault_of split sight header_of judged_by judged_as message_of row value_at whole_at number_at part_at octets_at length_at each_at ordinal_at sound_of content.content
 heard_in_either_order = refl
 
 ended_at_the_client : client_ending limits (octets_of_each (replying ∷ closing ∷ replying ∷ [])) ≡ Some peer_closed
-unfolding limits replying closing the_reply nothing behind_header client_ending messages_of fault_of split sight header_of judged_by judged_as message_of row value_at whole_at number_at part_at octets_at length_at each_at ordinal_at answer_of content.content
+unfolding limits replying closing the_reply nothing behind_header ending_as messages_of fault_of split sight header_of judged_by judged_as message_of row value_at whole_at number_at part_at octets_at length_at each_at ordinal_at sound_of content.content
 ended_at_the_client = refl

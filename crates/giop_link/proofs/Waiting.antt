@@ -2,7 +2,7 @@
 use Rattle.std.proofs.Common.{◌≡◌, ℕ, suc, ◌+◌, ◌≤◌, Bool, true, false, ◌||◌, not, cond, List, [], ◌∷◌, ◌++◌, length, take, drop, nat_lt, Some, None, refl, sym, ap, subst, ◌∙◌, arith}
 use Rattle.std.proofs.lemmas.Bool.Decides.{nat_tests}
 use Rattle.std.specs.List.{list_any, position, position_or_len, remove}
-use Rattle.giop_link.specs.declared.outstanding.Outstanding.{Outstanding}
+use Rattle.giop_link.specs.declared.awaited.Outstanding.{Outstanding}
 use Rattle.giop_link.specs.Ids.{without}
 
 any-step : (b : Bool) (n len : ℕ) (rest : Bool) → rest ≡ nat_lt n len → (b || rest) ≡ nat_lt (cond (not b) (1 + n) 0) (suc len)

@@ -3,7 +3,6 @@ use Rattle.std.proofs.Common.{◌≡◌, ◌≢◌, ℕ, ◌+◌, ◌<◌, ◌^�
 use Rattle.std.specs.List.{AllByRecursion, cons_option}
 use Rattle.cdr_core.specs.declared.order.Order.{Order}
 use Rattle.cdr_core.specs.Value.{Values}
-use Rattle.giop_core.specs.declared.header.MessageKind.{MessageKind}
 use Rattle.giop_core.specs.declared.header.MessageKind.TheVariants as kind
 use Rattle.giop_core.specs.declared.header.Version.{Version}
 use Rattle.giop_core.specs.declared.header.Version.TheVariants.{V10, V11, V12}
@@ -15,13 +14,12 @@ use Rattle.giop_core.specs.Rows.{row}
 use Rattle.giop_frames.specs.declared.fault.StreamFault.{StreamFault}
 use Rattle.giop_frames.specs.declared.fault.StreamFault.TheVariants.{TooLarge}
 use Rattle.giop_frames.specs.declared.limits.Limits.{Limits}
-use Rattle.giop_frames.specs.Frames.{Frame, split}
+use Rattle.giop_frames.specs.Frames.{split}
 use Rattle.giop_frames.specs.ReadAgain.{IsReadable, NothingIsClear, Sent, SentAreReadUpToTheLimit, sent_fault, sent_from, sent_octets, sent_within, written}
 use Rattle.giop_frames.specs.Streams.{fault_of, messages_of}
-use Rattle.giop_link.specs.Answering.{Answer, answer_of, answer_read, client_course, client_ending, client_heard}
-use Rattle.giop_link.specs.Hearing.{Course, Incoming, Sound, before, course_by, course_from, course_of, ending, ends, faulty, heard, meaning_in, meaning_of, meaning_read, says}
-use Rattle.giop_link.specs.Laws.{AnswersAreMeant, HeardIsMeant, WrittenAnswersAreHeard, WrittenIsHeard}
-use Rattle.giop_link.specs.Outgoing.{CanGoOut, IsFront, Outgoing, answer_to, course_to, heard_by, kind_of, meant, octets_after, octets_in, octets_of, octets_of_each, said_in, sound_to}
+use Rattle.giop_link.specs.Hearing.{Course, Sound, before, course_by, course_from, ending_as, ends, faulty, heard_as, kind_of, says, sound_of, sound_read}
+use Rattle.giop_link.specs.Laws.{HeardIsMeant, WrittenIsHeard}
+use Rattle.giop_link.specs.Outgoing.{CanGoOut, IsFront, Outgoing, course_to, heard_by, meant, octets_after, octets_in, octets_of, octets_of_each, said_in, sound_to}
 
 -- a message without fields reads
 
@@ -87,56 +85,40 @@ module _ (request : WrittenRequestIsRead) (reply : WrittenReplyIsRead) (cancel :
   all-readable (m ∷ ms) can = (readable m can.0, all-readable ms can.1)
 
   -- a reader to whom a frame is what it says
-  module _ {Heard : Type 0} (to_reader : Version → Content → Sound Heard) (sound : Frame → Sound Heard)
-      (tells : (version : Version) (k : MessageKind) (order : Order) (octets : List ℕ) (m : Content) → message_of version k order octets ≡ Ok m → sound (written version k order octets) ≡ to_reader version m) where
-    means : (m : Outgoing) → CanGoOut m → sound (written m.version (kind_of m.content) m.order (octets_after m)) ≡ sound_to to_reader m
-    means m can = tells m.version (kind_of m.content) m.order (octets_after m) (said_in m.version m.order m.content m.body) (read-in m.version m.order m.content m.body can.takes can.whole can.size)
+  module _ {Heard : Type 0} (to_reader : Version → Content → Sound Heard) where
+    means : (m : Outgoing) → CanGoOut m → sound_of to_reader (written m.version (kind_of m.content) m.order (octets_after m)) ≡ sound_to to_reader m
+    unfolding sound_of
+    means m can = ap (sound_read to_reader m.version) (read-in m.version m.order m.content m.body can.takes can.whole can.size)
 
     -- the course of the messages that complete
     course-same : (limits : Limits) (n : ℕ) (ms : List Outgoing) → AllByRecursion CanGoOut ms
-        → course_from sound (sent_fault limits (map sent_of ms)) (sent_from n (sent_within limits (map sent_of ms))) ≡ course_to to_reader limits ms
+        → course_from (sound_of to_reader) (sent_fault limits (map sent_of ms)) (sent_from n (sent_within limits (map sent_of ms))) ≡ course_to to_reader limits ms
     course-same limits n [] can = refl
     course-same limits n (m ∷ ms) can =
         let next = n + (12 + length (octets_after m)) in
         let front = sent_within limits (map sent_of ms) in
         let last = sent_fault limits (map sent_of ms) in
         (elim (nat_lt limits.message (12 + length (octets_after m))) as (λ b.
-        course_from sound (cond b (Some TooLarge) last) (sent_from n (cond b [] (sent_of m ∷ front))) ≡ cond b (record { heard = []; ending = Some (faulty TooLarge) }) (before (sound_to to_reader m) (course_to to_reader limits ms))) [
+        course_from (sound_of to_reader) (cond b (Some TooLarge) last) (sent_from n (cond b [] (sent_of m ∷ front))) ≡ cond b (record { heard = []; ending = Some (faulty TooLarge) }) (before (sound_to to_reader m) (course_to to_reader limits ms))) [
           | true ↦ refl
-          | false ↦ ap (λ (μ : Sound Heard). before μ (course_from sound last (sent_from next front))) (means m can.0) ∙ ap (before (sound_to to_reader m)) (course-same limits next ms can.1)
+          | false ↦ ap (λ (μ : Sound Heard). before μ (course_from (sound_of to_reader) last (sent_from next front))) (means m can.0) ∙ ap (before (sound_to to_reader m)) (course-same limits next ms can.1)
         ])
 
     -- that of their octets
-    course-written : SentAreReadUpToTheLimit → NothingIsClear → (limits : Limits) (ms : List Outgoing) → AllByRecursion CanGoOut ms → course_by sound limits (octets_of_each ms) ≡ course_to to_reader limits ms
+    course-written : SentAreReadUpToTheLimit → NothingIsClear → (limits : Limits) (ms : List Outgoing) → AllByRecursion CanGoOut ms → course_by (sound_of to_reader) limits (octets_of_each ms) ≡ course_to to_reader limits ms
     unfolding messages_of split
     course-written up_to nothing limits ms can =
         let r = up_to limits [] (map sent_of ms) (nothing limits) (all-readable ms can) in
-        ap (course_by sound limits) (sym (octets-same ms)) ∙ ap (course_from sound (fault_of limits (sent_octets (map sent_of ms)))) r.0
-        ∙ ap (λ (last : Option StreamFault). course_from sound last (sent_from 0 (sent_within limits (map sent_of ms)))) r.1 ∙ course-same limits 0 ms can
+        ap (course_by (sound_of to_reader) limits) (sym (octets-same ms)) ∙ ap (course_from (sound_of to_reader) (fault_of limits (sent_octets (map sent_of ms)))) r.0
+        ∙ ap (λ (last : Option StreamFault). course_from (sound_of to_reader) last (sent_from 0 (sent_within limits (map sent_of ms)))) r.1 ∙ course-same limits 0 ms can
 
-  module _ (up_to : SentAreReadUpToTheLimit) (nothing : NothingIsClear) where
-    to-server : (limits : Limits) (ms : List Outgoing) → AllByRecursion CanGoOut ms → course_of limits (octets_of_each ms) ≡ course_to meaning_in limits ms
-    unfolding meaning_of
-    to-server limits ms can = course-written meaning_in meaning_of (λ version k order octets m is. ap (meaning_read version) is) up_to nothing limits ms can
+    pub written-heard : SentAreReadUpToTheLimit → NothingIsClear → WrittenIsHeard to_reader
+    unfolding heard_as ending_as
+    written-heard up_to nothing limits ms can =
+        let is = course-written up_to nothing limits ms can in
+        (ap (λ (a : Course Heard). a.heard) is, ap (λ (a : Course Heard). a.ending) is)
 
-    pub written-heard : WrittenIsHeard
-    unfolding heard ending
-    written-heard limits ms can = (ap (λ (a : Course Incoming). a.heard) (to-server limits ms can), ap (λ (a : Course Incoming). a.ending) (to-server limits ms can))
-
-    pub heard-meant : HeardIsMeant
-    heard-meant limits ms can =
-        let f = front meaning_in limits ms in
-        (f.0, f.1 ∙ ap (λ (xs : List Incoming). xs ++ f.0) (sym (written-heard limits ms can).0))
-
-    to-client : (limits : Limits) (ms : List Outgoing) → AllByRecursion CanGoOut ms → client_course limits (octets_of_each ms) ≡ course_to answer_to limits ms
-    unfolding answer_of
-    to-client limits ms can = course-written answer_to answer_of (λ version k order octets m is. ap answer_read is) up_to nothing limits ms can
-
-    pub answers-heard : WrittenAnswersAreHeard
-    unfolding client_heard client_ending
-    answers-heard limits ms can = (ap (λ (a : Course Answer). a.heard) (to-client limits ms can), ap (λ (a : Course Answer). a.ending) (to-client limits ms can))
-
-    pub answers-meant : AnswersAreMeant
-    answers-meant limits ms can =
-        let f = front answer_to limits ms in
-        (f.0, f.1 ∙ ap (λ (xs : List Answer). xs ++ f.0) (sym (answers-heard limits ms can).0))
+    pub heard-meant : SentAreReadUpToTheLimit → NothingIsClear → HeardIsMeant to_reader
+    heard-meant up_to nothing limits ms can =
+        let f = front to_reader limits ms in
+        (f.0, f.1 ∙ ap (λ (xs : List Heard). xs ++ f.0) (sym (written-heard up_to nothing limits ms can).0))

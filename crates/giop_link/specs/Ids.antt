@@ -3,9 +3,9 @@ use Rattle.std.specs.Prelude.{ℕ, suc, ◌==◌, ◌&&◌, ◌++◌, Bool, true
 use Rattle.std.specs.List.{list_any}
 use Rattle.giop_core.specs.declared.request.ReplyWish.{ReplyWish}
 use Rattle.giop_core.specs.declared.request.ReplyWish.TheVariants as wish
-use Rattle.giop_link.specs.declared.outstanding.Outstanding.{Outstanding}
-use Rattle.giop_link.specs.declared.outstanding.Wanted.{Wanted}
-use Rattle.giop_link.specs.declared.outstanding.Wanted.TheVariants as wanted
+use Rattle.giop_link.specs.declared.awaited.Outstanding.{Outstanding}
+use Rattle.giop_link.specs.declared.awaited.Wanted.{Wanted}
+use Rattle.giop_link.specs.declared.awaited.Wanted.TheVariants as wanted
 
 -- the ids of a link: how many were given, which are 1, 2, .. in the order of sending, and those of them that are outstanding,
 -- each with the kind of answer that is wanted

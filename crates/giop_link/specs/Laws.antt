@@ -9,108 +9,72 @@ use Rattle.cdr_core.specs.Writing.{octets_of_all}
 use Rattle.giop_core.specs.declared.header.Version.{Version}
 use Rattle.giop_core.specs.declared.request.ReplyWish.{ReplyWish}
 use Rattle.giop_core.specs.Content as content
-use Rattle.giop_core.specs.Content.{Rest, by_key}
+use Rattle.giop_core.specs.Content.{Content, Rest, by_key}
 use Rattle.giop_core.specs.Ft.{ft_in, present}
 use Rattle.giop_core.specs.Written.{CanAsk, locate_statuses, reply_statuses}
 use Rattle.giop_frames.specs.declared.limits.Limits.{Limits}
 use Rattle.giop_frames.specs.Frames.{Frame}
 use Rattle.giop_frames.specs.ReadAgain.{Completes}
 use Rattle.giop_frames.specs.Streams.{messages_of}
-use Rattle.giop_link.specs.Answering.{Answer, answer_of, client_ending, client_heard}
-use Rattle.giop_link.specs.Hearing.{Ending, Incoming, ending, heard, meaning_in, meaning_of}
-use Rattle.giop_link.specs.Linking.{ending_in, heard_in}
+use Rattle.giop_link.specs.Answering.{answer_of}
+use Rattle.giop_link.specs.Hearing.{Ending, Sound, ending_as, heard_as, meaning_of, sound_of}
+use Rattle.giop_link.specs.Listening.{Brings}
 use Rattle.giop_link.specs.Messages.{Hears, IsAnswerByKind, IsByKind}
-use Rattle.giop_link.specs.Outgoing.{CanGoOut, IsFront, Outgoing, answer_to, course_to, ft_alone, meant, octets_in, octets_of_each, said_in}
+use Rattle.giop_link.specs.Outgoing.{CanGoOut, IsFront, Outgoing, course_to, ft_alone, meant, octets_in, octets_of_each, said_in}
 
--- What is heard are the messages before the first that ends the stream, and the stream ends by that message, or by its fault ..
-abbrev pub MessagesAreHeard : Type 0
-MessagesAreHeard = (limits : Limits) (s : List ℕ) → Hears meaning_of limits s (heard limits s) (ending limits s)
+-- Whoever hears, by what each message is to it.
 
--- .. and nothing else is heard, and it ends in no other way.
-abbrev pub NothingElseIsHeard : Type 0
-NothingElseIsHeard = (limits : Limits) (s : List ℕ) (xs : List Incoming) (end : Option Ending) → Hears meaning_of limits s xs end → (xs ≡ heard limits s) × (end ≡ ending limits s)
+module _ {Heard : Type 0} (meaning : Version → Content → Sound Heard) where
+  -- What is heard are the messages before the first that ends the stream, and the stream ends by that message, or by its fault ..
+  abbrev pub MessagesAreHeard : Type 0
+  MessagesAreHeard = (limits : Limits) (s : List ℕ) → Hears (sound_of meaning) limits s (heard_as meaning limits s) (ending_as meaning limits s)
 
--- The kind of each message says whether a server hears it, or how the stream ends by it.
+  -- .. and nothing else is heard, and it ends in no other way.
+  abbrev pub NothingElseIsHeard : Type 0
+  NothingElseIsHeard =
+      (limits : Limits) (s : List ℕ) (xs : List Heard) (end : Option Ending) → Hears (sound_of meaning) limits s xs end → (xs ≡ heard_as meaning limits s) × (end ≡ ending_as meaning limits s)
+
+  -- Octets that complete one message of a stream that goes on, as those do that are written for it, bring what it says: it is
+  -- heard, or the stream ends by it.
+  abbrev pub CompletedIsHeard : Type 0
+  CompletedIsHeard = (limits : Limits) (s c : List ℕ) (m : Frame) → ending_as meaning limits s ≡ None → Completes limits s c m → Brings meaning limits s c (Some (sound_of meaning m))
+
+  -- Where nothing has come, nothing is heard, and the stream has not ended.
+  abbrev pub NothingIsSilent : Type 0
+  NothingIsSilent = (limits : Limits) → (heard_as meaning limits [] ≡ []) × (ending_as meaning limits [] ≡ None)
+
+  -- More octets bring more messages after those that were heard ..
+  abbrev pub HearingGrows : Type 0
+  HearingGrows = (limits : Limits) (s c : List ℕ) → (more : List Heard) × (heard_as meaning limits (s ++ c) ≡ heard_as meaning limits s ++ more)
+
+  -- .. a stream that has ended stays so ..
+  abbrev pub EndingsStay : Type 0
+  EndingsStay = (limits : Limits) (s c : List ℕ) (e : Ending) → ending_as meaning limits s ≡ Some e → ending_as meaning limits (s ++ c) ≡ Some e
+
+  -- .. and after its end nothing is heard.
+  abbrev pub EndsAreSilent : Type 0
+  EndsAreSilent = (limits : Limits) (s c : List ℕ) (e : Ending) → ending_as meaning limits s ≡ Some e → heard_as meaning limits (s ++ c) ≡ heard_as meaning limits s
+
+-- The kind of each message says whether a server hears it, or how the stream ends by it ..
 abbrev pub MeaningsAreByKind : Type 0
 MeaningsAreByKind = (limits : Limits) (s : List ℕ) → AllByRecursion (λ m. IsByKind m.message.header.kind (meaning_of m.message)) (messages_of limits s)
 
--- Octets that complete one message of a stream that goes on, as those do that are written for it, bring what it says: it is
--- heard, or the stream ends by it.
-abbrev pub CompletedIsHeard : Type 0
-CompletedIsHeard = (limits : Limits) (s c : List ℕ) (m : Frame) → ending limits s ≡ None → Completes limits s c m
-    → (heard limits (s ++ c) ≡ heard limits s ++ heard_in (Some (meaning_of m))) × (ending limits (s ++ c) ≡ ending_in None (Some (meaning_of m)))
-
--- Where nothing has come, nothing is heard, and the stream has not ended.
-abbrev pub NothingIsSilent : Type 0
-NothingIsSilent = (limits : Limits) → (heard limits [] ≡ []) × (ending limits [] ≡ None)
-
--- More octets bring more messages after those that were heard ..
-abbrev pub HearingGrows : Type 0
-HearingGrows = (limits : Limits) (s c : List ℕ) → (more : List Incoming) × (heard limits (s ++ c) ≡ heard limits s ++ more)
-
--- .. a stream that has ended stays so ..
-abbrev pub EndingsStay : Type 0
-EndingsStay = (limits : Limits) (s c : List ℕ) (e : Ending) → ending limits s ≡ Some e → ending limits (s ++ c) ≡ Some e
-
--- .. and after its end nothing is heard.
-abbrev pub EndsAreSilent : Type 0
-EndsAreSilent = (limits : Limits) (s c : List ℕ) (e : Ending) → ending limits s ≡ Some e → heard limits (s ++ c) ≡ heard limits s
-
--- The same of what a client hears.
-
--- What is heard are the answers before the first message that ends the stream, and it ends by that message, or by its fault ..
-abbrev pub MessagesAreAnswers : Type 0
-MessagesAreAnswers = (limits : Limits) (s : List ℕ) → Hears answer_of limits s (client_heard limits s) (client_ending limits s)
-
--- .. and nothing else is heard, and it ends in no other way.
-abbrev pub NothingElseIsAnswered : Type 0
-NothingElseIsAnswered = (limits : Limits) (s : List ℕ) (xs : List Answer) (end : Option Ending) → Hears answer_of limits s xs end → (xs ≡ client_heard limits s) × (end ≡ client_ending limits s)
-
--- The kind of each message says whether a client hears it, or how the stream ends by it.
+-- .. and the same of a client.
 abbrev pub AnswersAreByKind : Type 0
 AnswersAreByKind = (limits : Limits) (s : List ℕ) → AllByRecursion (λ m. IsAnswerByKind m.message.header.kind (answer_of m.message)) (messages_of limits s)
 
--- Octets that complete one message of a stream that goes on bring what it says: it is heard, or the stream ends by it.
-abbrev pub CompletedIsAnswered : Type 0
-CompletedIsAnswered = (limits : Limits) (s c : List ℕ) (m : Frame) → client_ending limits s ≡ None → Completes limits s c m
-    → (client_heard limits (s ++ c) ≡ client_heard limits s ++ heard_in (Some (answer_of m))) × (client_ending limits (s ++ c) ≡ ending_in None (Some (answer_of m)))
-
--- Where nothing has come, nothing is heard, and the stream has not ended.
-abbrev pub NothingIsAnswered : Type 0
-NothingIsAnswered = (limits : Limits) → (client_heard limits [] ≡ []) × (client_ending limits [] ≡ None)
-
--- More octets bring more answers after those that were heard ..
-abbrev pub AnswersGrow : Type 0
-AnswersGrow = (limits : Limits) (s c : List ℕ) → (more : List Answer) × (client_heard limits (s ++ c) ≡ client_heard limits s ++ more)
-
--- .. a stream that has ended stays so ..
-abbrev pub AnswerEndingsStay : Type 0
-AnswerEndingsStay = (limits : Limits) (s c : List ℕ) (e : Ending) → client_ending limits s ≡ Some e → client_ending limits (s ++ c) ≡ Some e
-
--- .. and after its end nothing is heard.
-abbrev pub AnswerEndsAreSilent : Type 0
-AnswerEndsAreSilent = (limits : Limits) (s c : List ℕ) (e : Ending) → client_ending limits s ≡ Some e → client_heard limits (s ++ c) ≡ client_heard limits s
-
 -- What is written is heard.
 
--- Of messages that are written one after another a server hears what they say, up to the first that ends the stream or is
--- over the server's limit ..
-abbrev pub WrittenIsHeard : Type 0
-WrittenIsHeard = (limits : Limits) (ms : List Outgoing) → AllByRecursion CanGoOut ms
-    → (heard limits (octets_of_each ms) ≡ (course_to meaning_in limits ms).heard) × (ending limits (octets_of_each ms) ≡ (course_to meaning_in limits ms).ending)
+module _ {Heard : Type 0} (meaning : Version → Content → Sound Heard) where
+  -- Of messages that are written one after another a reader hears what they say, up to the first that ends the stream or is
+  -- over the reader's limit ..
+  abbrev pub WrittenIsHeard : Type 0
+  WrittenIsHeard = (limits : Limits) (ms : List Outgoing) → AllByRecursion CanGoOut ms
+      → (heard_as meaning limits (octets_of_each ms) ≡ (course_to meaning limits ms).heard) × (ending_as meaning limits (octets_of_each ms) ≡ (course_to meaning limits ms).ending)
 
--- .. so it hears a front of what was meant.
-abbrev pub HeardIsMeant : Type 0
-HeardIsMeant = (limits : Limits) (ms : List Outgoing) → AllByRecursion CanGoOut ms → IsFront (heard limits (octets_of_each ms)) (meant meaning_in ms)
-
--- The same of a client ..
-abbrev pub WrittenAnswersAreHeard : Type 0
-WrittenAnswersAreHeard = (limits : Limits) (ms : List Outgoing) → AllByRecursion CanGoOut ms
-    → (client_heard limits (octets_of_each ms) ≡ (course_to answer_to limits ms).heard) × (client_ending limits (octets_of_each ms) ≡ (course_to answer_to limits ms).ending)
-
--- .. which hears a front of what was meant.
-abbrev pub AnswersAreMeant : Type 0
-AnswersAreMeant = (limits : Limits) (ms : List Outgoing) → AllByRecursion CanGoOut ms → IsFront (client_heard limits (octets_of_each ms)) (meant answer_to ms)
+  -- .. so it hears a front of what was meant.
+  abbrev pub HeardIsMeant : Type 0
+  HeardIsMeant = (limits : Limits) (ms : List Outgoing) → AllByRecursion CanGoOut ms → IsFront (heard_as meaning limits (octets_of_each ms)) (meant meaning ms)
 
 -- Which messages can go out, in either byte order: a Request for an object by its key, with FT_REQUEST as its one context,
 -- which it carries; where it is not too long ..

@@ -2,7 +2,6 @@
 use Rattle.std.specs.Prelude.{◌≡◌, ◌≢◌, ℕ, ◌+◌, ◌^◌, ◌<◌, nat_lt, ℤ, List, [], ◌∷◌, ◌++◌, filter_map, flat_map, length, Option, Some, None, if◌then◌else◌}
 use Rattle.cdr_core.specs.declared.order.Order.{Order}
 use Rattle.cdr_core.specs.Value.{Values, no_values}
-use Rattle.giop_core.specs.declared.header.MessageKind.{MessageKind}
 use Rattle.giop_core.specs.declared.header.MessageKind.TheVariants as kind
 use Rattle.giop_core.specs.declared.header.Version.{Version}
 use Rattle.giop_core.specs.Content as content
@@ -11,8 +10,7 @@ use Rattle.giop_core.specs.Laws.{CanBeWritten, rest_after, with_rest, written_fi
 use Rattle.giop_core.specs.Written.{behind_header, ft_octets, message_octets}
 use Rattle.giop_frames.specs.declared.fault.StreamFault.TheVariants.{TooLarge}
 use Rattle.giop_frames.specs.declared.limits.Limits.{Limits}
-use Rattle.giop_link.specs.Answering.{Answer, answer_in}
-use Rattle.giop_link.specs.Hearing.{Course, Sound, before, ends, faulty, says}
+use Rattle.giop_link.specs.Hearing.{Course, Sound, before, ends, faulty, kind_of, says}
 
 -- a message to be written: its version, the byte order in which it is written, what it says, and the values of its body, if it
 -- has one; the octets of a body in `content` do not count
@@ -21,17 +19,6 @@ pub record Outgoing : Type 0 where
   pub order : Order
   pub content : Content
   pub body : Values
-
--- GIOP 9.4.1: its kind
-abbrev pub kind_of : Content → MessageKind
-kind_of (content.request id wish to operation contexts rest) = kind.Request
-kind_of (content.reply id status contexts rest) = kind.Reply
-kind_of (content.cancel id) = kind.CancelRequest
-kind_of (content.locate_request id to) = kind.LocateRequest
-kind_of (content.locate_reply id status rest) = kind.LocateReply
-kind_of content.close = kind.CloseConnection
-kind_of content.error = kind.MessageError
-kind_of (content.fragment id octets) = kind.Fragment
 
 -- GIOP 9.4.2, 9.4.3, 9.4.6: which messages have a body
 abbrev pub values_in : Content → Values → Values
@@ -74,10 +61,6 @@ ft_alone order client_id retention_id expiration = (13, ft_octets order client_i
 abbrev pub heard_by : {Heard : Type 0} → Sound Heard → Option Heard
 heard_by (says x) = Some x
 heard_by (ends e) = None
-
--- what a message is to a client, in any version
-abbrev pub answer_to : Version → Content → Sound Answer
-answer_to version m = answer_in m
 
 -- what a reader hears, to whom messages are this: `meaning_in` for a server, `answer_to` for a client
 module _ {Heard : Type 0} (to_reader : Version → Content → Sound Heard) where

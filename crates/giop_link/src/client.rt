@@ -10,69 +10,47 @@ ghost use Rattle.giop_core.specs.declared.header.MessageKind.TheVariants as kind
 ghost use Rattle.giop_core.specs.Items.{item_at};
 ghost use Rattle.giop_core.specs.Lent.{addressed_by, content_of};
 ghost use Rattle.giop_core.specs.Written.{CanAddress, CanAsk, message_octets};
-ghost use Rattle.giop_frames.specs.Standing.{StandsFor, frame_held, parts_held};
-ghost use Rattle.giop_link.specs.declared.outstanding.Wanted.TheVariants as wanted;
-ghost use Rattle.giop_link.specs.Answering.{answer_in, client_ending};
-ghost use Rattle.giop_link.specs.ClientLinking.{CanBeSent, ClientStands, Exchange, IsClientFaultOf, IsNearBody, IsCalm, IsSendError, TakesIn, Terms, cancel_octets, delivered_at, ended, locate_after, no_exchange, refusal_of, request_after};
+ghost use Rattle.giop_frames.specs.Standing.{frame_held, parts_held};
+ghost use Rattle.giop_link.specs.declared.awaited.Wanted.TheVariants as wanted;
+ghost use Rattle.giop_link.specs.Answering.{Answer, answer_in, answer_to};
+ghost use Rattle.giop_link.specs.ClientLinking.{CanBeSent, ClientStands, Exchange, IsClientFaultOf, IsNearBody, IsSendError, TakesIn, Terms, cancel_octets, delivered_at, ended, locate_after, no_exchange, refusal_of, request_after};
 ghost use Rattle.giop_link.specs.Ids.{given_up, is_outstanding, one_more, wanted_by};
-ghost use Rattle.giop_link.specs.Private.{IsAnswered, answered_by, answered_one, client_turn_by, settled_left, settles, told_with};
+ghost use Rattle.giop_link.specs.Listening.{spoken_by};
+ghost use Rattle.giop_link.specs.Private.{answered_one, settled_left, settles};
 
+use crate::awaited::{Outstanding, Wanted, enter, place_of, wanted_by};
 use crate::delivery::{Delivery, delivered};
-use crate::fault::LinkFault;
-use crate::link::{Heard, PeerEnd, State};
-use crate::outstanding::{Outstanding, Wanted, enter, place_of, wanted_by};
-use crate::send_error::SendError;
+use crate::error::{LinkFault, SendError};
+use crate::listener::{Listener, PeerEnd, Side};
 use cdr_core::{Order, Val};
 use giop_core::{
     Content, MessageKind, ReplyWish, Target, Version, write_cancel, write_locate_request,
     write_request,
 };
-use giop_frames::{Assembler, Limits};
+use giop_frames::Limits;
 use std::alloc::{AllocError, Global};
 use std::marker::Model;
 
-/// What a message of a kind is to a client: an answer, or the end that the peer made. An error is that it has
-/// the wrong direction.
-fn client_turn_of(kind: MessageKind) -> Result<Option<PeerEnd>, LinkFault>
-    ensures { result ≡ client_turn_by kind }
-{
-    match kind {
-        MessageKind::Reply | MessageKind::LocateReply => Ok(None),
-        MessageKind::CloseConnection => Ok(Some(PeerEnd::Closed)),
-        MessageKind::MessageError => Ok(Some(PeerEnd::Error)),
-        MessageKind::Request
-        | MessageKind::LocateRequest
-        | MessageKind::CancelRequest
-        | MessageKind::Fragment => Err(LinkFault::WrongDirection),
-    }
-}
+/// A client, which hears replies and answers to locates.
+#[derive(Debug, Drop)]
+pub struct Client;
 
-/// Takes octets up to and with the end of the next message, or all.
-fn attend(assembler: &mut Assembler, piece: &[u8]) -> Result<Heard, LinkFault>
-    requires { assembler.old.failed ≡ false }
-    ensures heard { (s : List ℕ) → StandsFor assembler.old s → client_ending assembler.old.limits s ≡ None
-        → IfOk result (λ h. IsAnswered assembler.old.limits s (take h.taken piece.now) (told_with h.end (answered_by assembler.new.message)) assembler.new) }
-    ensures first { (s : List ℕ) → StandsFor assembler.old s → client_ending assembler.old.limits s ≡ None
-        → IfOk result (λ h. (k : ℕ) → k < h.taken → IsCalm assembler.old.limits s (take k piece.now)) }
-    ensures fault { (s : List ℕ) → StandsFor assembler.old s → client_ending assembler.old.limits s ≡ None
-        → IfErr result (λ e. IsClientFaultOf assembler.old.limits s piece.now e) }
-    ensures within { IfOk result (λ h. h.taken ≤ length piece.now) }
-    ensures some { IfOk result (λ h. 0 < length piece.now → 0 < h.taken) }
-    ensures all { IfOk result (λ h. told_with h.end (answered_by assembler.new.message) ≡ None → h.taken ≡ length piece.now) }
-    ensures empty { piece.now ≡ [] → (result ≡ Ok (record { taken = 0; end = None })) × (assembler.new ≡ record assembler.old { message = None }) }
-    ensures live { OnOk result (assembler.new.failed ≡ false) }
-    ensures idle { IfOk result (λ h. told_with h.end (answered_by assembler.new.message) ≡ None → assembler.new.message ≡ None) }
-    ensures limits { assembler.new.limits ≡ assembler.old.limits }
-{
-    crate::laws::answers_are_heard();
-    giop_frames::laws::streams_grow();
-    giop_frames::laws::messages_are_whole();
-    let taken = assembler.feed(piece)?;
-    let end = match assembler.header() {
-        Some(header) => client_turn_of(header.kind)?,
-        None => None,
-    };
-    Ok(Heard { taken, end })
+impl Side for Client {
+    ghost Heard = { Answer };
+
+    ghost meaning = { answer_to };
+
+    fn turn_of(kind: MessageKind) -> Result<Option<PeerEnd>, LinkFault> {
+        match kind {
+            MessageKind::Reply | MessageKind::LocateReply => Ok(None),
+            MessageKind::CloseConnection => Ok(Some(PeerEnd::Closed)),
+            MessageKind::MessageError => Ok(Some(PeerEnd::Error)),
+            MessageKind::Request
+            | MessageKind::LocateRequest
+            | MessageKind::CancelRequest
+            | MessageKind::Fragment => Err(LinkFault::WrongDirection),
+        }
+    }
 }
 
 /// The id that a message answers and the kind of answer that it is, if it is one.
@@ -92,13 +70,12 @@ fn answered_one(content: &Content) -> Option<Outstanding>
     }
 }
 
-/// Takes the id of the answer that an assembler lends, if it lends one, out of those that are outstanding. True:
-/// it was awaited.
-fn settle(waiting: &mut Vec<Outstanding>, assembler: &Assembler) -> bool
-    ensures by { result ≡ settles (answered_by assembler.now.message) waiting.old.items }
-    ensures left { waiting.new.items ≡ settled_left (answered_by assembler.now.message) waiting.old.items }
+/// Takes the id of the answer that is lent, if one is, out of those that are outstanding. True: it was awaited.
+fn settle(waiting: &mut Vec<Outstanding>, listener: &Listener<Client>) -> bool
+    ensures by { result ≡ settles (spoken_by answer_to listener.now.message) waiting.old.items }
+    ensures left { waiting.new.items ≡ settled_left (spoken_by answer_to listener.now.message) waiting.old.items }
 {
-    let Some(message) = assembler.message() else {
+    let Some(message) = listener.message() else {
         return false;
     };
     let Some(one) = answered_one(&message.content) else {
@@ -119,14 +96,13 @@ fn settle(waiting: &mut Vec<Outstanding>, assembler: &Assembler) -> bool
 /// or the link ends. Its messages are big-endian. It opens no socket. A link that has ended holds no octets.
 #[derive(Debug, Drop)]
 pub struct ClientLink {
-    limits: Limits,
+    listener: Listener<Client>,
     version: Version,
     most: u16,
     given: u32,
     outstanding: Vec<Outstanding>,
     /// Whether the message that completed last was awaited.
     delivers: bool,
-    state: State,
 }
 
 impl Model for ClientLink {
@@ -135,9 +111,9 @@ impl Model for ClientLink {
 
     ghost Value = { ClientLinked };
 
-    ghost view = { λ l. client_linked (record { limits = l.limits; version = l.version; most = l.most }) (record { given = l.given; outstanding = l.outstanding.items }) l.delivers l.state };
+    ghost view = { λ l. client_linked (record { limits = l.listener.limits; version = l.version; most = l.most }) (record { given = l.given; outstanding = l.outstanding.items }) l.delivers l.listener };
 
-    ghost invariant = { λ l. IsClientSound l.limits l.most l.outstanding.items l.state };
+    ghost invariant = { λ l. IsClientSound l.most l.outstanding.items l.listener };
 }
 
 impl ClientLink {
@@ -151,13 +127,12 @@ impl ClientLink {
         ensures delivery { result.delivery ≡ None }
     {
         ClientLink {
-            limits,
+            listener: Listener::new(alloc, limits),
             version,
             most: outstanding,
             given: 0,
             outstanding: Vec::new(alloc),
             delivers: false,
-            state: State::Live(Assembler::new(alloc, limits)),
         }
     }
 
@@ -165,7 +140,7 @@ impl ClientLink {
     pub fn is_closed(&self) -> bool
         ensures { result ≡ self.now.is_closed }
     {
-        !matches!(self.state, State::Live(_))
+        self.listener.is_closed()
     }
 
     /// How many ids are outstanding: none, where the link has ended.
@@ -185,10 +160,7 @@ impl ClientLink {
         ensures closed { self.now.is_closed ≡ true → result ≡ 0 }
         ensures bound { result ≤ (self.now.terms.limits.partials + 1) * self.now.terms.limits.message }
     {
-        match &self.state {
-            State::Live(assembler) => assembler.held(),
-            State::Parting(_) | State::Closed => 0,
-        }
+        self.listener.held()
     }
 
     /// Why nothing is sent now, if an answer of this kind is wanted.
@@ -346,16 +318,15 @@ impl ClientLink {
         // the place of a body fits 32 bits, as the readers of values ask
         ensures near { IfSome result IsNearBody }
     {
-        match &self.state {
-            State::Live(assembler) => {
+        match self.listener.end() {
+            Some(PeerEnd::Closed) => Some(Delivery::Closed),
+            Some(PeerEnd::Error) => Some(Delivery::PeerError),
+            None => {
                 if !self.delivers {
                     return None;
                 }
-                delivered(assembler.message()?)
+                delivered(self.listener.message()?)
             }
-            State::Parting(PeerEnd::Closed) => Some(Delivery::Closed),
-            State::Parting(PeerEnd::Error) => Some(Delivery::PeerError),
-            State::Closed => None,
         }
     }
 
@@ -379,29 +350,13 @@ impl ClientLink {
         ensures terms { self.new.terms ≡ self.old.terms }
         ensures given { self.new.ids.given ≡ self.old.ids.given }
     {
-        crate::laws::answers_are_heard();
         self.delivers = false;
-        let next = match &mut self.state {
-            State::Live(assembler) => attend(assembler, piece),
-            State::Parting(_) | State::Closed => {
-                self.state = State::Closed;
-                return Ok(piece.len());
-            }
-        };
-        let heard = match next {
-            Ok(heard) => heard,
-            Err(fault) => {
-                self.state = State::Closed; // what was held is dropped
-                self.outstanding.clear();
-                return Err(fault);
-            }
-        };
-        if let Some(end) = heard.end {
-            self.state = State::Parting(end);
+        let fed = self.listener.feed(piece);
+        if self.listener.is_closed() {
             self.outstanding.clear(); // nothing is answered any more
-        } else if let State::Live(assembler) = &self.state {
-            self.delivers = settle(&mut self.outstanding, assembler);
+        } else {
+            self.delivers = settle(&mut self.outstanding, &self.listener);
         }
-        Ok(heard.taken)
+        fed
     }
 }

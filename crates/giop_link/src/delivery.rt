@@ -7,7 +7,8 @@ ghost use Rattle.giop_core.specs.Messages.{OnBody};
 ghost use Rattle.giop_frames.specs.Standing.{HasPlace};
 ghost use Rattle.giop_link.specs.Answering.{answer_in};
 ghost use Rattle.giop_link.specs.ClientLinking.{IsNearBody, delivered_at};
-ghost use Rattle.giop_link.specs.Private.{spoken, told_of};
+ghost use Rattle.giop_link.specs.Listening.{spoken};
+ghost use Rattle.giop_link.specs.Private.{told_of};
 
 use giop_core::{Body, Content, Message, Reply, ReplyStatus};
 

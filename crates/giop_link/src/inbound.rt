@@ -7,7 +7,7 @@ ghost use Rattle.giop_core.specs.Messages.{OnBody};
 ghost use Rattle.giop_frames.specs.Standing.{HasPlace};
 ghost use Rattle.giop_link.specs.Hearing.{meaning_in};
 ghost use Rattle.giop_link.specs.Linking.{IsNear, meaning_at};
-ghost use Rattle.giop_link.specs.Private.{spoken};
+ghost use Rattle.giop_link.specs.Listening.{spoken};
 
 use giop_core::{Content, Message, Request, Target, Version};
 

@@ -1,23 +1,31 @@
-//! Laws over the definitions: each is what a function with an empty body ensures.
+//! Laws over the definitions: each is what a function with an empty body ensures. Those of what is heard stand once,
+//! for each `Side`.
 
-ghost use Rattle.giop_link.specs.Laws.{AnswerEndingsStay, AnswerEndsAreSilent, AnswersAreByKind, AnswersAreMeant, AnswersGrow, CancelsGoOut, CompletedIsAnswered, CompletedIsHeard, EndingsStay, EndsAreSilent, FarewellsGoOut, HeardIsMeant, HearingGrows, LocateRepliesGoOut, MeaningsAreByKind, MessagesAreAnswers, MessagesAreHeard, NothingElseIsAnswered, NothingElseIsHeard, NothingIsAnswered, NothingIsSilent, RepliesGoOut, RequestsGoOut, WrittenAnswersAreHeard, WrittenIsHeard};
+ghost use Rattle.giop_link.specs.Laws.{AnswersAreByKind, CancelsGoOut, CompletedIsHeard, EndingsStay, EndsAreSilent, FarewellsGoOut, HeardIsMeant, HearingGrows, LocateRepliesGoOut, MeaningsAreByKind, MessagesAreHeard, NothingElseIsHeard, NothingIsSilent, RepliesGoOut, RequestsGoOut, WrittenIsHeard};
+
+use crate::listener::Side;
 
 /// Where nothing has come, nothing is heard. More octets add messages to what is heard and take none away; the
 /// end of a stream stays, and after it nothing is heard.
-pub fn streams_are_heard()
-    ensures nothing { NothingIsSilent }
-    ensures grows { HearingGrows }
-    ensures stays { EndingsStay }
-    ensures silent { EndsAreSilent }
+pub fn streams_are_heard<S: Side>()
+    ensures nothing { NothingIsSilent S.meaning }
+    ensures grows { HearingGrows S.meaning }
+    ensures stays { EndingsStay S.meaning }
+    ensures silent { EndsAreSilent S.meaning }
 {
     giop_frames::laws::streams_grow();
 }
 
 /// What is heard of a stream, and how it ends, are given by the messages of the stream, one by one, and by
 /// nothing else.
-pub fn messages_are_heard()
-    ensures heard { MessagesAreHeard }
-    ensures only { NothingElseIsHeard }
+pub fn messages_are_heard<S: Side>()
+    ensures heard { MessagesAreHeard S.meaning }
+    ensures only { NothingElseIsHeard S.meaning }
+{}
+
+/// A message that completes alone, as one does that is written, is heard, or the stream ends by it.
+pub fn completed_messages_are_heard<S: Side>()
+    ensures { CompletedIsHeard S.meaning }
 {}
 
 /// The kind of each message of a stream says whether a server hears it, or how the stream ends by it.
@@ -27,29 +35,6 @@ pub fn meanings_are_by_kind()
     giop_frames::laws::messages_are_whole();
 }
 
-/// A message that completes alone, as one does that is written, is heard, or the stream ends by it.
-pub fn completed_messages_are_heard()
-    ensures { CompletedIsHeard }
-{}
-
-/// The same of a client: where nothing has come, nothing is heard. More octets add answers to what is heard and
-/// take none away; the end of a stream stays, and after it nothing is heard.
-pub fn answers_are_heard()
-    ensures nothing { NothingIsAnswered }
-    ensures grows { AnswersGrow }
-    ensures stays { AnswerEndingsStay }
-    ensures silent { AnswerEndsAreSilent }
-{
-    giop_frames::laws::streams_grow();
-}
-
-/// What a client hears of a stream, and how it ends, are given by the messages of the stream, one by one, and by
-/// nothing else.
-pub fn messages_are_answers()
-    ensures heard { MessagesAreAnswers }
-    ensures only { NothingElseIsAnswered }
-{}
-
 /// The kind of each message of a stream says whether a client hears it, or how the stream ends by it.
 pub fn answers_are_by_kind()
     ensures { AnswersAreByKind }
@@ -57,25 +42,11 @@ pub fn answers_are_by_kind()
     giop_frames::laws::messages_are_whole();
 }
 
-/// A message that completes alone, as one does that is written, is heard by a client, or the stream ends by it.
-pub fn completed_messages_are_answered()
-    ensures { CompletedIsAnswered }
-{}
-
-/// What a server hears of messages that are written one after another is what they say, up to the first that ends
-/// the stream or is over the server's limit: a front of what was meant.
-pub fn written_messages_are_heard()
-    ensures heard { WrittenIsHeard }
-    ensures meant { HeardIsMeant }
-{
-    giop_core::laws::written_is_read();
-    giop_frames::laws::lists_of_messages_are_read_again();
-}
-
-/// The same of what a client hears of the messages that a server writes.
-pub fn written_answers_are_heard()
-    ensures heard { WrittenAnswersAreHeard }
-    ensures meant { AnswersAreMeant }
+/// What is heard of messages that are written one after another is what they say, up to the first that ends the
+/// stream or is over the reader's limit: a front of what was meant.
+pub fn written_messages_are_heard<S: Side>()
+    ensures heard { WrittenIsHeard S.meaning }
+    ensures meant { HeardIsMeant S.meaning }
 {
     giop_core::laws::written_is_read();
     giop_frames::laws::lists_of_messages_are_read_again();

@@ -5,18 +5,18 @@
 //! has ended, are two functions of the stream alone, wherever the stream is cut into pieces.
 #![tactic(auto)]
 
+mod awaited;
 mod client;
 mod delivery;
-mod fault;
+mod error;
 mod inbound;
 pub mod laws;
-mod link;
-mod outstanding;
-mod send_error;
+mod listener;
+mod server;
 
-pub use client::ClientLink;
+pub use client::{Client, ClientLink};
 pub use delivery::Delivery;
-pub use fault::LinkFault;
+pub use error::{LinkFault, SendError};
 pub use inbound::Inbound;
-pub use link::ServerLink;
-pub use send_error::SendError;
+pub use listener::{Listener, PeerEnd, Side};
+pub use server::{Server, ServerLink};

@@ -30,7 +30,7 @@ fn serve_wire<S: Servant + Drop, W: Wire, C: Clock>(
         × Follows (λ before now. now ≡ before ++ acts_of v) (W.traffic wire.old) (W.traffic wire.new)
         × Follows (λ before now. now ≡ before ++ moments_of v) (C.given clock.old) (C.given clock.new) }
 {
-    giop_link::laws::streams_are_heard();
+    giop_link::laws::streams_are_heard::<giop_link::Server>();
     if server.connect(connection).is_ok() {
         serve_stream(alloc, server, connection, wire, clock, MAX_READS);
     }

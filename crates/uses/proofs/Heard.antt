@@ -4,14 +4,15 @@ use Rattle.std.proofs.lemmas.List.Sums.{sum_by-append}
 use Rattle.giop_frames.specs.declared.limits.Limits.{Limits}
 use Rattle.giop_frames.specs.Frames.{split}
 use Rattle.giop_frames.specs.Streams.{fault_of, messages_of}
-use Rattle.giop_link.specs.Hearing.{Incoming, heard}
-use Rattle.giop_link.specs.Linking.{Linked, LinkStands, heard_in}
+use Rattle.giop_link.specs.Hearing.{Incoming, heard, heard_as}
+use Rattle.giop_link.specs.Linking.{Linked, LinkStands}
+use Rattle.giop_link.specs.Listening.{heard_in}
 use Rattle.uses.specs.Hearing.{is_request}
 use Rattle.uses.proofs.Counted.{taken_more}
 
 -- where nothing has come there is no request
 pub none_asked : (limits : Limits) → count_by is_request (heard limits []) ≡ 0
-unfolding heard fault_of messages_of split
+unfolding heard_as fault_of messages_of split
 none_asked limits = refl
 
 -- what feeding the octets from k on did

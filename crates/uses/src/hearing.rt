@@ -2,7 +2,7 @@
 
 ghost use Rattle.std.specs.Prelude.{◌≡◌, IfOk, if◌then◌else◌, count_by};
 ghost use Rattle.giop_link.specs.Hearing.{heard};
-ghost use Rattle.giop_link.specs.Linking.{heard_in};
+ghost use Rattle.giop_link.specs.Listening.{heard_in};
 ghost use Rattle.uses.specs.Hearing.{is_request};
 
 use giop_frames::Limits;

@@ -32,7 +32,7 @@ loop-taken-preserved c =
           let at = record k { received = k.received ++ a } in
           let qs = c.take_in.new.pending.items in
           let cs = c.take_in.new.completions.items in
-          let laws = steady m.limits c.answers_are_heard.ensures.grows c.answers_are_heard.ensures.stays c.answers_are_heard.ensures.silent in
+          let laws = steady m.limits c.streams_are_heard.ensures.grows c.streams_are_heard.ensures.stays c.streams_are_heard.ensures.silent in
           let whole : take (l.taken + c.in-Ok.n) c.args.piece.now ≡ a ++ b = take-add l.taken c.in-Ok.n c.args.piece.now ∙ ap (λ (xs : List ℕ). a ++ take c.in-Ok.n xs) (sym c.split_at.ensures.back) in
           subst (λ (o : List ℕ). IsFedTo m k o false qs cs c.feed.new.self) (sym whole)
           (joined m k a b false qs cs c.feed.new.self laws
@@ -50,7 +50,7 @@ returns-in-Err-clause-stands c =
     let at = record k { received = k.received ++ a } in
     let qs = l.pending.items in
     let cs = l.completions.items in
-    let laws = steady m.limits c.answers_are_heard.ensures.grows c.answers_are_heard.ensures.stays c.answers_are_heard.ensures.silent in
+    let laws = steady m.limits c.streams_are_heard.ensures.grows c.streams_are_heard.ensures.stays c.streams_are_heard.ensures.silent in
     let whole : a ++ left ≡ c.args.piece.now = ap (λ (xs : List ℕ). a ++ xs) c.split_at.ensures.back ∙ take-append-drop l.taken c.args.piece.now in
     subst (λ (b : Bool). IsFedTo m k c.args.piece.now b qs cs c.feed.new.self) (sym h.0)
     (subst (λ (o : List ℕ). IsFedTo m k o true qs cs c.feed.new.self) whole
@@ -72,7 +72,7 @@ returns-then-branch-clause-stands c = λ m k st was.
     let at = record k { received = k.received ++ a } in
     let qs = c.take_in.new.pending.items in
     let cs = c.take_in.new.completions.items in
-    let laws = steady m.limits c.answers_are_heard.ensures.grows c.answers_are_heard.ensures.stays c.answers_are_heard.ensures.silent in
+    let laws = steady m.limits c.streams_are_heard.ensures.grows c.streams_are_heard.ensures.stays c.streams_are_heard.ensures.silent in
     let whole : (a ++ b) ++ rest ≡ c.args.piece.now = append_assoc a b rest ∙ ap (λ (xs : List ℕ). a ++ xs) (take-append-drop c.in-Ok.n left ∙ c.split_at.ensures.back) ∙ take-append-drop l.taken c.args.piece.now in
     subst (λ (o : List ℕ). IsFedTo m k o true qs cs c.feed.new.self) whole
     (ended-more m k (a ++ b) rest qs cs c.feed.new.self laws

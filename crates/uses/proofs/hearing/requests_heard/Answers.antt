@@ -1,6 +1,6 @@
 use Rattle.std.proofs.Common.{◌≡◌, cond, count_by, sym, ap, ◌∙◌, arith}
 use Rattle.std.proofs.lemmas.List.{length-drop, take_rest}
-use Rattle.giop_link.specs.Linking.{heard_in}
+use Rattle.giop_link.specs.Listening.{heard_in}
 use Rattle.uses.specs.Hearing.{is_request}
 use Rattle.uses.proofs.Heard.{asked_on, link_stands_on, none_asked}
 use Rattle.uses.proofs.hearing.requests_heard.Goals as goal

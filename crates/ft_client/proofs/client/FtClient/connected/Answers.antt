@@ -25,7 +25,7 @@ returns-clause-stands c = λ m st.
         completions = st.fields.completions;
         rising = rising_resent m.last c.args.now 0 m.pending st.fields.rising;
       };
-      link = joined_link m c.args.self.now.limits c.args.self.now.version c.new-link.result c.send_again.new.link c.args.now (each c.deref_mut.result.now) st.fields.limits st.fields.version e c.new-link.ensures.stands h.link (λ l. (c.answers_are_heard.ensures.nothing l).1);
+      link = joined_link m c.args.self.now.limits c.args.self.now.version c.new-link.result c.send_again.new.link c.args.now (each c.deref_mut.result.now) st.fields.limits st.fields.version e c.new-link.ensures.stands h.link (λ l. (c.streams_are_heard.ensures.nothing l).1);
     }
 
 pub returns-clause-out : goal.returns-clause-out
