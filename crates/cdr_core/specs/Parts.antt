@@ -10,7 +10,7 @@ use Rattle.cdr_core.specs.Value.{Value}
 abbrev pub most : ℕ
 most = 4294967295
 
--- the types of numbers
+-- numbers of one octet and of two
 abbrev pub char : Form
 char = form.number form.char
 
@@ -23,6 +23,14 @@ short = form.number form.short
 abbrev pub ushort : Form
 ushort = form.number form.ushort
 
+-- unbounded octets, and an unbounded string
+abbrev pub raw : Form
+raw = form.octets most
+
+abbrev pub text : Form
+text = form.string most
+
+-- numbers of four octets and of eight
 abbrev pub long : Form
 long = form.number form.long
 
@@ -34,13 +42,6 @@ longlong = form.number form.longlong
 
 abbrev pub ulonglong : Form
 ulonglong = form.number form.ulonglong
-
--- unbounded octets, and an unbounded string
-abbrev pub raw : Form
-raw = form.octets most
-
-abbrev pub text : Form
-text = form.string most
 
 -- the values of numbers, and of an enumeration's ordinal
 abbrev pub char_value : ℕ → Value

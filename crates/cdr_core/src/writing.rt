@@ -180,10 +180,10 @@ pub fn write_list(
 ) -> Result<(), AllocError>
     requires at { at < 2 ^ 32 }
     requires writable { AreWritable (values_of values.now) }
-    ensures ok { OnOk result (out.new.items ≡ out.old.items ++ octets_of_all order (values_of values.now) at) }
-    ensures err { OnErr result (out.new.items ≡ out.old.items) }
     ensures succeeds { length out.old.items + length (octets_of_all order (values_of values.now) at) ≤ vec_capacity out.old → IsOk result }
     ensures capacity { vec_capacity out.old ≤ vec_capacity out.new }
+    ensures ok { OnOk result (out.new.items ≡ out.old.items ++ octets_of_all order (values_of values.now) at) }
+    ensures err { OnErr result (out.new.items ≡ out.old.items) }
 {
     let start = out.len();
     let appended = append_all(&Writer::new(order, at, out), values, out);

@@ -14,11 +14,6 @@ reply_status_number reply.LocationForward = 3
 reply_status_number reply.LocationForwardPerm = 4
 reply_status_number reply.NeedsAddressingMode = 5
 
-abbrev pub reply_status_of : ℕ → Option ReplyStatus
-reply_status_of n =
-    if n == 0 then Some reply.NoException else (if n == 1 then Some reply.UserException else (if n == 2 then Some reply.SystemException else
-    (if n == 3 then Some reply.LocationForward else (if n == 4 then Some reply.LocationForwardPerm else (if n == 5 then Some reply.NeedsAddressingMode else None)))))
-
 -- GIOP 9.4.6: enum LocateStatusType, in order
 abbrev pub locate_status_number : LocateStatus → ℕ
 locate_status_number locate.UnknownObject = 0
@@ -27,6 +22,12 @@ locate_status_number locate.ObjectForward = 2
 locate_status_number locate.ObjectForwardPerm = 3
 locate_status_number locate.SystemException = 4
 locate_status_number locate.NeedsAddressingMode = 5
+
+-- the status that a number names
+abbrev pub reply_status_of : ℕ → Option ReplyStatus
+reply_status_of n =
+    if n == 0 then Some reply.NoException else (if n == 1 then Some reply.UserException else (if n == 2 then Some reply.SystemException else
+    (if n == 3 then Some reply.LocationForward else (if n == 4 then Some reply.LocationForwardPerm else (if n == 5 then Some reply.NeedsAddressingMode else None)))))
 
 abbrev pub locate_status_of : ℕ → Option LocateStatus
 locate_status_of n =

@@ -13,6 +13,11 @@ pub fn messages_are_spelled()
     cdr_core::laws::spelled_is_read();
 }
 
+/// The body of a message that is read is a back part of its octets.
+pub fn bodies_are_backs()
+    ensures { BodiesAreBacks }
+{}
+
 /// What is refused has that fault by the grammar, and what has a fault by the grammar is refused with
 /// it. The discriminator of a target is unknown exactly where it is neither 0, 1 nor 2.
 pub fn refused_messages_stop()
@@ -24,11 +29,6 @@ pub fn refused_messages_stop()
     cdr_core::laws::spelled_is_read();
     cdr_core::laws::faults_stop();
 }
-
-/// The body of a message that is read is a back part of its octets.
-pub fn bodies_are_backs()
-    ensures { BodiesAreBacks }
-{}
 
 /// A message that is written is read as the same message.
 pub fn written_is_read()

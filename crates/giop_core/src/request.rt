@@ -116,52 +116,31 @@ fn read_reserved(cursor: &mut Cursor) -> Result<[u8; 3], Fault>
     Ok([a, b, c])
 }
 
-/// Reads a Request of 1.0. Each reader of a Request or a Reply makes the whole message in its place,
-/// since to move one costs as much as to read it.
+/// Reads a Request of 1.0 or 1.1, which has three reserved octets more. Each reader of a Request or a Reply makes the
+/// whole message in its place, since to move one costs as much as to read it.
 #[inline(never)]
 #[tactic(auto, unfolding(crate::specs::Messages::message_of, crate::specs::Rows::row, crate::specs::Content::content), using(crate::proofs::Again::addressed_again, crate::proofs::Again::items_again))]
-fn read_request_10(order: Order, octets: &[u8]) -> Result<Message<'_>, MessageFault>
-    ensures shows { Shows (λ m. content_of m.content) result (message_of V10 kind.Request order octets.now) }
-    ensures same { IfOk result (λ m. (m.version ≡ V10) × (m.order ≡ order)) }
+fn read_request_by_key(
+    version: Version,
+    order: Order,
+    octets: &[u8],
+) -> Result<Message<'_>, MessageFault>
+    requires { ¬ (version ≡ V12) }
+    ensures shows { Shows (λ m. content_of m.content) result (message_of version kind.Request order octets.now) }
+    ensures same { IfOk result (λ m. (m.version ≡ version) × (m.order ≡ order)) }
 {
     let mut cursor = Cursor::new(octets, order, AFTER_HEADER);
     let contexts = read_contexts(&mut cursor)?;
     let request_id = cursor.ulong()?;
     let expected = cursor.boolean()?;
+    if matches!(version, Version::V11) {
+        let _reserved = read_reserved(&mut cursor)?;
+    }
     let key = cursor.octets()?;
     let operation = cursor.string()?;
     let _principal = cursor.octets()?;
     Ok(Message {
-        version: Version::V10,
-        order,
-        content: Content::Request(Request {
-            request_id,
-            reply: wish_if(expected),
-            target: Target::Key(key),
-            operation,
-            contexts,
-            body: body_at(&cursor, order),
-        }),
-    })
-}
-
-/// Reads a Request of 1.1.
-#[inline(never)]
-#[tactic(auto, unfolding(crate::specs::Messages::message_of, crate::specs::Rows::row, crate::specs::Content::content), using(crate::proofs::Again::addressed_again, crate::proofs::Again::items_again))]
-fn read_request_11(order: Order, octets: &[u8]) -> Result<Message<'_>, MessageFault>
-    ensures shows { Shows (λ m. content_of m.content) result (message_of V11 kind.Request order octets.now) }
-    ensures same { IfOk result (λ m. (m.version ≡ V11) × (m.order ≡ order)) }
-{
-    let mut cursor = Cursor::new(octets, order, AFTER_HEADER);
-    let contexts = read_contexts(&mut cursor)?;
-    let request_id = cursor.ulong()?;
-    let expected = cursor.boolean()?;
-    let _reserved = read_reserved(&mut cursor)?;
-    let key = cursor.octets()?;
-    let operation = cursor.string()?;
-    let _principal = cursor.octets()?;
-    Ok(Message {
-        version: Version::V11,
+        version,
         order,
         content: Content::Request(Request {
             request_id,
@@ -213,8 +192,7 @@ pub(crate) fn read_request(
     ensures same { IfOk result (λ m. (m.version ≡ version) × (m.order ≡ order)) }
 {
     match version {
-        Version::V10 => read_request_10(order, octets),
-        Version::V11 => read_request_11(order, octets),
+        Version::V10 | Version::V11 => read_request_by_key(version, order, octets),
         Version::V12 => read_request_12(order, octets),
     }
 }
@@ -297,8 +275,8 @@ fn put_request_11(
     fields: &RequestFields,
     out: &mut Vec<u8>,
 ) -> Result<(), AllocError>
-    requires start { writer.now.start ≤ length out.old.items }
     requires can { CanAddress V11 (addressed_by fields.now.target.now) }
+    requires start { writer.now.start ≤ length out.old.items }
     requires writable { AreWritable (values (fields_in V11 fields.now)) }
     ensures { PutsFields writer.now (fields_in V11 fields.now) result out.old.items out.new.items }
 {

@@ -265,13 +265,13 @@ fn end(
 {
     match take_up(limits, header, frame.as_slice(), parts)? {
         TakenUp::Refused(fault) => Ok(Settled::Bad(fault)),
-        TakenUp::Continued(part) => {
-            let Part {
-                key: _,
+        TakenUp::Continued(
+            Part {
                 header: first,
                 octets,
-                named: _,
-            } = part;
+                ..
+            },
+        ) => {
             *frame = octets;
             let size = (frame.len() - Header::LEN) as u32;
             let header = Header {

@@ -46,26 +46,6 @@ impl From<CdrError> for IorError {
     }
 }
 
-/// The fault of the octets.
-impl From<Fault> for IorError {
-    ghost use Rattle.ior_core.specs.declared.error.IorError.TheVariants.{Cdr};
-
-    ghost from_gives = { λ f e. e ≡ Cdr f };
-
-    fn from(fault: Fault) -> IorError {
-        IorError::Cdr(fault)
-    }
-}
-
-/// Out of memory.
-impl From<AllocError> for IorError {
-    ghost from_gives = { λ _ e. e ≡ Memory };
-
-    fn from(_e: AllocError) -> IorError {
-        IorError::Memory
-    }
-}
-
 /// What is wrong with the digits: `OddDigits`, `BadDigit`, or out of memory.
 impl From<FromHexError> for IorError {
     ghost use Rattle.ior_core.specs.Text.{hex_error};
@@ -78,5 +58,25 @@ impl From<FromHexError> for IorError {
             FromHexError::InvalidHexCharacter { index, .. } => IorError::BadDigit(index as u64),
             FromHexError::InvalidStringLength | FromHexError::OutOfMemory => IorError::Memory,
         }
+    }
+}
+
+/// Out of memory.
+impl From<AllocError> for IorError {
+    ghost from_gives = { λ _ e. e ≡ Memory };
+
+    fn from(_e: AllocError) -> IorError {
+        IorError::Memory
+    }
+}
+
+/// The fault of the octets.
+impl From<Fault> for IorError {
+    ghost use Rattle.ior_core.specs.declared.error.IorError.TheVariants.{Cdr};
+
+    ghost from_gives = { λ f e. e ≡ Cdr f };
+
+    fn from(fault: Fault) -> IorError {
+        IorError::Cdr(fault)
     }
 }
