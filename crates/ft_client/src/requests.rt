@@ -12,18 +12,23 @@ ghost use Rattle.ft_client.specs.Keeping.{id_place, kept_by, kept_of, under};
 
 use crate::pending::{Asked, Pending};
 use cdr_core::Order;
-use giop_core::{FT_REQUEST, ReplyWish, Target, Version, WriteError, write_ft, write_request};
+use giop_core::{FT_REQUEST, Header, ReplyWish, Target, Version, WriteError, write_ft, write_request};
 use giop_link::ClientLink;
 use std::alloc::{AllocError, Global};
+
+/// How many octets stand before those of the first service context of a Request of 1.0 or 1.1: the header, the number
+/// of contexts, and the context's id and length.
+const BEFORE_CONTEXT: usize = Header::LEN + 12;
 
 /// Where the request id stands in a Request with one service context, of these octets (CORBA 3.3 Part 2, 9.4.2).
 fn id_place(version: Version, context: &[u8]) -> usize
     requires { length context.now < 2 ^ 32 }
     ensures { result ≡ id_place version context.now }
 {
-    match version {
-        Version::V12 => 12,
-        Version::V10 | Version::V11 => (24 + context.len()).next_multiple_of(4),
+    if version.has_id_first() {
+        Header::LEN
+    } else {
+        (BEFORE_CONTEXT + context.len()).next_multiple_of(4)
     }
 }
 
