@@ -28,6 +28,20 @@ pub fn completed_messages_are_heard<S: Side>()
     ensures { CompletedIsHeard S.meaning }
 {}
 
+/// Which messages can go out, in either byte order, and so are heard as what they say: of a client Requests with
+/// FT_REQUEST as their one context, which they carry, and CancelRequests; of a server Replies without contexts,
+/// LocateReplies without a body, CloseConnection and MessageError.
+pub fn messages_go_out()
+    ensures request { RequestsGoOut }
+    ensures cancel { CancelsGoOut }
+    ensures reply { RepliesGoOut }
+    ensures locate_reply { LocateRepliesGoOut }
+    ensures farewell { FarewellsGoOut }
+{
+    giop_core::laws::written_requests_carry_ft();
+    giop_core::laws::written_sizes();
+}
+
 /// The kind of each message of a stream says whether a server hears it, or how the stream ends by it.
 pub fn meanings_are_by_kind()
     ensures { MeaningsAreByKind }
@@ -50,18 +64,4 @@ pub fn written_messages_are_heard<S: Side>()
 {
     giop_core::laws::written_is_read();
     giop_frames::laws::lists_of_messages_are_read_again();
-}
-
-/// Which messages can go out, in either byte order, and so are heard as what they say: of a client Requests with
-/// FT_REQUEST as their one context, which they carry, and CancelRequests; of a server Replies without contexts,
-/// LocateReplies without a body, CloseConnection and MessageError.
-pub fn messages_go_out()
-    ensures request { RequestsGoOut }
-    ensures cancel { CancelsGoOut }
-    ensures reply { RepliesGoOut }
-    ensures locate_reply { LocateRepliesGoOut }
-    ensures farewell { FarewellsGoOut }
-{
-    giop_core::laws::written_requests_carry_ft();
-    giop_core::laws::written_sizes();
 }
