@@ -1,6 +1,6 @@
 //! The expirations of the entries, the least first.
 
-ghost use Rattle.std.specs.Prelude.{◌≡◌, ◌+◌, ◌<◌, ◌==◌, List, ℕ, [], length, cond, nat_lt, OnOk, IfSome, IfNone};
+ghost use Rattle.std.specs.Prelude.{◌≡◌, ◌+◌, ◌<◌, ◌==◌, List, ℕ, [], bytes_eq, length, cond, nat_lt, OnOk, IfSome, IfNone};
 ghost use Rattle.std.specs.List.{count_by, sum_by};
 ghost use Rattle.std.specs.BinaryHeap.{IsHeap, IsHeap-prop, heap_items};
 
@@ -42,6 +42,20 @@ impl Order {
         ensures { result ≡ length (dues self.now) }
     {
         self.heap.len()
+    }
+
+    /// How many of the keys are a client's.
+    pub(crate) fn held_by(&self, client_id: &[u8]) -> usize
+        ensures { result ≡ count_by (λ d. bytes_eq d.key.client_id.items client_id.now) (dues self.now) }
+    {
+        let dues = self.heap.as_slice();
+        let mut held = 0;
+        for due in dues {
+            if due.key.client_id.as_slice() == client_id {
+                held += 1;
+            }
+        }
+        held
     }
 
     /// The least moment.

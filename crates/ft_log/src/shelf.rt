@@ -1,6 +1,6 @@
 //! The map of a log: under each key its outcome, and under each client how many of them it has.
 
-ghost use Rattle.std.specs.Prelude.{◌≡◌, ◌+◌, ◌^◌, ◌<◌, ◌≤◌, ◌==◌, if◌then◌else◌, List, ℕ, Some, None, bytes_eq, is_some, true, false};
+ghost use Rattle.std.specs.Prelude.{◌≡◌, ◌+◌, ◌^◌, ◌<◌, ◌≤◌, ◌==◌, ◌&&◌, if◌then◌else◌, List, ℕ, Some, None, bytes_eq, is_some, true, false};
 ghost use Rattle.std.specs.Option.{option_copied};
 ghost use Rattle.indexmap.specs.IndexMap.{index_map_len, spare};
 ghost use Rattle.ft_log.specs.Keys.{RequestKey, same_key};
@@ -77,8 +77,35 @@ pub(crate) fn take(shelf: &mut Shelf, key: &Key)
     shelf.swap_remove(name);
 }
 
+/// Counts one more outcome of a client, where clients are counted.
+pub(crate) fn count_up_if(counts: bool, shelf: &mut Shelf, client_id: Vec<u8>)
+    requires room { 0 < spare shelf.old }
+    requires fits { counts ≡ true → held_at shelf.old client_id.items + 1 < 2 ^ 32 }
+    ensures kept { (key : RequestKey) → kept_at shelf.new key ≡ kept_at shelf.old key }
+    ensures held { counts ≡ true → (client : List ℕ) → held_at shelf.new client ≡ held_at shelf.old client + (if bytes_eq client_id.items client then 1 else 0) }
+    ensures slots { index_map_len shelf.new ≤ index_map_len shelf.old + (if counts && held_at shelf.old client_id.items == 0 then 1 else 0) }
+    ensures room { spare shelf.old ≤ spare shelf.new + 1 }
+{
+    if counts {
+        count_up(shelf, client_id);
+    }
+}
+
+/// Counts one outcome of a client less, where clients are counted.
+pub(crate) fn count_down_if(counts: bool, shelf: &mut Shelf, client_id: &[u8])
+    requires { counts ≡ true → 0 < held_at shelf.old client_id.now }
+    ensures kept { (key : RequestKey) → kept_at shelf.new key ≡ kept_at shelf.old key }
+    ensures held { counts ≡ true → (client : List ℕ) → held_at shelf.new client + (if bytes_eq client_id.now client then 1 else 0) ≡ held_at shelf.old client }
+    ensures slots { index_map_len shelf.new + (if counts && held_at shelf.old client_id.now == 1 then 1 else 0) ≤ index_map_len shelf.old }
+    ensures room { spare shelf.old ≤ spare shelf.new }
+{
+    if counts {
+        count_down(shelf, client_id);
+    }
+}
+
 /// Counts one more outcome of a client.
-pub(crate) fn count_up(shelf: &mut Shelf, client_id: Vec<u8>)
+fn count_up(shelf: &mut Shelf, client_id: Vec<u8>)
     requires room { 0 < spare shelf.old }
     requires fits { held_at shelf.old client_id.items + 1 < 2 ^ 32 }
     ensures kept { (key : RequestKey) → kept_at shelf.new key ≡ kept_at shelf.old key }
@@ -97,7 +124,7 @@ pub(crate) fn count_up(shelf: &mut Shelf, client_id: Vec<u8>)
 }
 
 /// Counts one outcome of a client less. A client that has none left is forgotten.
-pub(crate) fn count_down(shelf: &mut Shelf, client_id: &[u8])
+fn count_down(shelf: &mut Shelf, client_id: &[u8])
     requires { 0 < held_at shelf.old client_id.now }
     ensures kept { (key : RequestKey) → kept_at shelf.new key ≡ kept_at shelf.old key }
     ensures held { (client : List ℕ) → held_at shelf.new client + (if bytes_eq client_id.now client then 1 else 0) ≡ held_at shelf.old client }

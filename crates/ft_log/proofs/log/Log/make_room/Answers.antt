@@ -14,29 +14,29 @@ use Rattle.ft_log.proofs.Ready.{IsReady, ready_from}
 use Rattle.ft_log.proofs.Moved.{counted_in, dated_in, found_in}
 use Rattle.ft_log.proofs.log.Log.make_room.Goals as goal
 
+-- the client of a key has fewer than its share
+below : {client : List ℕ} {slice : List ℕ} {share : ℕ} (es : List Entry) → slice ≡ client → held_of slice (keys_at es) < share → held_of client (keys_at es) < share
+below {client} {slice} {share} es is h = subst (λ (x : List ℕ). held_of x (keys_at es) < share) is h
+
 pub returns-in_err-room-clause-share_full : goal.returns-in_err-room-clause-share_full
 unfolding logged
 returns-in_err-room-clause-share_full c =
-    let held = c.held_by.ensures.held ∙ ap (λ x. held_of x (keys_at c.args.self.now.story.entries)) c.deref.ensures.value in
-    (other_error c.from_residual.result c.from_residual.ensures.1, λ h. absurd (c.if-held_by-self.false (held ∙ h.1)))
+    (other_error c.from_residual.result c.from_residual.ensures.1, λ h. absurd (omega (arith, h.1, below c.args.self.now.story.entries c.deref.ensures.value (c.is_share_full.ensures.no c.if-is_share_full.false))))
 
 pub returns-in_err-reserve-clause-share_full : goal.returns-in_err-reserve-clause-share_full
 unfolding logged
 returns-in_err-reserve-clause-share_full c =
-    let held = c.held_by.ensures.held ∙ ap (λ x. held_of x (keys_at c.args.self.now.story.entries)) c.deref.ensures.value in
-    (other_error c.from_residual-in_err-reserve.result c.from_residual-in_err-reserve.ensures.1, λ h. absurd (c.if-held_by-self.false (held ∙ h.1)))
+    (other_error c.from_residual-in_err-reserve.result c.from_residual-in_err-reserve.ensures.1, λ h. absurd (omega (arith, h.1, below c.args.self.now.story.entries c.deref.ensures.value (c.is_share_full.ensures.no c.if-is_share_full.false))))
 
 pub returns-in_err-reserve-2-clause-share_full : goal.returns-in_err-reserve-2-clause-share_full
 unfolding logged
 returns-in_err-reserve-2-clause-share_full c =
-    let held = c.held_by.ensures.held ∙ ap (λ x. held_of x (keys_at c.args.self.now.story.entries)) c.deref.ensures.value in
-    (other_error c.from_residual-in_err-reserve-2.result c.from_residual-in_err-reserve-2.ensures.1, λ h. absurd (c.if-held_by-self.false (held ∙ h.1)))
+    (other_error c.from_residual-in_err-reserve-2.result c.from_residual-in_err-reserve-2.ensures.1, λ h. absurd (omega (arith, h.1, below c.args.self.now.story.entries c.deref.ensures.value (c.is_share_full.ensures.no c.if-is_share_full.false))))
 
 pub returns-clause-share_full : goal.returns-clause-share_full
 unfolding logged
 returns-clause-share_full c =
-    let held = c.held_by.ensures.held ∙ ap (λ x. held_of x (keys_at c.args.self.now.story.entries)) c.deref.ensures.value in
-    (λ e. cc, λ h. absurd (c.if-held_by-self.false (held ∙ h.1)))
+    (λ e. cc, λ h. absurd (omega (arith, h.1, below c.args.self.now.story.entries c.deref.ensures.value (c.is_share_full.ensures.no c.if-is_share_full.false))))
 
 pub invariant_of-self-2 : goal.invariant_of-self-2
 unfolding logged
@@ -46,12 +46,11 @@ invariant_of-self-2 c =
     let client : List ℕ = key.client_id in
     let es : List Entry = s.story.entries in
     let old : List RequestKey = keys_at es in
-    let held = c.held_by.ensures.held ∙ ap (λ x. held_of x (keys_at es)) c.deref.ensures.value in
     let fewer : length es < s.capacity = omega (arith, c.if-len-self.false, c.len.ensures.length, length-map es entry_in, s.within) in
     let place : IsReady key old s.capacity s.share (places c.reserve.new.self) (spare c.reserve-2.new.self) = record {
       new = none_kept key (entries_at es) c.requires;
       within = omega (arith, length_keys es, fewer);
-      shared = omega (arith, held, s.shared client, c.if-held_by-self.false);
+      shared = below es c.deref.ensures.value (c.is_share_full.ensures.no c.if-is_share_full.false);
       place = omega (arith, length_keys es, as_many s.order es s.dated, ap (λ l. length l) c.reserve.ensures.same, c.in_ok-reserve.ensures.ok);
       spares = omega (arith, c.in_ok-reserve-2.ensures.ok);
     } in
@@ -60,7 +59,7 @@ invariant_of-self-2 c =
       distinct = s.distinct;
       shared = s.shared;
       found = found_in s.kept c.reserve-2.new.self es c.reserve-2.ensures.entries s.found;
-      counted = counted_in s.kept c.reserve-2.new.self es c.reserve-2.ensures.entries s.counted;
+      counted = λ t. counted_in s.kept c.reserve-2.new.self es c.reserve-2.ensures.entries (s.counted t);
       slim = omega (arith, s.slim, ap (λ l. length l) c.reserve-2.ensures.entries);
       dated = dated_in s.order c.reserve.new.self es c.reserve.ensures.same s.dated;
       ready = subst (λ (k : RequestKey). is_ready (Some k) old s.capacity s.share (places c.reserve.new.self) (spare c.reserve-2.new.self) ≡ true) (sym c.in_ok-room.ensures)
