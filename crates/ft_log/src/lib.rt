@@ -6,17 +6,18 @@
 //! `Log` keeps outcomes by their keys until they expire. The crate stands on `cdr_core` for values.
 #![tactic(auto)]
 
+mod counts;
 mod entry;
 mod error;
 mod key;
 pub mod laws;
 mod log;
+mod mark;
 mod name;
 mod order;
 mod outcome;
 mod room;
 mod shelf;
-mod slot;
 mod story;
 mod system_exception;
 

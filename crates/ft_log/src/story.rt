@@ -9,7 +9,7 @@ ghost use Rattle.ft_log.specs.Without.{without};
 ghost use Rattle.ft_log.specs.declared.entry.Entry.{Entry as KeptEntry};
 
 use crate::entry::Entry;
-use crate::key::Key;
+use crate::mark::Mark;
 use std::marker::Model;
 
 /// The entries that are kept, in order. It takes no memory, and its calls do nothing when they run.
@@ -38,8 +38,8 @@ impl Story {
     }
 
     /// The same without the entry of a key.
-    pub(crate) fn without(_before: &Story, _key: &Key) -> Story
-        ensures { result.entries ≡ without (key_of _key.now) _before.now.entries }
+    pub(crate) fn without(_before: &Story, _key: &Mark) -> Story
+        ensures { result.entries ≡ without (key_of _key.now.key) _before.now.entries }
     {
         Story {}
     }

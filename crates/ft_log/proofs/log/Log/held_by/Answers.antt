@@ -1,15 +1,14 @@
 use Rattle.std.proofs.Common.{◌≡◌, ◌∙◌, cond, bytes_eq, sym, arith}
 use Rattle.ft_log.specs.Keys.{held_of}
 use Rattle.ft_log.specs.Logged.{logged}
-use Rattle.ft_log.proofs.Entries.{held_sum, keys_at}
+use Rattle.ft_log.proofs.Entries.{keys_at}
 use Rattle.ft_log.proofs.log.Log.held_by.Goals as goal
 use Rattle.ft_log.proofs.log.Log.held_by.Goals.{After-held_by}
 
--- the keys in the order are those of the entries
+-- the keys in the map are those of the entries
 walked : (c : After-held_by) → c.held_by.result ≡ held_of c.args.client_id.now (keys_at c.args.self.now.story.entries)
 walked c =
-    let s = c.args.self.now in
-    c.held_by.ensures ∙ s.dated (λ p. cond (bytes_eq p.1.client_id c.args.client_id.now) 1 0) ∙ held_sum c.args.client_id.now s.story.entries
+    c.held_by.ensures ∙ c.args.self.now.listed (λ k. cond (bytes_eq k.client_id c.args.client_id.now) 1 0)
 
 pub overflow_cast-result : goal.overflow_cast-result
 unfolding logged
