@@ -5,7 +5,7 @@ use Rattle.std.proofs.lemmas.Bool.{and_parts, and_from, not_from_false, ltb-true
 use Rattle.ft_log.specs.Keys.{RequestKey, held_of, same_key}
 use Rattle.ft_log.specs.Tied.{is_ready}
 use Rattle.ft_log.specs.Without.{without}
-use Rattle.ft_log.specs.declared.entry.Entry.{Entry}
+use Rattle.ft_log.specs.declared.story.Entry.{Entry}
 use Rattle.ft_log.proofs.Entries.{keys_at, list_any-without}
 use Rattle.ft_log.proofs.Listed.{false_from_not}
 

@@ -9,7 +9,7 @@ use Rattle.ft_log.specs.Maps.{Counts, is_countable}
 use Rattle.ft_log.specs.Shelf.{has_room, kept_at, slot_at}
 use Rattle.ft_log.specs.View.{key_of}
 use Rattle.ft_log.specs.contracts.outcome.Outcome as code
-use Rattle.ft_log.specs.declared.entry.Entry.{Entry}
+use Rattle.ft_log.specs.declared.story.Entry.{Entry}
 use Rattle.ft_log.specs.declared.order.Due.{Due}
 use Rattle.ft_log.specs.declared.order.Order.{Order}
 use Rattle.ft_log.specs.declared.outcome.Outcome.{Outcome}

@@ -7,7 +7,6 @@
 #![tactic(auto)]
 
 mod counts;
-mod entry;
 mod error;
 mod key;
 pub mod laws;

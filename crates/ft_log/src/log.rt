@@ -11,14 +11,13 @@ ghost use Rattle.ft_log.specs.Tied.{AreDues, AreOutcomes, AreOutcomes-prop, is_c
 ghost use Rattle.ft_log.specs.View.{entries_at, key_of};
 
 use crate::counts::{Counts, count_down_if, count_of, count_up_if, reserve_if};
-use crate::entry::Entry;
 use crate::error::LogError;
 use crate::key::Key;
 use crate::order::{Due, Order};
 use crate::outcome::Outcome;
 use crate::room::{Room, room_for};
 use crate::shelf::Shelf;
-use crate::story::Story;
+use crate::story::{Entry, Story};
 use indexmap::IndexMap;
 use std::alloc::Global;
 use std::cmp::Reverse;

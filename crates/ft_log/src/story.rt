@@ -3,14 +3,23 @@
 ghost use Rattle.std.specs.Prelude.{◌≡◌, List, [], ◌∷◌, ◌++◌};
 ghost use Rattle.std.specs.Borrow.{ftrue};
 ghost use Rattle.std.specs.Coded.{coded_list};
-ghost use Rattle.ft_log.specs.contracts.entry.Entry.{the_row};
+ghost use Rattle.ft_log.specs.contracts.story.Entry.{the_row};
 ghost use Rattle.ft_log.specs.View.{key_of};
 ghost use Rattle.ft_log.specs.Without.{without};
-ghost use Rattle.ft_log.specs.declared.entry.Entry.{Entry as KeptEntry};
+ghost use Rattle.ft_log.specs.declared.story.Entry.{Entry as KeptEntry};
 
-use crate::entry::Entry;
+use crate::key::Key;
 use crate::mark::Mark;
+use crate::outcome::Outcome;
 use std::marker::Model;
+
+/// An outcome under its key, and the last moment at which it is repeated.
+#[derive(Drop)]
+pub(crate) struct Entry {
+    pub(crate) key: Key,
+    pub(crate) expiration: u64,
+    pub(crate) outcome: Outcome,
+}
 
 /// The entries that are kept, in order. It takes no memory, and its calls do nothing when they run.
 #[derive(Drop)]

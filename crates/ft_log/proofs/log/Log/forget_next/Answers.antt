@@ -12,7 +12,7 @@ use Rattle.ft_log.specs.Shelf.{at_key}
 use Rattle.ft_log.specs.Tied.{AreDues, AreOutcomes, is_free, is_ready, is_slotted}
 use Rattle.ft_log.specs.View.{entries_at, entry_in, key_of}
 use Rattle.ft_log.specs.Without.{without}
-use Rattle.ft_log.specs.declared.entry.Entry.{Entry}
+use Rattle.ft_log.specs.declared.story.Entry.{Entry}
 use Rattle.ft_log.specs.declared.shelf.Shelf.{Shelf}
 use Rattle.ft_log.proofs.Dated.{dues_left, left_of, none_before}
 use Rattle.ft_log.proofs.Entries.{IsLeft, all_stay, are_distinct-without, held_left, keys_at, length_left, outcome_for-without}

@@ -7,7 +7,7 @@ use Rattle.ft_log.specs.Logged.{logged}
 use Rattle.ft_log.specs.Maps.{Counts, is_countable}
 use Rattle.ft_log.specs.Tied.{is_free, is_ready}
 use Rattle.ft_log.specs.View.{entries_at, entry_in, key_of}
-use Rattle.ft_log.specs.declared.entry.Entry.{Entry}
+use Rattle.ft_log.specs.declared.story.Entry.{Entry}
 use Rattle.ft_log.specs.declared.shelf.Shelf.{Shelf}
 use Rattle.ft_log.proofs.Dated.{as_many}
 use Rattle.ft_log.proofs.Entries.{keys_at}
