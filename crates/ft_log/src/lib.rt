@@ -11,7 +11,6 @@ mod error;
 mod key;
 pub mod laws;
 mod log;
-mod mark;
 mod name;
 mod order;
 mod outcome;

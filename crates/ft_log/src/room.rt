@@ -4,7 +4,7 @@ ghost use Rattle.std.specs.Prelude.{◌≡◌, IfOk, bytes_eq, true};
 ghost use Rattle.ft_log.specs.View.{key_of};
 
 use crate::key::Key;
-use crate::mark::Mark;
+use crate::story::Mark;
 use std::alloc::{AllocError, Global};
 
 /// The key that room is made for, which only proofs read, and its client, for the count where clients are counted.

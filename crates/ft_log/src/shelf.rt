@@ -10,9 +10,9 @@ ghost use Rattle.ft_log.specs.Placed.{ArePlaced, ArePlaced-prop, IsMoved};
 ghost use Rattle.ft_log.specs.View.{key_of};
 
 use crate::key::Key;
-use crate::mark::Mark;
 use crate::name::{Lent, Name};
 use crate::outcome::Outcome;
+use crate::story::Mark;
 use indexmap::IndexMap;
 use slab::Slab;
 use std::alloc::{AllocError, Global};

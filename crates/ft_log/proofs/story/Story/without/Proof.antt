@@ -31,7 +31,7 @@ use Rattle.ft_log.specs.contracts.story.Story.without as f
 use Rattle.ft_log.proofs.story.Story.without.Statement as stated
 use Rattle.ft_log.proofs.story.Story.without.Code as code
 use Rattle.ft_log.specs.contracts.story.Story as trail
-use Rattle.ft_log.specs.contracts.mark.Mark as name
+use Rattle.ft_log.specs.contracts.story.Mark as name
 use Rattle.ft_log.specs.View.{key_of}
 use Rattle.ft_log.specs.Without.{without}
 

@@ -26,11 +26,11 @@ use denote.Triple.Entry.{on_entry, alive, Args}
 use denote.Triple.Spec.{Meets, triple_of}
 use denote.Triple.Table.{entered}
 use denote.Triple.Walked.{says, stay_none_ref, Stays, walk_of, Walks, ends_at, walked, Goes-none_ref, walk_Meets}
-use Rattle.ft_log.specs.contracts.mark.Mark.of.Key.{name as key}
-use Rattle.ft_log.specs.contracts.mark.Mark.of as f
-use Rattle.ft_log.proofs.mark.Mark.of.Statement as stated
-use Rattle.ft_log.proofs.mark.Mark.of.Code as code
-use Rattle.ft_log.specs.contracts.mark.Mark as made
+use Rattle.ft_log.specs.contracts.story.Mark.of.Key.{name as key}
+use Rattle.ft_log.specs.contracts.story.Mark.of as f
+use Rattle.ft_log.proofs.story.Mark.of.Statement as stated
+use Rattle.ft_log.proofs.story.Mark.of.Code as code
+use Rattle.ft_log.specs.contracts.story.Mark as made
 use Rattle.ft_log.specs.contracts.key.Key as name
 
 abbrev stayed : Stays (f.ended).signature.params (f.ended).kept
