@@ -7,7 +7,7 @@ use Rattle.ft_log.specs.Kept.{least_expiration, unexpired}
 use Rattle.ft_log.specs.Tied.{AreDues, due_in, due_of}
 use Rattle.ft_log.specs.View.{entries_at, key_of}
 use Rattle.ft_log.specs.Without.{without}
-use Rattle.ft_log.specs.declared.entry.Entry.{Entry}
+use Rattle.ft_log.specs.declared.story.Entry.{Entry}
 use Rattle.ft_log.specs.declared.order.Due.{Due}
 use Rattle.ft_log.specs.declared.order.Order.{Order}
 use Rattle.ft_log.proofs.Entries.{IsLeft, NoneBefore, all_stay, keys_at, least_is, left_from, length_sum, one, one_itself, split}
@@ -37,15 +37,15 @@ module _ (o : Order) (es : List Entry) (dated : AreDues o es) where
   stay_before (Some t) none before now le = all_stay t now es le (none_before t before)
 
   module _ (o' : Order) (due : Due) (sums : (f : Due → ℕ) → sum_by f (dues o') + f due ≡ sum_by f (dues o)) where
-    pub left_of : are_distinct (keys_at es) ≡ true → IsLeft due.until.0 (key_of due.key) es
+    pub left_of : are_distinct (keys_at es) ≡ true → IsLeft due.until.0 (key_of due.key.key) es
     left_of distinct =
         let x : ℕ = due.until.0 in
-        let key : RequestKey = key_of due.key in
+        let key : RequestKey = key_of due.key.key in
         let all = sums (λ d. one x key (due_in d)) in
         let there : 0 < sum_by (λ e. one x key (due_of e)) es = omega (arith, all, one_itself x key, dated (one x key)) in
         left_from x key es (split x key es there) distinct
 
-    pub dues_left : IsLeft due.until.0 (key_of due.key) es → AreDues o' (without (key_of due.key) es)
+    pub dues_left : IsLeft due.until.0 (key_of due.key.key) es → AreDues o' (without (key_of due.key.key) es)
     dues_left left f =
         let same : f (due_of left.entry) ≡ f (due_in due) = λ i. f (left.until i, left.of_key i) in
         omega (arith, same, sums (λ d. f (due_in d)), dated f, left.sums (λ e. f (due_of e)))

@@ -12,7 +12,7 @@ use Rattle.ft_log.specs.Kept.{keys_of, kept_for, least_expiration, unexpired}
 use Rattle.ft_log.specs.Tied.{due_of, outcome_for}
 use Rattle.ft_log.specs.View.{entries_at, entry_in, key_of, performed_in}
 use Rattle.ft_log.specs.Without.{without}
-use Rattle.ft_log.specs.declared.entry.Entry.{Entry}
+use Rattle.ft_log.specs.declared.story.Entry.{Entry}
 use Rattle.ft_log.specs.declared.outcome.Outcome.{Outcome}
 use Rattle.ft_log.proofs.Listed.{false_from_not, itself, same_is}
 

@@ -1,9 +1,11 @@
 pub mod Listed
 pub mod Named
 pub mod Slots
-mod Counts
+pub mod Placing
+mod Counting
 pub mod Heaped
 pub mod Entries
 pub mod Dated
 pub mod Moved
 pub mod Ready
+pub mod Slotted

@@ -11,7 +11,7 @@ use Rattle.std.proofs.lemmas.Slice.Eq.{bytes_eq-Decides}
 use Rattle.ft_log.specs.Keys.{RequestKey, are_distinct, held_of, same_key}
 use Rattle.ft_log.specs.Kept.{KeptOutcome, keys_of, kept_for}
 use Rattle.ft_log.specs.View.{entries_at, entry_in, key_of}
-use Rattle.ft_log.specs.declared.entry.Entry.{Entry}
+use Rattle.ft_log.specs.declared.story.Entry.{Entry}
 use Rattle.ft_log.specs.declared.error.LogError.{LogError}
 use Rattle.ft_log.specs.declared.error.LogError.TheVariants.{Memory, ShareFull}
 

@@ -8,7 +8,7 @@
 --   View        what a `Key`, an `Outcome` and an entry of the code stand for
 --   Logged      what a `Log` stands for, and how many slots it has
 -- Laws          what the tests of keys say, and of repository ids
--- Names, Shelf, Dues, Without, Tied      words for the fields of a `Log`; no public contract, definition or law uses them
+-- Names, Maps, Placed, Shelf, Dues, Without, Tied      words for the fields of a `Log`; no public contract, definition or law uses them
 pub mod Exceptions
 pub mod Statuses
 pub mod Performed
@@ -18,6 +18,8 @@ pub mod View
 pub mod Logged
 pub mod Laws
 pub mod Names
+pub mod Maps
+pub mod Placed
 pub mod Shelf
 pub mod Dues
 pub mod Without

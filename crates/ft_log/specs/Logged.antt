@@ -1,5 +1,5 @@
 -- What a `Log` stands for.
-use Rattle.std.specs.Prelude.{ℕ, List, Option, option_map}
+use Rattle.std.specs.Prelude.{ℕ, ◌+◌, List, Option, option_map}
 use Rattle.indexmap.specs.IndexMap.{index_map_len}
 use Rattle.ft_log.specs.Keys.{RequestKey}
 use Rattle.ft_log.specs.Kept.{KeptOutcome}
@@ -21,9 +21,9 @@ logged l = record {
   capacity = l.capacity;
   share = l.share;
   entries = entries_at l.story.entries;
-  room = option_map (λ r. key_of r.key) l.room;
+  room = option_map (λ r. key_of r.key.key) l.room;
 }
 
--- how many slots its map has: what it keeps in memory for outcomes and for clients
+-- how many slots its maps have: what it keeps in memory for outcomes and for clients
 unfoldable pub slots_of : Log → ℕ
-slots_of l = index_map_len l.kept
+slots_of l = index_map_len l.kept.outcomes + index_map_len l.counts

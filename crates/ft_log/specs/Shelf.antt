@@ -1,33 +1,25 @@
--- What stands in a log's map. No public contract, definition or law uses these words.
-use Rattle.std.specs.Prelude.{ℕ, List, Option, Some, None}
-use Rattle.std.specs.declared.random_state.RandomState.{RandomState}
-use Rattle.indexmap.specs.IndexMap.{IndexMap, get_by}
+-- What a shelf has. No public contract, definition or law uses these words.
+use Rattle.std.specs.Prelude.{ℕ, Bool, ◌+◌, ◌&&◌, nat_le, nat_lt, Option, option_map}
+use Rattle.indexmap.specs.IndexMap.{spare}
+use Rattle.slab.specs.Slab.{slab_len}
 use Rattle.ft_log.specs.Keys.{RequestKey}
-use Rattle.ft_log.specs.Names.{is_named}
-use Rattle.ft_log.specs.declared.name.Name.{Name}
+use Rattle.ft_log.specs.Maps.{under}
 use Rattle.ft_log.specs.declared.outcome.Outcome.{Outcome}
-use Rattle.ft_log.specs.declared.slot.Slot.{Slot}
-use Rattle.ft_log.specs.declared.slot.Slot.TheVariants.{Kept, Held}
+use Rattle.ft_log.specs.declared.shelf.Kept.{Kept}
+use Rattle.ft_log.specs.declared.shelf.Shelf.{Shelf}
 
-abbrev pub Shelf : Type 0
-Shelf = IndexMap Name Slot RandomState
-
--- the outcome in a slot
-abbrev pub outcome_in : Option Slot → Option Outcome
-outcome_in None = None
-outcome_in (Some (Kept o)) = Some o
-outcome_in (Some (Held n)) = None
-
--- the count in a slot
-abbrev pub count_in : Option Slot → ℕ
-count_in None = 0
-count_in (Some (Kept o)) = 0
-count_in (Some (Held n)) = n
+-- what stands under a key
+abbrev pub at_key : Shelf → RequestKey → Option Kept
+at_key s key = under s.outcomes key
 
 -- the outcome under a key
 abbrev pub kept_at : Shelf → RequestKey → Option Outcome
-kept_at m key = outcome_in (get_by (is_named key.client_id (Some key.retention_id)) m)
+kept_at s key = option_map (λ k. k.outcome) (at_key s key)
 
--- the count under a client
-abbrev pub held_at : Shelf → List ℕ → ℕ
-held_at m client = count_in (get_by (is_named client None) m)
+-- the slot under a key
+abbrev pub slot_at : Shelf → RequestKey → Option ℕ
+slot_at s key = option_map (λ k. k.slot) (at_key s key)
+
+-- one more outcome fits
+abbrev pub has_room : Shelf → Bool
+has_room s = nat_lt 0 (spare s.outcomes) && nat_le (slab_len s.places + 1) s.places.capacity

@@ -4,7 +4,7 @@ use Rattle.cdr_core.specs.View.{values_of}
 use Rattle.ft_log.specs.Keys.{RequestKey}
 use Rattle.ft_log.specs.Kept.{KeptOutcome}
 use Rattle.ft_log.specs.Performed.{Performed, raw, returned, raised, system}
-use Rattle.ft_log.specs.declared.entry.Entry.{Entry}
+use Rattle.ft_log.specs.declared.story.Entry.{Entry}
 use Rattle.ft_log.specs.declared.key.Key.{Key}
 use Rattle.ft_log.specs.declared.outcome.Outcome.{Outcome}
 use Rattle.ft_log.specs.declared.outcome.Outcome.TheVariants.{Raw, Returned, Raised, System}

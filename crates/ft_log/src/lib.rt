@@ -6,7 +6,7 @@
 //! `Log` keeps outcomes by their keys until they expire. The crate stands on `cdr_core` for values.
 #![tactic(auto)]
 
-mod entry;
+mod counts;
 mod error;
 mod key;
 pub mod laws;
@@ -16,7 +16,6 @@ mod order;
 mod outcome;
 mod room;
 mod shelf;
-mod slot;
 mod story;
 mod system_exception;
 

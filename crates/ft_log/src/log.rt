@@ -1,22 +1,23 @@
 //! The log: outcomes by their keys.
 
-ghost use Rattle.std.specs.Prelude.{◌≡◌, ◌≤◌, ◌+◌, IsTrue, List, ℕ, length, option_map};
-ghost use Rattle.indexmap.specs.IndexMap.{index_map_len, spare};
-ghost use Rattle.ft_log.specs.Dues.{places};
-ghost use Rattle.ft_log.specs.Keys.{are_distinct, clients_in, held_of};
+ghost use Rattle.std.specs.Prelude.{◌≡◌, ◌≤◌, ◌+◌, IsTrue, List, ℕ, if◌then◌else◌, length, nat_lt, not, option_map};
+ghost use Rattle.std.specs.List.{count_by, sum_by};
+ghost use Rattle.indexmap.specs.IndexMap.{index_map_len};
+ghost use Rattle.ft_log.specs.Dues.{dues, places};
+ghost use Rattle.ft_log.specs.Keys.{RequestKey, are_distinct, clients_in, held_of};
 ghost use Rattle.ft_log.specs.Kept.{keys_of};
-ghost use Rattle.ft_log.specs.Shelf.{held_at};
-ghost use Rattle.ft_log.specs.Tied.{AreDues, AreOutcomes, AreOutcomes-prop, is_ready};
+ghost use Rattle.ft_log.specs.Maps.{held_at, key_in};
+ghost use Rattle.ft_log.specs.Tied.{AreDues, AreOutcomes, AreOutcomes-prop, is_copied, is_free, is_ready, is_slotted};
 ghost use Rattle.ft_log.specs.View.{entries_at, key_of};
 
-use crate::entry::Entry;
+use crate::counts::{Counts, count_down_if, count_of, count_up_if, reserve_if};
 use crate::error::LogError;
 use crate::key::Key;
 use crate::order::{Due, Order};
 use crate::outcome::Outcome;
 use crate::room::{Room, room_for};
-use crate::shelf::{Shelf, count_down, count_of, count_up, outcome_at, put, take};
-use crate::story::Story;
+use crate::shelf::Shelf;
+use crate::story::{Entry, Story};
 use indexmap::IndexMap;
 use std::alloc::Global;
 use std::cmp::Reverse;
@@ -29,15 +30,16 @@ use std::hash::RandomState;
 /// entries, and the key that room is made for, if there is one. `find`, `forget`, `keep`, `len`,
 /// `held_by` and `next_expiry` allocate nothing.
 ///
-/// `kept` has a slot for each entry, with its outcome, one for each client of an entry, with how many it has,
-/// and no other; `order` has the key of each entry by its expiration. `room` holds two copies of one client
-/// id, so that keeping takes no memory. `story` takes none.
+/// `kept` has the outcome of each entry and no other, and `order` its slot there, by its expiration. `counts` has how many
+/// entries each client of an entry has, where the share is below the capacity, and nothing else. There `room` holds a copy of
+/// a client id, so that keeping takes no memory. `story` takes none.
 #[derive(Drop)]
 pub struct Log {
     capacity: u32,
     share: u32,
     alloc: Global,
     kept: Shelf,
+    counts: Counts,
     order: Order,
     room: Option<Room>,
     story: Story,
@@ -45,14 +47,17 @@ pub struct Log {
     ghost distinct: { IsTrue (are_distinct (keys_of (entries_at story.entries))) },
     ghost shared: { (client : List ℕ) → held_of client (keys_of (entries_at story.entries)) ≤ share },
     ghost found: { AreOutcomes kept story.entries } by { AreOutcomes-prop kept story.entries },
-    ghost counted: { (client : List ℕ) → held_at kept client ≡ held_of client (keys_of (entries_at story.entries)) },
-    ghost slim: { index_map_len kept ≤ length story.entries + clients_in (keys_of (entries_at story.entries)) },
+    ghost listed: { (f : RequestKey → ℕ) → sum_by (λ p. f (key_in p.0)) kept.outcomes.entries ≡ sum_by f (keys_of (entries_at story.entries)) },
+    ghost counted: { IsTrue (nat_lt share capacity) → (client : List ℕ) → held_at counts client ≡ held_of client (keys_of (entries_at story.entries)) },
+    ghost slim: { index_map_len counts ≤ (if nat_lt share capacity then clients_in (keys_of (entries_at story.entries)) else 0) },
     ghost dated: { AreDues order story.entries },
-    ghost ready: { IsTrue (is_ready (option_map (λ r. key_of r.key) room) (keys_of (entries_at story.entries)) capacity share (places order) (spare kept)) },
+    ghost slotted: { count_by (λ d. not (is_slotted kept d)) (dues order) ≡ 0 },
+    ghost copied: { IsTrue (nat_lt share capacity) → IsTrue (is_copied room) },
+    ghost ready: { IsTrue (is_ready (option_map (λ r. key_of r.key.key) room) (keys_of (entries_at story.entries)) capacity share (places order) (is_free (nat_lt share capacity) kept counts)) },
 }
 
 impl Log {
-    ghost use Rattle.std.specs.Prelude.{◌≡◌, ◌↔◌, ◌<◌, ◌*◌, ◌++◌, [], ◌∷◌, None, Some, Err, OnOk, OnErr, MatchOption, false, length};
+    ghost use Rattle.std.specs.Prelude.{◌≡◌, ◌↔◌, ◌<◌, ◌*◌, ◌++◌, [], ◌∷◌, None, Some, Err, OnOk, OnErr, MatchOption, true, false, length};
     ghost use Rattle.ft_log.specs.Kept.{kept_for, least_expiration, unexpired};
     ghost use Rattle.ft_log.specs.Logged.{logged, slots_of};
     ghost use Rattle.ft_log.specs.View.{performed_in};
@@ -67,7 +72,8 @@ impl Log {
             capacity,
             share,
             alloc,
-            kept: IndexMap::with_hasher(alloc, hasher),
+            kept: Shelf::new(alloc, hasher),
+            counts: IndexMap::with_hasher(alloc, hasher),
             order: Order::new(alloc),
             room: None,
             story: Story::new(),
@@ -79,7 +85,7 @@ impl Log {
     pub fn find(&self, key: &Key) -> Option<&Outcome>
         ensures { option_map (λ o. performed_in o.now) result ≡ kept_for (key_of key.now) (logged self.now).entries }
     {
-        outcome_at(&self.kept, key)
+        self.kept.outcome_at(key)
     }
 
     /// How many outcomes are kept.
@@ -97,7 +103,22 @@ impl Log {
         ensures held { result ≡ held_of client_id.now (keys_of (logged self.now).entries) }
         ensures bound { result ≤ (logged self.now).share }
     {
-        count_of(&self.kept, client_id)
+        let _share = self.share;
+        if self.counts_clients() {
+            count_of(&self.counts, client_id)
+        } else {
+            self.kept.held_by(client_id) as u32
+        }
+    }
+
+    /// Whether the share is below the capacity. Where it isn't, no client can have its share before the log is full, and
+    /// clients are not counted.
+    #[tactic(auto, unfolding(crate::specs::Logged::logged))]
+    #[inline(always)]
+    fn counts_clients(&self) -> bool
+        ensures { result ≡ nat_lt (logged self.now).share (logged self.now).capacity }
+    {
+        self.share < self.capacity
     }
 
     /// The least expiration of what is kept.
@@ -126,15 +147,26 @@ impl Log {
         ensures same { unexpired now (logged self.new).entries ≡ unexpired now (logged self.old).entries }
         ensures others { logged self.new ≡ record (logged self.old) { entries = (logged self.new).entries } }
     {
+        let counts = self.counts_clients();
         match self.order.pop_before(now) {
             Some(due) => {
-                take(&mut self.kept, &due.key);
-                count_down(&mut self.kept, due.key.client_id.as_slice());
+                let client_id = self.kept.take(due.slot, &due.key);
+                count_down_if(counts, &mut self.counts, client_id.as_slice());
                 self.story = Story::without(&self.story, &due.key);
                 true
             }
             None => false,
         }
+    }
+
+    /// Whether a client has its share, in a log that isn't full.
+    #[tactic(auto, unfolding(crate::specs::Logged::logged))]
+    fn is_share_full(&self, client_id: &[u8]) -> bool
+        requires { length (logged self.now).entries < (logged self.now).capacity }
+        ensures yes { result ≡ true → held_of client_id.now (keys_of (logged self.now).entries) ≡ (logged self.now).share }
+        ensures no { result ≡ false → held_of client_id.now (keys_of (logged self.now).entries) < (logged self.now).share }
+    {
+        self.counts_clients() && count_of(&self.counts, client_id) == self.share
     }
 
     /// Makes room for the outcome of a key that has none, and for no other. An error leaves room for no
@@ -154,12 +186,14 @@ impl Log {
         if self.len() == self.capacity as usize {
             return Err(LogError::Full);
         }
-        if self.held_by(&key.client_id) == self.share {
+        if self.is_share_full(&key.client_id) {
             return Err(LogError::ShareFull);
         }
-        let room = room_for(self.alloc, key)?;
+        let counts = self.counts_clients();
+        let room = room_for(counts, self.alloc, key)?;
         self.order.reserve()?;
-        self.kept.reserve(2)?;
+        self.kept.reserve()?;
+        reserve_if(counts, &mut self.counts)?;
         self.room = Some(room);
         Ok(())
     }
@@ -175,6 +209,7 @@ impl Log {
         } }
     {
         let _share = self.share;
+        let counts = self.counts_clients();
         let Some(room) = self.room.take() else {
             return;
         };
@@ -184,12 +219,13 @@ impl Log {
             outcome,
         };
         self.story = Story::with(&self.story, &entry);
+        let slot = self.kept.put(entry.key, entry.outcome);
         self.order.push(Due {
             until: Reverse(expiration),
+            slot,
             key: room.key,
         });
-        count_up(&mut self.kept, room.client_id);
-        put(&mut self.kept, entry.key, entry.outcome);
+        count_up_if(counts, &mut self.counts, room.client_id);
     }
 
     /// No two entries have one key.

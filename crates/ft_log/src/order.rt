@@ -4,21 +4,23 @@ ghost use Rattle.std.specs.Prelude.{◌≡◌, ◌+◌, ◌<◌, ◌==◌, List,
 ghost use Rattle.std.specs.List.{count_by, sum_by};
 ghost use Rattle.std.specs.BinaryHeap.{IsHeap, IsHeap-prop, heap_items};
 
-use crate::key::Key;
+use crate::story::Mark;
 use std::alloc::{AllocError, Global};
 use std::cmp::Reverse;
 use std::collections::BinaryHeap;
 
-/// A key, and the last moment at which its outcome is repeated. Of two the later one comes first.
+/// The slot of an outcome, and the last moment at which it is repeated. Of two the later one comes first. Proofs read its key.
 #[derive(Drop)]
 #[derive_where(PartialEq, Eq, PartialOrd, Ord)]
 pub(crate) struct Due {
     pub(crate) until: Reverse<u64>,
     #[derive_where(skip(EqHashOrd))]
-    pub(crate) key: Key,
+    pub(crate) slot: usize,
+    #[derive_where(skip(EqHashOrd))]
+    pub(crate) key: Mark,
 }
 
-/// The keys with their last moments, the least moment on top.
+/// The slots with their last moments, the least moment on top.
 #[derive(Drop)]
 pub(crate) struct Order {
     heap: BinaryHeap<Due>,
@@ -28,7 +30,7 @@ pub(crate) struct Order {
 impl Order {
     ghost use Rattle.ft_log.specs.Dues.{dues, places};
 
-    /// No keys.
+    /// No slots.
     pub(crate) fn new(alloc: Global) -> Order
         ensures { dues result ≡ [] }
     {
@@ -37,7 +39,7 @@ impl Order {
         }
     }
 
-    /// How many keys.
+    /// How many slots.
     pub(crate) fn len(&self) -> usize
         ensures { result ≡ length (dues self.now) }
     {
@@ -56,7 +58,7 @@ impl Order {
         }
     }
 
-    /// Makes a place for one more key.
+    /// Makes a place for one more slot.
     pub(crate) fn reserve(&mut self) -> Result<(), AllocError>
         ensures same { dues self.new ≡ dues self.old }
         ensures ok { OnOk result (length (dues self.new) < places self.new) }
@@ -64,7 +66,7 @@ impl Order {
         self.heap.reserve(1)
     }
 
-    /// Adds a key, for which there is a place.
+    /// Adds a slot, for which there is a place.
     pub(crate) fn push(&mut self, due: Due)
         requires { length (dues self.old) < places self.old }
         ensures { (f : Due → ℕ) → sum_by f (dues self.new) ≡ f due + sum_by f (dues self.old) }
@@ -72,7 +74,7 @@ impl Order {
         let _ = self.heap.push(due);
     }
 
-    /// Takes out a key whose last moment lies before this one, if there is one.
+    /// Takes out a slot whose last moment lies before this one, if there is one.
     pub(crate) fn pop_before(&mut self, now: u64) -> Option<Due>
         ensures none { IfNone result (count_by (λ d. nat_lt d.until.0 now) (dues self.old) ≡ 0) }
         ensures kept { IfNone result (dues self.new ≡ dues self.old) }

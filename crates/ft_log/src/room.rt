@@ -1,24 +1,38 @@
 //! What is made beforehand for an entry, so that keeping it takes no memory.
 
-ghost use Rattle.std.specs.Prelude.{◌≡◌, IfOk};
+ghost use Rattle.std.specs.Prelude.{◌≡◌, IfOk, bytes_eq, true};
 ghost use Rattle.ft_log.specs.View.{key_of};
 
 use crate::key::Key;
+use crate::story::Mark;
 use std::alloc::{AllocError, Global};
 
-/// The key that room is made for, for the order of expirations, and its client, for the count.
+/// The key that room is made for, which only proofs read, and its client, for the count where clients are counted.
 #[derive(Drop)]
 pub(crate) struct Room {
-    pub(crate) key: Key,
+    pub(crate) key: Mark,
     pub(crate) client_id: Vec<u8>,
-    ghost same: { client_id.items ≡ key.client_id.items },
 }
 
-/// Room for a key, in copies; an error if an allocation failed.
-pub(crate) fn room_for(alloc: Global, key: &Key) -> Result<Room, AllocError>
-    ensures { IfOk result (λ room. key_of room.key ≡ key_of key.now) }
+/// Room for a key; an error if an allocation failed.
+pub(crate) fn room_for(is_counted: bool, alloc: Global, key: &Key) -> Result<Room, AllocError>
+    ensures key { IfOk result (λ room. key_of room.key.key ≡ key_of key.now) }
+    ensures client { IfOk result (λ room. is_counted ≡ true → bytes_eq room.client_id.items (key_of key.now).client_id ≡ true) }
 {
-    let client_id = Vec::from_slice(alloc, key.client_id.as_slice())?;
-    let key = key.copy(alloc)?;
-    Ok(Room { key, client_id })
+    let client_id = copied_if(is_counted, alloc, key.client_id.as_slice())?;
+    Ok(Room {
+        key: Mark::of(key),
+        client_id,
+    })
+}
+
+/// A copy of a client's octets, where clients are counted.
+fn copied_if(is_counted: bool, alloc: Global, client_id: &[u8]) -> Result<Vec<u8>, AllocError>
+    ensures { IfOk result (λ v. is_counted ≡ true → v.items ≡ client_id.now) }
+{
+    if is_counted {
+        Vec::from_slice(alloc, client_id)
+    } else {
+        Ok(Vec::new(alloc))
+    }
 }

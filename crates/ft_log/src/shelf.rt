@@ -1,56 +1,127 @@
-//! The map of a log: under each key its outcome, and under each client how many of them it has.
+//! What a log keeps under keys.
 
-ghost use Rattle.std.specs.Prelude.{◌≡◌, ◌+◌, ◌^◌, ◌<◌, ◌≤◌, ◌==◌, if◌then◌else◌, List, ℕ, Some, None, bytes_eq, is_some, true, false};
-ghost use Rattle.std.specs.Option.{option_copied};
-ghost use Rattle.indexmap.specs.IndexMap.{index_map_len, spare};
+ghost use Rattle.std.specs.Prelude.{◌≡◌, ◌<◌, if◌then◌else◌, ℕ, Some, None, bytes_eq, is_some, option_map, slice_get, true, false};
+ghost use Rattle.std.specs.Option.{option_copied, option_map_or};
+ghost use Rattle.indexmap.specs.IndexMap.{spare};
+ghost use Rattle.slab.specs.Slab.{get as place_of, slab_len};
 ghost use Rattle.ft_log.specs.Keys.{RequestKey, same_key};
-ghost use Rattle.ft_log.specs.Shelf.{held_at, kept_at};
+ghost use Rattle.ft_log.specs.Maps.{IsPushed, key_in, under};
+ghost use Rattle.ft_log.specs.Placed.{ArePlaced, ArePlaced-prop, IsMoved};
 ghost use Rattle.ft_log.specs.View.{key_of};
 
 use crate::key::Key;
 use crate::name::{Lent, Name};
 use crate::outcome::Outcome;
-use crate::slot::Slot;
+use crate::story::Mark;
 use indexmap::IndexMap;
+use slab::Slab;
+use std::alloc::{AllocError, Global};
 use std::hash::RandomState;
 
-/// What is kept, by its name.
-pub(crate) type Shelf = IndexMap<Name, Slot, RandomState>;
+/// An outcome, and the slot that has its place.
+#[derive(Drop)]
+pub(crate) struct Kept {
+    pub(crate) slot: usize,
+    pub(crate) outcome: Outcome,
+}
 
-/// The outcome of a key.
-pub(crate) fn outcome_at<'s>(shelf: &'s Shelf, key: &Key) -> Option<&'s Outcome>
-    ensures { option_copied result ≡ kept_at shelf.now (key_of key.now) }
-{
-    let name = Lent {
-        client_id: key.client_id.as_slice(),
-        number: Some(key.retention_id),
-    };
-    match shelf.get(name) {
-        Some(Slot::Kept(outcome)) => Some(outcome),
-        Some(Slot::Held(_)) | None => None,
+/// Outcomes by their keys.
+pub(crate) type Outcomes = IndexMap<Name, Kept, RandomState>;
+
+/// Outcomes by their keys, and for each a slot, a number that stays. Under its slot stands its place among the outcomes, which
+/// changes as others go.
+#[derive(Drop)]
+pub(crate) struct Shelf {
+    outcomes: Outcomes,
+    places: Slab<usize>,
+    ghost placed: { ArePlaced outcomes.entries places } by { ArePlaced-prop outcomes.entries places },
+}
+
+impl Shelf {
+    ghost use Rattle.std.specs.Prelude.{◌+◌, [], IsTrue, OnOk};
+    ghost use Rattle.std.specs.List.{count_by, sum_by};
+    ghost use Rattle.ft_log.specs.Shelf.{at_key, has_room, kept_at, slot_at};
+
+    /// No outcome.
+    pub(crate) fn new(alloc: Global, hasher: RandomState) -> Shelf
+        ensures { result.outcomes.entries ≡ [] }
+    {
+        Shelf {
+            outcomes: IndexMap::with_hasher(alloc, hasher),
+            places: Slab::new(alloc),
+        }
+    }
+
+    /// The outcome of a key.
+    pub(crate) fn outcome_at(&self, key: &Key) -> Option<&Outcome>
+        ensures { option_copied result ≡ kept_at self.now (key_of key.now) }
+    {
+        let name = Lent {
+            client_id: key.client_id.as_slice(),
+            number: Some(key.retention_id),
+        };
+        match self.outcomes.get(name) {
+            Some(kept) => Some(&kept.outcome),
+            None => None,
+        }
+    }
+
+    /// How many of the outcomes are a client's.
+    pub(crate) fn held_by(&self, client_id: &[u8]) -> usize
+        ensures { result ≡ count_by (λ p. bytes_eq (key_in p.0).client_id client_id.now) self.now.outcomes.entries }
+    {
+        let mut held = 0;
+        for place in 0..self.outcomes.len() {
+            if is_held_at(&self.outcomes, place, client_id) {
+                held += 1;
+            }
+        }
+        held
+    }
+
+    /// Makes room for one more outcome.
+    pub(crate) fn reserve(&mut self) -> Result<(), AllocError>
+        ensures same { self.new.outcomes.entries ≡ self.old.outcomes.entries }
+        ensures ok { OnOk result (IsTrue (has_room self.new)) }
+    {
+        self.outcomes.reserve(1)?;
+        self.places.reserve(1)
+    }
+
+    /// Puts an outcome under a key that has none, for which there is room, and gives its slot.
+    pub(crate) fn put(&mut self, key: Key, outcome: Outcome) -> usize
+        requires absent { at_key self.old (key_of key) ≡ None }
+        requires room { IsTrue (has_room self.old) }
+        ensures kept { (other : RequestKey) → at_key self.new other ≡ (if same_key other (key_of key) then Some (record { slot = result; outcome = outcome }) else at_key self.old other) }
+        ensures sums { (f : RequestKey → ℕ) → sum_by (λ p. f (key_in p.0)) self.new.outcomes.entries ≡ sum_by (λ p. f (key_in p.0)) self.old.outcomes.entries + f (key_of key) }
+    {
+        let slot = self.places.insert_reserved(self.outcomes.len());
+        insert(&mut self.outcomes, key, Kept { slot, outcome });
+        slot
+    }
+
+    /// Takes the outcome of a key away, by its slot, and gives the client.
+    pub(crate) fn take(&mut self, slot: usize, _key: &Mark) -> Vec<u8>
+        requires { slot_at self.old (key_of _key.now.key) ≡ Some slot }
+        ensures client { result.items ≡ (key_of _key.now.key).client_id }
+        ensures kept { (other : RequestKey) → at_key self.new other ≡ (if same_key other (key_of _key.now.key) then None else at_key self.old other) }
+        ensures sums { (f : RequestKey → ℕ) → sum_by (λ p. f (key_in p.0)) self.new.outcomes.entries + f (key_of _key.now.key) ≡ sum_by (λ p. f (key_in p.0)) self.old.outcomes.entries }
+        ensures room { IsTrue (has_room self.old) → IsTrue (has_room self.new) }
+    {
+        let place = self.places.remove(slot);
+        let (name, _) = self.outcomes.swap_remove_index(place).unwrap();
+        let moved = slot_in(&self.outcomes, place);
+        move_to(&mut self.places, moved, place);
+        name.client_id
     }
 }
 
-/// How many outcomes a client has.
-pub(crate) fn count_of(shelf: &Shelf, client_id: &[u8]) -> u32
-    ensures { result ≡ held_at shelf.now client_id.now }
-{
-    let name = Lent {
-        client_id,
-        number: None,
-    };
-    match shelf.get(name) {
-        Some(Slot::Held(count)) => *count,
-        Some(Slot::Kept(_)) | None => 0,
-    }
-}
-
-/// Puts an outcome under its key.
-pub(crate) fn put(shelf: &mut Shelf, key: Key, outcome: Outcome)
-    requires { 0 < spare shelf.old }
-    ensures kept { (other : RequestKey) → kept_at shelf.new other ≡ (if same_key other (key_of key) then Some outcome else kept_at shelf.old other) }
-    ensures held { (client : List ℕ) → held_at shelf.new client ≡ held_at shelf.old client }
-    ensures slots { index_map_len shelf.new ≤ index_map_len shelf.old + 1 }
+/// Puts an outcome under a key that has none, last of all.
+fn insert(outcomes: &mut Outcomes, key: Key, kept: Kept)
+    requires absent { under outcomes.old (key_of key) ≡ None }
+    requires room { 0 < spare outcomes.old }
+    ensures kept { (other : RequestKey) → under outcomes.new other ≡ (if same_key other (key_of key) then Some kept else under outcomes.old other) }
+    ensures last { IsPushed (key_of key) kept outcomes.old.entries outcomes.new.entries }
 {
     let Key {
         client_id,
@@ -60,110 +131,38 @@ pub(crate) fn put(shelf: &mut Shelf, key: Key, outcome: Outcome)
         client_id,
         number: Some(retention_id),
     };
-    shelf.insert(name, Slot::Kept(outcome)).unwrap();
+    outcomes.insert(name, kept).unwrap();
 }
 
-/// Takes the outcome of a key away.
-pub(crate) fn take(shelf: &mut Shelf, key: &Key)
-    ensures kept { (other : RequestKey) → kept_at shelf.new other ≡ (if same_key other (key_of key.now) then None else kept_at shelf.old other) }
-    ensures held { (client : List ℕ) → held_at shelf.new client ≡ held_at shelf.old client }
-    ensures slots { index_map_len shelf.new + (if is_some (kept_at shelf.old (key_of key.now)) then 1 else 0) ≤ index_map_len shelf.old }
-    ensures room { spare shelf.old ≤ spare shelf.new }
+/// Whether the outcome in a place is a client's.
+fn is_held_at(outcomes: &Outcomes, place: usize, client_id: &[u8]) -> bool
+    ensures { result ≡ option_map_or (λ p. bytes_eq (key_in p.0).client_id client_id.now) (slice_get outcomes.now.entries place) false }
 {
-    let name = Lent {
-        client_id: key.client_id.as_slice(),
-        number: Some(key.retention_id),
-    };
-    shelf.swap_remove(name);
-}
-
-/// Counts one more outcome of a client.
-pub(crate) fn count_up(shelf: &mut Shelf, client_id: Vec<u8>)
-    requires room { 0 < spare shelf.old }
-    requires fits { held_at shelf.old client_id.items + 1 < 2 ^ 32 }
-    ensures kept { (key : RequestKey) → kept_at shelf.new key ≡ kept_at shelf.old key }
-    ensures held { (client : List ℕ) → held_at shelf.new client ≡ held_at shelf.old client + (if bytes_eq client_id.items client then 1 else 0) }
-    ensures slots { index_map_len shelf.new ≤ index_map_len shelf.old + (if held_at shelf.old client_id.items == 0 then 1 else 0) }
-    ensures room { spare shelf.old ≤ spare shelf.new + 1 }
-{
-    if raised(shelf, client_id.as_slice()) {
-        return;
-    }
-    let name = Name {
-        client_id,
-        number: None,
-    };
-    shelf.insert(name, Slot::Held(1)).unwrap();
-}
-
-/// Counts one outcome of a client less. A client that has none left is forgotten.
-pub(crate) fn count_down(shelf: &mut Shelf, client_id: &[u8])
-    requires { 0 < held_at shelf.old client_id.now }
-    ensures kept { (key : RequestKey) → kept_at shelf.new key ≡ kept_at shelf.old key }
-    ensures held { (client : List ℕ) → held_at shelf.new client + (if bytes_eq client_id.now client then 1 else 0) ≡ held_at shelf.old client }
-    ensures slots { index_map_len shelf.new + (if held_at shelf.old client_id.now == 1 then 1 else 0) ≤ index_map_len shelf.old }
-    ensures room { spare shelf.old ≤ spare shelf.new }
-{
-    if lowered(shelf, client_id) {
-        return;
-    }
-    let name = Lent {
-        client_id,
-        number: None,
-    };
-    shelf.swap_remove(name);
-}
-
-/// Counts one more outcome of a client that has some, and says whether it has.
-fn raised(shelf: &mut Shelf, client_id: &[u8]) -> bool
-    requires { held_at shelf.old client_id.now + 1 < 2 ^ 32 }
-    ensures kept { (key : RequestKey) → kept_at shelf.new key ≡ kept_at shelf.old key }
-    ensures yes { result ≡ true → (client : List ℕ) → held_at shelf.new client ≡ held_at shelf.old client + (if bytes_eq client_id.now client then 1 else 0) }
-    ensures no { result ≡ false → (held_at shelf.old client_id.now ≡ 0) × ((client : List ℕ) → held_at shelf.new client ≡ held_at shelf.old client) }
-    ensures slots { index_map_len shelf.new ≡ index_map_len shelf.old }
-    ensures room { spare shelf.old ≤ spare shelf.new }
-{
-    let name = Lent {
-        client_id,
-        number: None,
-    };
-    match shelf.get_mut(name) {
-        Some(slot) => match slot {
-            Slot::Held(count) => {
-                let more = *count + 1;
-                *slot = Slot::Held(more);
-                true
-            }
-            Slot::Kept(_) => false,
-        },
+    match outcomes.get_index(place) {
+        Some((name, _)) => name.client_id.as_slice() == client_id,
         None => false,
     }
 }
 
-/// Counts one outcome less of a client that has more than one, and says whether it has.
-fn lowered(shelf: &mut Shelf, client_id: &[u8]) -> bool
-    ensures kept { (key : RequestKey) → kept_at shelf.new key ≡ kept_at shelf.old key }
-    ensures yes { result ≡ true → (1 < held_at shelf.old client_id.now) × ((client : List ℕ) → held_at shelf.new client + (if bytes_eq client_id.now client then 1 else 0) ≡ held_at shelf.old client) }
-    ensures no { result ≡ false → (held_at shelf.old client_id.now ≤ 1) × ((client : List ℕ) → held_at shelf.new client ≡ held_at shelf.old client) }
-    ensures slots { index_map_len shelf.new ≡ index_map_len shelf.old }
-    ensures room { spare shelf.old ≤ spare shelf.new }
+/// The slot of the outcome in a place, if there is one.
+fn slot_in(outcomes: &Outcomes, place: usize) -> Option<usize>
+    ensures { result ≡ option_map (λ p. p.1.slot) (slice_get outcomes.now.entries place) }
 {
-    let name = Lent {
-        client_id,
-        number: None,
-    };
-    match shelf.get_mut(name) {
-        Some(slot) => match slot {
-            Slot::Held(count) => {
-                let count = *count;
-                if count <= 1 {
-                    return false;
-                }
-                *slot = Slot::Held(count - 1);
-                true
-            }
-            Slot::Kept(_) => false,
-        },
-        None => false,
+    match outcomes.get_index(place) {
+        Some((_, kept)) => Some(kept.slot),
+        None => None,
+    }
+}
+
+/// Notes the place of what was moved, if there is something.
+fn move_to(places: &mut Slab<usize>, moved: Option<usize>, place: usize)
+    requires { (slot : ℕ) → moved ≡ Some slot → is_some (place_of places.old slot) ≡ true }
+    ensures moved { IsMoved moved place places.old places.new }
+    ensures len { slab_len places.new ≡ slab_len places.old }
+    ensures capacity { places.new.capacity ≡ places.old.capacity }
+{
+    if let Some(slot) = moved {
+        places.remove(slot);
+        places.insert_reserved(place);
     }
 }

@@ -3,14 +3,43 @@
 ghost use Rattle.std.specs.Prelude.{◌≡◌, List, [], ◌∷◌, ◌++◌};
 ghost use Rattle.std.specs.Borrow.{ftrue};
 ghost use Rattle.std.specs.Coded.{coded_list};
-ghost use Rattle.ft_log.specs.contracts.entry.Entry.{the_row};
+ghost use Rattle.ft_log.specs.contracts.key.Key as key_row;
+ghost use Rattle.ft_log.specs.contracts.story.Entry.{the_row};
 ghost use Rattle.ft_log.specs.View.{key_of};
 ghost use Rattle.ft_log.specs.Without.{without};
-ghost use Rattle.ft_log.specs.declared.entry.Entry.{Entry as KeptEntry};
+ghost use Rattle.ft_log.specs.declared.key.Key.{Key as MarkedKey};
+ghost use Rattle.ft_log.specs.declared.story.Entry.{Entry as KeptEntry};
 
-use crate::entry::Entry;
 use crate::key::Key;
+use crate::outcome::Outcome;
 use std::marker::Model;
+
+/// An outcome under its key, and the last moment at which it is repeated.
+#[derive(Drop)]
+pub(crate) struct Entry {
+    pub(crate) key: Key,
+    pub(crate) expiration: u64,
+    pub(crate) outcome: Outcome,
+}
+
+/// The key of what it stands in. It takes no memory, and its call does nothing when it runs.
+#[derive(Drop)]
+pub(crate) struct Mark {
+    pub(crate) ghost key: { MarkedKey } by { key_row.the_row.coded },
+}
+
+impl Model for Mark {
+    ghost also_owns = { λ _. ftrue };
+}
+
+impl Mark {
+    /// The mark of a key.
+    pub(crate) fn of(_key: &Key) -> Mark
+        ensures { result.key ≡ _key.now }
+    {
+        Mark {}
+    }
+}
 
 /// The entries that are kept, in order. It takes no memory, and its calls do nothing when they run.
 #[derive(Drop)]
@@ -38,8 +67,8 @@ impl Story {
     }
 
     /// The same without the entry of a key.
-    pub(crate) fn without(_before: &Story, _key: &Key) -> Story
-        ensures { result.entries ≡ without (key_of _key.now) _before.now.entries }
+    pub(crate) fn without(_before: &Story, _key: &Mark) -> Story
+        ensures { result.entries ≡ without (key_of _key.now.key) _before.now.entries }
     {
         Story {}
     }

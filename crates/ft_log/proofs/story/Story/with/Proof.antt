@@ -31,7 +31,7 @@ use Rattle.ft_log.specs.contracts.story.Story.with as f
 use Rattle.ft_log.proofs.story.Story.with.Statement as stated
 use Rattle.ft_log.proofs.story.Story.with.Code as code
 use Rattle.ft_log.specs.contracts.story.Story as trail
-use Rattle.ft_log.specs.contracts.entry.Entry as name
+use Rattle.ft_log.specs.contracts.story.Entry as name
 
 abbrev stayed : Stays (f.ended).signature.params (f.ended).kept
 stayed = (stay_none_ref (0 ∷ []) tt (plain (λ _. trail.the_row)) yes, (stay_none_ref (1 ∷ []) tt (plain (λ _. name.the_row)) yes, tt))

@@ -31,7 +31,7 @@ use Rattle.ft_log.specs.contracts.story.Story.without as f
 use Rattle.ft_log.proofs.story.Story.without.Statement as stated
 use Rattle.ft_log.proofs.story.Story.without.Code as code
 use Rattle.ft_log.specs.contracts.story.Story as trail
-use Rattle.ft_log.specs.contracts.key.Key as name
+use Rattle.ft_log.specs.contracts.story.Mark as name
 use Rattle.ft_log.specs.View.{key_of}
 use Rattle.ft_log.specs.Without.{without}
 
@@ -60,8 +60,8 @@ module _ {M : Type 1} {𝓤 : Ura M} (𝓛 : Logic 𝓤) (mem : Memory → SProp
         qed 𝓛 (raw (alive 𝓛 f.signature κs qs) ∷ ‵ passed ∷ []) ∵ enter ! C Λ code.function (before ∷ named_by ∷ []) _ $
         alloc_all ! (λ l. pass_all ! refl ((tt, tt), ((tt, tt), tt)) $ sets ! (agg ! (no_more !)) refl (tt, tt) $
         returns ! (look_at ! 0 refl) $ free_all ! refl $
-        suffices ! _ (ends_at 𝓛 f.ended stayed (f.clauses 𝓛 mem run) bound (vstruct vnil) (record { entries = without (key_of a.1.0.now) a.0.now.entries }) (tt, (tt, tt)) (tt, (tt, tt))) $
-        says ! refl $ pure_i ! (trail.the_row.own_val (record { entries = without (key_of a.1.0.now) a.0.now.entries }) (vstruct vnil ∷ [])) ((λ vss. (tt, tt)), tt) ((tt, (refl, tt)), tt) $
+        suffices ! _ (ends_at 𝓛 f.ended stayed (f.clauses 𝓛 mem run) bound (vstruct vnil) (record { entries = without (key_of a.1.0.now.key) a.0.now.entries }) (tt, (tt, tt)) (tt, (tt, tt))) $
+        says ! refl $ pure_i ! (trail.the_row.own_val (record { entries = without (key_of a.1.0.now.key) a.0.now.entries }) (vstruct vnil ∷ [])) ((λ vss. (tt, tt)), tt) ((tt, (refl, tt)), tt) $
         move ! (1 ∷ 2 ∷ 0 ∷ []) $ done !)
 
   walks : Walks 𝓛 f.ended stayed (WpFn 𝓤 H C Λ code.function) (f.clauses 𝓛 mem run)
