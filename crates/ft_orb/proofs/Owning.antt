@@ -38,8 +38,7 @@ use Rattle.ft_orb.specs.Outputs.{Writes, after, output_cut, table_of_past, table
 use Rattle.ft_orb.specs.Owners.{Owner, answered_so_far, made_of, meaning_of, owner_rules, rules_with}
 use Rattle.ft_orb.specs.Pauses.{Breaks, IsServedTo, Paused, Reaches}
 use Rattle.ft_orb.specs.Private.{Served, counted_by, all_answered}
-use Rattle.ft_orb.specs.Renderings.{rendered}
-use Rattle.ft_orb.specs.Replies.{reply_by}
+use Rattle.ft_orb.specs.Tellings.{rendered, reply_by}
 use Rattle.ft_orb.specs.Requests.{Call, Wanted, asked_of, asking}
 use Rattle.ft_orb.specs.Standing.{IsFor, IsSameBut, Stands, capacity_of, share_of, table_of}
 use Rattle.ft_orb.specs.Table.{AreAlike, Table, table_after, table_answers}
