@@ -25,7 +25,7 @@ use Rattle.lemonrudder.specs.declared.serving.Serving.{Serving}
 use Rattle.lemonrudder.specs.Dues.{IsPlaced, owed}
 use Rattle.lemonrudder.specs.Naming.{completion_named, order_named, raw_status_named, system_name_named}
 use Rattle.lemonrudder.specs.Refusals.{refusal_of_serving}
-use Rattle.lemonrudder.specs.Serves.{IsIdle, IsRefused, done_of}
+use Rattle.lemonrudder.specs.Serves.{IsIdle, IsRefused, KeepsCatalogue, done_of}
 
 -- the outcome of the call that waits is kept, if it is to be, and the answer is due after what was
 abbrev pub Answers : Performed → Serving → Serving → Result (Unit {0}) ServeError → Type 0
@@ -43,7 +43,7 @@ abbrev pub HandsIn : ℕ → Performed → Serving → Serving → Result ℕ Re
 HandsIn n outcome s t r =
     (IsIdle s → IsRefused refusal.Idle s t r)
     × (IsSome (waits_in s.engine) → ¬ (CanBe outcome s) → IsRefused refusal.Outcome s t r)
-    × (CanBe outcome s → (o : Result (Unit {0}) ServeError) × (r ≡ done_of n refusal_of_serving o) × IsIdle t × (t.due_on ≡ s.due_on) × Answers outcome s t o)
+    × (CanBe outcome s → (o : Result (Unit {0}) ServeError) × (r ≡ done_of n refusal_of_serving o) × IsIdle t × (t.due_on ≡ s.due_on) × KeepsCatalogue s t × Answers outcome s t o)
 
 -- memory is short, and nothing has changed; or this
 abbrev pub UnlessShort : Serving → Serving → Result ℕ Refusal → Type 0 → Type 0
