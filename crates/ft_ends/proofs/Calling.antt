@@ -17,7 +17,7 @@ use Rattle.ft_client.specs.Messages.{Call, Said, octets_said}
 use Rattle.ft_client.specs.Standing.{FtStands, LinkFor, down, sent_ids}
 use Rattle.ft_ends.specs.declared.wire.Wire.{Wire as CodeWire}
 use Rattle.ft_ends.specs.Private.{IsRefusal, IsWireFor}
-use Rattle.ft_ends.specs.Tellings.{Telling}
+use Rattle.ft_orb.specs.Tellings.{Telling}
 use Rattle.ft_ends.specs.World.{Wire, extended}
 use Rattle.ft_ends.proofs.Ways.{wire-said}
 

@@ -24,7 +24,8 @@ use Rattle.ft_orb.specs.Requests.{field_by, field_of}
 use Rattle.ft_ends.specs.Both.{key_of}
 use Rattle.ft_ends.specs.Fine.{IsFine, IsFineSaid, IsFineTelling, IsFront}
 use Rattle.ft_ends.specs.Laws.{DirectionsAreFaithful}
-use Rattle.ft_ends.specs.Tellings.{Closing, Failed, Located, Replied, Telling, answer_in, octets_told}
+use Rattle.ft_orb.specs.Tellings.{Closing, Failed, Located, Replied, Telling, octets_told}
+use Rattle.ft_ends.specs.Tellings.{answer_in}
 
 -- the octets of a body that do not count
 nothing : Rest

@@ -14,7 +14,7 @@ use Rattle.ft_ends.specs.declared.wire.Wire.{Wire as CodeWire}
 use Rattle.ft_ends.specs.Laws.{sides_of}
 use Rattle.ft_ends.specs.Playing.{AreClientsOf, AreNew, given_of, numbered}
 use Rattle.ft_ends.specs.Private.{AreHeld, AreUnused, Holds, IsReady, IsSettled, IsUnused, IsWireFor, Runs, tells}
-use Rattle.ft_ends.specs.Tellings.{Telling}
+use Rattle.ft_orb.specs.Tellings.{Telling}
 use Rattle.ft_ends.specs.World.{Member, Newcomer, Step, Wire, World, client_of, emptied, given_out, member_of, moved, moved_to, step, step_of, with_client}
 use Rattle.ft_ends.proofs.Ways.{wire-still}
 
@@ -59,10 +59,6 @@ module _ (tells : ℕ → List Telling) where
   held-at [] (d ∷ cs) (v ∷ us) k c u lt lt_too h = absurd h
 
 module _ (tells other : ℕ → List Telling) where
-  -- what was said on each connection is the same
-  AreStill : List Member → Type 0
-  AreStill ms = (k : ℕ) (m : Member) (x : Wire) → slice_get ms k ≡ Some m → m.wire ≡ Some x → other x.number ≡ tells x.number
-
   still-one : (u : CodeWire) (o : Option Wire) → ((x : Wire) → o ≡ Some x → other x.number ≡ tells x.number) → IsWireFor tells u o → IsWireFor other u o
   still-one u None same h = h
   still-one u (Some x) same h = wire-still tells other u x (same x refl) h

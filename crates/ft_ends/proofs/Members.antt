@@ -21,7 +21,8 @@ use Rattle.ft_ends.specs.Both.{key_of}
 use Rattle.ft_ends.specs.Fine.{AreFaithful, IsFine, IsFineCall, IsFineSaid, IsFront}
 use Rattle.ft_ends.specs.Laws.{sides_of}
 use Rattle.ft_ends.specs.Private.{ClientLaws}
-use Rattle.ft_ends.specs.Tellings.{answer_in, octets_told, tellings, told}
+use Rattle.ft_orb.specs.Tellings.{octets_told}
+use Rattle.ft_ends.specs.Tellings.{answer_in, law_told, tellings}
 use Rattle.ft_ends.specs.World.{Member, Wire, acted, emptied, extended}
 use Rattle.ft_ends.proofs.Lists.{each-append, each-contains, each-drop, each-front, front-trans}
 use Rattle.ft_ends.proofs.Served.{IsReply, IsServed, Traced, front-more, served-said, traced-later}
@@ -271,10 +272,10 @@ module _ {State : Type 0} (meaning : Meaning State) (made : Made State) where
 
   -- the next octets down bring replies of the connection alone
   pub news-replies : (hears : Limits → Hearing Answer) → AreFaithful made.limits hears → (own : Limits) (past : List Event) (said : List Said) (c went came n : ℕ) (received : List ℕ) → IsServed meaning made past said c went came received
-      → AllByRecursion (λ x. IsReply meaning made (arrivals made.limits past) said x) (news (hears own) received (take n (drop came (stream octets_told (tellings (told meaning made) past c)))))
+      → AllByRecursion (λ x. IsReply meaning made (arrivals made.limits past) said x) (news (hears own) received (take n (drop came (stream octets_told (tellings (law_told meaning made) past c)))))
   news-replies hears faithful own past said c went came n received h =
       let f = hears own in
-      let ts = tellings (told meaning made) past c in
+      let ts = tellings (law_told meaning made) past c in
       let all = stream octets_told ts in
       let octets = take n (drop came all) in
       let rest = drop n (drop came all) in
@@ -286,9 +287,9 @@ module _ {State : Type 0} (meaning : Meaning State) (made : Made State) where
 
   -- .. and are received
   pub served-down : (past : List Event) (said : List Said) (c went came n : ℕ) (received : List ℕ) → IsServed meaning made past said c went came received
-      → IsServed meaning made past said c went (came + length (take n (drop came (stream octets_told (tellings (told meaning made) past c))))) (received ++ take n (drop came (stream octets_told (tellings (told meaning made) past c))))
+      → IsServed meaning made past said c went (came + length (take n (drop came (stream octets_told (tellings (law_told meaning made) past c))))) (received ++ take n (drop came (stream octets_told (tellings (law_told meaning made) past c))))
   served-down past said c went came n received h =
-      let all = stream octets_told (tellings (told meaning made) past c) in
+      let all = stream octets_told (tellings (law_told meaning made) past c) in
       let octets = take n (drop came all) in
       let both = length-append received octets in
       let taken = h.taken in

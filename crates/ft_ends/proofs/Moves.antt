@@ -22,7 +22,8 @@ use Rattle.ft_ends.specs.Both.{IsSentIn}
 use Rattle.ft_ends.specs.Fine.{AreFaithful, IsFineTelling}
 use Rattle.ft_ends.specs.Laws.{ArePlain, AreShort, IsFineStep, IsPlain, sides_of}
 use Rattle.ft_ends.specs.Private.{ClientLaws}
-use Rattle.ft_ends.specs.Tellings.{Telling, answer_in, octets_told, tellings, told}
+use Rattle.ft_orb.specs.Tellings.{Telling, octets_told}
+use Rattle.ft_ends.specs.Tellings.{answer_in, law_told, tellings}
 use Rattle.ft_ends.specs.World.{CallNow, Cancel, Connect, Cut, Down, Member, Moved, Shut, Step, Tick, UpTo, Wire, acted, connected, cut, down, extended, fed_off, moved, moved_to, shut, up}
 use Rattle.ft_ends.proofs.Lists.{each-weaker}
 use Rattle.ft_ends.proofs.Members.{IsLinked, IsMember, IsToldOf, IsWired, member-called, member-recalled, member-ticked, news-replies, own-clean, served-down, told-later, told-settled_all}
@@ -81,7 +82,7 @@ from-sent sent said a among from =
 module _ {State : Type 0} (meaning : Meaning State) (made : Made State) (hears : Limits → Hearing Answer) where
   -- nothing was opened under this number yet
   abbrev pub IsUnopened : List Event → ℕ → Type 0
-  IsUnopened past c = (line past c ≡ Gone) × (tellings (told meaning made) past c ≡ []) × (does_count past c ≡ true)
+  IsUnopened past c = (line past c ≡ Gone) × (tellings (law_told meaning made) past c ≡ []) × (does_count past c ≡ true)
 
   -- what a step of a client of this id and version does
   pub record IsMove (past : List Event) (opened : ℕ) (id : List ℕ) (version : Version) (m : Member) (v : Moved) : Type 0 where
@@ -93,7 +94,7 @@ module _ {State : Type 0} (meaning : Meaning State) (made : Made State) (hears :
     pub arrivals_are : arrivals made.limits v.past ≡ arrivals made.limits past ++ more
     pub fields : AllByRecursion (λ a. IsSentIn v.member.life.sent a) more
     pub plain : ArePlain more
-    pub others : (y : ℕ) → y ≤ opened → IsOff m.wire y → (line v.past y ≡ line past y) × (tellings (told meaning made) v.past y ≡ tellings (told meaning made) past y)
+    pub others : (y : ℕ) → y ≤ opened → IsOff m.wire y → (line v.past y ≡ line past y) × (tellings (law_told meaning made) v.past y ≡ tellings (law_told meaning made) past y)
     pub opens : opened ≤ v.opened
     pub unopened : (y : ℕ) → v.opened < y → IsUnopened v.past y
     pub number : (x : Wire) → v.member.wire ≡ Some x → ((opened < x.number) × (x.number ≤ v.opened)) ⊎ ((y : Wire) × (m.wire ≡ Some y) × (y.number ≡ x.number))
@@ -110,17 +111,17 @@ module _ {State : Type 0} (meaning : Meaning State) (made : Made State) (hears :
   told-more past more id xs h = each-weaker (λ x. IsToldOf meaning made (arrivals made.limits past) id x) (λ x. IsToldOf meaning made (arrivals made.limits past ++ more) id x) (λ x is. told-later meaning made (arrivals made.limits past) more id x.0 x.1 is) xs h
 
   -- an event on a connection leaves the others
-  others-on : (past : List Event) (e : Event) (w : Option Wire) (x : Wire) → w ≡ Some x → connection_of e ≡ x.number → (y : ℕ) → IsOff w y → (line (e ∷ past) y ≡ line past y) × (tellings (told meaning made) (e ∷ past) y ≡ tellings (told meaning made) past y)
+  others-on : (past : List Event) (e : Event) (w : Option Wire) (x : Wire) → w ≡ Some x → connection_of e ≡ x.number → (y : ℕ) → IsOff w y → (line (e ∷ past) y ≡ line past y) × (tellings (law_told meaning made) (e ∷ past) y ≡ tellings (law_told meaning made) past y)
   others-on past e w x is on y off =
       let no = ne_eqb (connection_of e) y (λ same. off-here w x y is off (sym on ∙ same)) in
-      (line-other e past y no, tellings-other (told meaning made) e past y no)
+      (line-other e past y no, tellings-other (law_told meaning made) e past y no)
 
   -- .. and opens none
   unopened-on : (past : List Event) (opened : ℕ) (e : Event) → connection_of e ≤ opened → counted (e ∷ past) ≡ counted past → ((y : ℕ) → opened < y → IsUnopened past y) → (y : ℕ) → opened < y → IsUnopened (e ∷ past) y
   unopened-on past opened e low quiet h y above =
       let was = h y above in
       let no = ne_eqb (connection_of e) y (λ same. absurd (omega (arith, low, above, same))) in
-      (line-other e past y no ∙ was.0, tellings-other (told meaning made) e past y no ∙ was.1, ap (λ (ns : List ℕ). list_all (λ d. nat_lt d y) ns) quiet ∙ was.2)
+      (line-other e past y no ∙ was.0, tellings-other (law_told meaning made) e past y no ∙ was.1, ap (λ (ns : List ℕ). list_all (λ d. nat_lt d y) ns) quiet ∙ was.2)
 
   module _ (past : List Event) (opened : ℕ) (id : List ℕ) (version : Version) (m : Member) (is : IsMember meaning made past opened id version m) (unopened : (y : ℕ) → opened < y → IsUnopened past y) (of_clients : ClientLaws) where
     -- a step that can't act
@@ -287,8 +288,8 @@ module _ {State : Type 0} (meaning : Meaning State) (made : Made State) (hears :
             }
 
         -- the next octets down
-        move-down-by : (n : ℕ) (e : Option Ending) → (hears m.life.client.limits).ending (linked.0.received ++ take n (drop x.came (stream octets_told (tellings (told meaning made) past x.number)))) ≡ e
-            → let octets = take n (drop x.came (stream octets_told (tellings (told meaning made) past x.number))) in
+        move-down-by : (n : ℕ) (e : Option Ending) → (hears m.life.client.limits).ending (linked.0.received ++ take n (drop x.came (stream octets_told (tellings (law_told meaning made) past x.number)))) ≡ e
+            → let octets = take n (drop x.came (stream octets_told (tellings (law_told meaning made) past x.number))) in
             let life = goes_on (hears m.life.client.limits) (Fed octets) m.life in
             IsMove past opened id version m (fed_off (sides_of meaning made hears) past opened life x (length octets) life.client.link)
         move-down-by n e ends =
@@ -296,7 +297,7 @@ module _ {State : Type 0} (meaning : Meaning State) (made : Made State) (hears :
             let f = hears c.limits in
             let k = linked.0 in
             let link = linked.2 in
-            let octets = take n (drop x.came (stream octets_told (tellings (told meaning made) past x.number))) in
+            let octets = take n (drop x.came (stream octets_told (tellings (law_told meaning made) past x.number))) in
             let life = goes_on f (Fed octets) m.life in
             let xs = news f k.received octets in
             let k' : Linked = record k { received = k.received ++ octets } in
@@ -333,14 +334,14 @@ module _ {State : Type 0} (meaning : Meaning State) (made : Made State) (hears :
             elim e as (λ o. f.ending (k.received ++ octets) ≡ o → IsMove past opened id version m (fed_off (sides_of meaning made hears) past opened life x (length octets) life.client.link)) [ None ↦ going | Some e' ↦ left e' ] ends
 
         move-down : (n : ℕ) → IsMove past opened id version m (down (sides_of meaning made hears) past opened n m (Some x))
-        move-down n = move-down-by n ((hears m.life.client.limits).ending (linked.0.received ++ take n (drop x.came (stream octets_told (tellings (told meaning made) past x.number))))) refl
+        move-down n = move-down-by n ((hears m.life.client.limits).ending (linked.0.received ++ take n (drop x.came (stream octets_told (tellings (law_told meaning made) past x.number))))) refl
 
     -- a new connection
     move-joined : IsClean id → (now : ℕ) → IsMove past opened id version m (connected (sides_of meaning made hears) past opened now m None)
     move-joined clean now =
         let c = m.life.client in
         let down' = hears c.limits in
-        let says = told meaning made in
+        let says = law_told meaning made in
         let number = suc opened in
         let e = Opened number in
         let said = client_says (Joined now) c in

@@ -33,7 +33,7 @@ use Rattle.ft_orb.specs.ExactlyOnce.{state_of}
 use Rattle.ft_orb.specs.History.{arrivals, arrivals_in, front_in}
 use Rattle.ft_orb.specs.Interfaces.{no_object, no_operation, operation, raw_operation}
 use Rattle.ft_orb.specs.Outputs.{Made}
-use Rattle.ft_orb.specs.Renderings.{rendering}
+use Rattle.ft_orb.specs.Tellings.{rendering}
 use Rattle.ft_orb.specs.Requests.{rules_of}
 use Rattle.ft_orb.specs.Servants.{Meaning}
 use Rattle.ft_ends.specs.Both.{ended_of}

@@ -16,7 +16,8 @@ use Rattle.ft_client.specs.Messages.{Answer, Asked, Call, Said, Withdrawn, repli
 use Rattle.ft_orb.specs.History.{Close, Event, Gone, Line, Lost, Opened, Piece, Shut as Closed, Up, clock, line}
 use Rattle.ft_orb.specs.Replies.{body_of, order_of, status_of}
 use Rattle.ft_ends.specs.Both.{ended_of}
-use Rattle.ft_ends.specs.Tellings.{Closing, Failed, Located, Replied, Telling, shown_as}
+use Rattle.ft_orb.specs.Tellings.{Closing, Failed, Located, Replied, Telling}
+use Rattle.ft_ends.specs.Tellings.{shown_as}
 use Rattle.ft_ends.specs.World.{CallNow, Cancel, Connect, Cut, Down, Shut, Sides, Step, Tick, UpTo, world}
 
 -- a message of so many octets, of which the last says what it is

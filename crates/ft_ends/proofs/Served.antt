@@ -1,6 +1,6 @@
 -- The server's side of a connection: what arrives on it was said on it, and each reply answers an arrival of the request of its id.
-use Rattle.std.proofs.Common.{◌≡◌, ℕ, ◌+◌, ◌≤◌, ◌==◌, true, false, cond, List, [], ◌∷◌, ◌++◌, drop, length, map, take, Option, Some, None, Result, Ok, Err, refl, sym, ap, ◌∙◌, subst, append_assoc, arith, length-append}
-use Rattle.std.specs.List.{AllByRecursion, filter_map}
+use Rattle.std.proofs.Common.{◌≡◌, ℕ, ◌+◌, ◌≤◌, ◌==◌, true, false, cond, List, [], ◌∷◌, ◌++◌, drop, length, map, take, Option, Some, None, Result, Ok, Err, refl, sym, ap, ◌∙◌, subst, append_assoc, arith, length-append, option_to_list}
+use Rattle.std.specs.List.{AllByRecursion, cons_option, filter_map}
 use Rattle.std.proofs.lemmas.Bool.{eq-eqb}
 use Rattle.std.proofs.lemmas.List.{drop_at, take-append-drop}
 use Rattle.std.proofs.lemmas.List.Elements.{filter_map-append}
@@ -24,14 +24,15 @@ use Rattle.ft_client.specs.Directions.{stream}
 use Rattle.ft_client.specs.Messages.{Answer, Asked, Call, Said, fields_of, Transmission, Withdrawn, incoming_of, located, octets_said, question_of, replied}
 use Rattle.ft_orb.specs.ExactlyOnce.{Arrival, Present, answer_of, answers_after}
 use Rattle.ft_orb.specs.History.{Close, Event, Gone, Line, Lost, Opened, Piece, Shut, Up, arrivals, arrivals_in, arrivals_on, completed, connection_of, does_count, heard_after, line, longer, shut}
-use Rattle.ft_orb.specs.Outputs.{Made}
+use Rattle.ft_orb.specs.Outputs.{Made, close_told, close_told_on, error_told, error_told_on, farewell_told}
 use Rattle.ft_orb.specs.Replies.{answered_as, body_of, order_of, status_of}
 use Rattle.ft_orb.specs.Requests.{Wanted, arrival_of, asking, field_of, rules_of}
 use Rattle.ft_orb.specs.Servants.{Meaning}
 use Rattle.ft_ends.specs.Both.{Answers, Explains, ended_of, key_of}
 use Rattle.ft_ends.specs.Fine.{AreFaithful, IsFine, IsFineCall, IsFineSaid, IsFineTelling, IsFront}
 use Rattle.ft_ends.specs.Laws.{ArePlain, AreShort, IsPlain}
-use Rattle.ft_ends.specs.Tellings.{Telling, answer_in, close_told, close_told_on, error_told, error_told_on, farewell_told, octets_told, shown_as, tellings, told, told_all, told_of}
+use Rattle.ft_orb.specs.Tellings.{Closing, Failed, Telling, answer_told, answers_told, octets_told}
+use Rattle.ft_ends.specs.Tellings.{answer_in, law_told, shown_as, tellings}
 use Rattle.ft_ends.proofs.Firm.{IsFirm, answer-firm}
 use Rattle.ft_ends.proofs.Lists.{IfGiven, each-append, each-both, each-drop, each-front, each-map, each-some, each-weaker, front-trans}
 use Rattle.ft_ends.proofs.Spoken.{IsListed, asked_as, asked_as-append}
@@ -181,63 +182,35 @@ status-low (raw raw_status.UserException order body) = omega arith
 status-low (raw raw_status.SystemException order body) = omega arith
 status-low (raw raw_status.LocationForward order body) = omega arith
 
-error-each : (P : Answer → Type 0) (e now : Option Ending) → AllByRecursion P (filter_map answer_in (error_told e now))
-error-each P None (Some (faulty e)) = tt
-error-each P None (Some wrong_direction) = tt
-error-each P None (Some peer_closed) = tt
-error-each P None (Some peer_error) = tt
-error-each P None None = tt
-error-each P (Some e) now = tt
+-- what holds of nothing, of MessageError and of CloseConnection holds of what is said after the answers
+module _ (P : List Telling → Type 0) (none : P []) (failed : P (Failed ∷ [])) (closing : P (Closing ∷ [])) where
+  error-is : (e now : Option Ending) → P (option_to_list (error_told e now))
+  error-is None (Some (faulty e)) = failed
+  error-is None (Some wrong_direction) = failed
+  error-is None (Some peer_closed) = none
+  error-is None (Some peer_error) = none
+  error-is None None = none
+  error-is (Some e) now = none
 
-error-fine : (e now : Option Ending) → AllByRecursion IsFineTelling (error_told e now)
-error-fine None (Some (faulty e)) = (tt, tt)
-error-fine None (Some wrong_direction) = (tt, tt)
-error-fine None (Some peer_closed) = tt
-error-fine None (Some peer_error) = tt
-error-fine None None = tt
-error-fine (Some e) now = tt
+  error_on-is : (limits : Limits) (l : Line) (octets : List ℕ) → P (option_to_list (error_told_on limits l octets))
+  error_on-is limits Gone octets = none
+  error_on-is limits Shut octets = none
+  error_on-is limits (Up s) octets = error-is (ending limits s) (ending limits (s ++ octets))
 
-close-each : (P : Answer → Type 0) (e : Option Ending) → AllByRecursion P (filter_map answer_in (close_told e))
-close-each P None = tt
-close-each P (Some e) = tt
+  close-is : (e : Option Ending) → P (option_to_list (close_told e))
+  close-is None = closing
+  close-is (Some e) = none
 
-close-fine : (e : Option Ending) → AllByRecursion IsFineTelling (close_told e)
-close-fine None = (tt, tt)
-close-fine (Some e) = tt
+  close_on-is : (limits : Limits) (l : Line) → P (option_to_list (close_told_on limits l))
+  close_on-is limits Gone = none
+  close_on-is limits Shut = none
+  close_on-is limits (Up s) = close-is (ending limits s)
 
-module _ (limits : Limits) where
-  error_on-each : (P : Answer → Type 0) (l : Line) (octets : List ℕ) → AllByRecursion P (filter_map answer_in (error_told_on limits l octets))
-  error_on-each P Gone octets = tt
-  error_on-each P Shut octets = tt
-  error_on-each P (Up s) octets = error-each P (ending limits s) (ending limits (s ++ octets))
-
-  error_on-fine : (l : Line) (octets : List ℕ) → AllByRecursion IsFineTelling (error_told_on limits l octets)
-  error_on-fine Gone octets = tt
-  error_on-fine Shut octets = tt
-  error_on-fine (Up s) octets = error-fine (ending limits s) (ending limits (s ++ octets))
-
-  close_on-each : (P : Answer → Type 0) (l : Line) → AllByRecursion P (filter_map answer_in (close_told_on limits l))
-  close_on-each P Gone = tt
-  close_on-each P Shut = tt
-  close_on-each P (Up s) = close-each P (ending limits s)
-
-  close_on-fine : (l : Line) → AllByRecursion IsFineTelling (close_told_on limits l)
-  close_on-fine Gone = tt
-  close_on-fine Shut = tt
-  close_on-fine (Up s) = close-fine (ending limits s)
-
-  -- nothing is answered by what ends a connection
-  farewell-each : (P : Answer → Type 0) (past : List Event) (e : Event) → AllByRecursion P (filter_map answer_in (farewell_told limits past e))
-  farewell-each P past (Opened c) = tt
-  farewell-each P past (Piece c moment octets) = error_on-each P (line past c) octets
-  farewell-each P past (Close c) = close_on-each P (line past c)
-  farewell-each P past (Lost c) = tt
-
-  farewell-fine : (past : List Event) (e : Event) → AllByRecursion IsFineTelling (farewell_told limits past e)
-  farewell-fine past (Opened c) = tt
-  farewell-fine past (Piece c moment octets) = error_on-fine (line past c) octets
-  farewell-fine past (Close c) = close_on-fine (line past c)
-  farewell-fine past (Lost c) = tt
+  farewell-is : (limits : Limits) (past : List Event) (e : Event) → P (option_to_list (farewell_told limits past e))
+  farewell-is limits past (Opened c) = none
+  farewell-is limits past (Piece c moment octets) = error_on-is limits (line past c) octets
+  farewell-is limits past (Close c) = close_on-is limits (line past c)
+  farewell-is limits past (Lost c) = none
 
 module _ {State : Type 0} (meaning : Meaning State) (made : Made State) where
   -- there is an arrival of the key whose answer this is
@@ -299,65 +272,59 @@ module _ {State : Type 0} (meaning : Meaning State) (made : Made State) where
   reply-more all said more (located i shown) h = tt
 
   module _ (all : List (Arrival Wanted)) (said : List Said) where
-    reply-here : (before later : List (Arrival Wanted)) (a : Arrival Wanted) → all ≡ before ++ a ∷ later → IsFrom said a
-        → AllByRecursion (λ x. IsReply all said x) (filter_map answer_in (told_of meaning.knows a.content (answer_of (rules_of meaning made.capacity made.share) made.opening before a)))
-    reply-here before later a split from =
-        let answer = answer_of (rules_of meaning made.capacity made.share) made.opening before a in
-        subst (λ (w : Wanted). AllByRecursion (λ x. IsReply all said x) (filter_map answer_in (told_of meaning.knows w answer))) (sym from.content) (
+    told-replies : (before xs : List (Arrival Wanted)) → all ≡ before ++ xs → AllByRecursion (λ a. IsFrom said a) xs
+        → AllByRecursion (λ x. IsReply all said x) (filter_map answer_in (answers_told meaning.knows xs (answers_after (rules_of meaning made.capacity made.share) made.opening before xs)))
+    told-replies before [] split h = tt
+    told-replies before (a ∷ later) split h =
+        let rules = rules_of meaning made.capacity made.share in
+        let from = h.0 in
+        let answer = answer_of rules made.opening before a in
+        let rest = answers_told meaning.knows later (answers_after rules made.opening (before ++ a ∷ []) later) in
+        subst (λ (w : Wanted). AllByRecursion (λ x. IsReply all said x) (filter_map answer_in (cons_option (answer_told meaning.knows w answer) rest))) (sym from.content) (
           (
             from.transmission,
             from.asked,
             record { before = before; arrival = a; later = later; expiration = from.transmission.call.expiration; split = split; field = from.field; is = ended-by (answered_as answer) },
           ),
-          tt,
+          told-replies (before ++ a ∷ []) later (split ∙ sym (append_assoc before (a ∷ []) later)) h.1,
         )
 
-    told-replies : (before xs : List (Arrival Wanted)) → all ≡ before ++ xs → AllByRecursion (λ a. IsFrom said a) xs
-        → AllByRecursion (λ x. IsReply all said x) (filter_map answer_in (told_all meaning.knows xs (answers_after (rules_of meaning made.capacity made.share) made.opening before xs)))
-    told-replies before [] split h = tt
-    told-replies before (a ∷ later) split h =
-        let rules = rules_of meaning made.capacity made.share in
-        let first = told_of meaning.knows a.content (answer_of rules made.opening before a) in
-        let rest = told_all meaning.knows later (answers_after rules made.opening (before ++ a ∷ []) later) in
-        subst (λ (xs : List Answer). AllByRecursion (λ x. IsReply all said x) xs) (sym (filter_map-append answer_in first rest))
-        (each-append (λ x. IsReply all said x) (filter_map answer_in first) (filter_map answer_in rest) (reply-here before later a split h.0)
-        (told-replies (before ++ a ∷ []) later (split ∙ sym (append_assoc before (a ∷ []) later)) h.1))
-
   module _ (sends : AreShort meaning made) (said : List Said) where
-    fine-here : (before : List (Arrival Wanted)) (a : Arrival Wanted) → ArePlain before → IsFrom said a → AllByRecursion IsFineTelling (told_of meaning.knows a.content (answer_of (rules_of meaning made.capacity made.share) made.opening before a))
-    fine-here before a plain from =
-        let answer = answer_of (rules_of meaning made.capacity made.share) made.opening before a in
-        subst (λ (w : Wanted). AllByRecursion IsFineTelling (told_of meaning.knows w answer)) (sym from.content) ((from.fine.id, status-low (answered_as answer), sends before a plain (plain-from said a from)), tt)
-
-    told-fine : (before xs : List (Arrival Wanted)) → ArePlain before → AllByRecursion (λ a. IsFrom said a) xs → AllByRecursion IsFineTelling (told_all meaning.knows xs (answers_after (rules_of meaning made.capacity made.share) made.opening before xs))
+    told-fine : (before xs : List (Arrival Wanted)) → ArePlain before → AllByRecursion (λ a. IsFrom said a) xs → AllByRecursion IsFineTelling (answers_told meaning.knows xs (answers_after (rules_of meaning made.capacity made.share) made.opening before xs))
     told-fine before [] plain h = tt
     told-fine before (a ∷ later) plain h =
         let rules = rules_of meaning made.capacity made.share in
-        each-append IsFineTelling (told_of meaning.knows a.content (answer_of rules made.opening before a)) (told_all meaning.knows later (answers_after rules made.opening (before ++ a ∷ []) later)) (fine-here before a plain h.0)
-        (told-fine (before ++ a ∷ []) later (each-append (λ b. IsPlain b.content) before (a ∷ []) plain (plain-from said a h.0, tt)) h.1)
+        let from = h.0 in
+        let own = plain-from said a from in
+        let answer = answer_of rules made.opening before a in
+        let rest = answers_told meaning.knows later (answers_after rules made.opening (before ++ a ∷ []) later) in
+        subst (λ (w : Wanted). AllByRecursion IsFineTelling (cons_option (answer_told meaning.knows w answer) rest)) (sym from.content) (
+          (from.fine.id, status-low (answered_as answer), sends before a plain own),
+          told-fine (before ++ a ∷ []) later (each-append (λ b. IsPlain b.content) before (a ∷ []) plain (own, tt)) h.1,
+        )
 
   -- The server's side of a connection, of which the client has received so much.
   pub record IsServed (past : List Event) (said : List Said) (number went came : ℕ) (received : List ℕ) : Type 0 where
     pub up : IsLine (line past number) (stream octets_said said) went
     pub rest : List ℕ
-    pub down : stream octets_told (tellings (told meaning made) past number) ≡ received ++ rest
+    pub down : stream octets_told (tellings (law_told meaning made) past number) ≡ received ++ rest
     pub taken : came ≡ length received
-    pub fine : AllByRecursion IsFineTelling (tellings (told meaning made) past number)
-    pub replies : AllByRecursion (λ x. IsReply (arrivals made.limits past) said x) (filter_map answer_in (tellings (told meaning made) past number))
+    pub fine : AllByRecursion IsFineTelling (tellings (law_told meaning made) past number)
+    pub replies : AllByRecursion (λ x. IsReply (arrivals made.limits past) said x) (filter_map answer_in (tellings (law_told meaning made) past number))
 
   -- an event on it
   pub served-here : AreShort meaning made → (past : List Event) → ArePlain (arrivals made.limits past) → (e : Event) (said : List Said) (c went went' came : ℕ) (received : List ℕ) → (connection_of e == c) ≡ true → IsLine (line (e ∷ past) c) (stream octets_said said) went'
       → AllByRecursion (λ a. IsFrom said a) (completed made.limits past e) → IsServed past said c went came received → IsServed (e ∷ past) said c went' came received
   served-here sends past plain e said c went went' came received on up from h =
-      let says = told meaning made in
+      let says = law_told meaning made in
       let all = arrivals made.limits (e ∷ past) in
       let here = tellings-here says e past c on in
-      let answers = told_all meaning.knows (completed made.limits past e) (answers_after (rules_of meaning made.capacity made.share) made.opening (arrivals made.limits past) (completed made.limits past e)) in
-      let bye = farewell_told made.limits past e in
+      let answers = answers_told meaning.knows (completed made.limits past e) (answers_after (rules_of meaning made.capacity made.share) made.opening (arrivals made.limits past) (completed made.limits past e)) in
+      let bye = option_to_list (farewell_told made.limits past e) in
       let P : Answer → Type 0 = λ x. IsReply all said x in
       let now : AllByRecursion P (filter_map answer_in (says past e)) =
       subst (λ (xs : List Answer). AllByRecursion P xs) (sym (filter_map-append answer_in answers bye))
-      (each-append P (filter_map answer_in answers) (filter_map answer_in bye) (told-replies all said (arrivals made.limits past) (completed made.limits past e) refl from) (farewell-each made.limits P past e)) in
+      (each-append P (filter_map answer_in answers) (filter_map answer_in bye) (told-replies all said (arrivals made.limits past) (completed made.limits past e) refl from) (farewell-is (λ ts. AllByRecursion P (filter_map answer_in ts)) tt tt tt made.limits past e)) in
       let earlier = each-weaker (λ x. IsReply (arrivals made.limits past) said x) P (λ x is. reply-later (arrivals made.limits past) (completed made.limits past e) said x is) (filter_map answer_in (tellings says past c)) h.replies in
       record {
         up = up;
@@ -368,7 +335,7 @@ module _ {State : Type 0} (meaning : Meaning State) (made : Made State) where
         taken = h.taken;
         fine =
             subst (λ (ts : List Telling). AllByRecursion IsFineTelling ts) (sym here)
-            (each-append IsFineTelling (tellings says past c) (says past e) h.fine (each-append IsFineTelling answers bye (told-fine sends said (arrivals made.limits past) (completed made.limits past e) plain from) (farewell-fine made.limits past e)));
+            (each-append IsFineTelling (tellings says past c) (says past e) h.fine (each-append IsFineTelling answers bye (told-fine sends said (arrivals made.limits past) (completed made.limits past e) plain from) (farewell-is (λ ts. AllByRecursion IsFineTelling ts) tt (tt, tt) (tt, tt) made.limits past e)));
         replies =
             subst (λ (ts : List Telling). AllByRecursion P (filter_map answer_in ts)) (sym here)
             (subst (λ (xs : List Answer). AllByRecursion P xs) (sym (filter_map-append answer_in (tellings says past c) (says past e)))
@@ -376,11 +343,11 @@ module _ {State : Type 0} (meaning : Meaning State) (made : Made State) where
       }
 
   -- an event elsewhere, which leaves this line and what was told on it
-  pub served-other : (past later : List Event) (more : List (Arrival Wanted)) (said : List Said) (c went came : ℕ) (received : List ℕ) → line later c ≡ line past c → tellings (told meaning made) later c ≡ tellings (told meaning made) past c
+  pub served-other : (past later : List Event) (more : List (Arrival Wanted)) (said : List Said) (c went came : ℕ) (received : List ℕ) → line later c ≡ line past c → tellings (law_told meaning made) later c ≡ tellings (law_told meaning made) past c
       → arrivals made.limits later ≡ arrivals made.limits past ++ more → IsServed past said c went came received → IsServed later said c went came received
   served-other past later more said c went came received same_line same grown h =
       let P : List (Arrival Wanted) → List Telling → Type 0 = λ all ts. AllByRecursion (λ x. IsReply all said x) (filter_map answer_in ts) in
-      let says = told meaning made in
+      let says = law_told meaning made in
       record {
         up = subst (λ (l : Line). IsLine l (stream octets_said said) went) (sym same_line) h.up;
         rest = h.rest;
@@ -401,5 +368,5 @@ module _ {State : Type 0} (meaning : Meaning State) (made : Made State) where
     down = h.down;
     taken = h.taken;
     fine = h.fine;
-    replies = each-weaker (λ x. IsReply (arrivals made.limits past) said x) (λ x. IsReply (arrivals made.limits past) (said ++ more) x) (λ x is. reply-more (arrivals made.limits past) said more x is) (filter_map answer_in (tellings (told meaning made) past c)) h.replies;
+    replies = each-weaker (λ x. IsReply (arrivals made.limits past) said x) (λ x. IsReply (arrivals made.limits past) (said ++ more) x) (λ x is. reply-more (arrivals made.limits past) said more x is) (filter_map answer_in (tellings (law_told meaning made) past c)) h.replies;
   }

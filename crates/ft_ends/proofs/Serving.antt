@@ -22,7 +22,8 @@ use Rattle.ft_orb.specs.Standing.{Stands}
 use Rattle.ft_ends.specs.declared.wire.Wire.{Wire as CodeWire}
 use Rattle.ft_ends.specs.Laws.{TellingsAreWritten, sides_of}
 use Rattle.ft_ends.specs.Private.{Holds, IsIdle, IsUnused, IsWay, IsWire, tells}
-use Rattle.ft_ends.specs.Tellings.{Telling, octets_told, told}
+use Rattle.ft_orb.specs.Tellings.{Telling, octets_told}
+use Rattle.ft_ends.specs.Tellings.{law_told}
 use Rattle.ft_ends.specs.World.{Wire, coming_down, fed_off, fed_with, going_up}
 use Rattle.ft_ends.proofs.Served.{tellings-here}
 use Rattle.ft_ends.proofs.Ways.{its-number, way-empty, way-first, way-left, way-more, way-same}
@@ -45,7 +46,7 @@ module _ {State : Type 0} (meaning : Meaning State) (made : Made State) (written
   told-more : (was is : CodeWire) (past : List Event) (x : Wire) (e : Event) (octets : List ℕ) → connection_of e ≡ x.number → octets ≡ output made.limits meaning.knows (law_says meaning made) past e
       → is.down.octets.items ≡ was.down.octets.items ++ octets → is.down.delivered ≡ was.down.delivered → IsWire (tells meaning made past) was x → IsWay is.down (stream octets_told (tells meaning made (e ∷ past) x.number)) x.came
   told-more was is past x e octets on said out at h =
-      let says = told meaning made in
+      let says = law_told meaning made in
       let here = tellings-here says e past x.number (eq-eqb (connection_of e) x.number on) in
       let all = stream-append octets_told (tells meaning made past x.number) (says past e) in
       way-same is.down (stream octets_told (tells meaning made past x.number) ++ stream octets_told (says past e)) (stream octets_told (tells meaning made (e ∷ past) x.number)) x.came
@@ -105,7 +106,7 @@ module _ {State : Type 0} (meaning : Meaning State) (made : Made State) where
       → Stands meaning made server (Opened number ∷ past) × IsWire (tells meaning made (Opened number ∷ past)) is (record { number = number; said = said; went = 0; came = 0 })
   joined-is server was is past number note said plain stands has out at same fresh h =
       let e = Opened number in
-      let here : tells meaning made (e ∷ past) number ≡ [] = tellings-here (told meaning made) e past number (eq-eqb number number refl) ∙ ap (λ (ts : List Telling). ts ++ told meaning made past e) fresh in (
+      let here : tells meaning made (e ∷ past) number ≡ [] = tellings-here (law_told meaning made) e past number (eq-eqb number number refl) ∙ ap (λ (ts : List Telling). ts ++ law_told meaning made past e) fresh in (
         subst (λ (p : List Event). Stands meaning made server p) (plain-after made.limits past e note plain) stands,
         record {
           number = has;

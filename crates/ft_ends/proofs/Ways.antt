@@ -1,14 +1,14 @@
 -- Octets on their way, and connections.
 use Rattle.std.proofs.Common.{◌≡◌, ℕ, ◌+◌, ◌-◌, min, List, [], ◌++◌, drop, length, take, Option, Some, None, refl, sym, ap, ◌∙◌, subst, append_assoc, arith, length-append}
 use Rattle.std.proofs.lemmas.List.{append-nil, length-drop, length-take}
-use Rattle.std.proofs.lemmas.Option.{none-some, same_Some}
+use Rattle.std.proofs.lemmas.Option.{same_Some}
 use Rattle.std.proofs.Math.Seq.{drop-append-add}
 use Rattle.ft_client.specs.Directions.{stream}
 use Rattle.ft_client.specs.Messages.{Said, octets_said}
 use Rattle.ft_ends.specs.declared.way.Way.{Way}
 use Rattle.ft_ends.specs.declared.wire.Wire.{Wire as CodeWire}
 use Rattle.ft_ends.specs.Private.{IsIdle, IsWay, IsWire, IsWireFor}
-use Rattle.ft_ends.specs.Tellings.{Telling, octets_told}
+use Rattle.ft_orb.specs.Tellings.{Telling, octets_told}
 use Rattle.ft_ends.specs.World.{Wire, extended}
 use Rattle.ft_ends.proofs.Written.{stream-append}
 
@@ -25,10 +25,6 @@ way-next way all went count h =
 pub way-more : (old new : Way) (all more : List ℕ) (went : ℕ) → new.octets.items ≡ old.octets.items ++ more → new.delivered ≡ old.delivered → IsWay old all went → IsWay new (all ++ more) went
 way-more old new all more went is at h =
     (h.0, ap (λ (o : List ℕ). o ++ more) h.1 ∙ append_assoc h.0 old.octets.items more ∙ ap (λ (o : List ℕ). h.0 ++ o) (sym is), h.2 ∙ ap (λ (k : ℕ). length h.0 + k) (sym at))
-
--- so many more were delivered
-pub way-passed : (old new : Way) (all : List ℕ) (went n : ℕ) → new.octets.items ≡ old.octets.items → new.delivered ≡ old.delivered + n → IsWay old all went → IsWay new all (went + n)
-way-passed old new all went n is at h = (h.0, h.1 ∙ ap (λ (o : List ℕ). h.0 ++ o) (sym is), (let was = h.2 in omega (arith, was, at)))
 
 -- all were delivered, and none are kept
 pub way-cleared : (old new : Way) (all : List ℕ) (went n : ℕ) → IsIdle new → old.delivered + n ≡ length old.octets.items → IsWay old all went → IsWay new all (went + n)
@@ -50,10 +46,7 @@ pub way-empty : (way : Way) (all : List ℕ) → all ≡ [] → IsIdle way → I
 way-empty way all none idle = ([], none ∙ sym idle.octets, (let zero = idle.delivered in omega (arith, zero)))
 
 module _ (tells : ℕ → List Telling) where
-  -- a wire for a connection has its number, and one for none has none
-  pub no-number : (wire : CodeWire) (x : Wire) → wire.number ≡ None → IsWire tells wire x → ⊥
-  no-number wire x none h = none-some x.number (sym none ∙ h.number)
-
+  -- a wire for a connection has its number
   pub its-number : (wire : CodeWire) (x : Wire) (n : ℕ) → wire.number ≡ Some n → IsWire tells wire x → n ≡ x.number
   its-number wire x n some h = same_Some n x.number (sym some ∙ h.number)
 

@@ -12,7 +12,8 @@ use Rattle.ft_client.specs.Messages.{Answer, Asked, Call, Said, Transmission, Wi
 use Rattle.ft_orb.specs.ExactlyOnce.{Present}
 use Rattle.ft_orb.specs.Requests.{field_of}
 use Rattle.ft_ends.specs.Both.{key_of}
-use Rattle.ft_ends.specs.Tellings.{Failed, Closing, Located, Replied, Telling, answer_in, octets_told}
+use Rattle.ft_orb.specs.Tellings.{Closing, Failed, Located, Replied, Telling, octets_told}
+use Rattle.ft_ends.specs.Tellings.{answer_in}
 
 -- the first list is a front of the second
 abbrev pub IsFront : {A : Type 0} → List A → List A → Type 0

@@ -18,16 +18,17 @@ use Rattle.ft_orb.specs.Requests.{Wanted, asking, locating, rules_of}
 use Rattle.ft_orb.specs.Servants.{Meaning}
 use Rattle.ft_ends.specs.Both.{ActsOnce, AreDistinct}
 use Rattle.ft_ends.specs.Fine.{AreFaithful, IsFineCall}
-use Rattle.ft_ends.specs.Tellings.{octets_told, told}
+use Rattle.ft_orb.specs.Tellings.{octets_told}
+use Rattle.ft_ends.specs.Tellings.{law_told}
 use Rattle.ft_ends.specs.World.{CallNow, Member, Newcomer, Sides, Step, world}
 
 -- What an event makes a server write are the octets of these messages, one after another.
 abbrev pub TellingsAreWritten : {State : Type 0} → Meaning State → Type 0
-TellingsAreWritten {State} meaning = (made : Made State) (past : List Event) (e : Event) → stream octets_told (told meaning made past e) ≡ output made.limits meaning.knows (law_says meaning made) past e
+TellingsAreWritten {State} meaning = (made : Made State) (past : List Event) (e : Event) → stream octets_told (law_told meaning made past e) ≡ output made.limits meaning.knows (law_says meaning made) past e
 
 -- the directions of a server, to clients that hear so
 abbrev pub sides_of : {State : Type 0} → Meaning State → Made State → (Limits → Hearing Answer) → Sides
-sides_of meaning made hears = record { said = octets_said; telling = octets_told; hears = hears; says = told meaning made }
+sides_of meaning made hears = record { said = octets_said; telling = octets_told; hears = hears; says = law_told meaning made }
 
 -- the call of a step, if it has one, can be written
 abbrev pub IsFineStep : Step → Type 0

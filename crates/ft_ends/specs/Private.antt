@@ -22,7 +22,8 @@ use Rattle.ft_ends.specs.declared.wire.Wire.{Wire as CodeWire}
 use Rattle.ft_ends.specs.Both.{AreDistinct}
 use Rattle.ft_ends.specs.Laws.{sides_of}
 use Rattle.ft_ends.specs.Playing.{given_of, numbered}
-use Rattle.ft_ends.specs.Tellings.{Telling, octets_told, tellings, told}
+use Rattle.ft_orb.specs.Tellings.{Telling, octets_told}
+use Rattle.ft_ends.specs.Tellings.{law_told, tellings}
 use Rattle.ft_ends.specs.World.{Member, Moved, Newcomer, Step, Wire, World, client_of, member_of, moved, step}
 
 -- the laws of clients
@@ -83,7 +84,7 @@ AreHeld tells (m ∷ ms) (c ∷ cs) [] = ⊥
 module _ {State : Type 0} (meaning : Meaning State) (made : Made State) where
   -- what the server says on each connection
   abbrev pub tells : List Event → ℕ → List Telling
-  tells past c = tellings (told meaning made) past c
+  tells past c = tellings (law_told meaning made) past c
 
   -- the server, a client and its wire, after a step of that client
   pub record Holds (server : Server State) (client : FtClient) (wire : CodeWire) (v : Moved) : Type 0 where

@@ -8,7 +8,8 @@ use Rattle.giop_link.specs.Hearing.{Hearing}
 use Rattle.ft_client.specs.Lives.{Life, goes_on, new_life}
 use Rattle.ft_client.specs.Messages.{Answer, Call, Said}
 use Rattle.ft_orb.specs.History.{Close, Event, Lost, Opened, Piece}
-use Rattle.ft_ends.specs.Tellings.{Telling, tellings}
+use Rattle.ft_orb.specs.Tellings.{Telling}
+use Rattle.ft_ends.specs.Tellings.{tellings}
 
 -- The two directions: the octets of what clients say, the octets of what the server says, what a client of some limits hears
 -- in octets, and what an event makes the server say.

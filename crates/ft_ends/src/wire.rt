@@ -16,7 +16,7 @@ ghost use Rattle.ft_orb.specs.Standing.{Stands};
 ghost use Rattle.ft_ends.specs.Laws.{sides_of};
 ghost use Rattle.ft_ends.specs.Playing.{call_as};
 ghost use Rattle.ft_ends.specs.Private.{Holds, IsUnused, IsWire, IsWireFor, tells};
-ghost use Rattle.ft_ends.specs.Tellings.{Telling};
+ghost use Rattle.ft_orb.specs.Tellings.{Telling};
 ghost use Rattle.ft_ends.specs.World as world;
 ghost use Rattle.ft_ends.specs.World.{Member, coming_down, extended, fed_with, going_up};
 

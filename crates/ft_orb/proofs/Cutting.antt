@@ -9,14 +9,16 @@ use Rattle.ft_log.specs.declared.system_exception.SystemName.{SystemName}
 use Rattle.ft_orb.specs.ExactlyOnce.{Arrival, Rules, answers_after}
 use Rattle.ft_orb.specs.History.{Event, Gone, Line, Piece, Shut, Up, arrivals, arrivals_in, arrivals_on, clock, completed, line, longer}
 use Rattle.ft_orb.specs.Laws.{CutPiecesWriteTheSame, PiecesMayBeCut}
-use Rattle.ft_orb.specs.Outputs.{error_at, error_on, law_says, output, table_of_past, table_says}
-use Rattle.ft_orb.specs.Renderings.{rendered, rendering}
+use Rattle.ft_orb.specs.Outputs.{law_says, output, table_of_past, table_says}
+use Rattle.ft_orb.specs.Private.{error_at}
 use Rattle.ft_orb.specs.Requests.{Wanted, rules_of}
 use Rattle.ft_orb.specs.Servants.{Meaning}
-use Rattle.ft_orb.specs.Table.{Table, table_after, table_answers, table_step}
-use Rattle.ft_orb.proofs.Folded.{answers_after-append, table_after-append, table_answers-append}
+use Rattle.ft_orb.specs.Table.{Table, table_after, table_answers}
+use Rattle.ft_orb.specs.Tellings.{rendered}
+use Rattle.ft_orb.proofs.Folded.{answers_after-append, table_after-append, table_answers-append, table_answers-length}
 use Rattle.ft_orb.proofs.Hearing.{arrivals_in-by, arrivals_in-ended, arrivals_in-message}
 use Rattle.ft_orb.proofs.Pieces.{same-by}
+use Rattle.ft_orb.proofs.Told.{error_on, output-is, rendered-append}
 
 longer-twice : (x y : List ℕ) (l : Line) → longer y (longer x l) ≡ longer (x ++ y) l
 longer-twice x y Gone = refl
@@ -25,21 +27,9 @@ longer-twice x y (Up s) = ap (λ (t : List ℕ). Up t) (append_assoc s x y)
 
 -- as many answers as arrivals
 module _ {S C K O : Type 0} (rules : Rules S C K O) where
-  pub table_answers-length : (t : Table S O) (xs : List (Arrival C)) → length (table_answers rules t xs) ≡ length xs
-  table_answers-length t [] = refl
-  table_answers-length t (x ∷ xs) = ap suc (table_answers-length (table_step rules t x).0 xs)
-
   answers_after-length : (opening : S) (before xs : List (Arrival C)) → length (answers_after rules opening before xs) ≡ length xs
   answers_after-length opening before [] = refl
   answers_after-length opening before (x ∷ xs) = ap suc (answers_after-length opening (before ++ x ∷ []) xs)
-
-pub rendered-append : (knows : List ℕ → Bool) (xs ys : List (Arrival Wanted)) (ps qs : List (Result Performed SystemName)) → length ps ≡ length xs → rendered knows (xs ++ ys) (ps ++ qs) ≡ rendered knows xs ps ++ rendered knows ys qs
-rendered-append knows [] ys [] qs h = refl
-rendered-append knows [] ys (p ∷ ps) qs h = absurd (omega (arith, h))
-rendered-append knows (x ∷ xs) ys [] qs h = absurd (omega (arith, h))
-rendered-append knows (x ∷ xs) ys (p ∷ ps) qs h =
-    ap (λ (l : List ℕ). rendering knows x.content p ++ l) (rendered-append knows xs ys ps qs (omega (arith, h)))
-    ∙ sym (append_assoc (rendering knows x.content p) (rendered knows xs ps) (rendered knows ys qs))
 
 module _ (limits : Limits) (past : List Event) (c moment : ℕ) (x y : List ℕ) where
   abbrev pub First : List Event
@@ -117,11 +107,12 @@ module _ (limits : Limits) (past : List Event) (c moment : ℕ) (x y : List ℕ)
         let more = rendered knows (completed limits First (Piece c moment y)) (answers First (Piece c moment y)) in
         let both : rendered knows (completed limits past (Piece c moment (x ++ y))) (answers past (Piece c moment (x ++ y))) ≡ before ++ more =
         (λ i. rendered knows (completed-cut grow i) (says i)) ∙ rendered-append knows (completed limits past (Piece c moment x)) (completed limits First (Piece c moment y)) (answers past (Piece c moment x)) (answers First (Piece c moment y)) size in
-        ap (λ (l : List ℕ). l ++ error_on limits (line past c) (x ++ y)) both
+        output-is limits knows answers past (Piece c moment (x ++ y)) ∙ ap (λ (l : List ℕ). l ++ error_on limits (line past c) (x ++ y)) both
         ∙ errors-cut stays (line past c) before more (λ s e up is.
         let none : completed limits First (Piece c moment y) ≡ [] = second-is ∙ ap (λ (l : Line). arrivals_on limits c (max (clock past) moment) (longer x l) y) up ∙ silent-second silent (max (clock past) moment) s e is in
         ap (λ (l : List (Arrival Wanted)). rendered knows l (answers First (Piece c moment y))) none)
         ∙ ap (λ (l : Line). (before ++ error_on limits (line past c) x) ++ (more ++ error_on limits l y)) (sym line-here)
+        ∙ sym (λ i. output-is limits knows answers past (Piece c moment x) i ++ output-is limits knows answers First (Piece c moment y) i)
 
 pub pieces-may-be-cut : HearingGrows meaning_in → PiecesMayBeCut
 pieces-may-be-cut grow limits past c moment x y = (arrivals-cut limits past c moment x y grow, now-same limits past c moment x y, refl, lines-cut limits past c moment x y)

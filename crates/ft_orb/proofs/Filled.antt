@@ -15,10 +15,6 @@ pub on_ok_two : {T E P Q R : Type 0} (r : Result T E) → (P → Q → R) → On
 on_ok_two (Ok x) f p q = f p q
 on_ok_two (Err x) f p q = tt
 
-pub on_err_two : {T E P Q R : Type 0} (r : Result T E) → (P → Q → R) → OnErr r P → OnErr r Q → OnErr r R
-on_err_two (Ok x) f p q = tt
-on_err_two (Err x) f p q = f p q
-
 -- which objects are raw as a whole, and the ids that they name
 abbrev pub raw_of_objects : (List ℕ → Option Object) → List ℕ → Bool
 raw_of_objects f key = is_raw_at (f key)

@@ -14,17 +14,19 @@ use Rattle.ft_orb.specs.declared.events.Note.TheVariants.{Done}
 use Rattle.ft_orb.specs.declared.server.Server.{Server}
 use Rattle.ft_orb.specs.ExactlyOnce.{Arrival, Rules}
 use Rattle.ft_orb.specs.History.{Event, Gone, Line, Lost, Piece, Shut, Up, arrivals, arrivals_in, arrivals_on, clock, completed, counted, front_in, front_on, least, line, longer, shortened}
-use Rattle.ft_orb.specs.Outputs.{IsCutShort, Made, Writes, error_at, error_on, is_going, needs_memory, output_cut, table_of_past, table_says}
-use Rattle.ft_orb.specs.Renderings.{rendered}
+use Rattle.ft_orb.specs.Outputs.{IsCutShort, Made, Writes, is_going, needs_memory, output_cut, table_of_past, table_says}
+use Rattle.ft_orb.specs.Tellings.{rendered}
 use Rattle.ft_orb.specs.Requests.{Call, Wanted, rules_of}
 use Rattle.ft_orb.specs.Servants.{Meaning}
 use Rattle.ft_orb.specs.Standing.{IsFor, Stands, table_of}
 use Rattle.ft_orb.specs.Table.{AreAlike, Table, table_after, table_answers}
 use Rattle.ft_orb.specs.Visits.{IsShortest, count_to}
-use Rattle.ft_orb.proofs.Cutting.{completed-cut, on-cut, cut-pieces-write, line-here, now-same, pieces-may-be-cut, rendered-append, table_answers-length}
-use Rattle.ft_orb.proofs.Folded.{table_after-append, table_answers-append}
+use Rattle.ft_orb.specs.Private.{error_at}
+use Rattle.ft_orb.proofs.Cutting.{completed-cut, on-cut, cut-pieces-write, line-here, now-same, pieces-may-be-cut}
+use Rattle.ft_orb.proofs.Folded.{table_after-append, table_answers-append, table_answers-length}
 use Rattle.ft_orb.proofs.Going.{front-exact, least-passes, least-within}
 use Rattle.ft_orb.proofs.Pieces.{needs-by}
+use Rattle.ft_orb.proofs.Told.{error_on, output-is, rendered-append}
 
 -- a number below the least that passes does not pass
 least-below : (test : ℕ → Bool) (i n : ℕ) → i < least test n → test i ≡ false
@@ -239,7 +241,7 @@ module _ {S : Type 0} (meaning : Meaning S) (made : Made S) (past : List Event) 
     first-is : first ≡ rendered meaning.knows (completed made.limits past (Piece c moment Before)) (table_says meaning made past (Piece c moment Before))
     first-is =
         let still : is_going made.limits (longer Before (line past c)) ≡ true = subst (λ (l : Line). is_going made.limits l ≡ true) (line-here made.limits past c moment Before Left) needs.1 in
-        writes.0 ∙ ap (λ (l : List ℕ). rendered meaning.knows (completed made.limits past (Piece c moment Before)) (table_says meaning made past (Piece c moment Before)) ++ l) (calm-going made.limits (line past c) Before still)
+        writes.0 ∙ output-is made.limits meaning.knows (table_says meaning made) past (Piece c moment Before) ∙ ap (λ (l : List ℕ). rendered meaning.knows (completed made.limits past (Piece c moment Before)) (table_says meaning made past (Piece c moment Before)) ++ l) (calm-going made.limits (line past c) Before still)
         ∙ append-nil (rendered meaning.knows (completed made.limits past (Piece c moment Before)) (table_says meaning made past (Piece c moment Before)))
 
     out-is : (a : ℕ) → output_cut made.limits meaning.knows (table_says meaning made) past (shortened made.limits past (Piece c moment piece) (Count + handled)) (Count + a)

@@ -38,8 +38,7 @@ use Rattle.ft_orb.specs.Outputs.{Writes, after, output_cut, table_of_past, table
 use Rattle.ft_orb.specs.Owners.{Owner, answered_so_far, made_of, meaning_of, owner_rules, rules_with}
 use Rattle.ft_orb.specs.Pauses.{Breaks, IsServedTo, Paused, Reaches}
 use Rattle.ft_orb.specs.Private.{Served, counted_by, all_answered}
-use Rattle.ft_orb.specs.Renderings.{rendered}
-use Rattle.ft_orb.specs.Replies.{reply_by}
+use Rattle.ft_orb.specs.Tellings.{rendered, reply_by}
 use Rattle.ft_orb.specs.Requests.{Call, Wanted, asked_of, asking}
 use Rattle.ft_orb.specs.Standing.{IsFor, IsSameBut, Stands, capacity_of, share_of, table_of}
 use Rattle.ft_orb.specs.Table.{AreAlike, Table, table_after, table_answers}
@@ -258,10 +257,10 @@ module _ {C : Type 0} (offers : C → Offer) (owner : Owner) where
   -- what `finish` appended, behind what was written before
   finishes-more : (w : Waiting) (outcome : Performed) (mid new : List (KeptOutcome Performed)) (step : Step) (out grown written : List ℕ) → Finishes w outcome mid step new out grown
       → (more : List ℕ) × (grown ≡ out ++ more) × Finishes w outcome mid step new written (written ++ more)
-  finishes-more w outcome mid new Quiet out grown written d = absurd d
+  finishes-more w outcome mid new Quiet out grown written d = absurd d.1
   finishes-more w outcome mid new Answered out grown written d = (reply_by w.asker.wish w.asker.version w.asker.request_id outcome, d.1, (d.0, refl))
-  finishes-more w outcome mid new Unanswered out grown written d = ([], d.1 ∙ sym (append-nil out), (d.0, append-nil written, d.2))
-  finishes-more w outcome mid new Unhandled out grown written d = absurd d
+  finishes-more w outcome mid new Unanswered out grown written d = ([], d.1.0 ∙ sym (append-nil out), (d.0, (append-nil written, d.1.1)))
+  finishes-more w outcome mid new Unhandled out grown written d = absurd d.1
 
   module _ (grow : HearingGrows meaning_in) (calls : List Call) (old new : Engine C) (past : List Event) (moment : ℕ) (octets written : List ℕ) (p : Pending) (a : Keeps offers owner calls old past moment octets written p) (outcome : Performed)
       (gave : owner.answers calls (call_of p.waiting) ≡ outcome) (step : Step) (out grown : List ℕ) (r : Result ℕ Cut)

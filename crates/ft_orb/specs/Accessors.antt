@@ -68,39 +68,6 @@ abbrev pub ordinal_of : Value → Option ℕ
 ordinal_of (value.enumeration n) = Some n
 ordinal_of _ = None
 
--- the argument at an index, where there is one and it is of the type
-abbrev pub boolean_at : ℕ → Values → Option Bool
-boolean_at i arguments = option_and_then boolean_of (argument_at i arguments)
-
-abbrev pub char_at : ℕ → Values → Option ℕ
-char_at i arguments = option_and_then char_of (argument_at i arguments)
-
-abbrev pub octet_at : ℕ → Values → Option ℕ
-octet_at i arguments = option_and_then octet_of (argument_at i arguments)
-
-abbrev pub short_at : ℕ → Values → Option ℤ
-short_at i arguments = option_and_then short_of (argument_at i arguments)
-
-abbrev pub ushort_at : ℕ → Values → Option ℕ
-ushort_at i arguments = option_and_then ushort_of (argument_at i arguments)
-
-abbrev pub long_at : ℕ → Values → Option ℤ
-long_at i arguments = option_and_then long_of (argument_at i arguments)
-
-abbrev pub ulong_at : ℕ → Values → Option ℕ
-ulong_at i arguments = option_and_then ulong_of (argument_at i arguments)
-
-abbrev pub longlong_at : ℕ → Values → Option ℤ
-longlong_at i arguments = option_and_then longlong_of (argument_at i arguments)
-
-abbrev pub ulonglong_at : ℕ → Values → Option ℕ
-ulonglong_at i arguments = option_and_then ulonglong_of (argument_at i arguments)
-
-abbrev pub string_at : ℕ → Values → Option (List ℕ)
-string_at i arguments = option_and_then string_of (argument_at i arguments)
-
-abbrev pub octets_at : ℕ → Values → Option (List ℕ)
-octets_at i arguments = option_and_then octets_in (argument_at i arguments)
-
-abbrev pub ordinal_at : ℕ → Values → Option ℕ
-ordinal_at i arguments = option_and_then ordinal_of (argument_at i arguments)
+-- what one of these reads of the argument at an index, where there is one and it is of the type
+abbrev pub read_at : {A : Type 0} → (Value → Option A) → ℕ → Values → Option A
+read_at of i arguments = option_and_then of (argument_at i arguments)

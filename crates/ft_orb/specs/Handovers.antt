@@ -11,7 +11,7 @@ use Rattle.ft_orb.specs.Catalogues.{Offer}
 use Rattle.ft_orb.specs.Interfaces.{IsOutcomeOf}
 use Rattle.ft_orb.specs.Replies.{IsRenderable}
 use Rattle.ft_orb.specs.Requests.{Call}
-use Rattle.ft_orb.specs.Wires.{Follows}
+use Rattle.ft_orb.specs.Wires.{IfKnown}
 
 -- a call that the owner performed: the outcome that it gave, and the one that was handed in for it
 pub record Handover : Type 0 where
@@ -49,4 +49,4 @@ AreHandedIn offer log = AllByRecursion (λ h. IsHandedIn offer h.call h.gave h.h
 
 -- what is known of an owner says that it answered these calls
 abbrev pub OwnerSays : List Handover → Option (List Answer) → Option (List Answer) → Type 0
-OwnerSays log old new = Follows (λ before now. now ≡ before ++ given_in log) old new
+OwnerSays log old new = IfKnown (λ before now. now ≡ before ++ given_in log) old new

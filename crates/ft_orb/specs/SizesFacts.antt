@@ -1,12 +1,12 @@
 -- That values of a type are within its most octets, and that outcomes of bounded types can be sent. Nobody has to read these
 -- proofs; they stand here since those of servants cite them.
 use Rattle.std.specs.Prelude.{◌≡◌, ◌≢◌, ℕ, zero, suc, ◌+◌, ◌-◌, ◌*◌, ◌%◌, ◌^◌, ◌<◌, ◌≤◌, ℤ, pos, max, Bool, true, false, not, ◌&&◌, nat_eq, nat_le, List, [], ◌∷◌, ◌++◌, length, replicate, IsTrue}
+use Rattle.std.specs.Int.{bytes_high_first, bytes_low_first}
 use Rattle.std.specs.List.{list_all}
 use Rattle.std.proofs.Common.{arith, refl, subst, leb-true, length-append, inl, inr}
 use Rattle.std.proofs.Math.Nat.{le-max_left, le-max_right, mod-lt, mul-le-mul_right, suc-mul}
 use Rattle.std.proofs.lemmas.Bool.{and_parts}
 use Rattle.std.proofs.lemmas.List.{length-replicate}
-use Rattle.byteorder.specs.Numbers.{length-bytes_high_first, length-bytes_low_first}
 use Rattle.cdr_core.specs.Fitting.{AllFit, Fits, FitsChosen, FitsMembers, OneFits}
 use Rattle.cdr_core.specs.Form as form
 use Rattle.cdr_core.specs.Form.{Cases, Form, Forms, Number, size}
@@ -27,9 +27,17 @@ use Rattle.ft_orb.specs.Interfaces.{IsOutcomeOf, IsRaised, Types, operation}
 use Rattle.ft_orb.specs.Replies.{IsRenderable, system_members}
 use Rattle.ft_orb.specs.Sizes.{AreWithin, IsWithin, is_bounded, most_octets, most_octets_of_all, most_octets_of_member}
 
+high_length : (n x : ℕ) → length (bytes_high_first n x) ≡ n
+high_length zero x = refl
+high_length (suc n) x = let e = high_length n x in omega (arith, e)
+
+low_length : (i n x : ℕ) → length (bytes_low_first i n x) ≡ n
+low_length i zero x = refl
+low_length i (suc n) x = let e = low_length (suc i) n x in omega (arith, e)
+
 digits_length : (order : Order) (n x : ℕ) → length (digits_of order n x) ≡ n
-digits_length Big n x = length-bytes_high_first n x
-digits_length Little n x = length-bytes_low_first 0 n x
+digits_length Big n x = high_length n x
+digits_length Little n x = low_length 0 n x
 
 -- the padding before n octets is shorter than they
 number_within : (order : Order) (n o x : ℕ) → 0 < n → length (number_octets order n o x) ≤ 2 * n - 1

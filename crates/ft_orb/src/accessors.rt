@@ -6,7 +6,7 @@
 
 ghost use Rattle.std.specs.Prelude.{◌≡◌, option_map};
 ghost use Rattle.cdr_core.specs.View.{value_of, values_of};
-ghost use Rattle.ft_orb.specs.Accessors.{argument_at, boolean_at, char_at, long_at, longlong_at, octet_at, octets_at, ordinal_at, short_at, string_at, ulong_at, ulonglong_at, ushort_at};
+ghost use Rattle.ft_orb.specs.Accessors.{argument_at, boolean_of, char_of, long_of, longlong_of, octet_of, octets_in, ordinal_of, read_at, short_of, string_of, ulong_of, ulonglong_of, ushort_of};
 
 use cdr_core::Val;
 
@@ -20,7 +20,7 @@ fn argument_at(arguments: &[Val], index: usize) -> Option<&Val>
 /// The boolean at an index.
 #[tactic(auto, using(crate::proofs::BasicValues::of_boolean, crate::proofs::BasicValues::no_boolean))]
 pub fn boolean_at(arguments: &[Val], index: usize) -> Option<bool>
-    ensures { result ≡ boolean_at index (values_of arguments.now) }
+    ensures { result ≡ read_at boolean_of index (values_of arguments.now) }
 {
     match argument_at(arguments, index) {
         Some(Val::Boolean(b)) => Some(*b),
@@ -31,7 +31,7 @@ pub fn boolean_at(arguments: &[Val], index: usize) -> Option<bool>
 /// The char at an index, as its octet.
 #[tactic(auto, using(crate::proofs::BasicValues::of_char, crate::proofs::BasicValues::no_char))]
 pub fn char_at(arguments: &[Val], index: usize) -> Option<u8>
-    ensures { result ≡ char_at index (values_of arguments.now) }
+    ensures { result ≡ read_at char_of index (values_of arguments.now) }
 {
     match argument_at(arguments, index) {
         Some(Val::Char(c)) => Some(*c),
@@ -42,7 +42,7 @@ pub fn char_at(arguments: &[Val], index: usize) -> Option<u8>
 /// The octet at an index.
 #[tactic(auto, using(crate::proofs::BasicValues::of_octet, crate::proofs::BasicValues::no_octet))]
 pub fn octet_at(arguments: &[Val], index: usize) -> Option<u8>
-    ensures { result ≡ octet_at index (values_of arguments.now) }
+    ensures { result ≡ read_at octet_of index (values_of arguments.now) }
 {
     match argument_at(arguments, index) {
         Some(Val::Octet(n)) => Some(*n),
@@ -53,7 +53,7 @@ pub fn octet_at(arguments: &[Val], index: usize) -> Option<u8>
 /// The short at an index.
 #[tactic(auto, using(crate::proofs::BasicValues::of_short, crate::proofs::BasicValues::no_short))]
 pub fn short_at(arguments: &[Val], index: usize) -> Option<i16>
-    ensures { result ≡ short_at index (values_of arguments.now) }
+    ensures { result ≡ read_at short_of index (values_of arguments.now) }
 {
     match argument_at(arguments, index) {
         Some(Val::Short(n)) => Some(*n),
@@ -64,7 +64,7 @@ pub fn short_at(arguments: &[Val], index: usize) -> Option<i16>
 /// The unsigned short at an index.
 #[tactic(auto, using(crate::proofs::BasicValues::of_ushort, crate::proofs::BasicValues::no_ushort))]
 pub fn ushort_at(arguments: &[Val], index: usize) -> Option<u16>
-    ensures { result ≡ ushort_at index (values_of arguments.now) }
+    ensures { result ≡ read_at ushort_of index (values_of arguments.now) }
 {
     match argument_at(arguments, index) {
         Some(Val::UShort(n)) => Some(*n),
@@ -75,7 +75,7 @@ pub fn ushort_at(arguments: &[Val], index: usize) -> Option<u16>
 /// The long at an index.
 #[tactic(auto, using(crate::proofs::BasicValues::of_long, crate::proofs::BasicValues::no_long))]
 pub fn long_at(arguments: &[Val], index: usize) -> Option<i32>
-    ensures { result ≡ long_at index (values_of arguments.now) }
+    ensures { result ≡ read_at long_of index (values_of arguments.now) }
 {
     match argument_at(arguments, index) {
         Some(Val::Long(n)) => Some(*n),
@@ -86,7 +86,7 @@ pub fn long_at(arguments: &[Val], index: usize) -> Option<i32>
 /// The unsigned long at an index.
 #[tactic(auto, using(crate::proofs::BasicValues::of_ulong, crate::proofs::BasicValues::no_ulong))]
 pub fn ulong_at(arguments: &[Val], index: usize) -> Option<u32>
-    ensures { result ≡ ulong_at index (values_of arguments.now) }
+    ensures { result ≡ read_at ulong_of index (values_of arguments.now) }
 {
     match argument_at(arguments, index) {
         Some(Val::ULong(n)) => Some(*n),
@@ -97,7 +97,7 @@ pub fn ulong_at(arguments: &[Val], index: usize) -> Option<u32>
 /// The long long at an index.
 #[tactic(auto, using(crate::proofs::BasicValues::of_longlong, crate::proofs::BasicValues::no_longlong))]
 pub fn longlong_at(arguments: &[Val], index: usize) -> Option<i64>
-    ensures { result ≡ longlong_at index (values_of arguments.now) }
+    ensures { result ≡ read_at longlong_of index (values_of arguments.now) }
 {
     match argument_at(arguments, index) {
         Some(Val::LongLong(n)) => Some(*n),
@@ -108,7 +108,7 @@ pub fn longlong_at(arguments: &[Val], index: usize) -> Option<i64>
 /// The unsigned long long at an index.
 #[tactic(auto, using(crate::proofs::BasicValues::of_ulonglong, crate::proofs::BasicValues::no_ulonglong))]
 pub fn ulonglong_at(arguments: &[Val], index: usize) -> Option<u64>
-    ensures { result ≡ ulonglong_at index (values_of arguments.now) }
+    ensures { result ≡ read_at ulonglong_of index (values_of arguments.now) }
 {
     match argument_at(arguments, index) {
         Some(Val::ULongLong(n)) => Some(*n),
@@ -119,7 +119,7 @@ pub fn ulonglong_at(arguments: &[Val], index: usize) -> Option<u64>
 /// The string at an index, without its NUL. It is lent.
 #[tactic(auto, using(crate::proofs::BasicValues::of_string, crate::proofs::BasicValues::no_string))]
 pub fn string_at(arguments: &[Val], index: usize) -> Option<&[u8]>
-    ensures { option_map (λ text. text.now) result ≡ string_at index (values_of arguments.now) }
+    ensures { option_map (λ text. text.now) result ≡ read_at string_of index (values_of arguments.now) }
 {
     match argument_at(arguments, index) {
         Some(Val::Str(text)) => Some(text),
@@ -130,7 +130,7 @@ pub fn string_at(arguments: &[Val], index: usize) -> Option<&[u8]>
 /// The octets at an index, a sequence of octet. They are lent.
 #[tactic(auto, using(crate::proofs::BasicValues::of_octets, crate::proofs::BasicValues::no_octets))]
 pub fn octets_at(arguments: &[Val], index: usize) -> Option<&[u8]>
-    ensures { option_map (λ all. all.now) result ≡ octets_at index (values_of arguments.now) }
+    ensures { option_map (λ all. all.now) result ≡ read_at octets_in index (values_of arguments.now) }
 {
     match argument_at(arguments, index) {
         Some(Val::Octets(all)) => Some(all),
@@ -141,7 +141,7 @@ pub fn octets_at(arguments: &[Val], index: usize) -> Option<&[u8]>
 /// The ordinal of the enumeration at an index, from 0.
 #[tactic(auto, using(crate::proofs::BasicValues::of_ordinal, crate::proofs::BasicValues::no_ordinal))]
 pub fn ordinal_at(arguments: &[Val], index: usize) -> Option<u32>
-    ensures { result ≡ ordinal_at index (values_of arguments.now) }
+    ensures { result ≡ read_at ordinal_of index (values_of arguments.now) }
 {
     match argument_at(arguments, index) {
         Some(Val::Enum(n)) => Some(*n),

@@ -4,7 +4,7 @@ ghost use Rattle.std.specs.Prelude.{◌≡◌, ◌++◌, List, Option};
 ghost use Rattle.ft_orb.specs.Answers.{Answer};
 ghost use Rattle.ft_orb.specs.Engines.{awaited_lent};
 ghost use Rattle.ft_orb.specs.Handovers.{answers_given};
-ghost use Rattle.ft_orb.specs.Wires.{Follows};
+ghost use Rattle.ft_orb.specs.Wires.{IfKnown};
 
 use crate::engine::Asked;
 use ft_log::Outcome;
@@ -22,5 +22,5 @@ pub trait Performer {
     ///
     /// An outcome is to be one that `Engine::can_answer` takes. Where it isn't, the client is answered INTERNAL.
     fn perform(&mut self, alloc: Global, asked: &Asked<'_>) -> Option<Outcome>
-        ensures answered { Follows (λ before now. now ≡ before ++ answers_given (awaited_lent asked.now).call result) (answered self.old) (answered self.new) };
+        ensures answered { IfKnown (λ before now. now ≡ before ++ answers_given (awaited_lent asked.now).call result) (answered self.old) (answered self.new) };
 }

@@ -12,7 +12,7 @@ use Rattle.ft_orb.specs.History.{Event, Opened, Up, does_count, line}
 use Rattle.ft_orb.specs.Outputs.{Made, is_going, note_in, table_says}
 use Rattle.ft_orb.specs.Servants.{Meaning}
 use Rattle.ft_orb.specs.Standing.{note_of_opening}
-use Rattle.ft_orb.specs.Wires.{Follows}
+use Rattle.ft_orb.specs.Wires.{IfKnown}
 use Rattle.ft_orb.proofs.Streams.{grows-then}
 use Rattle.giop_run.specs.Visits.{AreVisits, IsVisit, Visit, moments_in, moments_of, past_with_visit, past_with_visits}
 
@@ -36,8 +36,8 @@ opened-going limits past c quiet is =
     ∙ ap (λ (b : Bool). is_going limits (if b then Up [] else line past c)) (counts-by (does_count past c) is) ∙ ap (λ o. is_none o) quiet
 
 -- what is known of a clock after one visit more
-pub moments-more : (vs : List Visit) (v : Visit) (old mid new : Option (List ℕ)) → Follows (λ (t u : List ℕ). u ≡ t ++ moments_in vs) old mid → Follows (λ (t u : List ℕ). u ≡ t ++ moments_of v) mid new
-    → Follows (λ (t u : List ℕ). u ≡ t ++ moments_in (vs ++ v ∷ [])) old new
+pub moments-more : (vs : List Visit) (v : Visit) (old mid new : Option (List ℕ)) → IfKnown (λ (t u : List ℕ). u ≡ t ++ moments_in vs) old mid → IfKnown (λ (t u : List ℕ). u ≡ t ++ moments_of v) mid new
+    → IfKnown (λ (t u : List ℕ). u ≡ t ++ moments_in (vs ++ v ∷ [])) old new
 moments-more vs v old mid new p q =
     grows-then (moments_in vs) (moments_of v) (moments_in (vs ++ v ∷ [])) old mid new p q
     (ap (λ (ms : List ℕ). moments_in vs ++ ms) (sym (append-nil (moments_of v))) ∙ sym (flat_map-append moments_of vs (v ∷ [])))

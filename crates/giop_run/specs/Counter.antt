@@ -6,7 +6,7 @@ use Rattle.cdr_core.specs.View.{forms}
 use Rattle.ft_log.specs.Performed.{Performed, raised, returned, system}
 use Rattle.ft_log.specs.declared.system_exception.Completion.TheVariants.{No}
 use Rattle.ft_log.specs.declared.system_exception.SystemName.TheVariants.{BadOperation}
-use Rattle.ft_orb.specs.Accessors.{long_at}
+use Rattle.ft_orb.specs.Accessors.{long_of, read_at}
 use Rattle.ft_orb.specs.Interfaces.{Types}
 use Rattle.ft_orb.specs.Objects.{Object, meaning_of}
 use Rattle.ft_orb.specs.Servants.{Meaning}
@@ -50,7 +50,7 @@ counter =
       key = codes "c";
       is_state = is_long_long;
       operations =
-          record { name = codes "add"; types = add_types; gives = λ total arguments. add total (long_at 0 arguments) }
+          record { name = codes "add"; types = add_types; gives = λ total arguments. add total (read_at long_of 0 arguments) }
           ∷ record { name = codes "get"; types = get_types; gives = λ total arguments. (total, tells total) } ∷ [];
     }
 

@@ -5,7 +5,7 @@ use Rattle.std.proofs.Common.{rules, arith, refl, subst, sym, inl, ltb-true, leb
 use Rattle.std.proofs.lemmas.Bool.{and_parts}
 use Rattle.cdr_core.specs.Fitting.{FitsMembers}
 use Rattle.cdr_core.specs.Value.{Values}
-use Rattle.ft_orb.specs.Accessors.{long_at}
+use Rattle.ft_orb.specs.Accessors.{long_of, read_at}
 use Rattle.ft_orb.specs.AccessorsFacts.{long_fits}
 use Rattle.ft_orb.specs.Objects.{Suits}
 use Rattle.ft_orb.specs.ObjectsFacts.{bounded_suits, either_suits, object_is_servant}
@@ -26,7 +26,7 @@ summed total n h =
     (λ e. bounded_suits refl e ((refl, long_long (total +ℤ n) e), tt))
     (λ e. bounded_suits refl h (clean_by overflow_id refl, inl (refl, tt)))
 
-added : (total : ℤ) (arguments : Values) → IsTrue (is_long_long total) → FitsMembers add_types.arguments arguments → Suits is_long_long add_types (add total (long_at 0 arguments))
+added : (total : ℤ) (arguments : Values) → IsTrue (is_long_long total) → FitsMembers add_types.arguments arguments → Suits is_long_long add_types (add total (read_at long_of 0 arguments))
 added total arguments h a =
     let n = long_fits add_types.arguments arguments 0 refl a in
     subst (λ m. Suits is_long_long add_types (add total m)) (sym n.1) (summed total n.0 h)

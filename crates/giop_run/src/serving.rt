@@ -4,7 +4,7 @@ ghost use Rattle.std.specs.Prelude.{◌≡◌, ◌++◌, ◌≤◌, List, IfOk, 
 ghost use Rattle.ft_orb.specs.History as history;
 ghost use Rattle.ft_orb.specs.Outputs.{Made, table_says};
 ghost use Rattle.ft_orb.specs.Standing.{Stands};
-ghost use Rattle.ft_orb.specs.Wires.{Follows};
+ghost use Rattle.ft_orb.specs.Wires.{IfKnown};
 ghost use Rattle.giop_run.specs.Visits.{AreVisits, IsVisit, Visit, acts_of, moments_in, moments_of, past_with_visit, past_with_visits};
 
 use crate::socket::Socket;
@@ -27,8 +27,8 @@ fn serve_wire<S: Servant + Drop, W: Wire, C: Clock>(
     ensures { (made : Made S) (past : List history.Event) → Stands S.meaning made server.old past → (v : Visit)
         × IsVisit made.limits S.meaning.knows (table_says S.meaning made) past connection v
         × Stands S.meaning made server.new (past_with_visit made.limits past connection v)
-        × Follows (λ before now. now ≡ before ++ acts_of v) (W.traffic wire.old) (W.traffic wire.new)
-        × Follows (λ before now. now ≡ before ++ moments_of v) (C.given clock.old) (C.given clock.new) }
+        × IfKnown (λ before now. now ≡ before ++ acts_of v) (W.traffic wire.old) (W.traffic wire.new)
+        × IfKnown (λ before now. now ≡ before ++ moments_of v) (C.given clock.old) (C.given clock.new) }
 {
     giop_link::laws::streams_are_heard::<giop_link::Server>();
     if server.connect(connection).is_ok() {
@@ -51,7 +51,7 @@ pub fn serve_on<S: Servant + Drop, C: Clock>(
     ensures { (made : Made S) (past : List history.Event) → Stands S.meaning made server.old past → (visits : List Visit)
         × AreVisits made.limits S.meaning.knows (table_says S.meaning made) past 1 visits
         × Stands S.meaning made server.new (past_with_visits made.limits past 1 visits)
-        × Follows (λ before now. now ≡ before ++ moments_in visits) (C.given clock.old) (C.given clock.new)
+        × IfKnown (λ before now. now ≡ before ++ moments_in visits) (C.given clock.old) (C.given clock.new)
         × (length visits ≤ connections)
         × IfOk result (λ _. length visits ≡ connections) }
 {

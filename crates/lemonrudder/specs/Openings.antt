@@ -12,5 +12,5 @@ use Rattle.lemonrudder.specs.Serves.{IsIdle}
 
 -- a server of these objects, to which nothing has happened
 abbrev pub IsNew : Interfaces → Limits → (capacity share : ℕ) → Serving → Type 0
-IsNew i limits capacity share t = IsIdle t × (owed t.due ≡ []) × IsPlaced t.due
+IsNew i limits capacity share t = IsIdle t × (t.engine.catalogue ≡ i) × (owed t.due ≡ []) × IsPlaced t.due
     × ((answers : List Call → Call → Performed) → Rests offer_of (record { offer = offer_of i; answers = answers; limits = limits; capacity = capacity; share = share }) [] t.engine [])

@@ -11,7 +11,7 @@ use Rattle.cdr_core.specs.Value.{Values, values}
 use Rattle.cdr_core.specs.View.{forms_of, values_of}
 use Rattle.ft_log.specs.Performed.{Performed, raised, raw, returned, system}
 use Rattle.ft_orb.specs.declared.error.ServeError.{ServeError}
-use Rattle.ft_orb.specs.Accessors.{string_at}
+use Rattle.ft_orb.specs.Accessors.{read_at, string_of}
 use Rattle.ft_orb.specs.Engines.{Asks, Awaited, CanAnswer, Resumes, ResumesOnce, waits_in}
 use Rattle.ft_orb.specs.Filling.{ids_of, is_a_name, names_id, non_existent_name, offer_of}
 use Rattle.ft_orb.specs.History.{Event}
@@ -25,7 +25,7 @@ use Rattle.lemonrudder.specs.declared.serving.Serving.{Serving}
 use Rattle.lemonrudder.specs.Dues.{IsPlaced, owed}
 use Rattle.lemonrudder.specs.Naming.{completion_named, order_named, raw_status_named, system_name_named}
 use Rattle.lemonrudder.specs.Refusals.{refusal_of_serving}
-use Rattle.lemonrudder.specs.Serves.{IsIdle, IsRefused, done_of}
+use Rattle.lemonrudder.specs.Serves.{IsIdle, IsRefused, KeepsCatalogue, done_of}
 
 -- the outcome of the call that waits is kept, if it is to be, and the answer is due after what was
 abbrev pub Answers : Performed → Serving → Serving → Result (Unit {0}) ServeError → Type 0
@@ -43,7 +43,7 @@ abbrev pub HandsIn : ℕ → Performed → Serving → Serving → Result ℕ Re
 HandsIn n outcome s t r =
     (IsIdle s → IsRefused refusal.Idle s t r)
     × (IsSome (waits_in s.engine) → ¬ (CanBe outcome s) → IsRefused refusal.Outcome s t r)
-    × (CanBe outcome s → (o : Result (Unit {0}) ServeError) × (r ≡ done_of n refusal_of_serving o) × IsIdle t × (t.due_on ≡ s.due_on) × Answers outcome s t o)
+    × (CanBe outcome s → (o : Result (Unit {0}) ServeError) × (r ≡ done_of n refusal_of_serving o) × IsIdle t × (t.due_on ≡ s.due_on) × KeepsCatalogue s t × Answers outcome s t o)
 
 -- memory is short, and nothing has changed; or this
 abbrev pub UnlessShort : Serving → Serving → Result ℕ Refusal → Type 0 → Type 0
@@ -108,7 +108,7 @@ OnAnswerRaw status order body s t r = ByName (raw_status_named status) s t r (λ
 
 -- CORBA 3.3 Part 1, 8.3: what an object that names these repository ids answers, if that is what is asked
 abbrev pub identity_by : Option (List (List ℕ)) → Call → Option Bool
-identity_by ids call = if not (names_id ids (codes "IDL:omg.org/CORBA/Object:1.0")) then None else (if bytes_eq call.operation non_existent_name then Some false else (if bytes_eq call.operation is_a_name then option_map (names_id ids) (string_at 0 call.arguments) else None))
+identity_by ids call = if not (names_id ids (codes "IDL:omg.org/CORBA/Object:1.0")) then None else (if bytes_eq call.operation non_existent_name then Some false else (if bytes_eq call.operation is_a_name then option_map (names_id ids) (read_at string_of 0 call.arguments) else None))
 
 abbrev pub identity_at : Serving → Awaited → Option Bool
 identity_at s w = identity_by (ids_of s.engine.catalogue w.call.object_key) w.call

@@ -8,7 +8,7 @@ use Rattle.cdr_core.specs.Writing.{AreWritable, octets_of_all}
 use Rattle.giop_core.specs.Ft as ft
 use Rattle.giop_core.specs.Ft.{Ft, ft_in}
 use Rattle.giop_link.specs.Hearing.{Question}
-use Rattle.ft_orb.specs.Accessors.{boolean_at, octets_at, ulong_at}
+use Rattle.ft_orb.specs.Accessors.{boolean_of, octets_in, read_at, ulong_of}
 use Rattle.ft_orb.specs.Engines.{Asks, Awaited, waits_in}
 use Rattle.ft_orb.specs.Filling.{offer_of}
 use Rattle.ft_orb.specs.History.{Event}
@@ -29,9 +29,9 @@ use Rattle.lemonrudder.specs.Serves.{IsIdle}
 abbrev pub with_body : Interface → Values → RequestHead → RequestHead
 with_body raw_operation arguments h = record h {
   is_raw = 1;
-  body_size = option_map_or length (octets_at 0 arguments) 0;
-  body_order = from_bool (unwrap_or (boolean_at 1 arguments) false);
-  body_at = unwrap_or (ulong_at 2 arguments) 0;
+  body_size = option_map_or length (read_at octets_in 0 arguments) 0;
+  body_order = from_bool (unwrap_or (read_at boolean_of 1 arguments) false);
+  body_at = unwrap_or (read_at ulong_of 2 arguments) 0;
 }
 with_body _ arguments h = let n = length (octets_of_all Big arguments 0) in record h { body_size = if nat_lt n (2 ^ 64) then n else 0 }
 
@@ -59,7 +59,7 @@ TellsIfSome None room new r = TellsNone refusal.None room new r
 
 -- the body: of a raw operation the octets as they came, and else the arguments in big order, from place 0
 abbrev pub TellsBody : Interface → Values → (room new : List ℕ) → Result ℕ Refusal → Type 0
-TellsBody raw_operation arguments room new r = TellsIfSome (octets_at 0 arguments) room new r
+TellsBody raw_operation arguments room new r = TellsIfSome (read_at octets_in 0 arguments) room new r
 TellsBody _ arguments room new r =
     (AreWritable arguments → TellsNone refusal.Memory room new r ⊎ Tells (octets_of_all Big arguments 0) room new r)
     × (¬ (AreWritable arguments) → TellsNone refusal.None room new r)

@@ -45,6 +45,10 @@ WhereFree c s t r Does = WhereIdle s t r ((IsDueElsewhere c s → IsRefused refu
 abbrev pub KeepsDue : Serving → Serving → Type 0
 KeepsDue s t = (t.due ≡ s.due) × (t.due_on ≡ s.due_on)
 
+-- no call changes what is on offer: it stays the catalogue that the server was opened with
+abbrev pub KeepsCatalogue : Serving → Serving → Type 0
+KeepsCatalogue s t = t.engine.catalogue ≡ s.engine.catalogue
+
 -- what a call answers: a number where it was done, or why it was not
 abbrev pub done_of : {A E : Type 0} → ℕ → (E → Refusal) → Result A E → Result ℕ Refusal
 done_of n why (Ok x) = Ok n
@@ -52,7 +56,7 @@ done_of n why (Err e) = Err (why e)
 
 -- a connection is opened: not while a request waits
 abbrev pub OnConnect : ℕ → Serving → Serving → Result ℕ Refusal → Type 0
-OnConnect c s t r = WhereIdle s t r ((o : Result (Unit {0}) ConnectError) × (r ≡ done_of 0 refusal_of_connecting o) × IsIdle t × KeepsDue s t
+OnConnect c s t r = WhereIdle s t r ((o : Result (Unit {0}) ConnectError) × (r ≡ done_of 0 refusal_of_connecting o) × IsIdle t × KeepsDue s t × KeepsCatalogue s t
     × ((owner : Owner) (calls : List Call) (past : List Event) → Rests offer_of owner calls s.engine past → IsThen offer_of owner calls past (Opened c) (note_of_opening o) t.engine []))
 
 -- what was due on a connection is dropped, and what is due on another stays
@@ -61,7 +65,7 @@ DropsDue c s t = (t.due_on ≡ s.due_on) × (s.due_on ≡ c → (owed t.due ≡ 
 
 -- a connection is lost: not while a request waits
 abbrev pub OnLost : ℕ → Serving → Serving → Result ℕ Refusal → Type 0
-OnLost c s t r = WhereIdle s t r ((r ≡ Ok 0) × IsIdle t × DropsDue c s t
+OnLost c s t r = WhereIdle s t r ((r ≡ Ok 0) × IsIdle t × DropsDue c s t × KeepsCatalogue s t
     × ((owner : Owner) (calls : List Call) (past : List Event) → Rests offer_of owner calls s.engine past → Rests offer_of owner calls t.engine (Lost c ∷ past)))
 
 -- the engine closes a connection, and what it writes is due after what was
@@ -71,7 +75,7 @@ Closes c s t o = (owner : Owner) (calls : List Call) (past : List Event) → Res
 
 -- goodbye is said on a connection: not while a request waits, nor while octets are due on another connection
 abbrev pub OnFarewell : ℕ → Serving → Serving → Result ℕ Refusal → Type 0
-OnFarewell c s t r = WhereFree c s t r ((o : Result (Unit {0}) ServeError) × (r ≡ done_of 0 refusal_of_serving o) × IsIdle t × Closes c s t o)
+OnFarewell c s t r = WhereFree c s t r ((o : Result (Unit {0}) ServeError) × (r ≡ done_of 0 refusal_of_serving o) × IsIdle t × KeepsCatalogue s t × Closes c s t o)
 
 -- it is told whether what comes on a connection has no meaning
 abbrev pub OnIsClosed : ℕ → Serving → Serving → Result ℕ Refusal → Type 0
@@ -96,7 +100,7 @@ Takes c moment octets s t f =
 
 -- octets of a connection are fed: not while a request waits, nor while octets are due on another connection
 abbrev pub OnFeed : (c moment : ℕ) → List ℕ → Serving → Serving → Result ℕ Refusal → Type 0
-OnFeed c moment octets s t r = WhereFree c s t r ((f : Result Fed ServeError) × (r ≡ taken_of (length octets) f) × Takes c moment octets s t f)
+OnFeed c moment octets s t r = WhereFree c s t r ((f : Result Fed ServeError) × (r ≡ taken_of (length octets) f) × KeepsCatalogue s t × Takes c moment octets s t f)
 
 -- the request that waits does not count, and its connection is lost
 abbrev pub Forgets : Serving → Serving → Type 0
@@ -109,7 +113,7 @@ Forgets s t = (n : ℕ) × ((owner : Owner) (calls : List Call) (past : List Eve
 abbrev pub OnGiveUp : Serving → Serving → Result ℕ Refusal → Type 0
 OnGiveUp s t r =
     (IsIdle s → IsRefused refusal.Idle s t r)
-    × (IsSome (waits_in s.engine) → (r ≡ Ok 0) × IsIdle t × KeepsDue s t × Forgets s t)
+    × (IsSome (waits_in s.engine) → (r ≡ Ok 0) × IsIdle t × KeepsDue s t × KeepsCatalogue s t × Forgets s t)
 
 -- octets that are due are copied to the front of a room, as many as it has, and are due no longer
 abbrev pub OnOutput : (room new : List ℕ) → Serving → Serving → Result ℕ Refusal → Type 0

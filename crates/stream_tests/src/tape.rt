@@ -1,7 +1,7 @@
 //! What a wire in memory has done.
 
 ghost use Rattle.std.specs.Prelude.{◌≡◌, ◌++◌, ◌≤◌, [], ◌∷◌, Ok, length};
-ghost use Rattle.ft_orb.specs.Wires.{Follows, act_of_read, act_of_write};
+ghost use Rattle.ft_orb.specs.Wires.{IfKnown, act_of_read, act_of_write};
 ghost use Rattle.stream_tests.specs.Tapes.{act_of, said_by};
 
 use std::alloc::Global;
@@ -25,7 +25,7 @@ pub enum Act {
 
 /// A tape with one act more. None where it can't be written down.
 pub(crate) fn with_act(tape: Option<Vec<Act>>, act: Act) -> Option<Vec<Act>>
-    ensures { Follows (λ before now. now ≡ before ++ act_of act ∷ []) (said_by tape) (said_by result) }
+    ensures { IfKnown (λ before now. now ≡ before ++ act_of act ∷ []) (said_by tape) (said_by result) }
 {
     let mut tape = tape?;
     tape.push(act).ok()?;
@@ -40,7 +40,7 @@ pub(crate) fn with_read(
     n: usize,
 ) -> Option<Vec<Act>>
     requires { n ≤ length buffer.now }
-    ensures { Follows (λ before now. now ≡ before ++ act_of_read buffer.now (Ok n) ∷ []) (said_by tape) (said_by result) }
+    ensures { IfKnown (λ before now. now ≡ before ++ act_of_read buffer.now (Ok n) ∷ []) (said_by tape) (said_by result) }
 {
     if n == 0 {
         return with_act(tape, Act::GaveNone);
@@ -57,7 +57,7 @@ pub(crate) fn with_write(
     n: usize,
 ) -> Option<Vec<Act>>
     requires { n ≤ length octets.now }
-    ensures { Follows (λ before now. now ≡ before ++ act_of_write octets.now (Ok n) ∷ []) (said_by tape) (said_by result) }
+    ensures { IfKnown (λ before now. now ≡ before ++ act_of_write octets.now (Ok n) ∷ []) (said_by tape) (said_by result) }
 {
     if n == 0 {
         return with_act(tape, Act::TookNone);

@@ -5,7 +5,7 @@ use Rattle.giop_frames.specs.declared.limits.Limits.{Limits}
 use Rattle.ft_log.specs.Performed.{Performed, system}
 use Rattle.ft_log.specs.declared.system_exception.Completion.TheVariants.{No}
 use Rattle.ft_log.specs.declared.system_exception.SystemName.TheVariants.{ImpLimit}
-use Rattle.ft_orb.specs.Wires.{Follows}
+use Rattle.ft_orb.specs.Wires.{IfKnown}
 use Rattle.uses.specs.Forwarding.{CanBeForwarded, first_said, forwarded_octets, told_by, untold}
 
 -- the octets of a request that a server behind was sent, and what it wrote for it
@@ -15,7 +15,7 @@ pub record Exchange : Type 0 where
 
 -- there was one exchange more
 abbrev pub Exchanged : Exchange → Option (List Exchange) → Option (List Exchange) → Type 0
-Exchanged x old new = Follows (λ before now. now ≡ before ++ x ∷ []) old new
+Exchanged x old new = IfKnown (λ before now. now ≡ before ++ x ∷ []) old new
 
 module _ (limits : Limits) (id : ℕ) (key operation : List ℕ) (body : Rest) (outcome : Option Performed) where
   -- nothing was sent: an allocation failed, or the call can't be forwarded

@@ -6,7 +6,7 @@ use Rattle.cdr_core.specs.View.{forms}
 use Rattle.ft_log.specs.Performed.{Performed, raised, returned, system}
 use Rattle.ft_log.specs.declared.system_exception.Completion.TheVariants.{No}
 use Rattle.ft_log.specs.declared.system_exception.SystemName.TheVariants.{BadOperation}
-use Rattle.ft_orb.specs.Accessors.{longlong_at}
+use Rattle.ft_orb.specs.Accessors.{longlong_of, read_at}
 use Rattle.ft_orb.specs.Interfaces.{Types}
 use Rattle.ft_orb.specs.Objects.{Object, meaning_of}
 use Rattle.ft_orb.specs.Servants.{Meaning}
@@ -47,7 +47,7 @@ savings =
       key = codes "savings";
       is_state = is_long_long;
       operations =
-          record { name = codes "deposit"; types = deposit_types; gives = λ balance arguments. deposit balance (longlong_at 0 arguments) }
+          record { name = codes "deposit"; types = deposit_types; gives = λ balance arguments. deposit balance (read_at longlong_of 0 arguments) }
           ∷ record { name = codes "balance"; types = balance_types; gives = λ balance arguments. (balance, tells balance) } ∷ [];
     }
 

@@ -5,7 +5,7 @@ use Rattle.std.proofs.Common.{rules, arith, refl, subst, sym, inl, ltb-true, leb
 use Rattle.std.proofs.lemmas.Bool.{and_parts}
 use Rattle.cdr_core.specs.Fitting.{FitsMembers}
 use Rattle.cdr_core.specs.Value.{Values}
-use Rattle.ft_orb.specs.Accessors.{longlong_at}
+use Rattle.ft_orb.specs.Accessors.{longlong_of, read_at}
 use Rattle.ft_orb.specs.AccessorsFacts.{longlong_fits}
 use Rattle.ft_orb.specs.Objects.{Suits}
 use Rattle.ft_orb.specs.ObjectsFacts.{bounded_suits, either_suits, object_is_servant}
@@ -26,7 +26,7 @@ given_deposit balance cents h =
     (λ e. let k = (and_parts (int_le (pos 0) (balance +ℤ cents)) (is_long_long (balance +ℤ cents)) e).1 in bounded_suits refl k ((refl, long_long (balance +ℤ cents) k), tt))
     (λ e. bounded_suits refl h (clean_by overdrawn_id refl, inl (refl, ((refl, long_long balance h), tt))))
 
-deposit_suits : (balance : ℤ) (arguments : Values) → IsTrue (is_long_long balance) → FitsMembers deposit_types.arguments arguments → Suits is_long_long deposit_types (deposit balance (longlong_at 0 arguments))
+deposit_suits : (balance : ℤ) (arguments : Values) → IsTrue (is_long_long balance) → FitsMembers deposit_types.arguments arguments → Suits is_long_long deposit_types (deposit balance (read_at longlong_of 0 arguments))
 deposit_suits balance arguments h a =
     let cents = longlong_fits deposit_types.arguments arguments 0 refl a in
     subst (λ c. Suits is_long_long deposit_types (deposit balance c)) (sym cents.1) (given_deposit balance cents.0 h)

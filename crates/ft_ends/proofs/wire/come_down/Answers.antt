@@ -5,7 +5,7 @@ use Rattle.ft_client.specs.Standing.{FtStands, down}
 use Rattle.ft_orb.specs.History.{Lost}
 use Rattle.ft_orb.specs.Standing.{Stands}
 use Rattle.ft_ends.specs.Private.{tells}
-use Rattle.ft_ends.specs.Tellings.{octets_told}
+use Rattle.ft_orb.specs.Tellings.{octets_told}
 use Rattle.ft_ends.proofs.Serving.{left-is, stayed-is}
 use Rattle.ft_ends.proofs.Ways.{its-number, way-left}
 use Rattle.ft_ends.proofs.wire.come_down.Goals as goal

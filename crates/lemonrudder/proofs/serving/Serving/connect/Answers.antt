@@ -15,6 +15,7 @@ returns-in_err-connect c = (
     err-done 0 refusal_of_connecting c.connect.result _ c.from_residual.result c.in_err-connect.was c.from_residual.ensures.1,
     c.connect.ensures.idle,
     (refl, refl),
+    c.connect.ensures.catalogue,
     c.connect.ensures.table,
   ),
 )
@@ -27,6 +28,7 @@ returns c = (
     ok-done 0 refusal_of_connecting c.connect.result _ c.in_ok-connect.was,
     c.connect.ensures.idle,
     (refl, refl),
+    c.connect.ensures.catalogue,
     c.connect.ensures.table,
   ),
 )

@@ -25,6 +25,7 @@ returns-in_err-close c = (
         c.close.result,
         err-done 0 refusal_of_serving c.close.result _ c.from_residual.result c.in_err-close.was c.from_residual.ensures.1,
         c.close.ensures.idle,
+        c.close.ensures.catalogue,
         λ owner calls past rests placed.
             let x = c.close.ensures.table owner calls past rests in
             let due = c.args.self.now.due in
@@ -45,6 +46,7 @@ returns c = (
         c.close.result,
         ok-done 0 refusal_of_serving c.close.result _ c.in_ok-close.was,
         c.close.ensures.idle,
+        c.close.ensures.catalogue,
         λ owner calls past rests placed.
             let x = c.close.ensures.table owner calls past rests in
             let due = c.args.self.now.due in

@@ -9,6 +9,7 @@ returns c = (
     refl,
     c.give_up.ensures.idle,
     (refl, refl),
+    c.give_up.ensures.catalogue,
     (
       c.give_up.result,
       λ owner calls past moment octets written w asks.

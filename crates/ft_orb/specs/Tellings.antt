@@ -1,0 +1,66 @@
+-- What a server says to what arrives, as messages, and their octets.
+use Rattle.std.specs.Prelude.{ℕ, Bool, List, [], ◌∷◌, Option, Some, None, Result, flat_map}
+use Rattle.std.specs.List.{cons_option}
+use Rattle.cdr_core.specs.Value.{Values, no_values}
+use Rattle.cdr_core.specs.declared.order.Order.{Order}
+use Rattle.cdr_core.specs.declared.order.Order.TheVariants.{Big}
+use Rattle.giop_core.specs.Keys.{key_of_addressed}
+use Rattle.giop_core.specs.declared.header.Version.{Version}
+use Rattle.giop_core.specs.declared.request.ReplyWish.{ReplyWish}
+use Rattle.giop_core.specs.declared.request.ReplyWish.TheVariants as wish
+use Rattle.giop_link.specs.Linking.{close_connection}
+use Rattle.ft_log.specs.Performed.{Performed, raw, returned}
+use Rattle.ft_log.specs.declared.outcome.RawStatus.TheVariants.{NoException}
+use Rattle.ft_log.specs.declared.system_exception.SystemName.{SystemName}
+use Rattle.ft_orb.specs.ExactlyOnce.{Arrival}
+use Rattle.ft_orb.specs.Replies.{answered_as, body_of, locate_reply, locate_status, message_error, order_of, reply, status_of}
+use Rattle.ft_orb.specs.Requests.{Wanted, asking, locating}
+
+-- a Reply to the request of an id, with its byte order, its status and the values of its body; the status of the target of a locate
+-- of an id; MessageError; CloseConnection
+pub data Telling : Type 0 where
+  Replied : Version → (order : Order) → (id status : ℕ) → Values → Telling
+  Located : Version → (id : ℕ) → (status : ℕ) → Telling
+  Failed : Telling
+  Closing : Telling
+
+-- its octets
+abbrev pub octets_told : Telling → List ℕ
+octets_told (Replied version order id status body) = reply version order id status body
+octets_told (Located version id status) = locate_reply version id status
+octets_told Failed = message_error
+octets_told Closing = close_connection
+
+-- those of a message, if there is one
+abbrev pub octets_if : Option Telling → List ℕ
+octets_if None = []
+octets_if (Some t) = octets_told t
+
+-- GIOP 9.4.2: by the wish of the request no Reply, or one without its results, or the whole one
+abbrev pub reply_told : ReplyWish → Version → ℕ → Performed → Option Telling
+reply_told wish.None version id p = None
+reply_told wish.Empty version id (returned results) = Some (Replied version Big id 0 no_values)
+reply_told wish.Empty version id (raw NoException order body) = Some (Replied version order id 0 no_values)
+reply_told _ version id p = Some (Replied version (order_of p) id (status_of p) (body_of p))
+
+abbrev pub reply_by : ReplyWish → Version → ℕ → Performed → List ℕ
+reply_by wish version id p = octets_if (reply_told wish version id p)
+
+-- the message of an answer to what arrived, if one is wished for
+abbrev pub answer_told : (List ℕ → Bool) → Wanted → Result Performed SystemName → Option Telling
+answer_told knows (asking c q) answer = reply_told q.wish q.version q.id (answered_as answer)
+answer_told knows (locating c version id to) answer = Some (Located version id (locate_status knows (key_of_addressed to)))
+
+-- its octets
+unfoldable pub rendering : (List ℕ → Bool) → Wanted → Result Performed SystemName → List ℕ
+rendering knows w answer = octets_if (answer_told knows w answer)
+
+-- the messages of these answers to these arrivals, in order
+abbrev pub answers_told : (List ℕ → Bool) → List (Arrival Wanted) → List (Result Performed SystemName) → List Telling
+answers_told knows [] answers = []
+answers_told knows (a ∷ later) [] = []
+answers_told knows (a ∷ later) (answer ∷ answers) = cons_option (answer_told knows a.content answer) (answers_told knows later answers)
+
+-- their octets, one after another
+abbrev pub rendered : (List ℕ → Bool) → List (Arrival Wanted) → List (Result Performed SystemName) → List ℕ
+rendered knows arrivals answers = flat_map octets_told (answers_told knows arrivals answers)
