@@ -22,18 +22,9 @@ pub not_held : (o : Option Object) (b : Bool) → b ≡ not (is_held o) → b �
 not_held None b is empty = refl
 not_held (Some x) b is empty = absurd cc
 
--- limits lie in their ranges
-limits_are : (message partials : ℕ) (limits : Limits) → HasLimits message partials limits → AreLimits message partials
-limits_are message partials limits has =
-    let m = limits.message_in_range in
-    let p = limits.partials_in_range in
-    let e : limits.message ≡ message = has.0 in
-    let f : limits.partials ≡ partials = has.1 in
-    (omega arith, omega arith, omega arith, omega arith)
-
 pub opens_server : (message partials capacity share c h : ℕ) (limits : Limits) (slot opened catalogue left : Option Object) (r : Result Object Refusal) (answer : ℤ) → slot ≡ None → HasLimits message partials limits → c ≡ capacity → h ≡ share
     → Leaves limits c h catalogue left r → Moves opened r answer → OpensServer message partials capacity share slot opened catalogue left answer
 opens_server message partials capacity share c h limits slot opened catalogue left r answer none has same_capacity same_share leaves moves =
     let stays : Leaves limits capacity share catalogue left r = subst (λ n. Leaves limits n share catalogue left r) same_capacity (subst (λ n. Leaves limits c n catalogue left r) same_share leaves) in
     subst (λ x. OpensServer message partials capacity share x opened catalogue left answer) (sym none)
-    (λ bad. absurd (bad (limits_are message partials limits has)), λ good. (limits, r, has, stays, moves))
+    (λ bad. absurd (bad (has.0)), λ good. (limits, r, has, stays, moves))

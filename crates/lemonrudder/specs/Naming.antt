@@ -60,8 +60,9 @@ version_named n = if n == 0 then Some V10 else (if n == 1 then Some V11 else (if
 abbrev pub AreLimits : (message partials : ℕ) → Type 0
 AreLimits message partials = (4096 ≤ message) × (message ≤ 16777216) × (1 ≤ partials) × (partials ≤ 16)
 
+-- limits of these numbers, which are allowed
 abbrev pub HasLimits : (message partials : ℕ) → Limits → Type 0
-HasLimits message partials limits = (limits.message ≡ message) × (limits.partials ≡ partials)
+HasLimits message partials limits = AreLimits message partials × (limits.message ≡ message) × (limits.partials ≡ partials)
 
 -- the limits of these numbers, or the refusal of numbers that are not allowed
 abbrev pub GivesLimits : (message partials : ℕ) → Result Limits Refusal → Type 0

@@ -78,6 +78,13 @@ refusal_of_offering offering.RawObject = refusal.Raw
 refusal_of_offering offering.Taken = refusal.Taken
 refusal_of_offering offering.Memory = refusal.Memory
 
+abbrev pub refusal_of_calling : CallError → Refusal
+refusal_of_calling calling.Expired = refusal.Expired
+refusal_of_calling calling.IdsUsed = refusal.Calls
+refusal_of_calling calling.TooManyCalls = refusal.Calls
+refusal_of_calling calling.TooLong = refusal.Long
+refusal_of_calling calling.Memory = refusal.Memory
+
 abbrev pub refusal_of_connecting : ConnectError → Refusal
 refusal_of_connecting connecting.NotNew = refusal.Connection
 refusal_of_connecting connecting.Memory = refusal.Memory
@@ -85,13 +92,6 @@ refusal_of_connecting connecting.Memory = refusal.Memory
 abbrev pub refusal_of_serving : ServeError → Refusal
 refusal_of_serving serving.NoConnection = refusal.Connection
 refusal_of_serving (serving.Memory handled answered) = refusal.Lost
-
-abbrev pub refusal_of_calling : CallError → Refusal
-refusal_of_calling calling.Expired = refusal.Expired
-refusal_of_calling calling.IdsUsed = refusal.Calls
-refusal_of_calling calling.TooManyCalls = refusal.Calls
-refusal_of_calling calling.TooLong = refusal.Long
-refusal_of_calling calling.Memory = refusal.Memory
 
 abbrev pub refusal_of_writing : WriteError → Refusal
 refusal_of_writing writing.TooLong = refusal.Long

@@ -9,17 +9,6 @@ use crate::object::Object;
 use crate::referring::ProfileHead;
 use crate::refusal::{Refusal, number_of, signed};
 
-/// Writes the stringified reference.
-pub fn print(object: &Object, room: &mut [u8]) -> i64
-    ensures printed { OnReference (OnPrint room.old room.new) (Some object.now) (Some object.now) result }
-    ensures refused { result <ℤ pos 0 → room.new ≡ room.old }
-{
-    let Object::Reference(reference) = object else {
-        return Refusal::Empty.number();
-    };
-    number_of(reference.print(room))
-}
-
 /// Copies the repository id of its type.
 pub fn type_id(object: &Object, room: &mut [u8]) -> i64
     ensures copied { OnReference (OnTypeId room.old room.new) (Some object.now) (Some object.now) result }
@@ -72,4 +61,15 @@ pub fn component(object: &Object, index: u32, component: u32, tag: &mut u32, roo
         return Refusal::Empty.number();
     };
     number_of(reference.component(index, component, tag, room))
+}
+
+/// Writes the stringified reference.
+pub fn print(object: &Object, room: &mut [u8]) -> i64
+    ensures printed { OnReference (OnPrint room.old room.new) (Some object.now) (Some object.now) result }
+    ensures refused { result <ℤ pos 0 → room.new ≡ room.old }
+{
+    let Object::Reference(reference) = object else {
+        return Refusal::Empty.number();
+    };
+    number_of(reference.print(room))
 }

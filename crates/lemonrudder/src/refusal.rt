@@ -154,14 +154,6 @@ impl From<AllocError> for Refusal {
     }
 }
 
-impl<T: Drop> From<AllocFailed<T>> for Refusal {
-    ghost from_gives = { λ _ r. r ≡ Memory };
-
-    fn from(_error: AllocFailed<T>) -> Refusal {
-        Refusal::Memory
-    }
-}
-
 impl From<Fault> for Refusal {
     ghost from_gives = { λ e r. r ≡ refusal_of_fault e };
 
@@ -173,13 +165,21 @@ impl From<Fault> for Refusal {
     }
 }
 
+impl<T: Drop> From<AllocFailed<T>> for Refusal {
+    ghost from_gives = { λ _ r. r ≡ Memory };
+
+    fn from(_error: AllocFailed<T>) -> Refusal {
+        Refusal::Memory
+    }
+}
+
 impl From<CdrError> for Refusal {
     ghost from_gives = { λ e r. r ≡ refusal_of_reading e };
 
     fn from(error: CdrError) -> Refusal {
         match error {
-            CdrError::Bad(fault) => Refusal::from(fault),
             CdrError::Memory => Refusal::Memory,
+            CdrError::Bad(fault) => Refusal::from(fault),
         }
     }
 }
