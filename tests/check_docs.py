@@ -11,8 +11,8 @@
 - docs/CLAUSES.md, the lists of docs/READING.md, the links in the tables of PROMISES.md and the numbers in docs/TESTING.md
   are what the sources give (tests/pages.py), and each row of a call leads to its contract. Each comment and each page
   spells a clause of a standard in one way.
-- Each block of Rust that README.md, docs/GUIDE.md, docs/READING.md and the pages of the libraries show stands in a source of a
-  crate that the gate proves.
+- Each block of Rust or of definitions that docs/GUIDE.md, docs/READING.md and the pages of the libraries show stands in a source
+  of a crate that the gate proves, and each of these pages shows some Rust.
 - The page of each library has the same headings, in one order.
 - README.md has at most 9,000 octets, and it and PROMISES.md say the headline word for word.
 - The client that docs/INTEROP.md shows is examples/retry_client.py.
@@ -177,12 +177,12 @@ def crates_of_gate():
 def quotes():
     """A result for each block of Rust that is quoted, and for each page that has to quote one."""
     proved = crates_of_gate()
-    sources = [text_of(name) for name in pages.sources(("src",)) if name.split("/")[1] in proved]
+    sources = [text_of(name) for name in pages.sources() if name.split("/")[1] in proved]
     for name in QUOTING:
-        blocks = re.findall(r"^```rust\n(.*?)^```$", text_of(name), re.M | re.S)
-        if not blocks:
+        blocks = re.findall(r"^```(rust|antt)\n(.*?)^```$", text_of(name), re.M | re.S)
+        if not any(language == "rust" for language, _ in blocks):
             yield f"{name}: it quotes no code"
-        for block in blocks:
+        for _, block in blocks:
             is_there = any("\n" + block in "\n" + source for source in sources)
             yield None if is_there else f"{name}: in no source: {block.split(chr(10))[0]}"
 
@@ -297,7 +297,7 @@ def links():
         for target in re.findall(r"\]\(([^)\s]+)\)", text) + list(defined.values()):
             if not re.match(r"[a-z]+:", target):
                 yield wrong_link(name, target)
-        for label in re.findall(r"\]\[([\w/.]+)\]", re.sub(r"^```.*?^```$", "", text, flags=re.M | re.S)):
+        for label in re.findall(r"\]\[(\w+/[\w.]+)\]", re.sub(r"^```.*?^```$", "", text, flags=re.M | re.S)):
             yield None if label in defined else f"{name}: no link is defined for [{label}]"
         for path in re.findall(r"`((?:crates|tests|docs|examples|bench|bindings|embed)/[\w./]+)`", text):
             # (a word in capitals stands for any)

@@ -461,8 +461,8 @@ def promises_page():
         cells = line.strip().strip("|").split("|")
         if not line.startswith("|"):
             is_table = False
-        elif cells[-1].strip() == LAST_COLUMN:
-            is_table = cells[0].strip() == "Call"
+        elif cells[-1].strip() == LAST_COLUMN or cells[0].strip() == "Law":
+            is_table = cells[0].strip() in ("Call", "Law")
         elif is_table and crate and not line.startswith("|---"):
             call = linked_cell(cells[0], lambda w: file_of_call(crate, w), used)
             says = linked_cell(cells[1], lambda w: file_of_word(crate, w), used)
