@@ -405,7 +405,7 @@ def file_of_call(crate, call):
     best = None
     for name in code_files(crate):
         text = text_of(name)
-        has = re.search(rf"^ *(?:pub(?:\(\w+\))? )?(?:const )?fn {function}\b", text, re.M)
+        has = re.search(rf"^ *(?:pub(?:\(\w+\))? )?(?:const )?(?:extern \"C\" )?fn {function}\b", text, re.M)
         of_kind = kind and re.search(rf"\bimpl\b[^{{\n]*\b{kind}\b|\btrait {kind}\b", text)
         if has and of_kind:
             return name
