@@ -30,6 +30,7 @@ import re
 import sys
 
 import pages
+from pages import text_of
 
 ROOT = os.path.dirname(os.path.dirname(os.path.abspath(__file__)))
 PROMISES = "docs/PROMISES.md"
@@ -65,11 +66,6 @@ BY_PROMISE = "| Promise | Crate | Wrong bodies |"
 BY_CLAUSE = "| Edit of `ft_orb` | What excludes it |"
 # where a crate's wrong bodies stand: those of the headline, which the gate tries, and all others
 FOLDERS = ("must-fail", "wrong_bodies")
-
-
-def text_of(name):
-    with open(os.path.join(ROOT, name), encoding="utf-8") as file:
-        return file.read()
 
 
 def rows():

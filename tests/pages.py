@@ -11,6 +11,7 @@
 
 tests/check_docs.py runs the same comparison. Move a definition or a call, and run it with --write.
 """
+import functools
 import os
 import re
 import sys
@@ -71,13 +72,19 @@ OWN = re.compile(r"\bown rules?\b", re.I)
 TEXTS = (".antt", ".rt")
 
 
+@functools.lru_cache(maxsize=None)
 def text_of(name):
     with open(os.path.join(ROOT, name), encoding="utf-8") as file:
         return file.read()
 
 
+@functools.lru_cache(maxsize=None)
 def sources(folders=("specs", "src")):
     """The sources of the crates, by crate and folder."""
+    return tuple(sources_in(folders))
+
+
+def sources_in(folders):
     for crate in sorted(os.listdir(os.path.join(ROOT, "crates"))):
         for folder in folders:
             top = os.path.join(ROOT, "crates", crate, folder)
@@ -201,14 +208,12 @@ class Definition:
 
 DECLARED = re.compile(r"(?:  )?(?:abbrev |unfoldable )*pub (?:(data|record) )?([^\s:({]+)")
 WORD = re.compile(r"[^\s(){}\[\],;]+")
-KEPT = {}
 
 
+@functools.lru_cache(maxsize=None)
 def definitions(name):
     """The definitions of a file: the blocks of lines between empty ones that declare something."""
-    if name not in KEPT:
-        KEPT[name] = list(blocks(text_of(name).split("\n")))
-    return KEPT[name]
+    return list(blocks(text_of(name).split("\n")))
 
 
 def blocks(lines):
@@ -395,31 +400,60 @@ LAST_COLUMN = "Edits that the prover refuses"
 LINKS_HEAD = "<!-- links of the tables, written by tests/pages.py -->"
 
 
+@functools.lru_cache(maxsize=None)
 def code_files(crate):
     return [n for n in sources(("src",)) if n.split("/")[1] == crate]
 
 
+class Source:
+    """What a source of code has: its functions, those of them that are items of the file, the types that it has calls of, and
+    the names of its types and traits."""
+
+    def __init__(self, text):
+        head = r"(?:pub(?:\(\w+\))? )?(?:const )?(?:extern \"C\" )?fn (\w+)"
+        self.functions = set(re.findall(rf"^ *{head}", text, re.M))
+        self.items = set(re.findall(rf"^{head}", text, re.M))
+        self.kinds = {w for line in re.findall(r"\bimpl\b([^{\n]*)", text) for w in re.findall(r"\w+", line)}
+        self.kinds |= set(re.findall(r"\btrait (\w+)", text))
+        self.types = set(re.findall(r"\b(?:struct|enum|trait|type) (\w+)", text))
+
+
+@functools.lru_cache(maxsize=None)
+def source(name):
+    return Source(text_of(name))
+
+
+@functools.lru_cache(maxsize=None)
 def file_of_call(crate, call):
     """The source of the crate that has a function, or the type, trait or module of that name."""
     kind, _, function = call.rpartition("::")
     best = None
     for name in code_files(crate):
-        text = text_of(name)
-        has = re.search(rf"^ *(?:pub(?:\(\w+\))? )?(?:const )?(?:extern \"C\" )?fn {function}\b", text, re.M)
-        of_kind = kind and re.search(rf"\bimpl\b[^{{\n]*\b{kind}\b|\btrait {kind}\b", text)
-        if has and of_kind:
+        has = function in source(name).functions
+        if has and kind and kind in source(name).kinds:
             return name
-        if has and not kind and (best is None or re.search(rf"^pub fn {function}\b", text, re.M)):
+        if has and not kind and (best is None or function in source(name).items):
             best = name
-        if not best and re.search(rf"\b(?:struct|enum|trait|type) {function}\b", text):
+        if not best and function in source(name).types:
             best = name
     return best
 
 
+@functools.lru_cache(maxsize=None)
+def words_of(crate):
+    """The files of definitions of a crate in which each name is defined."""
+    found = {}
+    for name in sources(("specs",)):
+        if name.endswith(".antt") and (crate is None or name.split("/")[1] == crate):
+            for word in {w for d in definitions(name) for w in d.names}:
+                found.setdefault(word, []).append(name)
+    return found
+
+
+@functools.lru_cache(maxsize=None)
 def file_of_word(crate, word):
     """The definitions' file of a word: of the crate, or of the one crate that has it."""
-    at = [n for n in sources(("specs",)) if n.endswith(".antt") and any(word in d.names for d in definitions(n))]
-    own = [n for n in at if n.split("/")[1] == crate]
+    at, own = words_of(None).get(word, []), words_of(crate).get(word, [])
     return own[0] if len(own) == 1 else at[0] if len(at) == 1 and not own else None
 
 
@@ -520,6 +554,8 @@ def main():
             text = page()
             with open(os.path.join(ROOT, name), "w", encoding="utf-8") as file:
                 file.write(text)
+        for kept in (text_of, source, definitions, words_of):
+            kept.cache_clear()
     results = list(differing()) + list(numbers_spelled_otherwise())
     wrong = [r for r in results if r]
     print("\n".join(wrong + [f"{len(results) - len(wrong)} passed, {len(wrong)} failed"]))
