@@ -14,6 +14,7 @@
 - Each block of Rust or of definitions that docs/GUIDE.md, docs/READING.md and the pages of the libraries show stands in a source
   of a crate that the gate proves, and each of these pages shows some Rust.
 - The page of each library has the same headings, in one order.
+- What is counted in a word, as the files of uses, is as many.
 - README.md has at most 9,000 octets, and it and PROMISES.md say the headline word for word.
 - The client that docs/INTEROP.md shows is examples/retry_client.py.
 - The one block of each language that docs/EMBEDDING.md shows is the whole of its first program, and so is the block of
@@ -38,6 +39,10 @@ LIBRARIES = ["cdr_core", "ior_core", "giop_core", "giop_frames", "giop_link", "f
 QUOTING = ["docs/GUIDE.md", "docs/READING.md"] + [f"crates/{crate}/README.md" for crate in LIBRARIES]
 # the headings of the page of a library; others may stand between them
 HEADINGS = ["What it is for", "An example", "Calls", "Tested, not proved", "Left out"]
+NUMBERS = (
+    "none one two three four five six seven eight nine ten eleven twelve thirteen fourteen fifteen sixteen seventeen eighteen "
+    "nineteen twenty"
+).split()
 LANDING = "README.md"
 MOST_OCTETS = 9000
 HEADLINE = (
@@ -202,6 +207,26 @@ def headings():
         yield None if there == HEADINGS else f"{page}: its headings are {there}, not {HEADINGS}"
 
 
+def files_in(folder, end):
+    """How many files of a folder have this end."""
+    return sum(name.endswith(end) for name in os.listdir(os.path.join(ROOT, folder)))
+
+
+def counts():
+    """A result for each number that a document gives in a word, of what can be counted."""
+    counted = {
+        r"(\w+) of `ft_orb` in its `must-fail`": files_in("crates/ft_orb/must-fail", ".edit"),
+        r"(\w+) uses of the libraries": files_in("crates/uses/src", ".rt") - 1,
+        r"[Tt]he (\w+) libraries have": len(LIBRARIES),
+        r"\b(\w+) crates, with a contract on each function": len(LIBRARIES),
+    }
+    for name in documents():
+        for pattern, count in counted.items():
+            for word in re.findall(pattern, text_of(name)):
+                is_so = word.lower() in NUMBERS and NUMBERS.index(word.lower()) == count
+                yield None if is_so else f"{name}: there are {count} of what it says {word} of: {pattern}"
+
+
 def landing():
     """Results for the size of the landing page, and for the headline."""
     size = os.path.getsize(os.path.join(ROOT, LANDING))
@@ -303,7 +328,7 @@ def links():
 
 def main():
     passed = failed = 0
-    parts = (edits, promises, calls, clauses, generated, quotes, headings, landing)
+    parts = (edits, promises, calls, clauses, generated, quotes, headings, counts, landing)
     for part in parts + (client, first_programs, crates, rooms, links):
         results = list(part())
         if not results:
