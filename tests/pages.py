@@ -7,7 +7,7 @@
 - docs/TESTING.md: how many functions the libraries have, and how many wrong bodies there are.
 
     tests/pages.py            says what differs; the last line is 'N passed, M failed'
-    tests/pages.py --write    writes them
+    tests/pages.py --write [PAGE..]    writes them, or these pages alone
 
 tests/check_docs.py runs the same comparison. Move a definition or a call, and run it with --write.
 """
@@ -549,9 +549,9 @@ def differing():
 
 
 def main():
-    if sys.argv[1:] == ["--write"]:
-        for name, page in PAGES.items():
-            text = page()
+    if sys.argv[1:2] == ["--write"]:
+        for name in sys.argv[2:] or PAGES:
+            text = PAGES[name]()
             with open(os.path.join(ROOT, name), "w", encoding="utf-8") as file:
                 file.write(text)
         for kept in (text_of, source, definitions, words_of):
