@@ -16,6 +16,7 @@
 - The page of each library has the same headings, in one order.
 - What is counted in a word, as the files of uses, is as many.
 - README.md has at most 9,000 octets, and it and PROMISES.md say the headline word for word.
+- What a page shows of `giop` on an example is what the case with this input prints, and the same on each page.
 - The client that docs/INTEROP.md shows is examples/retry_client.py.
 - The one block of each language that docs/EMBEDDING.md shows is the whole of its first program, and so is the block of
   the page of the crate for Rust.
@@ -235,6 +236,27 @@ def landing():
         yield None if HEADLINE in text_of(page) else f"{page}: it does not say the headline word for word"
 
 
+def case_of(subcommand, octets):
+    """What a case of the program prints for this input, or None where there is no such case."""
+    folder = os.path.join(ROOT, "tests/cases", subcommand)
+    for name in sorted(os.listdir(folder)):
+        with open(os.path.join(folder, name), "rb") as file:
+            is_it = name.endswith(".stdin") and file.read() == octets.encode()
+        if is_it:
+            return text_of(f"tests/cases/{subcommand}/{name[:-6]}.stdout")
+    return None
+
+
+def outputs():
+    """A result for each output of `giop` on an example that a page shows: the case's, and the same on each page."""
+    shown = {}
+    for name in documents():
+        for word, file, lines in re.findall(r"^    \./giop (\w+) < (\S+)\n\n((?:    .*\n)+)", text_of(name), re.M):
+            output = re.sub(r"^    ", "", lines, flags=re.M)
+            wanted = case_of(word, text_of(file)) or shown.setdefault((word, file), output)
+            yield None if output == wanted else f"{name}: `giop {word} < {file}` prints something else"
+
+
 def client():
     """A result for the client that INTEROP shows: whether it is the one that the tests run."""
     shown = re.findall(r"^```python\n(.*?)^```$", text_of(INTEROP), re.M | re.S)
@@ -329,7 +351,7 @@ def links():
 def main():
     passed = failed = 0
     parts = (edits, promises, calls, clauses, generated, quotes, headings, counts, landing)
-    for part in parts + (client, first_programs, crates, rooms, links):
+    for part in parts + (outputs, client, first_programs, crates, rooms, links):
         results = list(part())
         if not results:
             results = [f"nothing was checked of {part.__name__}"]
