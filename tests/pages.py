@@ -127,15 +127,27 @@ def order_of(clause):
     return list(STANDARDS).index(part), [int(n) for n in number.split(".")]
 
 
-def places_of(pattern, key):
-    """For each key that the pattern gives: the definitions that cite it, by file, and the files of code."""
+def clauses_in(comment):
+    """The clauses that a comment cites; from one to another, also those between."""
+    found = [f"{part} {number}" for part, number in CITED.findall(comment)]
+    for part, first, last in re.findall(r"\b([A-Z]+) ([\d.]+) to \1 ([\d.]+)\b", comment):
+        head, _, begin = first.rpartition(".")
+        if last.rpartition(".")[0] == head:
+            found += [f"{part} {head}.{n}" for n in range(int(begin) + 1, int(last.rpartition(".")[2]))]
+    return found
+
+
+def places_of(keys_in):
+    """For each key that a comment has: the definitions that it stands at, by file, and the files of code."""
     found = {}
     for name in sources():
+        if name.endswith("/Lib.antt"):
+            continue
         defined = definitions(name) if name.endswith(".antt") else []
         for number, comment in comments(name):
-            for match in pattern.finditer(comment):
+            for key in keys_in(comment):
                 names = [d.names[0] for d in defined if d.first <= number <= d.last][:1]
-                found.setdefault(key(match), {}).setdefault(name, []).extend(names)
+                found.setdefault(key, {}).setdefault(name, []).extend(names)
     return found
 
 
@@ -181,7 +193,7 @@ Each definition and each piece of code names the clause that it restates. A clau
 
 
 def clauses_page():
-    cited = places_of(CITED, lambda m: f"{m.group(1)} {m.group(2)}")
+    cited = places_of(clauses_in)
     rows = []
     for clause in sorted(cited, key=order_of):
         files = cited[clause]
@@ -189,7 +201,7 @@ def clauses_page():
             f"| {clause} | {SUBJECTS.get(clause, '')} | {places_text(files, 'specs')} | {places_text(files, 'src')} |"
         )
     own = {}
-    for name, names in places_of(OWN, lambda m: "own").get("own", {}).items():
+    for name, names in places_of(lambda c: ["own"] if OWN.search(c) else []).get("own", {}).items():
         own.setdefault(name.split("/")[1], {})[name] = names
     rules = [f"| `{c}` | {places_text(f, 'specs')} | {places_text(f, 'src')} |" for c, f in own.items()]
     standards = [f"| `{part} ..` | {what} |" for part, what in STANDARDS.items()]
