@@ -36,7 +36,8 @@ from pages import text_of
 
 ROOT = os.path.dirname(os.path.dirname(os.path.abspath(__file__)))
 PROMISES = "docs/PROMISES.md"
-LIBRARIES = ["cdr_core", "ior_core", "giop_core", "giop_frames", "giop_link", "ft_log", "ft_client", "ft_orb", "ft_ends"]
+# (the page of the library for C shows a program in C)
+LIBRARIES = [crate for crate in pages.libraries() if crate != "lemonrudder"]
 QUOTING = ["docs/GUIDE.md", "docs/READING.md"] + [f"crates/{crate}/README.md" for crate in LIBRARIES]
 # the headings of the page of a library; others may stand between them
 HEADINGS = ["What it is for", "An example", "Calls", "Tested, not proved", "Left out"]
@@ -170,15 +171,9 @@ def clauses():
             yield None if is_there else f"{PROMISES}: {file} defines no {name}"
 
 
-def crates_of_gate():
-    """The crates of crates.txt, which the gate proves."""
-    lines = [line.split("#")[0].partition(":")[0].split() for line in text_of("crates.txt").split("\n")]
-    return [words[0] for words in lines if words]
-
-
 def quotes():
     """A result for each block of Rust that is quoted, and for each page that has to quote one."""
-    proved = crates_of_gate()
+    proved = pages.crates_of_gate()
     sources = [text_of(name) for name in pages.sources() if name.split("/")[1] in proved]
     for name in QUOTING:
         blocks = re.findall(r"^```(rust|antt)\n(.*?)^```$", text_of(name), re.M | re.S)
@@ -218,8 +213,6 @@ def counts():
     counted = {
         r"(\w+) of `ft_orb` in its `must-fail`": files_in("crates/ft_orb/must-fail", ".edit"),
         r"(\w+) uses of the libraries": files_in("crates/uses/src", ".rt") - 1,
-        r"[Tt]he (\w+) libraries have": len(LIBRARIES),
-        r"\b(\w+) crates, with a contract on each function": len(LIBRARIES),
     }
     for name in documents():
         for pattern, count in counted.items():
