@@ -26,7 +26,7 @@ PROMISES = "docs/PROMISES.md"
 # how a clause is spelled: the name of a standard's part, and the number of the clause
 STANDARDS = {
     "CDR": "Common Data Representation: CORBA 3.3 Part 2, clause 9.3",
-    "GIOP": "General Inter-ORB Protocol: CORBA 3.3 Part 2, clause 9.4",
+    "GIOP": "General Inter-ORB Protocol: CORBA 3.3 Part 2, clauses 9.4 and 9.8",
     "IIOP": "Internet Inter-ORB Protocol: CORBA 3.3 Part 2, clause 9.7",
     "IOP": "object references and service contexts: CORBA 3.3 Part 2, clause 7",
     "FT": "Fault Tolerant CORBA",
@@ -57,6 +57,7 @@ SUBJECTS = {
     "GIOP 9.4.7": "CloseConnection",
     "GIOP 9.4.8": "MessageError",
     "GIOP 9.4.9": "Fragment",
+    "GIOP 9.8": "bi-directional GIOP",
     "IIOP 9.7": "IIOP",
     "IIOP 9.7.2": "profiles of IIOP",
     "IOP 7.6": "object references",
@@ -65,7 +66,7 @@ SUBJECTS = {
     "IOP 7.7": "service contexts",
     "FT 23.2.7": "the service context FT_REQUEST",
 }
-NUMBER = r"(?:7\.[67](?:\.\d+)*|9\.[347](?:\.\d+)*|23\.2\.7)\b"
+NUMBER = r"(?:7\.[67](?:\.\d+)*|9\.[3478](?:\.\d+)*|23\.2\.7)\b"
 CITED = re.compile(rf"\b(CDR|GIOP|IIOP|IOP|FT) ({NUMBER})")
 ANY_NUMBER = re.compile(rf"(?<![\d.]){NUMBER}(?!\.\d)(?! of CORBA)")
 OWN = re.compile(r"\bown rules?\b", re.I)
