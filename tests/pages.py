@@ -73,6 +73,10 @@ OWN = re.compile(r"\bown rules?\b", re.I)
 TEXTS = (".antt", ".rt")
 
 
+class Missing(Exception):
+    """What a page needs of the sources, or of its own marks, is not there."""
+
+
 @functools.lru_cache(maxsize=None)
 def text_of(name):
     with open(os.path.join(ROOT, name), encoding="utf-8") as file:
@@ -376,7 +380,7 @@ def roots_of(crate, call, labels):
     at = file_of_call(crate, call) if call else None
     found = clause_roots(at, call.rpartition("::")[2], labels) if at else {(file_of_word(crate, w), w) for w in labels or []}
     if not found or any(name is None for name, _ in found):
-        raise SystemExit(f"tests/pages.py: {crate} has no {call or labels}: mend LISTS")
+        raise Missing(f"tests/pages.py: {crate} has no {call or labels}: mend LISTS")
     return found
 
 
@@ -407,7 +411,7 @@ def reading_page():
     for promise in LISTS:
         mark = f"<!-- the lines of: {promise} -->"
         if text.count(mark) != 1:
-            raise SystemExit(f"{READING} has not one mark {mark}")
+            raise Missing(f"{READING} has not one mark {mark}")
         front, _, back = text.partition(mark + "\n")
         text = front + mark + "\n" + reading_table(promise) + "\n<!-- end -->" + back.split("<!-- end -->", 1)[1]
     return text
@@ -555,7 +559,7 @@ def testing_page():
     text = text_of(TESTING)
     for pattern, count in COUNTS.items():
         if len(re.findall(rf"\b{pattern}\b", text)) != 1:
-            raise SystemExit(f"{TESTING}: not one number before '{pattern.split(' ', 1)[1]}'")
+            raise Missing(f"{TESTING}: not one number before '{pattern.split(' ', 1)[1]}'")
         text = re.sub(rf"\b{pattern}\b", f"{count():,} {pattern.split(' ', 1)[1]}", text)
     return text
 
@@ -566,7 +570,12 @@ PAGES = {CLAUSES: clauses_page, READING: reading_page, PROMISES: promises_page, 
 def differing():
     """A result for each page: where it first differs from what the sources give, or None."""
     for name, page in PAGES.items():
-        wanted, there = page(), text_of(name) if os.path.exists(os.path.join(ROOT, name)) else ""
+        try:
+            wanted = page()
+        except Missing as missing:
+            yield str(missing)
+            continue
+        there = text_of(name) if os.path.exists(os.path.join(ROOT, name)) else ""
         pairs = zip(wanted.split("\n") + [None], there.split("\n") + [None])
         line = next((n for n, (a, b) in enumerate(pairs, 1) if a != b), 0)
         yield None if wanted == there else f"{name}:{line} is not what the sources give: run tests/pages.py --write"
@@ -575,7 +584,10 @@ def differing():
 def main():
     if sys.argv[1:2] == ["--write"]:
         for name in sys.argv[2:] or PAGES:
-            text = PAGES[name]()
+            try:
+                text = PAGES[name]()
+            except Missing:
+                continue
             with open(os.path.join(ROOT, name), "w", encoding="utf-8") as file:
                 file.write(text)
         for kept in (text_of, source, definitions, words_of):
