@@ -8,15 +8,22 @@
 - Each name in the other columns of these tables stands in a source or a definition of some crate.
 - Each clause that PROMISES.md quotes stands in a source of some crate, word for word, and each row of a table of
   words names a definition of the file beside it.
-- Each block of Rust that README.md, docs/GUIDE.md and the pages of giop_core, giop_frames, giop_link and ft_log
-  show stands in a file of crates/uses/src or of crates/uses_tests/src.
+- docs/CLAUSES.md, the lists of docs/READING.md, the links in the tables of PROMISES.md and the numbers in docs/TESTING.md
+  are what the sources give (tests/pages.py), and each row of a call leads to its contract. Each comment and each page
+  spells a clause of a standard in one way.
+- Each block of Rust or of definitions that docs/GUIDE.md, docs/READING.md and the pages of the libraries show stands in a source
+  of a crate that the gate proves, and each of these pages shows some Rust.
+- The page of each library has the same headings, in one order.
+- What is counted in a word, as the files of uses, is as many.
+- README.md has at most 9,000 octets, and it and PROMISES.md say the headline word for word.
+- What a page shows of `giop` on an example is what the case with this input prints, and the same on each page.
 - The client that docs/INTEROP.md shows is examples/retry_client.py.
 - The one block of each language that docs/EMBEDDING.md shows is the whole of its first program, and so is the block of
   the page of the crate for Rust.
 - docs/ARCHITECTURE.md names each crate, with the libraries that it stands on, and each room of the crates
   whose rooms it lists.
 - Each relative link of a document, and each path such as `crates/NAME/..` that it gives between backquotes,
-  leads to something that is there.
+  leads to something that is there; and each anchor to a heading of the page.
 
 The last line is 'N passed, M failed'; the status is 0 only where all passed.
 """
@@ -24,12 +31,28 @@ import os
 import re
 import sys
 
+import pages
+from pages import text_of
+
 ROOT = os.path.dirname(os.path.dirname(os.path.abspath(__file__)))
 PROMISES = "docs/PROMISES.md"
-QUOTING = ["README.md", "docs/GUIDE.md"] + [
-    f"crates/{crate}/README.md" for crate in ("giop_core", "giop_frames", "giop_link", "ft_log")
-]
-USES = ["crates/uses/src", "crates/uses_tests/src"]
+# (the page of the library for C shows a program in C)
+LIBRARIES = [crate for crate in pages.libraries() if crate != "lemonrudder"]
+QUOTING = ["docs/GUIDE.md", "docs/READING.md"] + [f"crates/{crate}/README.md" for crate in LIBRARIES]
+# the headings of the page of a library; others may stand between them
+HEADINGS = ["What it is for", "An example", "Calls", "Tested, not proved", "Left out"]
+NUMBERS = (
+    "none one two three four five six seven eight nine ten eleven twelve thirteen fourteen fifteen sixteen seventeen eighteen "
+    "nineteen twenty"
+).split()
+LANDING = "README.md"
+MOST_OCTETS = 9000
+HEADLINE = (
+    "for every list of connections opened, pieces, losses, closes and moments, the servant's state is that of performing each "
+    "distinct admissible request once, in order of first arrival; every unexpired repeat gets its first performance's outcome "
+    "and body octets, expired requests are refused unperformed, and the bytes written on each connection are exactly these "
+    "answers."
+)
 ARCHITECTURE = "docs/ARCHITECTURE.md"
 INTEROP = "docs/INTEROP.md"
 EMBEDDING = "docs/EMBEDDING.md"
@@ -50,11 +73,6 @@ BY_PROMISE = "| Promise | Crate | Wrong bodies |"
 BY_CLAUSE = "| Edit of `ft_orb` | What excludes it |"
 # where a crate's wrong bodies stand: those of the headline, which the gate tries, and all others
 FOLDERS = ("must-fail", "wrong_bodies")
-
-
-def text_of(name):
-    with open(os.path.join(ROOT, name), encoding="utf-8") as file:
-        return file.read()
 
 
 def rows():
@@ -154,16 +172,82 @@ def clauses():
 
 
 def quotes():
-    """A result for each block of Rust that is quoted."""
-    files = [os.path.join(folder, name) for folder in USES for name in sorted(os.listdir(os.path.join(ROOT, folder)))]
-    sources = [text_of(name) for name in files if name.endswith(".rt")]
+    """A result for each block of Rust that is quoted, and for each page that has to quote one."""
+    proved = pages.crates_of_gate()
+    sources = [text_of(name) for name in pages.sources() if name.split("/")[1] in proved]
     for name in QUOTING:
-        blocks = re.findall(r"^```rust\n(.*?)^```$", text_of(name), re.M | re.S)
-        if not blocks:
-            yield f"{name}: it quotes nothing of {USES[0]}"
-        for block in blocks:
+        blocks = re.findall(r"^```(rust|antt)\n(.*?)^```$", text_of(name), re.M | re.S)
+        if not any(language == "rust" for language, _ in blocks):
+            yield f"{name}: it quotes no code"
+        for _, block in blocks:
             is_there = any("\n" + block in "\n" + source for source in sources)
-            yield None if is_there else f"{name}: not in {' or '.join(USES)}: {block.split(chr(10))[0]}"
+            yield None if is_there else f"{name}: in no source: {block.split(chr(10))[0]}"
+
+
+def generated():
+    """A result for each part that the sources give, and for each clause that is spelled otherwise."""
+    yield from pages.differing()
+    yield from pages.numbers_spelled_otherwise()
+    for crate, cells in rows():
+        named = re.findall(r"`(\w+(?:::\w+)*)`", cells[0])
+        if crate and named and pages.file_of_call(crate, named[0]):
+            is_led = "][" in cells[0]
+            yield None if is_led else f"{PROMISES}: no link leads from {named[0]} of {crate}: run tests/pages.py --write"
+
+
+def headings():
+    """A result for each heading that the page of a library has to have, in order."""
+    for crate in LIBRARIES:
+        page = f"crates/{crate}/README.md"
+        there = [h for h in re.findall(r"^## (.*)$", text_of(page), re.M) if h in HEADINGS]
+        yield None if there == HEADINGS else f"{page}: its headings are {there}, not {HEADINGS}"
+
+
+def files_in(folder, end):
+    """How many files of a folder have this end."""
+    return sum(name.endswith(end) for name in os.listdir(os.path.join(ROOT, folder)))
+
+
+def counts():
+    """A result for each number that a document gives in a word, of what can be counted."""
+    counted = {
+        r"(\w+) of `ft_orb` in its `must-fail`": files_in("crates/ft_orb/must-fail", ".edit"),
+        r"(\w+) uses of the libraries": files_in("crates/uses/src", ".rt") - 1,
+    }
+    for name in documents():
+        for pattern, count in counted.items():
+            for word in re.findall(pattern, text_of(name)):
+                is_so = word.lower() in NUMBERS and NUMBERS.index(word.lower()) == count
+                yield None if is_so else f"{name}: there are {count} of what it says {word} of: {pattern}"
+
+
+def landing():
+    """Results for the size of the landing page, and for the headline."""
+    size = os.path.getsize(os.path.join(ROOT, LANDING))
+    yield None if size <= MOST_OCTETS else f"{LANDING}: {size} octets, more than {MOST_OCTETS}"
+    for page in (LANDING, PROMISES):
+        yield None if HEADLINE in text_of(page) else f"{page}: it does not say the headline word for word"
+
+
+def case_of(subcommand, octets):
+    """What a case of the program prints for this input, or None where there is no such case."""
+    folder = os.path.join(ROOT, "tests/cases", subcommand)
+    for name in sorted(os.listdir(folder)):
+        with open(os.path.join(folder, name), "rb") as file:
+            is_it = name.endswith(".stdin") and file.read() == octets.encode()
+        if is_it:
+            return text_of(f"tests/cases/{subcommand}/{name[:-6]}.stdout")
+    return None
+
+
+def outputs():
+    """A result for each output of `giop` on an example that a page shows: the case's, and the same on each page."""
+    shown = {}
+    for name in documents():
+        for word, file, lines in re.findall(r"^    \./giop (\w+) < (\S+)\n\n((?:    .*\n)+)", text_of(name), re.M):
+            output = re.sub(r"^    ", "", lines, flags=re.M)
+            wanted = case_of(word, text_of(file)) or shown.setdefault((word, file), output)
+            yield None if output == wanted else f"{name}: `giop {word} < {file}` prints something else"
 
 
 def client():
@@ -220,14 +304,37 @@ def documents():
                 yield os.path.relpath(os.path.join(folder, name), ROOT)
 
 
+def anchors_of(text):
+    """The anchors of a page: its headings as GitHub spells them, each once."""
+    found = {}
+    for heading in re.findall(r"^#+ (.*?) *$", re.sub(r"^```.*?^```$", "", text, flags=re.M | re.S), re.M):
+        plain = re.sub(r"\[([^\]]*)\]\([^)]*\)", r"\1", heading).lower()
+        slug = re.sub(r"[^\w\- ]", "", plain).replace(" ", "-")
+        count = found[slug] = found.get(slug, -1) + 1
+        yield f"{slug}-{count}" if count else slug
+
+
+def wrong_link(name, target):
+    """Why a relative link of a page leads nowhere, or None."""
+    path, _, anchor = target.partition("#")
+    page = os.path.normpath(os.path.join(os.path.dirname(name), path)) if path else name
+    if not os.path.exists(os.path.join(ROOT, page)):
+        return f"{name}: the link to {target} leads nowhere"
+    if anchor and page.endswith(".md") and anchor not in set(anchors_of(text_of(page))):
+        return f"{name}: {page} has no heading for #{anchor}"
+    return None
+
+
 def links():
-    """A result for each relative link, and for each path between backquotes."""
+    """A result for each relative link and reference, and for each path between backquotes."""
     for name in documents():
         text = text_of(name)
-        for target in re.findall(r"\]\(([^)\s]+)\)", text):
-            if not re.match(r"[a-z]+:|#", target):
-                path = os.path.join(ROOT, os.path.dirname(name), target.split("#")[0])
-                yield None if os.path.exists(path) else f"{name}: the link to {target} leads nowhere"
+        defined = dict(re.findall(r"^\[([^\]]+)\]: (\S+)$", text, re.M))
+        for target in re.findall(r"\]\(([^)\s]+)\)", text) + list(defined.values()):
+            if not re.match(r"[a-z]+:", target):
+                yield wrong_link(name, target)
+        for label in re.findall(r"\]\[(\w+/[\w.]+)\]", re.sub(r"^```.*?^```$", "", text, flags=re.M | re.S)):
+            yield None if label in defined else f"{name}: no link is defined for [{label}]"
         for path in re.findall(r"`((?:crates|tests|docs|examples|bench|bindings|embed)/[\w./]+)`", text):
             # (a word in capitals stands for any)
             is_there = re.search(r"/[A-Z]+\b(?!\.)", path) or os.path.exists(os.path.join(ROOT, path))
@@ -236,7 +343,8 @@ def links():
 
 def main():
     passed = failed = 0
-    for part in (edits, promises, calls, clauses, quotes, client, first_programs, crates, rooms, links):
+    parts = (edits, promises, calls, clauses, generated, quotes, headings, counts, landing)
+    for part in parts + (outputs, client, first_programs, crates, rooms, links):
         results = list(part())
         if not results:
             results = [f"nothing was checked of {part.__name__}"]
