@@ -4,7 +4,7 @@ use Rattle.cdr_core.specs.declared.order.Order.{Order}
 use Rattle.cdr_core.specs.declared.fault.Fault.{Fault}
 use Rattle.cdr_core.specs.Reading.{Read}
 
--- the byte order, the place of the next octet as alignment counts it (9.3.1.1), and the octets from there on
+-- the byte order, the place of the next octet as alignment counts it (CDR 9.3.1.1), and the octets from there on
 pub record Position : Type 0 where
   pub order : Order
   pub place : ℕ

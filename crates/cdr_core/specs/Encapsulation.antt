@@ -16,7 +16,7 @@ byte_order Big = 0
 byte_order Little = 1
 
 -- CDR 9.3.3: an encapsulation begins with the octet of its byte order, from which alignment counts; A holds of what
--- follows. That octets after the value are ignored is this project's own rule.
+-- follows. That octets after the value are ignored is an own rule.
 pub record IsEncapsulated (A : Order → ℕ → List ℕ → Type 0) (octets : List ℕ) : Type 0 where
   pub order : Order
   pub front : List ℕ

@@ -9,7 +9,7 @@ use Rattle.cdr_core.specs.Value as value
 use Rattle.cdr_core.specs.Value.{Value, Values, count, label}
 use Rattle.cdr_core.specs.Spelling.{Chosen}
 
--- the range of a number's type (CDR 9.3.1.2, 9.3.1.4, 9.3.1.6)
+-- the range of a number's type (CDR 9.3.1.2, CDR 9.3.1.4, CDR 9.3.1.6)
 abbrev pub InRange : Number → ℤ → Type 0
 InRange form.char z = FitsUnsigned w8 z
 InRange form.octet z = FitsUnsigned w8 z
@@ -73,7 +73,7 @@ OneFits P (value.value v value.no_values) = P v
 OneFits P _ = ⊥
 
 abbrev mutual
-  -- the value is one of the type: lengths are within the bound and, with a string's NUL, within an unsigned long (9.3.2)
+  -- the value is one of the type: lengths are within the bound and, with a string's NUL, within an unsigned long (CDR 9.3.2)
   pub Fits : Form → Value → Type 0
   Fits form.boolean (value.boolean b) = ⊤
   Fits (form.number kind) (value.number same z) = (same ≡ kind) × InRange kind z
@@ -92,7 +92,7 @@ abbrev mutual
   FitsMembers (form.form t ts) (value.value v vs) = Fits t v × FitsMembers ts vs
   FitsMembers _ _ = ⊥
 
-  -- 9.3.2.3: the member with that label, else the default, else nothing
+  -- CDR 9.3.2.3: the member with that label, else the default, else nothing
   pub FitsChosen : Cases → ℤ → Values → Type 0
   FitsChosen form.otherwise_nothing l value.no_values = ⊤
   FitsChosen form.otherwise_nothing l _ = ⊥

@@ -1,4 +1,4 @@
--- The types of CDR 9.3.1 and 9.3.2, as far as this crate carries them.
+-- The types of CDR 9.3.1 and CDR 9.3.2, as far as this crate carries them.
 use Rattle.std.specs.Prelude.{ℕ, ℤ}
 
 -- CDR 9.3.1: the types whose values are whole numbers, by their IDL names

@@ -14,7 +14,7 @@ use Rattle.cdr_core.specs.Stopping.{Stops}
 use Rattle.cdr_core.specs.Fitting.{Fits, FitsMembers, IsValid}
 use Rattle.cdr_core.specs.Writing.{octets_of, octets_of_all, IsWritable}
 
--- 9.3.1.1: padding is the fewest octets that lead to a place divisible by n, and fewer than n.
+-- CDR 9.3.1.1: padding is the fewest octets that lead to a place divisible by n, and fewer than n.
 abbrev pub PaddingIsLeast : Type 0
 PaddingIsLeast = (o n : ℕ) → 0 < n → (padding o n < n) × ((o + padding o n) % n ≡ 0) × ((k : ℕ) → (o + k) % n ≡ 0 → padding o n ≤ k)
 
@@ -86,7 +86,7 @@ WrittenIsOctets = (order : Order) (v : Value) → HoldsOctets v → (o : ℕ) �
 abbrev pub LengthIsUnsignedLong : Type 0
 LengthIsUnsignedLong = (order : Order) (o : ℕ) (octets : List ℕ) → AreOctets octets → ◌≡◌ {A = Read Value} (value_at ulong order o octets) (length_at order 0 most o octets >>= λ n. Ok (ulong_value n.0, n.1, n.2))
 
--- 9.3.3: the first octet of an encapsulation gives the byte order, and the place 1 follows it ..
+-- CDR 9.3.3: the first octet of an encapsulation gives the byte order, and the place 1 follows it ..
 abbrev pub ByteOrderIsRead : Type 0
 ByteOrderIsRead = (order : Order) (rest : List ℕ) → order_at (byte_order order ∷ rest) ≡ Ok (order, 1, rest)
 

@@ -1,4 +1,4 @@
--- Common Data Representation, CORBA 3.3 Part 2, 9.3: what the contracts of this crate say. Read it in this order.
+-- Common Data Representation, CDR 9.3: what the contracts of this crate say. Read it in this order.
 --
 -- What octets mean:
 --   Form        the types
@@ -6,7 +6,7 @@
 --   View        what a `Ty` and a `Val` of the code stand for
 --   Numbers     padding, and numbers as octets in either order
 --   Spelling    which octets are a value of a type: the standard's rules
---   Stopping    which fault is reported where no front of the octets is one: this project's rules
+--   Stopping    which fault is reported where no front of the octets is one: own rules
 -- What the calls do:
 --   Reading     reading from left to right, as a function
 --   Memory      where reading may run out of memory

@@ -1,5 +1,5 @@
--- Where reading may run out of memory. Memory is taken for what was read, and never by a count or a length alone: a rule of
--- this project's own.
+-- Where reading may run out of memory. Memory is taken for what was read, and never by a count or a length alone
+-- (own rule).
 use Rattle.std.specs.Prelude.{◌≡◌, ℕ, zero, suc, ℤ, List, Ok, Err, ◌⊎◌}
 use Rattle.std.specs.Ordering.{int_eq}
 use Rattle.cdr_core.specs.declared.order.Order.{Order}

@@ -36,13 +36,13 @@ taken n o octets = if nat_lt (length octets) n then fault kind.Short o else Ok (
 unfoldable pub part_at : ℕ → ℕ → List ℕ → Read (List ℕ)
 part_at n o octets = taken n (o + padding o n) (drop (padding o n) octets)
 
--- CDR 9.3.1.1, 9.3.1.2: a number of n octets after its padding
+-- CDR 9.3.1.1, CDR 9.3.1.2: a number of n octets after its padding
 unfoldable pub number_at : Order → ℕ → ℕ → List ℕ → Read ℕ
 number_at order n o octets = do
   x ← part_at n o octets
   Ok (number_of order n x.0, x.1, x.2)
 
--- CDR 9.3.1.2, 9.3.1.4, 9.3.1.6: a whole number
+-- CDR 9.3.1.2, CDR 9.3.1.4, CDR 9.3.1.6: a whole number
 unfoldable pub whole_at : Order → Number → ℕ → List ℕ → Read ℤ
 whole_at order kind o octets = do
   x ← number_at order (size kind) o octets
@@ -68,7 +68,7 @@ is_nul x = x == 0
 abbrev pub to_nul : List ℕ → ℕ
 to_nul octets = position_or_len is_nul octets
 
--- CDR 9.3.2.7: n octets, of which the last and no other is a NUL. This project's own rule: with n = 0 the text is empty.
+-- CDR 9.3.2.7: n octets, of which the last and no other is a NUL. Own rule: with n = 0 the text is empty.
 unfoldable pub text_at : ℕ → ℕ → List ℕ → Read (List ℕ)
 text_at n o octets = if n == 0 then Ok ([], o, octets) else (taken n o octets >>= λ x.
     if nat_lt (to_nul x.0) (n - 1) then fault kind.InteriorNul (o + to_nul x.0) else (if to_nul x.0 == n then fault kind.NoTerminator (o + (n - 1)) else Ok (take (n - 1) x.0, x.1, x.2)))
@@ -140,7 +140,7 @@ unfoldable mutual
     xs ← members_at ts order x.1 x.2
     Ok (value.value x.0 xs.0, xs.1, xs.2)
 
-  -- 9.3.2.3: the member with that label, else the default, else nothing
+  -- CDR 9.3.2.3: the member with that label, else the default, else nothing
   pub chosen_at : Cases → Order → ℤ → ℕ → List ℕ → Read Values
   chosen_at form.otherwise_nothing order l o octets = Ok (value.no_values, o, octets)
   chosen_at (form.otherwise t) order l o octets = do

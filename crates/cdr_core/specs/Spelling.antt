@@ -1,4 +1,4 @@
--- Which octets are a value of a type: the rules of CDR 9.3.1 and 9.3.2. The offset o is the place of the first octet.
+-- Which octets are a value of a type: the rules of CDR 9.3.1 and CDR 9.3.2. The offset o is the place of the first octet.
 use Rattle.std.specs.Prelude.{◌≡◌, ◌≢◌, ℕ, ◌+◌, ◌<◌, ◌≤◌, ℤ, Bool, true, false, List, [], ◌∷◌, ◌++◌, length, drop, if◌then◌else◌, ◌⊎◌}
 use Rattle.std.specs.List.{AllByRecursion}
 use Rattle.std.specs.Ordering.{int_eq}
@@ -17,7 +17,7 @@ pub record InTurn (A B : ℕ → List ℕ → Type 0) (o : ℕ) (octets : List �
   pub first : A o front
   pub second : B (o + length front) rest
 
--- CDR 9.3.1.1, 9.3.1.2: padding of any octets up to the next place divisible by n, and n octets that give the number x
+-- CDR 9.3.1.1, CDR 9.3.1.2: padding of any octets up to the next place divisible by n, and n octets that give the number x
 pub record IsNumber (order : Order) (n x o : ℕ) (octets : List ℕ) : Type 0 where
   pub long : length octets ≡ padding o n + n
   pub gives : number_of order n (drop (padding o n) octets) ≡ x
@@ -26,8 +26,8 @@ pub record IsNumber (order : Order) (n x o : ℕ) (octets : List ℕ) : Type 0 w
 abbrev pub IsClean : List ℕ → Type 0
 IsClean text = AllByRecursion (λ x. x ≢ 0) text
 
--- CDR 9.3.2.7: the text and one NUL, n octets. With n = 0 there are no octets and the text is empty, this project's own
--- rule.
+-- CDR 9.3.2.7: the text and one NUL, n octets. With n = 0 there are no octets and the text is empty
+-- (own rule).
 abbrev pub IsText : ℕ → List ℕ → ℕ → List ℕ → Type 0
 IsText n text o octets =
     ((n ≡ 0) × (text ≡ []) × (octets ≡ [])) ⊎ ((n ≡ length text + 1) × IsClean text × (octets ≡ text ++ 0 ∷ []))
@@ -51,32 +51,32 @@ Chosen false A B = B
 -- bounds of the type is IDL's rule.
 abbrev mutual
   pub Spells : Form → Order → Value → ℕ → List ℕ → Type 0
-  -- 9.3.1.5: a boolean is the octet 0 or 1
+  -- CDR 9.3.1.5: a boolean is the octet 0 or 1
   Spells form.boolean order (value.boolean b) o octets = octets ≡ (if b then 1 else 0) ∷ []
-  -- 9.3.1.2, 9.3.1.4, 9.3.1.6: a number follows its padding, in the order of the stream
+  -- CDR 9.3.1.2, CDR 9.3.1.4, CDR 9.3.1.6: a number follows its padding, in the order of the stream
   Spells (form.number kind) order (value.number same z) o octets = (same ≡ kind) × (x : ℕ) × IsNumber order (size kind) x o octets × (z ≡ meaning kind x)
-  -- 9.3.2.7: a string is its length with the NUL, its octets, and the NUL
+  -- CDR 9.3.2.7: a string is its length with the NUL, its octets, and the NUL
   Spells (form.string bound) order (value.string text) o octets = (length text ≤ bound) × (n : ℕ) × InTurn (IsNumber order 4 n) (IsText n text) o octets
-  -- 9.3.2.5: a sequence is its count and its elements
+  -- CDR 9.3.2.5: a sequence is its count and its elements
   Spells (form.octets bound) order (value.octets all) o octets = (length all ≤ bound) × InTurn (IsNumber order 4 (length all)) (λ _ rest. rest ≡ all) o octets
   Spells (form.sequence bound t) order (value.sequence vs) o octets = (count vs ≤ bound) × InTurn (IsNumber order 4 (count vs)) (Each (Spells t order) vs) o octets
-  -- 9.3.2.4: an array is its elements
+  -- CDR 9.3.2.4: an array is its elements
   Spells (form.array n t) order (value.array vs) o octets = (count vs ≡ n) × Each (Spells t order) vs o octets
-  -- 9.3.2.6: an enumeration is an unsigned long, the ordinal from 0
+  -- CDR 9.3.2.6: an enumeration is an unsigned long, the ordinal from 0
   Spells (form.enumeration n) order (value.enumeration x) o octets = (x < n) × IsNumber order 4 x o octets
-  -- 9.3.2.2: a struct is its members in order, with no alignment of its own
+  -- CDR 9.3.2.2: a struct is its members in order, with no alignment of its own
   Spells (form.structure ts) order (value.structure vs) o octets = SpellsMembers ts order vs o octets
-  -- 9.3.2.3: a union is its discriminator, and then the member that it selects, if it selects one
+  -- CDR 9.3.2.3: a union is its discriminator, and then the member that it selects, if it selects one
   Spells (form.union d cs) order (value.union v ms) o octets = InTurn (Spells d order v) (SpellsChosen cs order (label v) ms) o octets
   Spells _ order _ o octets = ⊥
 
-  -- 9.3.2.2: the members of a struct, one of each type, in order
+  -- CDR 9.3.2.2: the members of a struct, one of each type, in order
   pub SpellsMembers : Forms → Order → Values → ℕ → List ℕ → Type 0
   SpellsMembers form.no_forms order value.no_values o octets = octets ≡ []
   SpellsMembers (form.form t ts) order (value.value v vs) o octets = InTurn (Spells t order v) (SpellsMembers ts order vs) o octets
   SpellsMembers _ order _ o octets = ⊥
 
-  -- 9.3.2.3: the member with that label, else the default, else nothing
+  -- CDR 9.3.2.3: the member with that label, else the default, else nothing
   pub SpellsChosen : Cases → Order → ℤ → Values → ℕ → List ℕ → Type 0
   SpellsChosen form.otherwise_nothing order l value.no_values o octets = octets ≡ []
   SpellsChosen form.otherwise_nothing order l _ o octets = ⊥

@@ -1,5 +1,5 @@
 -- Which fault is reported, and at which place, if no front of the octets is a value of the type. The standard has no rule
--- for that; these are this project's own. Parts are judged from left to right. The place is where the faulty part begins
+-- for that; these are own rules. Parts are judged from left to right. The place is where the faulty part begins
 -- after its padding, even if that lies past the end; at a NUL or a missing one it is that octet's.
 use Rattle.std.specs.Prelude.{◌≡◌, ℕ, ◌+◌, ◌-◌, ◌<◌, ◌≤◌, ℤ, List, ◌∷◌, ◌++◌, length, ◌⊎◌}
 use Rattle.std.specs.Ordering.{int_eq}

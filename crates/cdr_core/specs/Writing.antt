@@ -8,7 +8,7 @@ use Rattle.cdr_core.specs.Value.{Value, Values, count}
 use Rattle.cdr_core.specs.Numbers.{padding, digits_of, bits_of}
 use Rattle.cdr_core.specs.Spelling.{IsClean}
 
--- CDR 9.3.1.1, 9.3.1.2: zeros up to the next place divisible by n, and the n octets of a number
+-- CDR 9.3.1.1, CDR 9.3.1.2: zeros up to the next place divisible by n, and the n octets of a number
 abbrev pub number_octets : Order → ℕ → ℕ → ℕ → List ℕ
 number_octets order n o x = replicate (padding o n) 0 ++ digits_of order n x
 
@@ -16,7 +16,7 @@ number_octets order n o x = replicate (padding o n) 0 ++ digits_of order n x
 abbrev pub and_then : ℕ → List ℕ → (ℕ → List ℕ) → List ℕ
 and_then o front rest = front ++ rest (o + length front)
 
--- CDR 9.3.1, 9.3.2: the octets of a value at offset o
+-- CDR 9.3.1, CDR 9.3.2: the octets of a value at offset o
 abbrev mutual
   pub octets_of : Order → Value → ℕ → List ℕ
   octets_of order (value.boolean false) o = 0 ∷ []
@@ -35,7 +35,7 @@ abbrev mutual
   octets_of_all order value.no_values o = []
   octets_of_all order (value.value v vs) o = and_then o (octets_of order v o) (octets_of_all order vs)
 
--- the values that can be written: lengths, with a string's NUL, fit an unsigned long, and no string holds a NUL (9.3.2)
+-- the values that can be written: lengths, with a string's NUL, fit an unsigned long, and no string holds a NUL (CDR 9.3.2)
 abbrev mutual
   pub IsWritable : Value → Type 0
   IsWritable (value.string text) = (length text + 1 < 2 ^ 32) × IsClean text

@@ -19,7 +19,7 @@ use std::marker::Model;
 /// allocates.
 ///
 /// Places count octets from the beginning of the message or encapsulation, not from that of the slice
-/// (CORBA 3.3 Part 2, 9.3.1.1). Each call that reads goes to the place after the value, or returns the
+/// (CDR 9.3.1.1). Each call that reads goes to the place after the value, or returns the
 /// first `Fault` and stays where it is.
 #[derive(Debug, Drop)]
 pub struct Cursor<'a> {
@@ -53,8 +53,8 @@ impl<'a> Cursor<'a> {
         }
     }
 
-    /// A cursor in an encapsulation, after its first octet, which names its byte order (CORBA 3.3 Part
-    /// 2, 9.3.3).
+    /// A cursor in an encapsulation, after its first octet, which names its byte order
+    /// (CDR 9.3.3).
     #[inline]
     #[tactic(auto, unfolding(crate::specs::Encapsulation::order_at), using(crate::proofs::Enclosed::order_enclosed))]
     pub fn encapsulated(octets: &'a [u8]) -> Result<Cursor<'a>, Fault>
@@ -371,7 +371,7 @@ impl<'a> Cursor<'a> {
 
     /// A string, which is lent without its NUL: its length, an unsigned long that counts the NUL, its
     /// octets, and the NUL. An octet of 0 before the last is a fault. The length 0 is read as the empty
-    /// string, a rule of this project's own.
+    /// string (own rule).
     #[inline(always)]
     pub fn string(&mut self) -> Result<&'a [u8], Fault>
         ensures { Gives text_value result (value_at text self.old.order) self.old self.new }

@@ -33,8 +33,8 @@ pub enum Kind {
 ///
 /// The place is where the faulty part begins after its padding, even if that lies past the last
 /// octet; at a NUL or a missing terminator it is that octet's. It counts from the beginning of the
-/// message or encapsulation. The standard doesn't say which fault is reported: this is a rule of this
-/// project's own.
+/// message or encapsulation. The standard doesn't say which fault is reported: this
+/// is an own rule.
 #[derive(Clone, Copy, Debug, PartialEq, Eq, Error)]
 #[error("{kind} at {at}")]
 pub struct Fault {

@@ -7,8 +7,8 @@
 ghost use Rattle.cdr_core.specs.Laws.{ByteOrderIsRead, ByteOrderStops, EitherWay, EncapsulatedStops, FaultsStop, FittingIsWritable, LengthIsUnsignedLong, NotBoth, OneFault, OneFront, PaddingIsLeast, ReadFits, ReadIsSpelled, SpelledFits, SpelledIsRead, StopsAreFaults, WrittenIsOctets, WrittenIsRead, WrittenIsSpelled, WrittenValuesAreRead};
 ghost use Rattle.cdr_core.specs.Numbers.{AreOctets};
 
-/// Padding is the fewest octets that lead to a place divisible by the alignment (CORBA 3.3 Part 2,
-/// 9.3.1.1).
+/// Padding is the fewest octets that lead to a place divisible by the alignment
+/// (CDR 9.3.1.1).
 #[tactic(auto, using(crate::proofs::Padding::least))]
 pub fn padding_is_least()
     ensures { PaddingIsLeast }
@@ -101,7 +101,7 @@ pub fn length_is_unsigned_long()
 {}
 
 /// The first octet of an encapsulation gives its byte order, and a fault exactly where there is none or
-/// it is no boolean (CORBA 3.3 Part 2, 9.3.3).
+/// it is no boolean (CDR 9.3.3).
 #[tactic(auto, using(crate::proofs::Refused::byte_order_read))]
 pub fn byte_order_is_read()
     ensures read { ByteOrderIsRead }

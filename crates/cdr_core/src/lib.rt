@@ -1,4 +1,4 @@
-//! Common Data Representation (CORBA 3.3 Part 2, 9.3): values as octets, aligned and in either byte
+//! Common Data Representation (CDR 9.3): values as octets, aligned and in either byte
 //! order.
 //!
 //! `read` and `write` go between octets and a `Val` by a `Ty`; a `Cursor` reads part by part and

@@ -8,7 +8,7 @@ ghost use Rattle.cdr_core.specs.Value as value;
 use byteorder::{BigEndian, ByteOrder, LittleEndian};
 use std::fmt;
 
-/// The order in which the octets of a number stand (CORBA 3.3 Part 2, 9.3).
+/// The order in which the octets of a number stand (CDR 9.3).
 #[derive(Clone, Copy, Debug, PartialEq, Eq)]
 pub enum Order {
     /// The most significant octet comes first.

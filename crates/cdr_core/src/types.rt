@@ -1,6 +1,6 @@
 //! The types that an IDL interface may use.
 
-/// An IDL type whose values CDR spells (CORBA 3.3 Part 2, 9.3.1 and 9.3.2). There are no floats, wide
+/// An IDL type whose values CDR spells (CDR 9.3.1 and CDR 9.3.2). There are no floats, wide
 /// characters, fixed-point numbers, `any`s, TypeCodes, value types or object references.
 ///
 /// Bounds count octets or elements. An unbounded string or sequence has the bound 4,294,967,295, the

@@ -54,7 +54,7 @@ impl Writer {
         }
     }
 
-    /// Appends the first octet of an encapsulation, which names its byte order (CORBA 3.3 Part 2, 9.3.3),
+    /// Appends the first octet of an encapsulation, which names its byte order (CDR 9.3.3),
     /// and returns the writer for what follows. The places of the encapsulation begin at that octet.
     #[inline]
     pub fn encapsulated(order: Order, out: &mut Vec<u8>) -> Result<Writer, AllocError>

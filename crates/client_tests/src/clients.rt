@@ -81,7 +81,7 @@ pub(crate) fn is_done(ended: &Ended, done: Done) -> bool {
     }
 }
 
-/// Takes the completions, and tells whether they are these, in this order.
+/// Takes the completions, and returns whether they are these, in this order.
 pub(crate) fn completes(client: &mut FtClient, wanted: &[(i32, Done)]) -> bool {
     for (id, done) in wanted {
         match client.take_completion() {

@@ -1,4 +1,4 @@
-//! Messages of a client and of its server, written out from the layouts of the standard (CORBA 3.3 Part 2, 9.4).
+//! Messages of a client and of its server, written out from the layouts of the standard (GIOP 9.4).
 
 /// A Request of 1.2 with the id 1 for `add` of 7 at the key `c`, with FT_REQUEST: the client `A`, its call 1, the
 /// expiration 100.

@@ -3,7 +3,7 @@
 //! Its words are `PORT CONNECTIONS`. It listens on 127.0.0.1 and serves so many connections, one after another. Its
 //! one object has the key `echo`, and its every operation is raw: what it returns is how many calls it has performed,
 //! an unsigned long long, and then the octets of the request's body, in the request's byte order. So a call that is
-//! sent again after its connection was lost tells the same number. tests/echo.py is a client of it.
+//! sent again after its connection was lost returns the same number. tests/echo.py is a client of it.
 #![tactic(auto)]
 
 mod echo;

@@ -3,7 +3,7 @@
 //! Its words are `CAPACITY SHARE START LIMIT PARTIALS [asks]`: how many outcomes the engine keeps, in all and of each
 //! client, the counter's total at the beginning, and the limits of a connection. Standard input is a script, as
 //! `giop play` takes it, with lines between that say how the owner answers (`lines`). What is printed is what
-//! `giop play` prints; with `asks` there is a line before for each request that was asked, and a line tells where
+//! `giop play` prints; with `asks` there is a line before for each request that was asked, and a line says where
 //! memory ran out or the owner gave a request up (`playing`).
 //!
 //! How an engine is fed and answered is in `host`. tests/run_cases.py, tests/engine.py and

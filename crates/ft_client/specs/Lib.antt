@@ -1,5 +1,5 @@
 -- What has to be believed of this crate, in reading order. Clauses are those of GIOP (CORBA 3.3 Part 2, chapter 9) and of
--- FT_REQUEST (Fault Tolerant CORBA 23.2.7); what stands in no clause is named as a rule of this project.
+-- FT_REQUEST (FT 23.2.7); what no clause says is marked `own rule`.
 -- Directions: messages as octets, and octets as messages. Messages: what a client writes and hears. Clients: a client as a
 -- record, what can happen to it, and what it is and writes after that. Lives: a client with all that ever was. Laws: what
 -- holds of these definitions.

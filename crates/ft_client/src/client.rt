@@ -122,7 +122,7 @@ impl FtClient {
     /// Takes octets that came on the connection, and completes each call whose reply they bring. Where there is none
     /// nothing happens.
     ///
-    /// After a fault of the stream, a CloseConnection or a MessageError (CORBA 3.3 Part 2, 9.4) the client is not
+    /// After a fault of the stream, a CloseConnection or a MessageError (GIOP 9.4) the client is not
     /// connected, what has not ended is pending still, and what follows in the piece counts for nothing. So it is where
     /// an allocation fails: the replies in a front of the piece, not in all of it, were taken then.
     pub fn feed(&mut self, piece: &[u8]) -> Result<(), AllocError>

@@ -1,5 +1,5 @@
 //! A client of CORBA requests that sends a call again until it is answered, and completes it once (CORBA 3.3 Part 2,
-//! chapter 9; Fault Tolerant CORBA 23.2.7).
+//! chapter 9; FT 23.2.7).
 #![tactic(auto)]
 
 mod client;

@@ -12,7 +12,9 @@ ghost use Rattle.ft_client.specs.Keeping.{id_place, kept_by, kept_of, under};
 
 use crate::pending::{Asked, Pending};
 use cdr_core::Order;
-use giop_core::{FT_REQUEST, Header, ReplyWish, Target, Version, WriteError, write_ft, write_request};
+use giop_core::{
+    FT_REQUEST, Header, ReplyWish, Target, Version, WriteError, write_ft, write_request,
+};
 use giop_link::ClientLink;
 use std::alloc::{AllocError, Global};
 
@@ -20,7 +22,7 @@ use std::alloc::{AllocError, Global};
 /// of contexts, and the context's id and length.
 const BEFORE_CONTEXT: usize = Header::LEN + 12;
 
-/// Where the request id stands in a Request with one service context, of these octets (CORBA 3.3 Part 2, 9.4.2).
+/// Where the request id stands in a Request with one service context, of these octets (GIOP 9.4.2).
 fn id_place(version: Version, context: &[u8]) -> usize
     requires { length context.now < 2 ^ 32 }
     ensures { result ≡ id_place version context.now }

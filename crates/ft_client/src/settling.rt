@@ -38,8 +38,8 @@ fn copied(alloc: Global, body: &Body<'_>) -> Result<ReplyBody, AllocError>
     })
 }
 
-/// How a reply that neither forwards nor asks for another addressing ends its call: by its status (CORBA 3.3 Part 2,
-/// 9.4.3).
+/// How a reply that neither forwards nor asks for another addressing ends its call: by its status
+/// (GIOP 9.4.3).
 fn plain_end(status: u32, body: ReplyBody) -> Ended
     ensures { ended_of result ≡ plain_end (reply_status_of status) (body_of body) }
 {

@@ -162,7 +162,7 @@ plain-from said a from =
     let t = from.transmission in
     subst IsPlain (sym from.content) (rest-plain t.version t.call (12 + length (octets_of_all Big (values (fields_of t)) 12)) from.fine.call)
 
--- What is told of what arrived.
+-- What is reported of what arrived.
 
 ended-by : (p : Performed) → ended_by (shown_as (order_of p) (status_of p) (body_of p)) ≡ ended_of p
 ended-by (returned results) = refl

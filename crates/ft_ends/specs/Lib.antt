@@ -1,5 +1,5 @@
 -- What has to be believed of this crate, in reading order. Clauses are those of GIOP (CORBA 3.3 Part 2, chapter 9) and of
--- FT_REQUEST (Fault Tolerant CORBA 23.2.7); what stands in no clause is named as a rule of this project.
+-- FT_REQUEST (FT 23.2.7); what no clause says is marked `own rule`.
 -- Tellings: what a server writes, as messages. World: clients and a server over a schedule of steps. Both: that both ends act
 -- as one. Fine: what can be written and read again. Laws: what holds of these definitions. Playing: schedules of the code.
 pub mod Tellings

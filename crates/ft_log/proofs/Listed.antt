@@ -58,7 +58,7 @@ keys-push es e = ap keys_of (map-append entry_in es (e ∷ [])) ∙ map-append (
 pub length_keys : (es : List Entry) → length (keys_of (entries_at es)) ≡ length es
 length_keys es = length-map (entries_at es) (λ x. x.key) ∙ length-map es entry_in
 
--- an error that is want of memory is no other
+-- an error that is out of memory is no other
 pub other_error : {A : Type 0} (r : Result (Unit {0}) LogError) → IsErrAnd r (λ e. e ≡ Memory) → r ≡ Err ShareFull → A
 other_error (Ok u) h e = absurd h
 other_error (Err x) h e = absurd (let same : Memory ≡ ShareFull = cc in cc)

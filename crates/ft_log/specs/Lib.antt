@@ -1,4 +1,4 @@
--- The retention log, Fault Tolerant CORBA 23.2.7: what the contracts of this crate say. Read it in this order.
+-- The retention log, FT 23.2.7: what the contracts of this crate say. Read it in this order.
 --
 --   Exceptions  the names of system exceptions, their repository ids, and the numbers of completion
 --   Statuses    the statuses of a Reply whose body comes as octets

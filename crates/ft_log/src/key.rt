@@ -7,7 +7,7 @@ ghost use Rattle.ft_log.specs.View.{key_of};
 use std::alloc::{AllocError, Global};
 
 /// The client that asks, the octets of a string without the NUL at its end, and its number for the request: together they name the
-/// request over all its transmissions (Fault Tolerant CORBA 23.2.7).
+/// request over all its transmissions (FT 23.2.7).
 #[derive(Debug, Drop)]
 pub struct Key {
     pub client_id: Vec<u8>,

@@ -1,4 +1,4 @@
-//! The retention log of a fault tolerant server (Fault Tolerant CORBA 23.2.7): the outcomes of requests,
+//! The retention log of a fault tolerant server (FT 23.2.7): the outcomes of requests,
 //! kept by the client that asked and its number for the request, so that a repeat of a request gets the
 //! first outcome.
 //!

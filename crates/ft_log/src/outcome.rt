@@ -9,7 +9,7 @@ use crate::system_exception::{Completion, SystemName};
 use cdr_core::{Order, Val};
 use std::alloc::{AllocError, Global};
 
-/// The status of a Reply whose body comes as octets: those that every version has (CORBA 3.3 Part 2, 9.4.3).
+/// The status of a Reply whose body comes as octets: those that every version has (GIOP 9.4.3).
 #[derive(Clone, Copy, Debug, PartialEq, Eq)]
 pub enum RawStatus {
     /// The body holds the results.
@@ -36,7 +36,7 @@ impl RawStatus {
     }
 }
 
-/// What performing a request gave (CORBA 3.3 Part 2, 9.4.3).
+/// What performing a request gave (GIOP 9.4.3).
 #[derive(Debug, Drop)]
 pub enum Outcome {
     /// The results: the return value, and then the out and inout parameters in order.

@@ -1,4 +1,4 @@
-//! System exceptions (CORBA 3.3 Part 2, 9.4.3): their names, and whether the operation was completed.
+//! System exceptions (GIOP 9.4.3): their names, and whether the operation was completed.
 
 ghost use Rattle.std.specs.Prelude.{◌≡◌, ◌≤◌, Some, length};
 ghost use Rattle.cdr_core.specs.Spelling.{IsClean};

@@ -9,7 +9,7 @@ use Rattle.cdr_core.specs.declared.order.Order.{Order}
 use Rattle.ft_orb.specs.Interfaces.{Types}
 
 abbrev mutual
-  -- CDR 9.3.1, 9.3.2: the most octets that a value of the type takes, with the padding before its numbers
+  -- CDR 9.3.1, CDR 9.3.2: the most octets that a value of the type takes, with the padding before its numbers
   pub most_octets : Form → ℕ
   most_octets form.boolean = 1
   most_octets (form.number kind) = 2 * size kind - 1

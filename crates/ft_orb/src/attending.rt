@@ -214,7 +214,7 @@ fn bid_farewell<C: Catalogue + Drop, W: Wire>(
 /// Serves a connection over a wire to its end, as `serve_stream` does, by an engine whose owner performs: reads
 /// pieces of at most 4,096 octets, asks the clock for the moment of each, lets the owner perform each call that is
 /// asked for in it, and writes the answers to the piece once it is fed to its end. After `max_reads` reads
-/// CloseConnection is sent (CORBA 3.3 Part 2, 9.4.7). In every case the connection is lost afterwards.
+/// CloseConnection is sent (GIOP 9.4.7). In every case the connection is lost afterwards.
 ///
 /// The connection is there, was not closed, and its stream has not ended (`Engine::is_closed`). A call that the
 /// owner can't perform now is given up, as is one for which an allocation fails: that ends the connection

@@ -16,7 +16,7 @@ use crate::signature::Lookup;
 use cdr_core::{Ty, Val, are_writable, end_of_list, fits, has_no_nul};
 use ft_log::{Completion, Outcome, SystemName};
 
-/// The place where the body of a Reply begins (CORBA 3.3 Part 2, 9.4.1, 9.4.3).
+/// The place where the body of a Reply begins (GIOP 9.4.1, GIOP 9.4.3).
 const BODY: u64 = 24;
 
 /// The most octets that a body takes.

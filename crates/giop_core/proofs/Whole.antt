@@ -168,7 +168,7 @@ module _ (version : Version) (kind : MessageKind) (order : Order) (fields : List
       → Adds version kind order (behind_header version kind order fields body) r old new
   finished = finished_whole version kind order fields body old fielded (whole_begun order fields w old begun fielded begins is puts)
 
--- a message that was begun
+-- a partial message
 
 module _ (order : Order) (fields : List Value) (w : Writing) (old fielded : List ℕ) (b : Begins order fields (Ok w) old fielded) (start : ℕ) (same : start ≡ length old) where
   pub room_after : start + 12 ≤ length fielded
@@ -233,7 +233,7 @@ pub judged_begins : (order : Order) (fields : List Value) (old : List ℕ) (v : 
 judged_begins order fields old v TooLong long h = (long h, keeps_all old old refl)
 judged_begins order fields old v Memory long h = absurd h
 
--- a message that was not begun is not appended
+-- what does not go on with a partial message is not appended
 pub unbegun : (version : Version) (kind : MessageKind) (order : Order) (fields : List Value) (body : Values) (old new : List ℕ) (e : WriteError)
     → Begins order fields (Err e) old new → Adds {A = Unit {0}} version kind order (behind_header version kind order fields body) (Err e) old new
 unbegun version kind order fields body old new TooLong h = (fields_long version kind order fields body h.0, h.1)

@@ -12,7 +12,7 @@ abbrev pub number_read : Read Value → Option ℕ
 number_read (Ok x) = Some (natural x.0)
 number_read (Err f) = None
 
--- GIOP 9.4.2, 9.4.3: after the header of a Request or a Reply of 1.1 come service contexts, and then the request id
+-- GIOP 9.4.2, GIOP 9.4.3: after the header of a Request or a Reply of 1.1 come service contexts, and then the request id
 unfoldable pub request_id_in : Order → List ℕ → Option ℕ
 request_id_in order octets = number_read (do
   x ← value_at contexts order 12 octets

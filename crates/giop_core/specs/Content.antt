@@ -23,7 +23,7 @@ pub record Rest : Type 0 where
   pub place : ℕ
   pub octets : List ℕ
 
--- GIOP 9.4.2 to 9.4.9: what a message of each kind says
+-- GIOP 9.4.2 to GIOP 9.4.9: what a message of each kind says
 pub data Content : Type 0 where
   request : ℕ → ReplyWish → Addressed → List ℕ → List (ℕ × List ℕ) → Rest → Content
   reply : ℕ → ℕ → List (ℕ × List ℕ) → Rest → Content

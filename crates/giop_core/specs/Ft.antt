@@ -1,4 +1,4 @@
--- The service context of a request that may be sent again (Fault Tolerant CORBA, 23.2.7).
+-- The service context of a request that may be sent again (FT 23.2.7).
 use Rattle.std.specs.Prelude.{◌≡◌, ◌≢◌, ℕ, ℤ, ◌==◌, List, [], ◌∷◌, ◌++◌, Option, Some, None, Result, Ok, Err, if◌then◌else◌}
 use Rattle.std.specs.List.{AllByRecursion}
 use Rattle.cdr_core.specs.declared.fault.Fault.{Fault}

@@ -50,7 +50,7 @@ fields_at (t ∷ ts) order o octets = do
 abbrev pub directly : Order → ℕ → List ℕ → Rest
 directly order place rest = record { order = order; place = place; octets = rest }
 
--- GIOP 9.4.2, 9.4.3: a body of 1.2 stands at the next place divisible by 8; where the octets end before it the body is
+-- GIOP 9.4.2, GIOP 9.4.3: a body of 1.2 stands at the next place divisible by 8; where the octets end before it the body is
 -- empty (own rule)
 abbrev pub aligned : Order → ℕ → List ℕ → Rest
 aligned order place rest = record { order = order; place = place + padding place 8; octets = drop (padding place 8) rest }

@@ -87,7 +87,7 @@ Adds version kind order after (Ok x) old new = (length after < 2 ^ 32) × (new �
 Adds version kind order after (Err TooLong) old new = (2 ^ 32 ≤ length after) × Keeps old new
 Adds version kind order after (Err Memory) old new = Keeps old new
 
--- a message is begun, as far as its fields: zeros stand in place of its header, and a writer goes on after them
+-- the start of a message, up to its fields: zeros stand in place of its header, and a writer goes on after them
 abbrev pub Begins : Order → List Value → Result Writing WriteError → List ℕ → List ℕ → Type 0
 Begins order fields (Ok w) old new = (new ≡ old ++ (replicate 12 0 ++ octets_of_all order (values fields) 12)) × (w ≡ record { order = order; at = 12; start = length old + 12 })
 Begins order fields (Err TooLong) old new = AreLong (values fields) × Keeps old new

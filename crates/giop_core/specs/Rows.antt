@@ -30,7 +30,7 @@ choice a b c = form.union short (form.labelled (pos 0) a (form.labelled (pos 1) 
 abbrev pub target : Form
 target = choice raw tagged selected
 
--- GIOP 9.4.2 to 9.4.9: the types of the fields after the header of a message
+-- GIOP 9.4.2 to GIOP 9.4.9: the types of the fields after the header of a message
 unfoldable pub row : Version → MessageKind → List Form
 row V10 Request = contexts ∷ ulong ∷ form.boolean ∷ raw ∷ text ∷ raw ∷ []
 row V11 Request = contexts ∷ ulong ∷ form.boolean ∷ reserved ∷ raw ∷ text ∷ raw ∷ []
@@ -47,7 +47,7 @@ row _ Fragment = []
 row _ CloseConnection = []
 row _ MessageError = []
 
--- GIOP 9.4.2, 9.4.3, 9.4.9: whether the request id, an unsigned long, comes first of what stands after the header of a
+-- GIOP 9.4.2, GIOP 9.4.3, GIOP 9.4.9: whether the request id, an unsigned long, comes first of what stands after the header of a
 -- Request, a Reply and a Fragment: only in 1.2
 abbrev pub has_id_first : Version → Bool
 has_id_first V12 = true

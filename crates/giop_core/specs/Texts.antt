@@ -1,5 +1,5 @@
--- The texts of versions, kinds, wishes and statuses. Those of statuses are the standard's names of them; the others are
--- this project's own.
+-- The texts of versions, kinds, wishes and statuses. Those of statuses are the standard's names of them; the others
+-- are own rules.
 use Rattle.std.specs.Prelude.{ℕ, List, codes}
 use Rattle.giop_core.specs.declared.header.Version.{Version}
 use Rattle.giop_core.specs.declared.header.Version.TheVariants.{V10, V11, V12}

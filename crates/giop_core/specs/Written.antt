@@ -94,7 +94,7 @@ locate_request_fields version id to = ulong_value id ∷ target_in version to �
 abbrev pub locate_reply_fields : ℕ → ℕ → List Value
 locate_reply_fields id status = ulong_value id ∷ value.enumeration status ∷ []
 
--- GIOP 9.4.2, 9.4.3: the octets of a body of 1.2 stand at the next place divisible by 8; where there are
+-- GIOP 9.4.2, GIOP 9.4.3: the octets of a body of 1.2 stand at the next place divisible by 8; where there are
 -- none there is no padding before them (own rule)
 abbrev pub behind_gap : ℕ → List ℕ → List ℕ
 behind_gap gap [] = []
@@ -148,7 +148,7 @@ CanAsk V12 w = ⊤
 CanAsk _ wish.Empty = ⊥
 CanAsk _ w = ⊤
 
--- GIOP 9.4.3, 9.4.6: how many statuses a Reply of the version has, and a LocateReply; they count from 0
+-- GIOP 9.4.3, GIOP 9.4.6: how many statuses a Reply of the version has, and a LocateReply; they count from 0
 abbrev pub reply_statuses : Version → ℕ
 reply_statuses V12 = 6
 reply_statuses _ = 4

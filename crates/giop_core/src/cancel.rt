@@ -1,4 +1,4 @@
-//! CancelRequest (CORBA 3.3 Part 2, 9.4.4).
+//! CancelRequest (GIOP 9.4.4).
 
 ghost use Rattle.std.specs.Prelude.{◌≡◌, ◌++◌, MatchResult};
 ghost use Rattle.cdr_core.specs.Private.{Keeps};
@@ -15,7 +15,7 @@ use crate::message::AFTER_HEADER;
 use cdr_core::{Cursor, Order, Writer};
 use std::alloc::AllocError;
 
-/// A CancelRequest (CORBA 3.3 Part 2, 9.4.4): the reply to a request is no longer wanted.
+/// A CancelRequest (GIOP 9.4.4): the reply to a request is no longer wanted.
 #[derive(Clone, Copy, Debug, PartialEq, Eq)]
 pub struct CancelRequest {
     /// The id of the request that is cancelled.
@@ -56,7 +56,7 @@ fn append_cancel(
     writer.ulong(request_id, out)
 }
 
-/// Appends a CancelRequest (CORBA 3.3 Part 2, 9.4.4). Where an allocation fails `out` is as it was.
+/// Appends a CancelRequest (GIOP 9.4.4). Where an allocation fails `out` is as it was.
 pub fn write_cancel(
     version: Version,
     order: Order,

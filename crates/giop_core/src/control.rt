@@ -1,4 +1,4 @@
-//! CloseConnection and MessageError (CORBA 3.3 Part 2, 9.4.7 and 9.4.8), which are their headers alone.
+//! CloseConnection and MessageError (GIOP 9.4.7 and GIOP 9.4.8), which are their headers alone.
 
 ghost use Rattle.std.specs.Prelude.{◌≡◌, ◌++◌, [], MatchResult};
 ghost use Rattle.cdr_core.specs.declared.order.Order.TheVariants.{Big};
@@ -24,7 +24,7 @@ fn put_bare(kind: MessageKind, out: &mut Vec<u8>) -> Result<(), AllocError>
     out.extend_from_slice(&header.octets())
 }
 
-/// Appends CloseConnection (CORBA 3.3 Part 2, 9.4.7), as 1.0 has it, in big-endian order. Where an
+/// Appends CloseConnection (GIOP 9.4.7), as 1.0 has it, in big-endian order. Where an
 /// allocation fails `out` is as it was.
 pub fn write_close(out: &mut Vec<u8>) -> Result<(), AllocError>
     ensures { MatchResult result (λ _. out.new.items ≡ out.old.items ++ message_octets V10 kind.CloseConnection Big []) (λ _. out.new.items ≡ out.old.items) }
@@ -32,7 +32,7 @@ pub fn write_close(out: &mut Vec<u8>) -> Result<(), AllocError>
     put_bare(MessageKind::CloseConnection, out)
 }
 
-/// Appends MessageError (CORBA 3.3 Part 2, 9.4.8), as 1.0 has it, in big-endian order. Where an
+/// Appends MessageError (GIOP 9.4.8), as 1.0 has it, in big-endian order. Where an
 /// allocation fails `out` is as it was.
 pub fn write_error(out: &mut Vec<u8>) -> Result<(), AllocError>
     ensures { MatchResult result (λ _. out.new.items ≡ out.old.items ++ message_octets V10 kind.MessageError Big []) (λ _. out.new.items ≡ out.old.items) }

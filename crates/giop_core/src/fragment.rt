@@ -1,4 +1,4 @@
-//! Fragment (CORBA 3.3 Part 2, 9.4.9).
+//! Fragment (GIOP 9.4.9).
 
 ghost use Rattle.giop_core.specs.Lent.{fragment_of, Shows};
 ghost use Rattle.giop_core.specs.Messages.{message_of};
@@ -9,7 +9,7 @@ use crate::header::Version;
 use crate::message::AFTER_HEADER;
 use cdr_core::{Cursor, Order};
 
-/// A Fragment (CORBA 3.3 Part 2, 9.4.9): more octets of a message that was cut.
+/// A Fragment (GIOP 9.4.9): more octets of a message that was cut.
 #[derive(Clone, Copy, Debug, Drop)]
 pub struct Fragment<'m> {
     /// The id of the request whose message goes on, which 1.2 alone has.

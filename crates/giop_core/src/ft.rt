@@ -1,4 +1,4 @@
-//! FT_REQUEST, the service context of a request that may be sent again (Fault Tolerant CORBA 23.2.7).
+//! FT_REQUEST, the service context of a request that may be sent again (FT 23.2.7).
 
 ghost use Rattle.std.specs.Prelude.{◌≡◌, option_map};
 ghost use Rattle.cdr_core.specs.Encapsulation.{encapsulated};
@@ -17,7 +17,7 @@ use crate::writing::{LONGEST, check_text};
 use cdr_core::{Cursor, Fault, Order, Writer};
 use ior_core::read_tagged;
 
-/// The id of the service context FT_REQUEST (Fault Tolerant CORBA 23.2.7).
+/// The id of the service context FT_REQUEST (FT 23.2.7).
 pub const FT_REQUEST: u32 = 13;
 
 /// What the service contexts of a request say of its client.
@@ -98,8 +98,8 @@ fn first_of<'m>(cursor: &mut Cursor<'m>, left: u32, id: u32) -> Option<&'m [u8]>
 }
 
 /// What the first FT_REQUEST among service contexts says: its fields, or that it is not valid, or that
-/// there is none. Contexts of other ids are passed over, and further ones of that id (a rule of this
-/// project).
+/// there is none. Contexts of other ids are passed over, and further ones of that id (
+/// own rule).
 #[tactic(auto, unfolding(crate::specs::Ft::ft_in))]
 pub fn ft_request<'m>(contexts: &Contexts<'m>) -> FtField<'m>
     ensures { ft_seen result ≡ ft_in (contexts_left contexts.now) }
@@ -134,7 +134,7 @@ fn put_ft(
     Ok(())
 }
 
-/// Appends the octets of an FT_REQUEST context (Fault Tolerant CORBA 23.2.7), an encapsulation.
+/// Appends the octets of an FT_REQUEST context (FT 23.2.7), an encapsulation.
 ///
 /// The client id has no NUL. The expiration counts 100 ns from 15 October 1582, 00:00 UTC. More than
 /// 4,294,967,295 octets are `TooLong`. On an error `out` is as it was.

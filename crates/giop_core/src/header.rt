@@ -1,4 +1,4 @@
-//! The header of a message (CORBA 3.3 Part 2, 9.4.1).
+//! The header of a message (GIOP 9.4.1).
 
 ghost use Rattle.std.specs.Prelude.{◌≡◌, ◌↔◌, Ok, Some, IsTrue};
 ghost use Rattle.giop_core.specs.Headers.{can_be_cut, flags_octet, flags_of, has_kind, has_magic, header_octets, header_of, is_possible, kind_number, kind_of, minor_of, version_of};
@@ -19,8 +19,8 @@ pub enum Version {
 
 impl Version {
     /// Whether the request id comes right after the header of a Request, a Reply and a Fragment, as in 1.2. In 1.0
-    /// and 1.1 it comes after the service contexts of a Request and a Reply, and a Fragment has none (CORBA 3.3
-    /// Part 2, 9.4.2, 9.4.3, 9.4.9).
+    /// and 1.1 it comes after the service contexts of a Request and a Reply, and a Fragment has none
+    /// (GIOP 9.4.2, GIOP 9.4.3, GIOP 9.4.9).
     #[inline]
     #[tactic(auto, unfolding(crate::specs::Rows::row))]
     pub fn has_id_first(self) -> bool

@@ -1,4 +1,4 @@
-//! The messages of GIOP 1.0, 1.1 and 1.2 (CORBA 3.3 Part 2, 9.4).
+//! The messages of GIOP 1.0, 1.1 and 1.2 (GIOP 9.4).
 //!
 //! `Header::read` and `read_message` turn octets into a `Message`, which is lent from them and takes no
 //! memory. A writer for each kind appends one whole message to a vector. The crate stands on `cdr_core`

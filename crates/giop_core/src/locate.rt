@@ -1,4 +1,4 @@
-//! LocateRequest and LocateReply (CORBA 3.3 Part 2, 9.4.5 and 9.4.6).
+//! LocateRequest and LocateReply (GIOP 9.4.5 and GIOP 9.4.6).
 
 ghost use Rattle.std.specs.Prelude.{◌≡◌, ◌↔◌, Some, IsTrue, IfOk, ◌≤◌, ◌<◌, length};
 ghost use Rattle.cdr_core.specs.Value.{no_values};
@@ -22,7 +22,7 @@ use cdr_core::{Cursor, Order, Val, Writer};
 use std::alloc::AllocError;
 use std::fmt;
 
-/// A LocateRequest (CORBA 3.3 Part 2, 9.4.5): it asks whether the server knows an object,
+/// A LocateRequest (GIOP 9.4.5): it asks whether the server knows an object,
 /// and where the object is.
 #[derive(Debug, Drop)]
 pub struct LocateRequest<'m> {
@@ -30,7 +30,7 @@ pub struct LocateRequest<'m> {
     pub target: Target<'m>,
 }
 
-/// A LocateReply (CORBA 3.3 Part 2, 9.4.6): the answer to the LocateRequest of this id.
+/// A LocateReply (GIOP 9.4.6): the answer to the LocateRequest of this id.
 #[derive(Clone, Copy, Debug, Drop)]
 pub struct LocateReply<'m> {
     pub request_id: u32,
@@ -39,7 +39,7 @@ pub struct LocateReply<'m> {
     pub body: Body<'m>,
 }
 
-/// The status of a LocateReply (CORBA 3.3 Part 2, 9.4.6).
+/// The status of a LocateReply (GIOP 9.4.6).
 #[derive(Clone, Copy, Debug, PartialEq, Eq)]
 pub enum LocateStatus {
     /// The server does not know the object.
@@ -221,7 +221,7 @@ fn append_locate_request(
     )
 }
 
-/// Appends a LocateRequest (CORBA 3.3 Part 2, 9.4.5).
+/// Appends a LocateRequest (GIOP 9.4.5).
 ///
 /// In 1.0 and 1.1 the target is an object key. On an error `out` is as it was.
 pub fn write_locate_request(
@@ -328,7 +328,7 @@ fn append_locate_reply(
     )
 }
 
-/// Appends a LocateReply (CORBA 3.3 Part 2, 9.4.6).
+/// Appends a LocateReply (GIOP 9.4.6).
 ///
 /// The status is one that the version has. On an error `out` is as it was.
 pub fn write_locate_reply(

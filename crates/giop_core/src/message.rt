@@ -60,7 +60,7 @@ pub(crate) fn body_at<'m>(cursor: &Cursor<'m>, order: Order) -> Body<'m>
     }
 }
 
-/// What a message says (CORBA 3.3 Part 2, 9.4.2 to 9.4.9).
+/// What a message says (GIOP 9.4.2 to GIOP 9.4.9).
 #[derive(Debug, Drop)]
 pub enum Content<'m> {
     Request(Request<'m>),
@@ -118,8 +118,8 @@ fn message_of_kind(
 /// memory: the message is lent from the octets.
 ///
 /// The octets are those of a whole message: its header announces no more fragments, and its size is
-/// their number. Octets after the fields of a message that has no body are ignored (a rule of this
-/// project). Places in faults and bodies count from the beginning of the message, its header included;
+/// their number. Octets after the fields of a message that has no body are ignored (
+/// own rule). Places in faults and bodies count from the beginning of the message, its header included;
 /// a body's is at most 7 past the message's end.
 #[inline(always)]
 pub fn read_message<'m>(header: &Header, octets: &'m [u8]) -> Result<Message<'m>, MessageFault>

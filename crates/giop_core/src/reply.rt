@@ -1,4 +1,4 @@
-//! Reply (CORBA 3.3 Part 2, 9.4.3).
+//! Reply (GIOP 9.4.3).
 
 ghost use Rattle.std.specs.Prelude.{◌↔◌, Some, IsTrue, ◌≡◌, IfOk, MatchResult, ◌≤◌, ◌<◌, ◌++◌, length, map};
 ghost use Rattle.cdr_core.specs.Private.{Keeps};
@@ -25,7 +25,7 @@ use cdr_core::{Cursor, Order, Val, Writer};
 use std::alloc::AllocError;
 use std::fmt;
 
-/// A Reply (CORBA 3.3 Part 2, 9.4.3): the answer to the Request of this id.
+/// A Reply (GIOP 9.4.3): the answer to the Request of this id.
 #[derive(Debug, Drop)]
 pub struct Reply<'m> {
     pub request_id: u32,
@@ -35,7 +35,7 @@ pub struct Reply<'m> {
     pub body: Body<'m>,
 }
 
-/// The status of a Reply (CORBA 3.3 Part 2, 9.4.3).
+/// The status of a Reply (GIOP 9.4.3).
 #[derive(Clone, Copy, Debug, PartialEq, Eq)]
 pub enum ReplyStatus {
     /// The body holds the results.
@@ -278,7 +278,7 @@ fn append_reply(
     )
 }
 
-/// Appends a Reply (CORBA 3.3 Part 2, 9.4.3).
+/// Appends a Reply (GIOP 9.4.3).
 ///
 /// The status is one that the version has. On an error `out` is as it was.
 pub fn write_reply(
@@ -364,7 +364,7 @@ fn append_exception(
     put_header(version, MessageKind::Reply, order, start, out)
 }
 
-/// Appends a Reply that carries an exception (CORBA 3.3 Part 2, 9.4.3), which nothing has to copy first.
+/// Appends a Reply that carries an exception (GIOP 9.4.3), which nothing has to copy first.
 ///
 /// Its body is the exception's repository id, as `IDL:omg.org/CORBA/MARSHAL:1.0`, and then its members:
 /// of a system exception its minor code and its completion status. `exception` is the id's octets,
@@ -438,7 +438,7 @@ fn append_raw_reply(
     put_header(version, MessageKind::Reply, order, start, out)
 }
 
-/// Appends a Reply whose body comes as octets (CORBA 3.3 Part 2, 9.4.3), written for a place divisible by
+/// Appends a Reply whose body comes as octets (GIOP 9.4.3), written for a place divisible by
 /// 8, in the order of the message. They are copied as they stand, and nothing reads them.
 ///
 /// In 1.2 padding leads to such a place, and no octets take no padding. In 1.0 and 1.1 the body follows

@@ -1,4 +1,4 @@
-//! Request (CORBA 3.3 Part 2, 9.4.2).
+//! Request (GIOP 9.4.2).
 
 ghost use Rattle.std.specs.Prelude.{◌↔◌, Some, IsTrue, ◌≡◌, IfOk, length, ◌≤◌, [], map, MatchResult};
 ghost use Rattle.cdr_core.specs.Private.{Keeps};
@@ -28,7 +28,7 @@ use cdr_core::{Cursor, Fault, Order, Val, Writer};
 use std::alloc::AllocError;
 use std::fmt;
 
-/// A Request (CORBA 3.3 Part 2, 9.4.2): an operation is to be performed by an object.
+/// A Request (GIOP 9.4.2): an operation is to be performed by an object.
 #[derive(Debug, Drop)]
 pub struct Request<'m> {
     pub request_id: u32,
@@ -42,7 +42,7 @@ pub struct Request<'m> {
     pub body: Body<'m>,
 }
 
-/// Which reply a request wishes for (CORBA 3.3 Part 2, 9.4.2).
+/// Which reply a request wishes for (GIOP 9.4.2).
 #[derive(Clone, Copy, Debug, PartialEq, Eq)]
 pub enum ReplyWish {
     /// No reply.
@@ -358,7 +358,7 @@ fn append_request(
     )
 }
 
-/// Appends a Request (CORBA 3.3 Part 2, 9.4.2), whose principal is empty.
+/// Appends a Request (GIOP 9.4.2), whose principal is empty.
 ///
 /// The operation has no NUL. In 1.0 and 1.1 the target is an object key, and no empty reply can be
 /// asked for. On an error `out` is as it was.

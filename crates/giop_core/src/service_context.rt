@@ -1,4 +1,4 @@
-//! Service contexts (CORBA 3.3 Part 2, 7.7): a list of ids with octets, in a message and to be written.
+//! Service contexts (IOP 7.7): a list of ids with octets, in a message and to be written.
 
 ghost use Rattle.std.specs.Iterator.{YieldsFirstBy, item_count};
 ghost use Rattle.std.specs.Prelude.{◌≡◌, length, ◌<◌, IfOk, ◌≤◌, ◌^◌, map, MatchResult};
@@ -17,7 +17,7 @@ use cdr_core::{Cursor, Fault, Writer};
 use ior_core::read_tagged;
 use std::alloc::AllocError;
 
-/// The service contexts of a message (CORBA 3.3 Part 2, 7.7), an iterator of the id of each and its
+/// The service contexts of a message (IOP 7.7), an iterator of the id of each and its
 /// octets. They are lent from the message and take no memory.
 #[derive(Debug, Drop)]
 pub struct Contexts<'m> {

@@ -1,4 +1,4 @@
-//! The target of a Request or LocateRequest (CORBA 3.3 Part 2, 9.4.2: TargetAddress).
+//! The target of a Request or LocateRequest (GIOP 9.4.2: TargetAddress).
 
 ghost use Rattle.std.specs.Prelude.{◌↔◌, IsTrue, ◌≡◌, length, option_map, ◌≤◌, map, MatchResult};
 ghost use Rattle.cdr_core.specs.Private.{Keeps};

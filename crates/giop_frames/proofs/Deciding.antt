@@ -1,4 +1,4 @@
--- Tests, each with what it tells.
+-- Tests, each with what it reports.
 use Rattle.std.proofs.Common.{refl, ap, ◌≡◌, ℕ, ◌<◌, ◌≤◌, ◌≢◌, ◌⊎◌, ◌==◌, nat_lt, nat_le, true, false, inl, inr}
 use Rattle.giop_frames.specs.declared.partial.Key.{Key}
 use Rattle.giop_frames.specs.declared.partial.Key.TheVariants.{Of11, Of12}

@@ -50,7 +50,7 @@ split-length limits w (x ∷ s) n =
       | Refused d ↦ λ e. absurd (let k : Some d ≡ None = ap (λ (t : Split). t.fault) (sym (step-refused limits w x s d e)) ∙ n in cc)
     ]) refl
 
--- frames that read without a fault are those before and these
+-- frames without a fault are those before and these
 pub reading-length : (limits : Limits) (h : List Frame) (last : Option StreamFault) (fs : List Frame) → (reading_from limits h last fs).fault ≡ None
     → (last ≡ None) × (place_after (reading_from limits h last fs).earlier ≡ place_after h + frames_length fs)
 reading-length limits h last [] n = (n, omega arith)

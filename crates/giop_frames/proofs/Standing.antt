@@ -34,7 +34,7 @@ module _ (limits : Limits) (s : List ℕ) (n : fault_of limits s ≡ None) where
       ∙ ap (λ (last : Option StreamFault). after_messages (reading_from limits [] last first.frames).messages (reading_from limits (reading_from limits [] last first.frames).earlier t.fault t.frames)) (sym none)
 
 module _ (limits : Limits) (b : List ℕ) (ps : List Entry) (s : List ℕ) (stands : Stands limits b ps s) where
-  -- what octets after those that wait make of the stream
+  -- what octets after those that are buffered make of the stream
   split_is : (c : List ℕ) (t : Split) → split_from limits b c ≡ t → split_from limits (rest_of limits s) c ≡ t
   split_is c t e = ap (λ (w : List ℕ). split_from limits w c) (sym stands.waiting) ∙ e
 

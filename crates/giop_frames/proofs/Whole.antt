@@ -62,7 +62,7 @@ is-frame again limits v k order body not fits =
       rest = sym (drop_at (header_octets h) body 12 (length-header h));
     }
 
--- a cancel that reads has its request id
+-- a valid cancel has its request id
 
 cancel-short : (v : Version) (order : Order) (x : List ℕ) → length x < 4 → message_of v CancelRequest order x ≡ too_few
 unfolding message_of row value_at whole_at number_at part_at

@@ -1,4 +1,4 @@
--- 9.4.9: a message, cut into a first frame and Fragments.
+-- GIOP 9.4.9: a message, cut into a first frame and Fragments.
 use Rattle.std.specs.Prelude.{ℕ, ◌+◌, ◌-◌, ◌==◌, ◌&&◌, nat_le, not, Bool, true, false, List, [], ◌∷◌, ◌++◌, length, take, drop, Result, Ok, Err, if◌then◌else◌}
 use Rattle.std.specs.List.{flat_map}
 use Rattle.giop_core.specs.declared.header.Header.{Header}

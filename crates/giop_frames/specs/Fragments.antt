@@ -1,4 +1,4 @@
--- Frames to messages (9.4.9): what has come of a cut message, looking back from a place over all frames before it, the
+-- Frames to messages (GIOP 9.4.9): what has come of a cut message, looking back from a place over all frames before it, the
 -- latest first. A message is partial while its fragments have not all come.
 use Rattle.std.specs.Prelude.{ℕ, ◌+◌, ◌-◌, ◌==◌, nat_lt, nat_le, ◌&&◌, not, Bool, true, false, List, [], ◌∷◌, ◌++◌, length, drop, Option, Some, None, is_some, Result, Ok, Err, if◌then◌else◌}
 use Rattle.std.specs.Option.{option_map}
@@ -25,7 +25,7 @@ use Rattle.giop_frames.specs.declared.reassembly.Role.{Role}
 use Rattle.giop_frames.specs.declared.reassembly.Role.TheVariants.{Opens, Carries, Ends, Drops, Uncut, Apart}
 use Rattle.giop_frames.specs.Frames.{Frame}
 
--- 9.4.9: in 1.2 every message with a request id but a CancelRequest may be cut
+-- GIOP 9.4.9: in 1.2 every message with a request id but a CancelRequest may be cut
 abbrev pub role_in_12 : MessageKind → Bool → Role
 role_in_12 Fragment true = Carries
 role_in_12 Fragment false = Ends
@@ -35,7 +35,7 @@ role_in_12 MessageError more = Apart
 role_in_12 _ true = Opens
 role_in_12 _ false = Uncut
 
--- 9.4.9: in 1.1 a Request or a Reply may be cut: no other header has the bit
+-- GIOP 9.4.9: in 1.1 a Request or a Reply may be cut: no other header has the bit
 abbrev pub role_in_11 : MessageKind → Bool → Role
 role_in_11 Fragment true = Carries
 role_in_11 Fragment false = Ends
@@ -48,7 +48,7 @@ abbrev pub role_in_10 : MessageKind → Role
 role_in_10 CancelRequest = Drops
 role_in_10 _ = Apart
 
--- the role of a kind of message in a version; a rule of this project: a CancelRequest of any version drops what has come
+-- the role of a kind of message in a version; own rule: a CancelRequest of any version drops what has come
 -- of its message
 abbrev pub role_in : Version → MessageKind → Bool → Role
 role_in V12 kind more = role_in_12 kind more
@@ -59,7 +59,7 @@ role_in V10 kind more = role_in_10 kind
 abbrev pub role_of : Header → Role
 role_of h = role_in h.version h.kind h.more
 
--- 9.4.9: in 1.2 the request id is in the first four octets after the header; so it is in a CancelRequest of any version
+-- GIOP 9.4.9: in 1.2 the request id is in the first four octets after the header; so it is in a CancelRequest of any version
 abbrev pub id_of : Frame → ℕ
 id_of f = number_of f.header.order 4 f.octets
 
@@ -105,8 +105,8 @@ abbrev pub is_number : ℕ → Option ℕ → Bool
 is_number i None = false
 is_number i (Some j) = i == j
 
--- whether a CancelRequest of a request id is for a partial message: in 1.1 the octets so far must spell its request id, a
--- rule of this project
+-- whether a CancelRequest of a request id is for a partial message: in 1.1 the octets so far must spell its request id
+-- (own rule)
 abbrev pub cancels : ℕ → Key → Partial → Bool
 cancels i (Of12 j) p = i == j
 cancels i Of11 p = is_number i (request_id_in p.header.order p.octets)
@@ -176,7 +176,7 @@ is_same_order Big Big = true
 is_same_order Little Little = true
 is_same_order _ _ = false
 
--- the partial message that a Fragment can be joined to; a rule of this project: first its byte order is judged, and then
+-- the partial message that a Fragment can be joined to; own rule: first its byte order is judged, and then
 -- the size of both together
 abbrev pub joinable : Limits → Frame → Option Partial → Result Partial StreamFault
 joinable limits f None = Err StrayFragment
@@ -194,7 +194,7 @@ abbrev pub judged_ended : Frame → Result Partial StreamFault → Verdict
 judged_ended f (Err e) = Bad e
 judged_ended f (Ok p) = judged_whole (joined p f)
 
--- the judgement of a frame by its role, the partial message of its key, and how many are partial. Rules of this project:
+-- the judgement of a frame by its role, the partial message of its key, and how many are partial. Own rules:
 -- no message starts under the key of a partial one, no more are partial than the limit, and both are
 -- judged before what a message says
 unfoldable pub judged_as : Role → Limits → Option Partial → ℕ → Frame → Verdict
@@ -205,7 +205,7 @@ judged_as Drops limits before n f = judged_whole f
 judged_as Uncut limits before n f = if is_some before then Bad TwiceStarted else judged_whole f
 judged_as Apart limits before n f = judged_whole f
 
--- which frames must begin with a request id, which is judged before what they are: a rule of this project
+-- which frames must begin with a request id, which is judged before what they are (own rule)
 abbrev pub has_id : Role → Version → Bool
 has_id Drops v = true
 has_id Apart v = false
@@ -216,7 +216,7 @@ has_id _ v = false
 abbrev pub too_short : Verdict
 too_short = Bad (Body (Cdr (record { kind = Short; at = 12 })))
 
--- what may come while a message of 1.1 is partial: its Fragments, and CancelRequests; a rule of this project
+-- what may come while a message of 1.1 is partial: its Fragments, and CancelRequests; own rule
 abbrev pub may_come : Role → Version → Bool
 may_come Drops v = true
 may_come Carries V11 = true

@@ -1,4 +1,4 @@
--- Octets to frames (9.4.1): a frame is a header and the octets after it; where a frame ends, and where a header is
+-- Octets to frames (GIOP 9.4.1): a frame is a header and the octets after it; where a frame ends, and where a header is
 -- refused.
 use Rattle.std.specs.Prelude.{ℕ, ◌+◌, ◌%◌, ◌==◌, ◌&&◌, nat_lt, not, Bool, List, [], ◌∷◌, ◌++◌, length, take, drop, Option, Some, None, Result, Ok, Err, if◌then◌else◌}
 use Rattle.giop_core.specs.declared.header.Header.{Header}
@@ -15,11 +15,11 @@ pub record Frame : Type 0 where
   pub header : Header
   pub octets : List ℕ
 
--- 9.4.1: how many octets a frame has; a header says how many come after it
+-- GIOP 9.4.1: how many octets a frame has; a header says how many come after it
 abbrev pub frame_size : Header → ℕ
 frame_size h = 12 + h.size
 
--- 9.4.9: in 1.2 each frame of a cut message but the last has a length divisible by 8. A rule of this project, where the
+-- GIOP 9.4.9: in 1.2 each frame of a cut message but the last has a length divisible by 8. Own rule, where the
 -- clause is silent: in 1.1 that length is 4 modulo 8, so that the octets after the next header stand, modulo 8, where they
 -- stand in the whole message.
 abbrev pub cut_place : Version → ℕ
@@ -30,7 +30,7 @@ cut_place _ = 0
 abbrev pub is_unaligned : Header → Bool
 is_unaligned h = h.more && not (frame_size h % 8 == cut_place h.version)
 
--- a header judged by itself, under the limits; the order of these judgements is a rule of this project
+-- a header judged by itself, under the limits; the order of these judgements is an own rule
 abbrev pub admitted : Limits → Header → Result Header StreamFault
 admitted limits h =
     if nat_lt limits.message (frame_size h) then Err TooLarge else
@@ -52,7 +52,7 @@ abbrev pub under_header : List ℕ → Result Header StreamFault → Sight
 under_header b (Err e) = Refused e
 under_header b (Ok h) = if nat_lt (length b) (frame_size h) then Waiting else Whole (record { header = h; octets = drop 12 b })
 
--- a header is judged as soon as its twelve octets have come: a rule of this project
+-- a header is judged as soon as its twelve octets have come (own rule)
 unfoldable pub sight : Limits → List ℕ → Sight
 sight limits b = if nat_lt (length b) 12 then Waiting else under_header b (judged_header limits (header_of (take 12 b)))
 
@@ -66,7 +66,7 @@ pub record Split : Type 0 where
 abbrev pub after_frame : Frame → Split → Split
 after_frame f s = record s { frames = f ∷ s.frames }
 
--- octet by octet: each is appended to those that wait, until they are a frame
+-- octet by octet: each is buffered, until they are a frame
 abbrev pub split_from : Limits → List ℕ → List ℕ → Split
 split_from limits waiting [] = record { frames = []; rest = waiting; fault = None }
 split_from limits waiting (x ∷ xs) =

@@ -1,5 +1,5 @@
 -- What has to be believed of this crate, in reading order. Clauses are those of GIOP (CORBA 3.3 Part 2, chapter 9); what
--- stands in no clause is named as a rule of this project.
+-- is in no clause is marked `own rule`.
 pub mod Frames
 pub mod Fragments
 pub mod Streams

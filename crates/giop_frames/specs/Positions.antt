@@ -1,4 +1,4 @@
--- 9.4.9: which first frame a Fragment belongs to, by positions.
+-- GIOP 9.4.9: which first frame a Fragment belongs to, by positions.
 use Rattle.std.specs.Prelude.{◌≡◌, ℕ, Bool, false, List, [], ◌∷◌, ◌++◌, if◌then◌else◌}
 use Rattle.giop_frames.specs.declared.partial.Key.{Key}
 use Rattle.giop_frames.specs.declared.reassembly.Role.{Role}

@@ -82,7 +82,7 @@ pub record Sent : Type 0 where
   pub order : Order
   pub body : List ℕ
 
--- one that a reader with these limits takes: it is no Fragment, is within the limit, and reads
+-- one that a reader with these limits takes: it is no Fragment, is within the limit, and is valid
 pub record IsSendable (limits : Limits) (m : Sent) : Type 0 where
   pub kind : m.kind ≡ Fragment → ⊥
   pub within : 12 + length m.body ≤ limits.message
@@ -113,7 +113,7 @@ abbrev pub SentAreReadAgain : Type 0
 SentAreReadAgain = (limits : Limits) (s : List ℕ) (ms : List Sent) → IsClear limits s → AllByRecursion (IsSendable limits) ms
     → (messages_of limits (s ++ sent_octets ms) ≡ messages_of limits s ++ sent_from (length s) ms) × IsClear limits (s ++ sent_octets ms)
 
--- a message that reads, of any size that a header can say, and is no Fragment
+-- a valid message, of any size that a header can say, that is no Fragment
 pub record IsReadable (m : Sent) : Type 0 where
   pub kind : m.kind ≡ Fragment → ⊥
   pub size : length m.body < 2 ^ 32

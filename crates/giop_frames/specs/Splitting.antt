@@ -4,7 +4,7 @@ use Rattle.giop_core.specs.Headers.{header_of}
 use Rattle.giop_frames.specs.declared.limits.Limits.{Limits}
 use Rattle.giop_frames.specs.Frames.{Frame, admitted, frame_size}
 
--- 9.4.1: the octets are those of a header that is admitted, and as many after it as it says
+-- GIOP 9.4.1: the octets are those of a header that is admitted, and as many after it as it says
 pub record IsFrame (limits : Limits) (f : Frame) (octets : List ℕ) : Type 0 where
   pub header : header_of (take 12 octets) ≡ Ok f.header
   pub taken : admitted limits f.header ≡ Ok f.header

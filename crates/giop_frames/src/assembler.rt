@@ -236,7 +236,7 @@ impl Assembler {
     /// The header of the message that the last call of `feed` completed, if it did: its version and kind,
     /// before it is read.
     pub fn header(&self) -> Option<Header>
-        // the message reads
+        // the message is valid
         ensures { MatchOption result (self.now.message ≡ None) (λ h. IsSomeAnd self.now.message (λ f. (f.header ≡ h) × IsOk (content_of f.header f.octets))) }
     {
         self.complete // set anew by each call of `feed`
@@ -252,7 +252,7 @@ impl Assembler {
     {
         let header = self.complete?;
         let (_, octets) = self.frame.as_slice().split_at(Header::LEN);
-        // it reads, as `feed` found
+        // it is valid, as `feed` found
         match read_message(&header, octets) {
             Ok(message) => Some(message),
             Err(_) => unreachable!(),

@@ -33,8 +33,8 @@ pub(crate) fn frame_size(header: &Header) -> usize
     Header::LEN + header.size as usize
 }
 
-/// The length modulo 8 of each frame of a cut message but the last: in 1.2 it is 9.4.9's, in 1.1 a rule of this
-/// project.
+/// The length modulo 8 of each frame of a cut message but the last: in 1.2 it is GIOP 9.4.9's, in 1.1
+/// own rule.
 fn cut_place(version: Version) -> usize
     ensures { result ≡ cut_place version }
 {

@@ -9,7 +9,7 @@ use thiserror::Error;
 
 /// The first fault of a stream.
 ///
-/// When each is reported is a rule of this project. At the twelfth octet of a frame: `Header`, `TooLarge` of a
+/// When each is reported is an own rule. At the twelfth octet of a frame: `Header`, `TooLarge` of a
 /// frame, and `UnalignedFragment`. At the last octet of a frame: the others, and `TooLarge` of a message that
 /// is joined.
 #[derive(Clone, Copy, Debug, PartialEq, Eq, Error)]
@@ -21,8 +21,8 @@ pub enum StreamFault {
     /// of its header among them.
     #[error("too large")]
     TooLarge,
-    /// More fragments follow a frame whose length is, in 1.2, not divisible by 8 (9.4.9), or in 1.1 not 4 modulo
-    /// 8: a rule of this project.
+    /// More fragments follow a frame whose length is, in 1.2, not divisible by 8 (GIOP 9.4.9), or in 1.1 not 4 modulo
+    /// 8 (own rule).
     #[error("unaligned fragment")]
     UnalignedFragment,
     /// A Fragment of 1.2 whose request id is that of no partial message, or one of 1.1 where no message of 1.1
@@ -30,7 +30,7 @@ pub enum StreamFault {
     #[error("stray fragment")]
     StrayFragment,
     /// A message of 1.2 with the request id of one whose fragments are still to come; or, while a message of
-    /// 1.1 is partial, any frame but its Fragments and CancelRequests: rules of this project.
+    /// 1.1 is partial, any frame but its Fragments and CancelRequests (own rule).
     #[error("twice started")]
     TwiceStarted,
     /// As many messages are partial as the limits allow, and one more starts.
@@ -39,7 +39,7 @@ pub enum StreamFault {
     /// The octets after a header are no message. Places count in the message whose fragments are joined.
     #[error("body: {0}")]
     Body(MessageFault),
-    /// A Fragment in another byte order than the first frame of its message: a rule of this project.
+    /// A Fragment in another byte order than the first frame of its message (own rule).
     #[error("mixed order")]
     MixedOrder,
     /// An allocation failed. This is no fault of the stream.

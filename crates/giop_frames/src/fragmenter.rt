@@ -1,4 +1,4 @@
-//! Cuts a message into fragments (CORBA 3.3 Part 2, 9.4.9).
+//! Cuts a message into fragments (GIOP 9.4.9).
 
 ghost use Rattle.std.specs.Prelude.{◌≡◌, ◌+◌, ◌%◌, ◌<◌, ◌≤◌, ◌++◌, ◌^◌, [], true, false, length, take, drop, Ok, IsTrue, MatchOption, OnErr, OnOk};
 ghost use Rattle.std.specs.List.{flat_map};
@@ -57,14 +57,14 @@ fn cuttable(version: Version, octets: &[u8]) -> Option<Header>
 }
 
 /// Whether octets are one whole message that can be cut: of 1.2, a Request, a Reply, a LocateRequest or a
-/// LocateReply (9.4.9).
+/// LocateReply (GIOP 9.4.9).
 pub fn is_cuttable(octets: &[u8]) -> bool
     ensures { result ≡ is_cuttable octets.now }
 {
     cuttable(Version::V12, octets).is_some()
 }
 
-/// Whether octets are one whole message of 1.1 that can be cut: a Request or a Reply (9.4.9).
+/// Whether octets are one whole message of 1.1 that can be cut: a Request or a Reply (GIOP 9.4.9).
 pub fn is_cuttable_11(octets: &[u8]) -> bool
     ensures { result ≡ is_cuttable_11 octets.now }
 {
@@ -178,7 +178,7 @@ fn put_message(
 }
 
 /// Appends a whole message of 1.2 in frames of at most `size` octets, their headers among them: a first frame
-/// and Fragments (9.4.9). A message that is no longer than that is appended as it is.
+/// and Fragments (GIOP 9.4.9). A message that is no longer than that is appended as it is.
 ///
 /// The message must be one that can be cut (`is_cuttable`), and `size` divisible by 8 and 24 at least. Where an
 /// allocation fails, `out` is as it was.
@@ -193,7 +193,7 @@ pub fn fragments(message: &[u8], size: u32, out: &mut Vec<u8>) -> Result<(), All
 }
 
 /// Appends a whole message of 1.1 in frames of at most `size` octets, their headers among them: a first frame
-/// and Fragments (9.4.9), which have no request id. A message that is no longer than that is appended as it is.
+/// and Fragments (GIOP 9.4.9), which have no request id. A message that is no longer than that is appended as it is.
 ///
 /// The message must be one that can be cut (`is_cuttable_11`), and `size` 4 modulo 8 and 20 at least. Where an
 /// allocation fails, `out` is as it was.

@@ -28,14 +28,14 @@ pub fn streams_grow()
     ensures end { FaultsEnd }
 {}
 
-/// Each message of a stream reads, is whole and within the limit, and is no Fragment; the places where they
+/// Each message of a stream is valid, is whole and within the limit, and is no Fragment; the places where they
 /// complete rise and lie within the stream.
 pub fn messages_are_whole()
     ensures messages { MessagesAreWhole }
     ensures places { PlacesRise }
 {}
 
-/// The partial messages of a stream without a fault are as many as the keys that are begun and not ended.
+/// The partial messages of a stream without a fault are as many as the keys that are started and not ended.
 pub fn partials_are_counted()
     ensures { PartialsAreCounted }
 {}
@@ -46,7 +46,7 @@ pub fn faults_are_refusals()
     ensures fault { RefusalsAreFaults }
 {}
 
-/// A whole message that is written is read again from a stream, alone and whole, where it reads within the
+/// A whole message that is written is read again from a stream, alone and whole, where it is valid within the
 /// limit and no message of its request id is partial, and none of 1.1; over the limit it is refused.
 pub fn written_messages_are_read_again()
     ensures again { WrittenIsReadAgain }
@@ -66,7 +66,7 @@ pub fn lists_of_messages_are_read_again()
 }
 
 /// A message that can be cut is read again from what `fragments`, or in 1.1 `fragments_11`, makes of it, alone
-/// and whole, where no message of its request id is partial, none of 1.1, and one more may be, and it reads
+/// and whole, where no message of its request id is partial, none of 1.1, and one more may be, and it is valid
 /// within the limit.
 pub fn cut_messages_are_read_again()
     ensures in_1_2 { CutIsReadAgain V12 }

@@ -1,4 +1,4 @@
-//! Streams of GIOP messages (CORBA 3.3 Part 2, 9.4): an assembler that takes octets as they come and lends
+//! Streams of GIOP messages (GIOP 9.4): an assembler that takes octets as they come and lends
 //! each message that completes, its fragments joined; and a writer that cuts a message into fragments.
 //!
 //! It stands on `giop_core`, which reads and writes one message. It promises that the messages and the

@@ -1,4 +1,4 @@
-//! The request id of a partial message of 1.1, which stands after its service contexts (9.4.2, 9.4.3). Reading
+//! The request id of a partial message of 1.1, which stands after its service contexts (GIOP 9.4.2, GIOP 9.4.3). Reading
 //! goes on where it stopped, so each context is passed over once.
 
 ghost use Rattle.std.specs.Prelude.{◌≡◌, ◌<◌, ◌≤◌, ◌++◌, ◌^◌, List, ℕ, length, IsErr};

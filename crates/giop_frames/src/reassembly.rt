@@ -36,7 +36,7 @@ pub enum Role {
     Apart,
 }
 
-/// The role of a frame of 1.2 (9.4.9).
+/// The role of a frame of 1.2 (GIOP 9.4.9).
 fn role_in_12(kind: MessageKind, more: bool) -> Role
     ensures { result ≡ role_in_12 kind more }
 {
@@ -50,7 +50,7 @@ fn role_in_12(kind: MessageKind, more: bool) -> Role
     }
 }
 
-/// The role of a frame of 1.1 (9.4.9).
+/// The role of a frame of 1.1 (GIOP 9.4.9).
 fn role_in_11(kind: MessageKind, more: bool) -> Role
     ensures { result ≡ role_in_11 kind more }
 {
@@ -284,7 +284,7 @@ fn end(
     }
 }
 
-/// A CancelRequest drops what has come of its message, in any version: a rule of this project.
+/// A CancelRequest drops what has come of its message, in any version (own rule).
 #[inline(never)]
 fn cancel(header: &Header, frame: &[u8], parts: &mut Vec<Part>) -> Settled
     requires { 16 ≤ length frame.now }

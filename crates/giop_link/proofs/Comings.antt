@@ -112,7 +112,7 @@ module _ {H : Type 0} where
   turn-strays (ends wrong_direction) is = refl
   turn-strays (ends (faulty e)) is = absurd cc
 
--- the header of a message that reads
+-- the header of a valid message
 abbrev pub IsHeader : Option Frame → Header → Type 0
 IsHeader m h = IsSomeAnd m (λ f. (f.header ≡ h) × IsOk (content_of f.header f.octets))
 
@@ -222,7 +222,7 @@ module _ {H : Type 0} (meaning : Version → Content → Sound H) where
     stands = st;
   }
 
-  -- something is told of it
+  -- something is reported of it
   pub told-header : (m : Option Frame) (h : Header) (r : Result (Option PeerEnd) LinkFault) (end : Option PeerEnd) → IsHeader m h → IsTurn meaning h.kind r → r ≡ Ok end → told_with end (spoken_by meaning m) ≡ None → ⊥
   told-header None h r end is by was none = is
   told-header (Some f) h r end is by was none = let k : Some (sound_of meaning f) ≡ None = sym (turn-told (sound_of meaning f) end (turn-header f h r (Ok end) is by was)) ∙ none in cc

@@ -20,7 +20,7 @@ pub record Outgoing : Type 0 where
   pub content : Content
   pub body : Values
 
--- GIOP 9.4.2, 9.4.3, 9.4.6: which messages have a body
+-- GIOP 9.4.2, GIOP 9.4.3, GIOP 9.4.6: which messages have a body
 abbrev pub values_in : Content → Values → Values
 values_in (content.request id wish to operation contexts rest) body = body
 values_in (content.reply id status contexts rest) body = body

@@ -180,7 +180,7 @@ impl ClientLink {
         None
     }
 
-    /// Appends a Request (CORBA 3.3 Part 2, 9.4.2), and returns its id, which is outstanding from then on unless
+    /// Appends a Request (GIOP 9.4.2), and returns its id, which is outstanding from then on unless
     /// no reply is wished for.
     ///
     /// The operation has no NUL. In 1.0 and 1.1 the target is an object key, and no empty reply can be asked for.
@@ -259,7 +259,7 @@ impl ClientLink {
         Ok(next)
     }
 
-    /// Appends a LocateRequest (CORBA 3.3 Part 2, 9.4.5), and returns its id, which is outstanding from then on.
+    /// Appends a LocateRequest (GIOP 9.4.5), and returns its id, which is outstanding from then on.
     ///
     /// In 1.0 and 1.1 the target is an object key. On an error the link and `out` are as they were.
     pub fn send_locate(&mut self, target: &Target, out: &mut Vec<u8>) -> Result<u32, SendError>
@@ -286,7 +286,7 @@ impl ClientLink {
         Ok(id)
     }
 
-    /// Gives up an id, and appends a CancelRequest (CORBA 3.3 Part 2, 9.4.4). False, and nothing is appended,
+    /// Gives up an id, and appends a CancelRequest (GIOP 9.4.4). False, and nothing is appended,
     /// where it is not outstanding. Where an allocation fails nothing has changed.
     pub fn cancel(&mut self, id: u32, out: &mut Vec<u8>) -> Result<bool, AllocError>
         ensures ok { IfOk result (λ was. (was ≡ is_outstanding id self.old.ids.outstanding) × (self.new ≡ record self.old { ids = given_up id self.old.ids })) }

@@ -18,7 +18,7 @@ pub enum LinkFault {
     #[error("{0}")]
     Stream(StreamFault),
     /// A message that its reader sends and never hears: to a server a Reply or a LocateReply, to a client a Request, a
-    /// LocateRequest or a CancelRequest (CORBA 3.3 Part 2, 9.4).
+    /// LocateRequest or a CancelRequest (GIOP 9.4).
     #[error("wrong direction")]
     WrongDirection,
 }

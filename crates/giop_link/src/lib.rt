@@ -1,4 +1,4 @@
-//! Both ends of a GIOP connection (CORBA 3.3 Part 2, 9.4): which messages a server or a client hears, how the
+//! Both ends of a GIOP connection (GIOP 9.4): which messages a server or a client hears, how the
 //! stream of its peer ends, and which ids a client gives and waits for.
 //!
 //! It stands on `giop_frames`, which makes messages of octets. It promises that what a link hears, and when it

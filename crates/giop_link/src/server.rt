@@ -129,7 +129,7 @@ impl ServerLink {
         self.listener.feed(piece)
     }
 
-    /// Closes the link, and appends CloseConnection (CORBA 3.3 Part 2, 9.4.7), unless it was closed before. Where
+    /// Closes the link, and appends CloseConnection (GIOP 9.4.7), unless it was closed before. Where
     /// an allocation fails nothing has changed.
     pub fn close(&mut self, out: &mut Vec<u8>) -> Result<(), AllocError>
         ensures ok { OnOk result (out.new.items ≡ out.old.items ++ (if self.old.is_closed then [] else close_connection)) }

@@ -1,5 +1,5 @@
 -- Where reading references may run out of memory. Memory is taken for whole items of a list, and never by its count or by
--- a part of an item: a rule of this project's own.
+-- a part of an item (own rule).
 use Rattle.std.specs.Prelude.{◌≡◌, ℕ, List, ◌⊎◌}
 use Rattle.cdr_core.specs.declared.order.Order.{Order}
 use Rattle.cdr_core.specs.Memory.{AfterRead, StoresEach}

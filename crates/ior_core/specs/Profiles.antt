@@ -43,7 +43,7 @@ abbrev pub has_minor_0 : Value → Bool
 has_minor_0 v = int_eq (label (member 1 v)) (pos 0)
 
 -- The type of a profile, by whether its minor version is 0. That each other minor version has the components of 1.1,
--- and that a profile of another major version is laid out alike, are this project's own rules.
+-- and that a profile of another major version is laid out alike, are own rules.
 abbrev pub type_where : Bool → Form
 type_where is_minor_0 = if is_minor_0 then profile_1_0 else profile_1_1
 
@@ -90,7 +90,7 @@ HasNone zero components = components ≡ []
 HasNone (suc n) components = ⊤
 
 -- What reading a profile gives. That BadMajor is reported only where the whole profile is valid apart from its major
--- version is this project's own rule.
+-- version is an own rule.
 abbrev pub ReadsProfile : Result Value Fault → Result IiopProfile IorError → Type 0
 ReadsProfile body (Ok p) = (body ≡ Ok (iiop_body p)) × HasNone p.minor p.components.items
 ReadsProfile body (Err (Cdr f)) = body ≡ Err f

@@ -42,7 +42,7 @@ digits_in None = Err NoPrefix
 abbrev pub text_octets : List ℕ → Result (List ℕ) IorError
 text_octets text = digits_in (after_prefix text)
 
--- The reference in an encapsulation. That octets after it are ignored is this project's own rule.
+-- The reference in an encapsulation. That octets after it are ignored is an own rule.
 abbrev pub reference_in : List ℕ → Result Value Fault
 reference_in octets = encapsulated (value_at reference) octets
 
@@ -50,12 +50,12 @@ reference_in octets = encapsulated (value_at reference) octets
 abbrev pub IsReference : Value → List ℕ → Type 0
 IsReference v octets = IsEncapsulated (λ order. Spells reference order v) octets
 
--- The text of a reference as it is written. That its digits are in lower case is this project's own choice.
+-- The text of a reference as it is written. That its digits are in lower case is an own rule.
 abbrev pub reference_text : Value → List ℕ
 reference_text v = codes "IOR:" ++ encode_lower (encapsulation_of v)
 
 -- What parsing a text gives. That a wrong prefix comes first, then an odd number of digits, then a bad digit, and then
--- a fault of the octets is this project's own order. Memory is taken only after the prefix.
+-- a fault of the octets is an own rule. Memory is taken only after the prefix.
 abbrev pub ReadsText : List ℕ → Result Ior IorError → Type 0
 ReadsText text (Ok ior) = (octets : List ℕ) × (text_octets text ≡ Ok octets) × (reference_in octets ≡ Ok (ior_value ior))
 ReadsText text (Err (Cdr f)) = (octets : List ℕ) × (text_octets text ≡ Ok octets) × (reference_in octets ≡ Err f)

@@ -10,7 +10,7 @@ use std::alloc::AllocError;
 use thiserror::Error;
 
 /// Why a reference or a profile was not read. Where several apply it is the first in this order,
-/// which is this project's own; `Memory` comes as soon as an allocation fails.
+/// which is own rules; `Memory` comes as soon as an allocation fails.
 #[derive(Clone, Copy, Debug, PartialEq, Eq, Error)]
 pub enum IorError {
     /// The text does not begin with `IOR:`, whose letters may be in either case.

@@ -1,4 +1,4 @@
-//! Object references (CORBA 3.3 Part 2, 7.6 and 9.7): IORs, their IIOP profiles, and their text.
+//! Object references (IOP 7.6 and IIOP 9.7): IORs, their IIOP profiles, and their text.
 //!
 //! It reads and writes what `cdr_core` has no types for: a reference is a structure of the
 //! standard's IDL, a profile is an encapsulation, and a reference's text is `IOR:` with the

@@ -1,4 +1,4 @@
-//! IIOP profiles (CORBA 3.3 Part 2, 9.7.2).
+//! IIOP profiles (IIOP 9.7.2).
 
 ghost use Rattle.std.specs.Prelude.{◌≡◌, ◌↔◌, ◌++◌, ◌<◌, ◌≤◌, ◌^◌, length, option_map, pos, Err, IfOk, IsTrue, MatchResult, OnErr, OnOk};
 ghost use Rattle.cdr_core.specs.Private.{GivesUnlessMemory, Keeps, passing};
@@ -18,12 +18,12 @@ use crate::writable::{is_length, is_list_writable, is_string_writable};
 use cdr_core::{CdrError, Cursor, Fault, Order, Writer};
 use std::alloc::{AllocError, Global};
 
-/// The tag of an IIOP profile (CORBA 3.3 Part 2, 7.6.2).
+/// The tag of an IIOP profile (IOP 7.6.2).
 pub const TAG_INTERNET_IOP: u32 = 0;
 
 /// A profile of IIOP 1 (IIOP::ProfileBody_1_0 and _1_1): the host and the TCP port where the object
 /// is reached, and its key there. The host is the octets of a string without its NUL. A profile of
-/// 1.0 has no components; that each other minor version has them is this project's own rule.
+/// 1.0 has no components; that each other minor version has them is an own rule.
 #[derive(Debug, Drop, PartialEq)]
 pub struct IiopProfile {
     pub minor: u8,
@@ -146,7 +146,7 @@ pub fn profile_key(tag: u32, octets: &[u8]) -> Option<&[u8]>
 ///
 /// Errors are `Cdr`, the first fault, with its place counted from the encapsulation's first octet;
 /// `BadMajor`; and `Memory`, only where a whole component or the whole profile was read. These rules
-/// are this project's own: octets after the last member are ignored, and `BadMajor` is reported only
+/// are own rules: octets after the last member are ignored, and `BadMajor` is reported only
 /// where the whole profile is valid apart from its major version.
 #[tactic(auto, using(crate::proofs::Bodies::order_fails, crate::proofs::Bodies::head_fails, crate::proofs::Bodies::components_fail, crate::proofs::Bodies::body_is))]
 pub fn read_iiop(alloc: Global, octets: &[u8]) -> Result<IiopProfile, IorError>
@@ -209,8 +209,8 @@ fn put(profile: &IiopProfile, out: &mut Vec<u8>) -> Result<(), AllocError>
     Ok(())
 }
 
-/// Appends the octets of a profile of IIOP 1, which is an encapsulation. It is big-endian, which is
-/// this project's own choice; padding is zeros.
+/// Appends the octets of a profile of IIOP 1, which is an encapsulation. It is big-endian, which
+/// is an own rule; padding is zeros.
 ///
 /// At an error, which means out of memory, `out` is as it was.
 pub fn write_iiop(profile: &IiopProfile, out: &mut Vec<u8>) -> Result<(), AllocError>

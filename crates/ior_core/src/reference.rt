@@ -1,4 +1,4 @@
-//! Object references (CORBA 3.3 Part 2, 7.6.2).
+//! Object references (IOP 7.6.2).
 
 ghost use Rattle.std.specs.Prelude.{◌≡◌, ◌↔◌, ◌++◌, ◌<◌, ◌≤◌, ◌^◌, length, option_map, IsTrue, MatchResult, OnErr, OnOk};
 ghost use Rattle.cdr_core.specs.Private.{GivesUnlessMemory, Keeps};

@@ -1,4 +1,4 @@
-//! Octets with a tag: tagged profiles and tagged components (CORBA 3.3 Part 2, 7.6.2).
+//! Octets with a tag: tagged profiles and tagged components (IOP 7.6.2).
 
 ghost use Rattle.std.specs.Prelude.{◌≡◌, ◌++◌, ◌<◌, ◌≤◌, ◌^◌, length, map, MatchResult};
 ghost use Rattle.cdr_core.specs.Private.{GivesUnlessMemory, Keeps, passing};

@@ -1,4 +1,4 @@
-//! References as text (CORBA 3.3 Part 2, 7.6.9).
+//! References as text (IOP 7.6.9).
 
 ghost use Rattle.std.specs.Prelude.{◌≡◌, option_map, IfOk, IsSome, MatchResult, ◌⊎◌, length};
 ghost use Rattle.std.specs.String.{string_bytes};
@@ -33,7 +33,7 @@ fn octets_in(alloc: Global, text: &str) -> Result<Vec<u8>, IorError>
 
 /// Reads the text of a reference: `IOR:` and the hexadecimal digits of an encapsulation of the
 /// reference, all in either case, and nothing before or after. Octets after the reference in its
-/// encapsulation are ignored, which is this project's own rule.
+/// encapsulation are ignored, which is an own rule.
 ///
 /// Errors, in the order in which they are looked for: `NoPrefix`; `OddDigits`; `BadDigit`, the first;
 /// `Cdr`, the first fault, with its place counted from the encapsulation's first octet. `Memory`
@@ -59,7 +59,7 @@ fn encapsulated(alloc: Global, ior: &Ior) -> Result<Vec<u8>, AllocError>
 }
 
 /// The text of a reference: `IOR:` and the hexadecimal digits of an encapsulation of the reference.
-/// The digits are in lower case and the encapsulation is big-endian, which are this project's own
+/// The digits are in lower case and the encapsulation is big-endian, which are own rules
 /// choices. An error means out of memory.
 pub fn print_text(alloc: Global, ior: &Ior) -> Result<String, AllocError>
     requires { IsWritable (ior_value ior.now) }

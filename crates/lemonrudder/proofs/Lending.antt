@@ -1,4 +1,4 @@
--- What is told of a message that is lent.
+-- What is reported of a message that is lent.
 use Rattle.std.proofs.Common.{◌≡◌, ◌∙◌, ℕ, min, Option, Some, None, Ok, ap, refl}
 use Rattle.std.specs.Option.{IsSomeAnd}
 use Rattle.cdr_core.specs.declared.order.Order.{Order}

@@ -20,7 +20,7 @@ pub never-none : (m : Option Inbound) (x : Meaning) → option_map meaning_at m 
 never-none None x told is = none-some x told
 never-none (Some i) x told is = none-some i (sym is)
 
--- what is told of what is lent
+-- what is reported of what is lent
 told-some : (m : Option Inbound) (i : Inbound) (x : Meaning) → option_map meaning_at m ≡ Some x → m ≡ Some i → meaning_at i ≡ x
 told-some m i x told is = let e : Some (meaning_at i) ≡ Some x = sym (ap (option_map meaning_at) is) ∙ told in cc
 

@@ -27,7 +27,7 @@ no_request = record {
   expiration = 0;
 }
 
--- a head with what FT_REQUEST says, if it is there and reads
+-- a head with what FT_REQUEST says, if it is there and valid
 abbrev pub with_client : Ft → RequestHead → RequestHead
 with_client (ft.present client_id retention_id expiration) h = record h { has_client = 1; retention_id = retention_id; client_size = length client_id; expiration = expiration }
 with_client _ h = h

@@ -19,13 +19,13 @@ behind_length place = place.next + (padding (place.at + place.next) 4 + 4)
 abbrev pub LiesAt : ℕ → (part octets : List ℕ) → Type 0
 LiesAt start part octets = (start + length part ≤ length octets) × (take (length part) (drop start octets) ≡ part)
 
--- octets that say the value lie behind their length, and the place goes behind the value; or it is as it was, and why is said
+-- octets that say the value lie after their length, and the place goes after the value; or it is as it was, and why is said
 abbrev pub Lends : (List ℕ → Value) → Result (Value × Place) Refusal → List ℕ → (place after : Place) → Result (ℕ × Bor (List ℕ)) Refusal → Type 0
 Lends view (Ok x) octets place after (Ok found) = (after ≡ x.1) × (view found.1.now ≡ x.0) × (found.0 ≡ behind_length place) × LiesAt found.0 found.1.now octets
 Lends view (Err e) octets place after (Err f) = (f ≡ e) × (after ≡ place)
 Lends view read octets place after result = ⊥
 
--- it is told where octets that say the value lie, behind their length, and how many they are, and the place goes behind the
+-- it is reported where octets that say the value lie, after their length, and how many they are, and the place goes after the
 -- value; or all is as it was
 abbrev pub Finds : (List ℕ → Value) → Result (Value × Place) Refusal → List ℕ → (place after : Place) → (start new_start size new_size : ℕ) → ℤ → Type 0
 Finds view (Ok x) octets place after start new_start size new_size answer = (answer ≡ pos 0) × (after ≡ x.1) × (new_start ≡ behind_length place) × ((part : List ℕ) × (view part ≡ x.0) × (new_size ≡ length part) × LiesAt new_start part octets)

@@ -1,4 +1,4 @@
--- What is told of the message that an assembler lends.
+-- What is reported of the message that an assembler lends.
 use Rattle.std.specs.Prelude.{◌≡◌, ℕ, ◌==◌, if◌then◌else◌, ℤ, pos, min, List, length, is_some, slice_get, unwrap_or, Option, Some, None, Result, Ok, Err}
 use Rattle.std.specs.Int.{from_bool}
 use Rattle.std.specs.Option.{option_and_then, option_map_or}
@@ -102,7 +102,7 @@ expiration_by _ = 0
 abbrev pub size_in : {A : Type 0} → Option (List A) → ℕ
 size_in all = option_map_or length all 0
 
--- what is told of a message; of its service contexts how many there are, or the greatest number that there is room for
+-- what is reported of a message; of its service contexts how many there are, or the greatest number that there is room for
 abbrev pub head_of : Version → Order → Content → MessageHead
 head_of version order c = record {
   key_size = size_in (key_in c);
@@ -137,7 +137,7 @@ part_in part c =
 abbrev pub context_in : ℕ → Content → Option (ℕ × List ℕ)
 context_in index c = option_and_then (λ all. slice_get all index) (contexts_in c)
 
--- what octets say that read
+-- what valid octets say
 abbrev pub said_by : Result Content MessageFault → Option Content
 said_by (Ok c) = Some c
 said_by (Err e) = None

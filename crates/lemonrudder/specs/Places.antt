@@ -28,7 +28,7 @@ position_at place octets = if nat_lt (place.at + place.next) (2 ^ 32) then (if n
 abbrev pub before : Place → List ℕ → List ℕ → Place
 before place octets rest = record place { next = length octets - length rest }
 
--- what was read, and the place behind it; or the number of its fault
+-- what was read, and the place after it; or the number of its fault
 abbrev pub outcome : {Y : Type 0} → Place → List ℕ → Read Y → Result (Y × Place) Refusal
 outcome place octets (Ok x) = Ok (x.0, before place octets x.2)
 outcome place octets (Err f) = Err (refusal_of_fault f)
@@ -42,7 +42,7 @@ read_in read place octets (Err refusal) = Err refusal
 abbrev pub read_at : {Y : Type 0} → (Order → ℕ → List ℕ → Read Y) → Place → List ℕ → Result (Y × Place) Refusal
 read_at read place octets = read_in read place octets (position_at place octets)
 
--- the value was read, and the place goes behind it; or both are as they were
+-- the value was read, and the place goes after it; or both are as they were
 abbrev pub Gets : {X Y : Type 0} → (X → Y) → Result (Y × Place) Refusal → Place → Place → X → X → ℤ → Type 0
 Gets view (Ok x) place after value new answer = (answer ≡ pos 0) × (view new ≡ x.0) × (after ≡ x.1)
 Gets view (Err refusal) place after value new answer = (answer ≡ error_number refusal) × (after ≡ place) × (new ≡ value)
@@ -55,7 +55,7 @@ flag_value n = if n == 0 then value.boolean false else (if n == 1 then value.boo
 abbrev pub overwritten : ℕ → List ℕ → List ℕ → List ℕ
 overwritten at octets room = take at room ++ octets ++ drop (at + length octets) room
 
--- octets are written into a room at a place, which goes behind them; or why not
+-- octets are written into a room at a place, which goes after them; or why not
 abbrev pub written : Place → List ℕ → List ℕ → Result (Place × List ℕ) Refusal
 written place octets room = if nat_lt (place.at + place.next) (2 ^ 32) && not (nat_lt (length room) place.next) then (if nat_lt (length room) (place.next + length octets) then Err Room else Ok (record place { next = place.next + length octets }, overwritten place.next octets room)) else Err Range
 

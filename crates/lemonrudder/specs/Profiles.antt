@@ -1,4 +1,4 @@
--- What is told of the profiles of a reference.
+-- What is reported of the profiles of a reference.
 use Rattle.std.specs.Prelude.{◌≡◌, ◌≢◌, ℕ, ◌==◌, if◌then◌else◌, min, List, length, slice_get, option_map, Option, Some, None, Result, Ok, Err, ◌⊎◌}
 use Rattle.std.specs.Option.{option_and_then}
 use Rattle.ior_core.specs.Keys.{tag_and_octets_of, tag_internet_iop}
@@ -29,7 +29,7 @@ abbrev pub IsSeenAt : Option Tagged → Result (Option IiopProfile) Refusal → 
 IsSeenAt None seen = seen ≡ Err refusal.None
 IsSeenAt (Some p) seen = IsSeen p seen
 
--- what is told of a profile; what only IIOP has is 0 where it is none
+-- what is reported of a profile; what only IIOP has is 0 where it is none
 abbrev pub head_of : Tagged → Option IiopProfile → ProfileHead
 head_of p None = record { data_size = length p.octets.items; host_size = 0; key_size = 0; tag = p.tag; is_iiop = 0; minor = 0; port = 0; components = 0; reserved = 0 }
 head_of p (Some q) = record {
@@ -44,13 +44,13 @@ head_of p (Some q) = record {
   reserved = 0;
 }
 
--- what is told by what a profile is seen as; or why nothing is, and the head is as it was
+-- what is reported by what a profile is seen as; or why nothing is, and the head is as it was
 abbrev pub Tells : Option Tagged → Result (Option IiopProfile) Refusal → (head new : ProfileHead) → Result ℕ Refusal → Type 0
 Tells (Some p) (Ok q) head new r = (r ≡ Ok 0) × (new ≡ head_of p q)
 Tells None (Ok q) head new r = ⊥
 Tells profile (Err e) head new r = (r ≡ Err e) × (new ≡ head)
 
--- the profile of an index is told of
+-- what is reported of the profile of an index
 abbrev pub OnProfile : ℕ → (head new : ProfileHead) → Referring → Referring → Result ℕ Refusal → Type 0
 OnProfile index head new s t r = (t ≡ s) × (seen : Result (Option IiopProfile) Refusal) × IsSeenAt (profile_at index s) seen × Tells (profile_at index s) seen head new r
 

@@ -1,4 +1,4 @@
--- What is told of the request that waits.
+-- What is reported of the request that waits.
 use Rattle.std.specs.Prelude.{◌≡◌, ◌⊎◌, ℕ, ◌<◌, ◌^◌, nat_lt, Bool, true, false, if◌then◌else◌, List, length, Option, Some, None, unwrap_or, Result, Ok, Err}
 use Rattle.std.specs.Int.{from_bool}
 use Rattle.std.specs.Option.{option_map_or}
@@ -39,17 +39,17 @@ with_body _ arguments h = let n = length (octets_of_all Big arguments 0) in reco
 abbrev pub head_of : Interface → Awaited → Question → RequestHead
 head_of i w q = with_body i w.call.arguments (with_question q.version q.id q.wish q.contexts (record no_request { connection = w.connection; key_size = length w.call.object_key; operation_size = length w.call.operation }))
 
--- the head of what waits is told, and 1; where nothing waits 0, and the caller's head is as it was
+-- the head of what waits is reported, and 1; where nothing waits 0, and the caller's head is as it was
 abbrev pub OnAsked : (head new : RequestHead) → Serving → Serving → Result ℕ Refusal → Type 0
 OnAsked head new s t r = (t ≡ s) × (IsIdle s → (r ≡ Ok 0) × (new ≡ head))
     × ((owner : Owner) (calls : List Call) (past : List Event) (moment : ℕ) (octets written : List ℕ) (w : Awaited) → (a : Asks offer_of owner calls s.engine past moment octets written w)
     → (r ≡ Ok 1) × (new ≡ head_of (interface_at s w) w a.question))
 
--- octets are copied to the front of a room, as many as it has, and how many they are is told
+-- octets are copied to the front of a room, as many as it has, and how many they are is returned
 abbrev pub Tells : List ℕ → (room new : List ℕ) → Result ℕ Refusal → Type 0
 Tells octets room new r = (r ≡ Ok (length octets)) × (new ≡ filled octets room)
 
--- nothing is told
+-- nothing is reported
 abbrev pub TellsNone : Refusal → (room new : List ℕ) → Result ℕ Refusal → Type 0
 TellsNone e room new r = (r ≡ Err e) × (new ≡ room)
 
@@ -69,12 +69,12 @@ abbrev pub client_in : Ft → Option (List ℕ)
 client_in (ft.present client_id retention_id expiration) = Some client_id
 client_in _ = None
 
--- the client id of the request that waits is told, if it carries one
+-- the client id of the request that waits is reported, if it carries one
 abbrev pub TellsClient : (room new : List ℕ) → Serving → Result ℕ Refusal → Type 0
 TellsClient room new s r = (owner : Owner) (calls : List Call) (past : List Event) (moment : ℕ) (octets written : List ℕ) (w : Awaited) → (a : Asks offer_of owner calls s.engine past moment octets written w)
     → TellsIfSome (client_in (ft_in a.question.contexts)) room new r
 
--- a part of the request that waits is told: its object key, its operation, its body or its client id
+-- a part of the request that waits is reported: its object key, its operation, its body or its client id
 abbrev pub OnPart : ℕ → (room new : List ℕ) → Serving → Serving → Result ℕ Refusal → Type 0
 OnPart part room new s t r = (t ≡ s) × (IsIdle s → TellsNone refusal.Idle room new r)
     × ((w : Awaited) → waits_in s.engine ≡ Some w

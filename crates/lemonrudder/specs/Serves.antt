@@ -77,7 +77,7 @@ Closes c s t o = (owner : Owner) (calls : List Call) (past : List Event) → Res
 abbrev pub OnFarewell : ℕ → Serving → Serving → Result ℕ Refusal → Type 0
 OnFarewell c s t r = WhereFree c s t r ((o : Result (Unit {0}) ServeError) × (r ≡ done_of 0 refusal_of_serving o) × IsIdle t × KeepsCatalogue s t × Closes c s t o)
 
--- it is told whether what comes on a connection has no meaning
+-- it is reported whether what comes on a connection has no meaning
 abbrev pub OnIsClosed : ℕ → Serving → Serving → Result ℕ Refusal → Type 0
 OnIsClosed c s t r = (t ≡ s) × (closed : Bool) × (r ≡ Ok (from_bool closed))
     × ((owner : Owner) (calls : List Call) (past : List Event) → Rests offer_of owner calls s.engine past → closed ≡ not (is_going owner.limits (line past c)))

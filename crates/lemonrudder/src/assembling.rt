@@ -68,7 +68,7 @@ fn number_of_fault(fault: &StreamFault) -> u64
     }
 }
 
-/// What is told of a message, but for how many service contexts it has.
+/// What is reported of a message, but for how many service contexts it has.
 fn head_of(message: &Message<'_>) -> MessageHead
     ensures { result ≡ record (head_of message.now.version message.now.order (content_of message.now.content)) { contexts = 0 } }
 {

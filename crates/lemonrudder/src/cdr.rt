@@ -1,4 +1,4 @@
-//! CDR (CORBA 3.3 Part 2, 9.3) in octets of the caller, without an allocation.
+//! CDR (CDR 9.3) in octets of the caller, without an allocation.
 
 ghost use Rattle.std.specs.Prelude.{◌≡◌, ◌<◌, ◌≤◌, ◌+◌, ◌^◌, [], ◌∷◌, ◌++◌, length, replicate, Err};
 ghost use Rattle.cdr_core.specs.Parts.{raw, text};

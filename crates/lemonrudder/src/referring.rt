@@ -68,7 +68,7 @@ fn profile_of(alloc: Global, address: &Address<'_>) -> Result<Profile, Refusal>
     })
 }
 
-/// What is told of a profile, which is one of IIOP or not.
+/// What is reported of a profile, which is one of IIOP or not.
 fn head_of(profile: &Profile, iiop: &Option<IiopProfile>) -> ProfileHead
     ensures { result ≡ head_of profile.now iiop.now }
 {

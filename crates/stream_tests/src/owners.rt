@@ -1,4 +1,4 @@
-//! A connection that is served by an engine, over a wire in memory: its owner gives what it is told.
+//! A connection that is served by an engine, over a wire in memory: its owner gives the outcomes that it was made with.
 
 use crate::messages::{ADD, AGAIN, SEVEN, SEVEN_AGAIN, UNFIT};
 use crate::visits::{Course, Wanted, course_of, is_wanted};
@@ -80,7 +80,7 @@ fn comes_of(alloc: Global, hasher: RandomState, gift: Gift) -> Result<Course, Fa
     Ok(course_of(alloc, end, &wire, owner.calls as i64)?)
 }
 
-/// The repeat comes behind the request, in one piece, and is answered without the owner.
+/// The repeat comes after the request, in one piece, and is answered without the owner.
 #[test]
 fn a_repeat_is_not_performed(rt: HostRuntime) -> Result<(), Fail> {
     let course = comes_of(rt.alloc(), RandomState::new(&rt)?, Gift::Seven)?;

@@ -18,7 +18,7 @@ use Rattle.ft_log.specs.declared.system_exception.Completion.TheVariants.{Maybe,
 use Rattle.ft_log.specs.declared.system_exception.SystemName.TheVariants.{ImpLimit, Unknown}
 use Rattle.ft_log.specs.Performed.{Performed, raw, system}
 
--- GIOP 9.3.1: whether a body can stand at a place divisible by 8 as it came: it stood at one, or has no octets
+-- CDR 9.3.1: whether a body can stand at a place divisible by 8 as it came: it stood at one, or has no octets
 abbrev pub can_stand : Rest → Bool
 can_stand body = length body.octets == 0 || body.place % 8 == 0
 
@@ -74,7 +74,7 @@ told_by id (Some (content.reply other status contexts body)) = if other == id th
 told_by id (Some content.close) = None
 told_by id _ = Some untold
 
--- what a message says, if it reads
+-- what a message says, if it is valid
 abbrev pub said_in : Result Content MessageFault → Option Content
 said_in (Ok m) = Some m
 said_in (Err e) = None

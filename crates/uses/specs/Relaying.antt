@@ -22,12 +22,12 @@ module _ (limits : Limits) (id : ℕ) (key operation : List ℕ) (body : Rest) (
   abbrev pub IsUnsent : Type 0
   IsUnsent = (outcome ≡ None) ⊎ ((CanBeForwarded id key operation body → ⊥) × (outcome ≡ Some (system ImpLimit 0 No)))
 
-  -- the outcome is what these octets tell of the request, or an allocation failed
+  -- the outcome is what these octets say of the request, or an allocation failed
   abbrev pub IsTold : List ℕ → Type 0
   IsTold written = (outcome ≡ told_by id (first_said limits written)) ⊎ (outcome ≡ Some untold)
 
   -- What became of a call: the server behind was sent nothing; or it was sent the call once, under this id, and the outcome is what
-  -- it told.
+  -- it said.
   abbrev pub IsForwarded : Option (List Exchange) → Option (List Exchange) → Type 0
   IsForwarded old new = (IsUnsent × (new ≡ old))
       ⊎ ((written : List ℕ) × CanBeForwarded id key operation body × IsTold written × Exchanged (record { request = forwarded_octets id key operation body; written = written }) old new)

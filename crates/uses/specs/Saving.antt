@@ -31,7 +31,7 @@ balance_types = record { arguments = forms []; results = forms (longlong ∷ [])
 abbrev pub tells : ℤ → Performed
 tells balance = returned (values (longlong_value balance ∷ []))
 
--- the sum is the new balance and is returned; where it is below 0 or no long long, nothing changes and Overdrawn tells the balance
+-- the sum is the new balance and is returned; where it is below 0 or no long long, nothing changes and Overdrawn reports the balance
 abbrev pub deposited : ℤ → ℤ → ℤ × Performed
 deposited balance cents = if int_le (pos 0) (balance +ℤ cents) && is_long_long (balance +ℤ cents) then (balance +ℤ cents, tells (balance +ℤ cents)) else (balance, raised overdrawn_id (values (longlong_value balance ∷ [])))
 

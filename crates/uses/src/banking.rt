@@ -45,7 +45,7 @@ const OVERDRAWN: &[u8] = b"IDL:Bank/Overdrawn:1.0";
 /// ```
 ///
 /// with the balance of each account in cents. It is below 0 for none: where a deposit of fewer than 0 cents would
-/// lead there, or one to no long long, `Overdrawn` tells the balance that stays.
+/// lead there, or one to no long long, `Overdrawn` reports the balance that stays.
 #[derive(Drop)]
 pub struct Bank {
     accounts: BTreeMap<Vec<u8>, i64>,

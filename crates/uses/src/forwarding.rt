@@ -1,4 +1,4 @@
-//! Forward a call: the request that asks another server for it, and what its reply tells.
+//! Forward a call: the request that asks another server for it, and what its reply reports.
 
 ghost use Rattle.std.specs.Prelude.{◌≡◌, Some, IfErr, IfOk, OnOk, map, option_map};
 ghost use Rattle.cdr_core.specs.Parts.{octet_value};
@@ -53,7 +53,7 @@ pub(crate) fn body_of(arguments: &[Val]) -> Option<Body<'_>>
     Some(Body { order, at, octets })
 }
 
-/// Whether a body can stand at a place divisible by 8 as it came (CORBA 3.3 Part 2, 9.3.1).
+/// Whether a body can stand at a place divisible by 8 as it came (CDR 9.3.1).
 fn can_stand(body: &Body<'_>) -> bool
     ensures { result ≡ can_stand (rest_of body.now) }
 {
@@ -178,7 +178,7 @@ fn told_by(
 
 /// What is answered for the request of an id, by the octets that the server behind wrote for it, up to its reply or
 /// to the loss of its connection: the outcome of the reply; UNKNOWN, COMPLETED_MAYBE where there is none; and
-/// nothing where the server closed the connection and so did not begin (CORBA 3.3 Part 2, 9.4.7).
+/// nothing where the server closed the connection and so did not begin (GIOP 9.4.7).
 pub fn read_reply(
     alloc: Global,
     limits: Limits,

@@ -25,7 +25,7 @@ const OVERDRAWN: &[u8] = b"IDL:Savings/Overdrawn:1.0";
 /// ```
 ///
 /// which is one account. A deposit may be negative: where the balance would be below 0 or no long long nothing is
-/// done, and `Overdrawn` tells the balance. Contracts see the balance, in cents.
+/// done, and `Overdrawn` reports the balance. Contracts see the balance, in cents.
 #[derive(Drop)]
 pub struct Savings {
     deposit: Signature,

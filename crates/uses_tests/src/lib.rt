@@ -1,5 +1,5 @@
-//! Tests of `uses`: each example once, on octets written out by hand from the standard's layouts (CORBA 3.3
-//! Part 2, 9.3 and 9.4).
+//! Tests of `uses`: each example once, on octets written out by hand from the standard's layouts
+//! (CDR 9.3 and GIOP 9.4).
 #![tactic(auto)]
 
 #[cfg(test)]

@@ -203,7 +203,7 @@ fn requests_and_replies_are_written_anew(rt: HostRuntime) -> Result<(), Fail> {
     Ok(())
 }
 
-/// What is told of a request: octets of a status and an order, a system exception, or nothing.
+/// What is reported of a request: octets of a status and an order, a system exception, or nothing.
 #[derive(Clone, Copy)]
 enum Told {
     Octets(RawStatus, Order, &'static [u8]),
@@ -211,7 +211,7 @@ enum Told {
     Nothing,
 }
 
-/// Whether that was told.
+/// Whether that was reported.
 fn is_told(told: &Option<Outcome>, wanted: Told) -> bool {
     match (told, wanted) {
         (Some(Outcome::Raw(status, order, octets)), Told::Octets(s, o, body)) => {
@@ -238,7 +238,7 @@ const PERHAPS: Told = Told::System(SystemName::ImpLimit, Completion::Maybe);
 /// The body of a reply: an unsigned long.
 const SEVEN: &[u8] = b"\x00\x00\x00\x07";
 
-/// The status of a Reply to request 1, and what it tells: in 1.2, where the body stands at the place 24, and in 1.0 after
+/// The status of a Reply to request 1, and what it reports: in 1.2, where the body stands at the place 24, and in 1.0 after
 /// a context, where it stands at 36.
 static STATUSES: [(u32, Told, Told); 6] = [
     (
@@ -288,7 +288,7 @@ fn each_status_is_told(rt: HostRuntime) -> Result<(), Fail> {
     Ok(())
 }
 
-/// Octets that a server behind writes for request 1, and what they tell.
+/// Octets that a server behind writes for request 1, and what they report.
 static OTHERS: [(&[u8], Told); 7] = [
     // CloseConnection, and MessageError
     (b"GIOP\x01\x00\x00\x05\x00\x00\x00\x00", Told::Nothing),

@@ -4,7 +4,7 @@ use cdr_core::Order;
 use giop_core::{FT_REQUEST, Header, MessageKind, Version};
 use std::process::Abort;
 
-// Each kind, the flags that its version lets it have, and sizes whose octets tell their order.
+// Each kind, the flags that its version lets it have, and sizes whose octets show their order.
 static HEADERS: [([u8; 12], Header); 12] = [
     (
         [0x47, 0x49, 0x4f, 0x50, 1, 0, 0, 0, 0, 0, 0, 0x2c],

@@ -1,4 +1,4 @@
-//! Replies that carry an exception as they are written: octets laid out by hand from 9.4.3.
+//! Replies that carry an exception as they are written: octets laid out by hand from GIOP 9.4.3.
 
 use super::said::assert_octets;
 use cdr_core::{Order, Val, has_no_nul};
