@@ -146,14 +146,6 @@ pub fn fitted(octets: &[u8], room: &mut [u8]) -> Result<u64, Refusal>
     Ok(copied(octets, room))
 }
 
-impl From<AllocError> for Refusal {
-    ghost from_gives = { λ _ r. r ≡ Memory };
-
-    fn from(_error: AllocError) -> Refusal {
-        Refusal::Memory
-    }
-}
-
 impl From<Fault> for Refusal {
     ghost from_gives = { λ e r. r ≡ refusal_of_fault e };
 
@@ -256,5 +248,13 @@ impl From<IorError> for Refusal {
             IorError::Memory => Refusal::Memory,
             _ => Refusal::Reference,
         }
+    }
+}
+
+impl From<AllocError> for Refusal {
+    ghost from_gives = { λ _ r. r ≡ Memory };
+
+    fn from(_error: AllocError) -> Refusal {
+        Refusal::Memory
     }
 }
