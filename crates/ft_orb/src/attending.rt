@@ -161,6 +161,26 @@ fn attend_read<C: Catalogue + Drop, O: Performer, W: Wire, K: Clock>(
     None
 }
 
+/// Sends CloseConnection.
+fn bid_farewell<C: Catalogue + Drop, W: Wire>(
+    engine: &mut Engine<C>,
+    connection: u64,
+    wire: &mut W,
+    out: &mut Vec<u8>,
+) -> StreamEnd
+    requires idle { waits_in engine.old ≡ None }
+    ensures idle { waits_in engine.new ≡ None }
+    ensures table { (o : Owner) (calls : List Call) (past : List history.Event) → Rests C.offers o calls engine.old past → is_going o.limits (line past connection) ≡ true → (acts : List Act) × (note : Note)
+        × IsFarewell result acts × IsGivenUp result note × GrowsBy acts (W.traffic wire.old) (W.traffic wire.new)
+        × Rests C.offers o calls engine.new (after o.limits past (history.Close connection) note) }
+{
+    out.clear();
+    if engine.close(connection, out).is_err() {
+        return StreamEnd::Memory;
+    }
+    write_farewell(wire, out)
+}
+
 /// Serves the pieces of at most so many reads. `None` where the connection would go on.
 fn attend_reads<C: Catalogue + Drop, O: Performer, W: Wire, K: Clock>(
     alloc: Global,
@@ -189,26 +209,6 @@ fn attend_reads<C: Catalogue + Drop, O: Performer, W: Wire, K: Clock>(
         reads += 1;
     }
     None
-}
-
-/// Sends CloseConnection.
-fn bid_farewell<C: Catalogue + Drop, W: Wire>(
-    engine: &mut Engine<C>,
-    connection: u64,
-    wire: &mut W,
-    out: &mut Vec<u8>,
-) -> StreamEnd
-    requires idle { waits_in engine.old ≡ None }
-    ensures idle { waits_in engine.new ≡ None }
-    ensures table { (o : Owner) (calls : List Call) (past : List history.Event) → Rests C.offers o calls engine.old past → is_going o.limits (line past connection) ≡ true → (acts : List Act) × (note : Note)
-        × IsFarewell result acts × IsGivenUp result note × GrowsBy acts (W.traffic wire.old) (W.traffic wire.new)
-        × Rests C.offers o calls engine.new (after o.limits past (history.Close connection) note) }
-{
-    out.clear();
-    if engine.close(connection, out).is_err() {
-        return StreamEnd::Memory;
-    }
-    write_farewell(wire, out)
 }
 
 /// Serves a connection over a wire to its end, as `serve_stream` does, by an engine whose owner performs: reads
