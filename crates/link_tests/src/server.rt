@@ -1,12 +1,12 @@
 //! Links: what a server's end lends of a client's octets, and how it is closed.
 
-use crate::rows::{assert_named, assert_printed};
 use giop_core::{HeaderFault, ReplyWish, Target, Version};
 use giop_frames::{Limits, StreamFault};
 use giop_link::{Inbound, LinkFault, ServerLink};
 use std::alloc::Global;
 use std::process::Abort;
 use std::test::Fail;
+use trials::misprinted;
 
 /// How many octets a piece has.
 static SIZES: [usize; 3] = [1, 13, 4096];
@@ -201,7 +201,7 @@ fn gives(alloc: Global, row: &Row, size: usize) -> bool {
 /// Asserts what each row gives in pieces of as many octets.
 fn assert_rows(rt: &(impl Abort + AllocGlobal), size: usize) {
     for row in &ROWS {
-        assert_named(rt, gives(rt.alloc(), row, size), row.name);
+        assert!(rt; gives(rt.alloc(), row, size), "{}", row.name);
     }
 }
 
@@ -267,5 +267,5 @@ static TEXTS: [(LinkFault, &str); 4] = [
 
 #[test]
 fn faults_of_links_are_printed(rt: HostRuntime) {
-    assert_printed(&rt, &TEXTS);
+    assert_eq!(rt; misprinted(&TEXTS), None);
 }

@@ -62,45 +62,12 @@ pub(super) enum Said {
 /// A version, an order, the digits of a message in them, and what it says.
 pub(super) type Row = (Version, Order, &'static str, Said);
 
-/// The number that a digit stands for.
-fn digit(rt: &impl Abort, letter: u8) -> u8 {
-    match letter {
-        b'0'..=b'9' => letter - b'0',
-        b'a'..=b'f' => letter - b'a' + 10,
-        _ => rt.abort(),
-    }
-}
-
-fn push(rt: &impl Abort, octets: &mut Vec<u8>, octet: u8) {
-    if octets.push(octet).is_err() {
-        rt.abort();
-    }
-}
-
-/// Takes the next digit: appends the octet whose low half it is, or returns it as a high half.
-fn take_digit(rt: &impl Abort, octets: &mut Vec<u8>, high: Option<u8>, number: u8) -> Option<u8> {
-    match high {
-        None => Some(number),
-        Some(high) => {
-            push(rt, octets, (high << 4) | number);
-            None
-        }
-    }
-}
-
-/// The octets that hexadecimal digits stand for, two each. Spaces mean nothing.
+/// The octets that words of hexadecimal digits stand for.
 pub(super) fn octets_in(rt: &(impl Abort + AllocGlobal), text: &str) -> Vec<u8> {
-    let mut octets = Vec::new(rt.alloc());
-    let mut high = None;
-    for letter in text.as_bytes() {
-        if *letter != b' ' {
-            high = take_digit(rt, &mut octets, high, digit(rt, *letter));
-        }
+    match trials::octets_in(rt.alloc(), text) {
+        Ok(octets) => octets,
+        Err(_) => rt.abort(),
     }
-    if high.is_some() {
-        rt.abort();
-    }
-    octets
 }
 
 /// The header of a whole message, and the octets after it.

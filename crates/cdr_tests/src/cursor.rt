@@ -1,6 +1,5 @@
 //! Each call of a cursor: what it gives, where it goes, and that it stays where there is a fault.
 
-use crate::rows::assert_at;
 use cdr_core::Kind::{BadBoolean, BadEnum, InteriorNul, NoTerminator, Short};
 use cdr_core::Order::{Big, Little};
 use cdr_core::{Cursor, Fault, Kind, Order};
@@ -353,7 +352,7 @@ fn is_made(cursor: &mut Cursor, step: &Step) -> bool {
 /// Makes the steps one after another.
 fn assert_steps(rt: &impl Abort, cursor: &mut Cursor, name: &str, steps: &[Step]) {
     for (index, step) in steps.iter().enumerate() {
-        assert_at(rt, is_made(cursor, step), name, index as u64);
+        assert!(rt; is_made(cursor, step), "{name} at {index}");
     }
 }
 

@@ -1,11 +1,11 @@
 //! The texts of versions, kinds, wishes, statuses, faults and errors.
 
-use crate::rows::assert_printed;
 use cdr_core::{Fault, Kind};
 use giop_core::{
     HeaderFault, LocateStatus, MessageFault, MessageKind, ReplyStatus, ReplyWish, Version,
     WriteError,
 };
+use trials::misprinted;
 
 static HEADER_FAULTS: [(HeaderFault, &str); 5] = [
     (HeaderFault::BadMagic, "bad magic"),
@@ -33,9 +33,9 @@ static WRITE_ERRORS: [(WriteError, &str); 2] = [
 
 #[test]
 fn faults_and_errors_are_printed(rt: HostRuntime) {
-    assert_printed(&rt, &HEADER_FAULTS);
-    assert_printed(&rt, &MESSAGE_FAULTS);
-    assert_printed(&rt, &WRITE_ERRORS);
+    assert_eq!(rt; misprinted(&HEADER_FAULTS), None);
+    assert_eq!(rt; misprinted(&MESSAGE_FAULTS), None);
+    assert_eq!(rt; misprinted(&WRITE_ERRORS), None);
 }
 
 static VERSIONS: [(Version, &str); 3] = [
@@ -63,9 +63,9 @@ static WISHES: [(ReplyWish, &str); 3] = [
 
 #[test]
 fn versions_kinds_and_wishes_are_printed(rt: HostRuntime) {
-    assert_printed(&rt, &VERSIONS);
-    assert_printed(&rt, &KINDS);
-    assert_printed(&rt, &WISHES);
+    assert_eq!(rt; misprinted(&VERSIONS), None);
+    assert_eq!(rt; misprinted(&KINDS), None);
+    assert_eq!(rt; misprinted(&WISHES), None);
 }
 
 static REPLY_STATUSES: [(ReplyStatus, &str); 6] = [
@@ -91,6 +91,6 @@ static LOCATE_STATUSES: [(LocateStatus, &str); 6] = [
 
 #[test]
 fn statuses_are_printed(rt: HostRuntime) {
-    assert_printed(&rt, &REPLY_STATUSES);
-    assert_printed(&rt, &LOCATE_STATUSES);
+    assert_eq!(rt; misprinted(&REPLY_STATUSES), None);
+    assert_eq!(rt; misprinted(&LOCATE_STATUSES), None);
 }

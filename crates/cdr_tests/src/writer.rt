@@ -2,7 +2,6 @@
 
 ghost use Rattle.std.specs.Prelude.{◌≡◌, ◌≤◌, length};
 
-use crate::rows::{assert_at, assert_named};
 use cdr_core::Order::{Big, Little};
 use cdr_core::{Order, Val, Writer, are_writable, writable};
 use std::alloc::AllocError;
@@ -265,7 +264,10 @@ fn append(
         }
         Align(size) => align(rt, writer, *size, out),
         At(place, all) => {
-            assert_at(rt, is_at(writer.place(out), out, *place, all), name, *place);
+            assert!(rt;
+                is_at(writer.place(out), out, *place, all),
+                "{name} at {place}"
+            );
             Ok(())
         }
     }
@@ -292,7 +294,7 @@ fn append_all(
     for call in *calls {
         assert!(rt; start <= out.len());
         let result = append(rt, name, &writer, call, out);
-        assert_named(rt, result.is_ok(), name);
+        assert!(rt; result.is_ok(), "{name}");
     }
 }
 

@@ -1,9 +1,9 @@
 //! Orders: four octets as a number, and their texts.
 
-use crate::rows::assert_printed;
 use cdr_core::Order;
 use cdr_core::Order::{Big, Little};
 use std::process::Abort;
+use trials::misprinted;
 
 #[test]
 fn four_octets_are_a_number(rt: HostRuntime) {
@@ -25,5 +25,5 @@ static TEXTS: [(Order, &str); 2] = [(Big, "big"), (Little, "little")];
 
 #[test]
 fn orders_are_printed(rt: HostRuntime) {
-    assert_printed(&rt, &TEXTS);
+    assert_eq!(rt; misprinted(&TEXTS), None);
 }

@@ -1,10 +1,10 @@
 //! Why a reference or a profile was not read.
 
-use crate::rows::assert_printed;
 use cdr_core::Fault;
 use cdr_core::Kind::InteriorNul;
 use ior_core::IorError;
 use ior_core::IorError::{BadDigit, BadMajor, Cdr, Memory, NoPrefix, OddDigits};
+use trials::misprinted;
 
 /// A fault in the octets.
 const FAULT: Fault = Fault {
@@ -23,5 +23,5 @@ static REASONS: [(IorError, &str); 6] = [
 
 #[test]
 fn reasons_are_printed(rt: HostRuntime) {
-    assert_printed(&rt, &REASONS);
+    assert_eq!(rt; misprinted(&REASONS), None);
 }

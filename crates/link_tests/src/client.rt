@@ -2,7 +2,6 @@
 
 ghost use Rattle.std.specs.Prelude.{◌≡◌};
 
-use crate::rows::{assert_named, assert_printed};
 use cdr_core::Val;
 use giop_core::{HeaderFault, ReplyWish, Target, Version};
 use giop_frames::{Limits, StreamFault};
@@ -10,6 +9,7 @@ use giop_link::{ClientLink, Delivery, LinkFault, SendError};
 use std::alloc::Global;
 use std::process::Abort;
 use std::test::Fail;
+use trials::misprinted;
 
 /// How many octets a piece has.
 static SIZES: [usize; 3] = [1, 13, 4096];
@@ -367,7 +367,7 @@ fn gives(alloc: Global, row: &Row, size: usize) -> Result<bool, SendError> {
 /// Asserts what each row gives in pieces of as many octets.
 fn assert_rows(rt: &(impl Abort + AllocGlobal), size: usize) {
     for row in &ROWS {
-        assert_named(rt, gives(rt.alloc(), row, size) == Ok(true), row.name);
+        assert!(rt; gives(rt.alloc(), row, size) == Ok(true), "{}", row.name);
     }
 }
 
@@ -490,5 +490,5 @@ static TEXTS: [(SendError, &str); 5] = [
 
 #[test]
 fn refusals_of_links_are_printed(rt: HostRuntime) {
-    assert_printed(&rt, &TEXTS);
+    assert_eq!(rt; misprinted(&TEXTS), None);
 }

@@ -4,6 +4,7 @@ use super::samples::{
     FIRST, FIRST_11, LAST, LONG_MIDDLE_11, MIDDLE, SHORT_LAST_11, WHOLE, WHOLE_11,
 };
 use giop_frames::{fragments, fragments_11, is_cuttable, is_cuttable_11};
+use std::alloc::AllocError;
 use std::process::Abort;
 
 /// The frames of at most `size` octets that the message is cut into, one after another.
@@ -30,22 +31,10 @@ fn cut_11(rt: &(impl Abort + AllocGlobal), size: u32) -> Vec<u8> {
     out
 }
 
-/// Frames, one after another.
-fn joined(rt: &(impl Abort + AllocGlobal), frames: &[&[u8]]) -> Vec<u8> {
-    let mut out = Vec::new(rt.alloc());
-    for frame in frames {
-        if out.extend_from_slice(frame).is_err() {
-            rt.abort();
-        }
-    }
-    out
-}
-
 /// Asserts that the message is cut into these frames, of at most `size` octets.
 fn assert_cut(rt: &(impl Abort + AllocGlobal), size: u32, frames: &[&[u8]]) {
-    let found = cut(rt, size);
-    let wanted = joined(rt, frames);
-    assert!(rt; found.as_slice() == wanted.as_slice());
+    let wanted: Result<Vec<u8>, AllocError> = frames.concat(rt.alloc());
+    assert!(rt; wanted == Ok(cut(rt, size)));
 }
 
 #[test]
@@ -56,9 +45,8 @@ fn a_message_is_cut(rt: HostRuntime) {
 
 /// Asserts that the message of 1.1 is cut into these frames, of at most `size` octets.
 fn assert_cut_11(rt: &(impl Abort + AllocGlobal), size: u32, frames: &[&[u8]]) {
-    let found = cut_11(rt, size);
-    let wanted = joined(rt, frames);
-    assert!(rt; found.as_slice() == wanted.as_slice());
+    let wanted: Result<Vec<u8>, AllocError> = frames.concat(rt.alloc());
+    assert!(rt; wanted == Ok(cut_11(rt, size)));
 }
 
 #[test]
