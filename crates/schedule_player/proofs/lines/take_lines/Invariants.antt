@@ -1,6 +1,6 @@
 use Rattle.std.specs.List.{AllByRecursion}
 use Rattle.ft_ends.specs.Playing.{IsCallable}
-use Rattle.ends_tests.proofs.lines.take_lines.Given as goal
+use Rattle.schedule_player.proofs.lines.take_lines.Given as goal
 
 -- each call of the schedule that is being read can be made
 abbrev pub invariant-loop-line : goal.invariant-loop-line

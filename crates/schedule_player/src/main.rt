@@ -1,4 +1,4 @@
-//! The program `ends_tests`: plays schedules of clients and a server, and prints what completes.
+//! The program `schedule_player`: plays schedules of clients and a server, and prints what completes.
 //!
 //! Standard input has schedules, one after another, and `lines` says what a line is. Each is played on a new server
 //! of the counter and on new clients by `ft_ends::both_ends`. For each completion a line is printed: the client's
