@@ -4,7 +4,7 @@ use crate::Terms;
 use crate::messages::{ADD, AGAIN, BROKEN, CLOSE, ERROR, EXPIRED, HERE, LOCATE, SEVEN};
 use crate::visits::{Course, Wanted, comes, is_wanted, new_server, visit_at};
 use ft_orb::StreamEnd;
-use std::alloc::{AllocError, Global};
+use std::alloc::Global;
 use std::hash::RandomState;
 use std::test::Fail;
 
@@ -185,19 +185,10 @@ static ROWS: [Row; 12] = [
     },
 ];
 
-/// Parts, one after another.
-fn joined(alloc: Global, parts: &[&[u8]]) -> Result<Vec<u8>, AllocError> {
-    let mut all = Vec::new(alloc);
-    for part in parts {
-        all.extend_from_slice(part)?;
-    }
-    Ok(all)
-}
-
 /// Whether a connection ends as its row says, and is closed then.
 fn holds(alloc: Global, hasher: RandomState, row: &Row) -> Result<bool, Fail> {
     let mut server = new_server(alloc, hasher)?;
-    let taken = joined(alloc, row.taken)?;
+    let taken: Vec<u8> = row.taken.concat(alloc)?;
     let wanted = Wanted {
         end: row.end,
         acts: Some(row.acts),
@@ -232,7 +223,7 @@ fn come_at(alloc: Global, hasher: RandomState, moments: &[u64]) -> Result<Course
 #[test]
 fn the_clock_is_asked_for_each_piece(rt: HostRuntime) -> Result<(), Fail> {
     let course = come_at(rt.alloc(), RandomState::new(&rt)?, [50, 120, 60].as_slice())?;
-    let taken = joined(rt.alloc(), [HERE, HERE, EXPIRED].as_slice())?;
+    let taken: Vec<u8> = [HERE, HERE, EXPIRED].concat(rt.alloc())?;
     let wanted = Wanted {
         end: StreamEnd::PeerEnded,
         acts: Some(b"GTGTGTg".as_slice()),

@@ -1,6 +1,6 @@
 use Rattle.std.proofs.Common.{rules, ◌≡◌, ◌++◌, ◌∷◌, []}
-use Rattle.stream_tests.proofs.Said.{said}
-use Rattle.stream_tests.proofs.tape.with_act.Goals as goal
+use Rattle.orb_tests.proofs.Said.{said}
+use Rattle.orb_tests.proofs.tape.with_act.Goals as goal
 
 pub returns : goal.returns
 returns c =
