@@ -2,7 +2,7 @@
 """Runs a program on hostile input, and refuses each allocation that is large for that input.
 
 usage: bounded_allocations.py PROGRAM            the program `giop`
-       bounded_allocations.py --calls PROGRAM    the program `value_trials`, by its word `lines`
+       bounded_allocations.py --calls PROGRAM    the program `reading_player`
 
 The inputs of `giop` are the streams of the rows (rows/*.txt), for `giop show`, and the references of the cases
 (cases/ior), for `giop ior`: each as it is, and with ffffffff written over four octets, at each place
@@ -11,7 +11,7 @@ either byte order. In a stream the size of each frame is also once one that the 
 so that the frame is waited for: its octets take room as they come. Under a bound of a few times the input's octets the program must print what it prints
 with ample memory: what it takes follows the octets that are there, and no count among them.
 
-The inputs of `value_trials` are the octets of spellings.py, which it reads by types, alone (`read`) and
+The inputs of `reading_player` are the octets of spellings.py, which it reads by types, alone (`read`) and
 after other octets (`read_list`, `Body::read`), or as references (`read_ior`) and profiles (`read_iiop`):
 each as it is, which must give the value there; with each of three large numbers written over the four
 octets at each place that is a multiple of 4; and each front whose length is a multiple of 4. No line that
@@ -92,7 +92,7 @@ def variants(octets, first):
             yield octets[:place] + HUGE + octets[place + 4:]
 
 
-# a call that `value_trials` makes: the words before the digits, the order, the octets, and what it prints of them
+# a call that `reading_player` makes: the words before the digits, the order, the octets, and what it prints of them
 Call = namedtuple("Call", "words order octets printed")
 
 
@@ -164,9 +164,9 @@ class Program:
         return self.run(words, given) == self.run(words, given, bound_of(octets))
 
 
-def fault_of_bound(program, word):
+def fault_of_bound(program, words):
     """What is wrong with a run in which each allocation is refused, or None."""
-    end = program.run([word], b"", 0)
+    end = program.run(words, b"", 0)
     return None if end == MEMORY else f"it ended with {end!r}"
 
 
@@ -182,8 +182,8 @@ def fault_of_call(program, call):
     """The first variant of a call's octets of which it prints what it may not, or None."""
     inputs = list(distorted(call.octets, call.order))
     given = "".join(f"{call.words} {octets.hex()}\n" for octets in inputs).encode()
-    ample = program.run(["lines"], given)
-    bounded = program.run(["lines"], given, bound_of(call.octets))
+    ample = program.run([], given)
+    bounded = program.run([], given, bound_of(call.octets))
     lines = ample[1].decode().splitlines()
     if ample[0] != 0 or len(lines) != len(inputs):
         return f"it ended with {ample!r}"
@@ -200,11 +200,11 @@ def fault_of_call(program, call):
 def cases_of(words):
     """The cases that the words before the program ask for: a name, what judges it, and what that is given."""
     if words == ["--calls"]:
-        yield "the bound", fault_of_bound, ("lines",)
+        yield "the bound", fault_of_bound, ([],)
         for call in calls():
             yield f"{call.words} {call.octets.hex()}", fault_of_call, (call,)
         return
-    yield "the bound", fault_of_bound, ("show",)
+    yield "the bound", fault_of_bound, (["show"],)
     for name, octets, first in streams():
         yield f"show {name}", fault_of_input, ("show", octets, first)
     for name, octets, first in references():

@@ -333,7 +333,7 @@ class Play:
 
 
 def lines_of(schedule):
-    """What completes in a schedule, given as its lines, and the total: as the program `ends_tests` prints it."""
+    """What completes in a schedule, given as its lines, and the total: as the program `schedule_player` prints it."""
     play = Play()
     for line in schedule[:-1]:
         play.take(line)

@@ -2,9 +2,9 @@
 """Runs a program with allocation N refused, for each N from 1 until none is refused.
 
 usage: refused_allocations.py PROGRAM            the program `giop`, on the inputs below
-       refused_allocations.py --calls PROGRAM..    the programs `value_trials` and `stream_trials`, one after
-                                                   another, on each call that it lists
-       refused_allocations.py --schedules PROGRAM    the program `ends_tests`, on the schedules below
+       refused_allocations.py --calls PROGRAM..    the programs `cdr_trials`, `giop_trials`, `link_trials` and
+                                                   `orb_trials`, one after another, on each call that it lists
+       refused_allocations.py --schedules PROGRAM    the program `schedule_player`, on the schedules below
        refused_allocations.py --engine PROGRAM    the program `engine_trials`, on the scripts below
 
 An allocation is a call of malloc or realloc. With one refused,

@@ -1,5 +1,5 @@
 #!/usr/bin/env python3
-"""Makes the calls that the rows of readings/ ask for, by the program `value_trials`, and compares what they give.
+"""Makes the calls that the rows of readings/ ask for, by the program `reading_player`, and compares what they give.
 
 usage: run_readings.py PROGRAM [FILE..]
 
@@ -330,7 +330,7 @@ def main():
         if len(rows) == before:
             sys.exit(f"{name}: no row")
     given = "".join(line + "\n" for _, line, _ in rows)
-    run = subprocess.run([program, "lines"], input=given.encode(), capture_output=True, timeout=SECONDS)
+    run = subprocess.run([program], input=given.encode(), capture_output=True, timeout=SECONDS)
     lines = run.stdout.decode().split("\n")[:-1]
     passed = 0
     for (place, line, wanted), found in zip(rows, lines):

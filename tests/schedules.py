@@ -1,11 +1,11 @@
 #!/usr/bin/env python3
-"""Plays random schedules of clients and a server with the program `ends_tests`, and compares with a model.
+"""Plays random schedules of clients and a server with the program `schedule_player`, and compares with a model.
 
 usage: schedules.py PROGRAM
 
-A schedule is a server, two clients and sixty steps or more, by a fixed seed; crates/ends_tests/src/lines.rt says what
-its lines are. Each is played twice: as it is, and with what goes up and down cut into small pieces. What completes, in
-order, and the total must be what tests/ends_model.py says, and the same both times.
+A schedule is a server, two clients and sixty steps or more, by a fixed seed; crates/schedule_player/src/lines.rt says
+what its lines are. Each is played twice: as it is, and with what goes up and down cut into small pieces. What
+completes, in order, and the total must be what tests/ends_model.py says, and the same both times.
 
 The program is run once over all schedules. The last line is 'N passed, M failed', where the run counts, and each
 schedule.

@@ -56,7 +56,7 @@ COSTS = {
     "ft_ends": (150, 14),
     "giop_run": (350, 18),
     "uses": (200, 20),
-    "stream_tests": (120, 20),
+    "orb_tests": (120, 20),
     "lemonrudder": (600, 14),
 }
 

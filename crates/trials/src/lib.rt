@@ -1,14 +1,18 @@
-//! What programs of trials share. A trial makes one call that takes memory on a sample, and makes it again where an
-//! allocation of it was refused.
+//! What tests and programs of trials share: rows of tables, and octets as digits; and trials. A trial makes one call
+//! that takes memory on a sample, and makes it again where an allocation of it was refused.
 #![tactic(auto)]
 
 mod cases;
 mod output;
+mod rows;
 mod sample;
 mod shapes;
 mod stop;
 mod text;
 mod trial;
+
+// rows of tables
+pub use rows::{misprinted, octets_in};
 
 // the calls by their names
 pub use cases::{Case, Samples, Suite, print_names};

@@ -1,7 +1,7 @@
 //! Values compared with texts, without memory.
 
 use std::fmt;
-use std::fmt::{Debug, Write};
+use std::fmt::{Debug, Display, Write};
 
 /// What is left of a text. Writing what the text begins with removes that; writing anything else fails.
 #[derive(Drop)]
@@ -22,4 +22,10 @@ impl fmt::Write for Left<'_> {
 pub(crate) fn is_printed_as<T: Debug>(value: &T, text: &str) -> bool {
     let mut left = Left(text);
     write!(left, "{value:?}").is_ok() && left.0.is_empty()
+}
+
+/// Whether `{}` prints a value as the text. It takes no memory.
+pub(crate) fn is_shown_as<T: Display>(value: &T, text: &str) -> bool {
+    let mut left = Left(text);
+    write!(left, "{value}").is_ok() && left.0.is_empty()
 }

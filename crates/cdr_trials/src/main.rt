@@ -1,0 +1,32 @@
+//! The program `cdr_trials`: calls of `cdr_core` and `ior_core` that take memory, each made by name.
+//!
+//! A case is one call on fixed inputs. Where an allocation of it is refused, the program checks that nothing changed,
+//! and makes the same call again. What the calls give is compared with octets and texts written out in `samples`.
+//! tests/refused_allocations.py runs it under a `malloc` that refuses one allocation.
+#![tactic(auto)]
+
+mod calls;
+mod copying;
+mod misses;
+mod profiles;
+mod reading;
+mod references;
+mod run;
+mod samples;
+mod suites;
+mod writing;
+
+use std::process::ExitCode;
+use std::{env, io};
+
+/// Runs the case that the first word names.
+fn status_of(rt: &HostRuntime) -> io::Result<u8> {
+    let alloc = rt.alloc();
+    let words: Vec<String> = env::args(rt)?.collect(alloc)?;
+    let word = words.get(1).map_or("", |word| word.as_str());
+    Ok(run::run(alloc, word, &mut rt.stdout(), &mut rt.stderr()))
+}
+
+fn main(rt: HostRuntime) -> ExitCode {
+    trials::exit_code(&rt, status_of(&rt))
+}

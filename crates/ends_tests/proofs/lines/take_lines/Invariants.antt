@@ -1,7 +1,0 @@
-use Rattle.std.specs.List.{AllByRecursion}
-use Rattle.ft_ends.specs.Playing.{IsCallable}
-use Rattle.ends_tests.proofs.lines.take_lines.Given as goal
-
--- each call of the schedule that is being read can be made
-abbrev pub invariant-loop-line : goal.invariant-loop-line
-invariant-loop-line g l = AllByRecursion IsCallable l.reading.steps.items

@@ -1,5 +1,0 @@
-//! The octets of values, part by part.
-
-mod cursor;
-mod orders;
-mod writer;
