@@ -2,13 +2,15 @@
 //!
 //! usage: plain N PIECE [KIND]        does N times a kind of work, as `benches frames` does, and prints a count and a checksum
 //!        plain serve N PIECE KIND [ENTRIES]    serves N messages of a kind, prints what was written
+//!        plain log N ENTRIES SHARE rising | scattered | together [one]     keeps N outcomes in a log, as `benches log` does
 //!        plain check | show          reads digits on standard input, prints how the stream ends, or its messages too
 
 use std::cmp::Reverse;
-use std::collections::{BTreeMap, BinaryHeap, HashMap, TryReserveError};
+use std::collections::hash_map::RandomState;
+use std::collections::{BTreeMap, BinaryHeap, TryReserveError};
 use std::fmt;
+use std::hash::{BuildHasher, Hasher};
 use std::io::{BufWriter, Read, Write};
-use std::rc::Rc;
 
 const HEADER: usize = 12;
 
@@ -782,38 +784,136 @@ impl Servant for Counter {
     }
 }
 
-#[derive(Clone, PartialEq, Eq, Hash)]
-struct Key {
-    client_id: Rc<[u8]>,
+/// An outcome under its key.
+struct Entry {
+    client_id: Box<[u8]>,
     retention_id: i32,
-}
-
-/// A key with its expiration, in order of the expiration alone.
-struct Due(u64, Key);
-
-impl PartialEq for Due {
-    fn eq(&self, other: &Due) -> bool {
-        self.0 == other.0
-    }
-}
-
-impl Eq for Due {}
-
-impl PartialOrd for Due {
-    fn partial_cmp(&self, other: &Due) -> Option<std::cmp::Ordering> {
-        Some(self.cmp(other))
-    }
-}
-
-impl Ord for Due {
-    fn cmp(&self, other: &Due) -> std::cmp::Ordering {
-        self.0.cmp(&other.0)
-    }
-}
-
-struct Kept {
-    expiration: u64,
+    hash: u64,
     outcome: Outcome,
+}
+
+/// Outcomes in a slab, an open table of their places by the hashes of their keys, and a queue of their expirations.
+struct Log {
+    hasher: RandomState,
+    entries: Vec<Option<Entry>>,
+    free: Vec<u32>,
+    /// For each entry 32 bits of its hash and, above them, its place and 1. Zero is a free cell; at most half are taken.
+    table: Vec<u64>,
+    order: BinaryHeap<Reverse<(u64, u32)>>,
+}
+
+impl Log {
+    fn new() -> Log {
+        Log { hasher: RandomState::new(), entries: Vec::new(), free: Vec::new(), table: Vec::new(), order: BinaryHeap::new() }
+    }
+
+    fn len(&self) -> usize {
+        self.order.len()
+    }
+
+    fn hash(&self, client_id: &[u8], retention_id: i32) -> u64 {
+        let mut hasher = self.hasher.build_hasher();
+        hasher.write_u64(retention_id as u32 as u64);
+        hasher.write(client_id);
+        hasher.finish()
+    }
+
+    /// The outcome of a key of this hash.
+    fn find(&self, hash: u64, client_id: &[u8], retention_id: i32) -> Option<&Outcome> {
+        let mask = self.table.len().checked_sub(1)?;
+        let mut cell = hash as usize & mask;
+        while self.table[cell] != 0 {
+            if self.table[cell] as u32 == hash as u32 {
+                let place = (self.table[cell] >> 32) as usize - 1;
+                if let Some(entry) = &self.entries[place] {
+                    if entry.retention_id == retention_id && *entry.client_id == *client_id {
+                        return Some(&entry.outcome);
+                    }
+                }
+            }
+            cell = (cell + 1) & mask;
+        }
+        None
+    }
+
+    /// Makes room for one entry more.
+    fn reserve(&mut self) -> Result<(), TryReserveError> {
+        self.order.try_reserve(1)?;
+        if self.free.is_empty() {
+            self.entries.try_reserve(1)?;
+            self.free.try_reserve(self.entries.len() + 1)?;
+        }
+        if (self.len() + 1) * 2 > self.table.len() {
+            let mut table = Vec::new();
+            table.try_reserve_exact((self.table.len() * 2).max(16))?;
+            table.resize((self.table.len() * 2).max(16), 0);
+            std::mem::swap(&mut self.table, &mut table);
+            for cell in table.into_iter().filter(|cell| *cell != 0) {
+                self.put(cell);
+            }
+        }
+        Ok(())
+    }
+
+    fn put(&mut self, entry: u64) {
+        let mask = self.table.len() - 1;
+        let mut cell = entry as u32 as usize & mask;
+        while self.table[cell] != 0 {
+            cell = (cell + 1) & mask;
+        }
+        self.table[cell] = entry;
+    }
+
+    /// Keeps an entry, for which room is made.
+    fn keep(&mut self, expiration: u64, entry: Entry) {
+        let hash = entry.hash;
+        let place = match self.free.pop() {
+            Some(place) => {
+                self.entries[place as usize] = Some(entry);
+                place
+            }
+            None => {
+                self.entries.push(Some(entry));
+                self.entries.len() as u32 - 1
+            }
+        };
+        self.put((u64::from(place) + 1) << 32 | u64::from(hash as u32));
+        self.order.push(Reverse((expiration, place)));
+    }
+
+    /// Drops the entries that expired before a moment.
+    fn forget(&mut self, now: u64) {
+        while let Some(Reverse((expiration, place))) = self.order.peek() {
+            if *expiration >= now {
+                return;
+            }
+            let place = *place;
+            self.order.pop();
+            if let Some(entry) = self.entries[place as usize].take() {
+                self.take(entry.hash, place);
+            }
+            self.free.push(place);
+        }
+    }
+
+    /// Frees the cell of a place, and moves those after it that then stand nearer to where they belong.
+    fn take(&mut self, hash: u64, place: u32) {
+        let mask = self.table.len() - 1;
+        let mut gap = hash as usize & mask;
+        while self.table[gap] >> 32 != u64::from(place) + 1 {
+            gap = (gap + 1) & mask;
+        }
+        let mut next = (gap + 1) & mask;
+        while self.table[next] != 0 {
+            let home = self.table[next] as u32 as usize & mask;
+            if next.wrapping_sub(home) & mask >= next.wrapping_sub(gap) & mask {
+                self.table[gap] = self.table[next];
+                gap = next;
+            }
+            next = (next + 1) & mask;
+        }
+        self.table[gap] = 0;
+    }
 }
 
 enum Field<'a> {
@@ -961,9 +1061,7 @@ struct Desk<S> {
     servant: S,
     clock: u64,
     capacity: usize,
-    log: HashMap<Key, Kept>,
-    /// The keys of the log, the one that expires first at its top.
-    order: BinaryHeap<Reverse<Due>>,
+    log: Log,
 }
 
 impl<S: Servant> Desk<S> {
@@ -983,14 +1081,6 @@ impl<S: Servant> Desk<S> {
         }
     }
 
-    fn forget(&mut self) {
-        while self.order.peek().map_or(false, |due| due.0.0 < self.clock) {
-            if let Some(Reverse(Due(_, key))) = self.order.pop() {
-                self.log.remove(&key);
-            }
-        }
-    }
-
     fn handle(&mut self, version: Version, order: Order, request: Request, out: &mut Vec<u8>) -> Result<(), TryReserveError> {
         let (id, wish) = (request.id, request.wish);
         let contexts = Contexts { reader: request.contexts.reader, left: request.contexts.left };
@@ -1004,21 +1094,19 @@ impl<S: Servant> Desk<S> {
                 put_reply(version, id, wish, &Outcome::System(BAD_CONTEXT), out)
             }
             Field::Present { client_id, retention_id, expiration } => {
-                self.forget();
-                let key = Key { client_id: Rc::from(client_id), retention_id };
-                if let Some(kept) = self.log.get(&key) {
-                    return put_reply(version, id, wish, &kept.outcome, out);
+                self.log.forget(self.clock);
+                let hash = self.log.hash(client_id, retention_id);
+                if let Some(outcome) = self.log.find(hash, client_id, retention_id) {
+                    return put_reply(version, id, wish, outcome, out);
                 }
                 if self.log.len() == self.capacity {
                     return put_reply(version, id, wish, &Outcome::System(NO_RESOURCES), out);
                 }
-                self.log.try_reserve(1)?;
-                self.order.try_reserve(1)?;
+                self.log.reserve()?;
                 let (outcome, was_performed) = self.performed(&request, order)?;
                 let put = put_reply(version, id, wish, &outcome, out);
                 if was_performed {
-                    self.order.push(Reverse(Due(expiration, key.clone())));
-                    self.log.insert(key, Kept { expiration, outcome });
+                    self.log.keep(expiration, Entry { client_id: client_id.into(), retention_id, hash, outcome });
                 }
                 put
             }
@@ -1076,7 +1164,7 @@ const LOCATE: [u8; 25] = [
 
 /// A server of a counter that keeps so many outcomes, with connection 1.
 fn counting(entries: usize) -> Server<Counter> {
-    let desk = Desk { servant: Counter::new(0), clock: 0, capacity: entries, log: HashMap::new(), order: BinaryHeap::new() };
+    let desk = Desk { servant: Counter::new(0), clock: 0, capacity: entries, log: Log::new() };
     let mut server = Server { desk, links: BTreeMap::new() };
     server.links.insert(1, Assembler::new(LIMITS));
     server
@@ -1135,6 +1223,36 @@ fn serve_keyed(is_scattered: bool, count: u64, feeds: bool, entries: u64) {
         sum = sum.wrapping_mul(31).wrapping_add(u64::from(*octets.last().unwrap_or(&0)));
     }
     println!("octets {written} sum {sum} total {}", server.desk.servant.total);
+}
+
+/// Keeps N outcomes in a log of so many entries, as `benches log` does, and says how many were found.
+fn keep_each(count: u32, entries: u64, expiry: &str, is_one_client: bool) {
+    let mut log = Log::new();
+    let (mut found, mut sum) = (0u64, 0u64);
+    for index in 0..count {
+        let at = u64::from(index);
+        let place = at & (entries - 1);
+        let turn = place.wrapping_mul(40_503).wrapping_add(97) & (entries - 1);
+        let (now, until) = match expiry {
+            "rising" => (1000 + at, 999 + at - place + entries + place),
+            "scattered" => (1000 + at, 999 + at - place + entries + turn),
+            _ => (1000 + at - place, 1000 + at - place),
+        };
+        let mut client_id = *b"........-client-of-the-benchmark";
+        if !is_one_client {
+            client_id[..8].copy_from_slice(&at.to_be_bytes());
+        }
+        log.forget(now);
+        let hash = log.hash(&client_id, index as i32);
+        if log.find(hash, &client_id, index as i32).is_some() {
+            found += 1;
+        } else if log.len() < entries as usize && log.reserve().is_ok() {
+            let outcome = Outcome::Returned(vec![Val::LongLong(i64::from(index))]);
+            log.keep(until, Entry { client_id: client_id.into(), retention_id: index as i32, hash, outcome });
+        }
+        sum = sum.wrapping_mul(31).wrapping_add(log.len() as u64);
+    }
+    println!("messages {found} sum {sum}");
 }
 
 /// A Request of 1.2 with an FT_REQUEST context.
@@ -1463,6 +1581,11 @@ fn main() {
             }
             kind => serve(kind, count, piece),
         }
+        return;
+    }
+    if words[0] == "log" {
+        let is_one_client = words.get(5).is_some_and(|word| word == "one");
+        keep_each(words[1].parse().unwrap(), words[2].parse().unwrap(), &words[4], is_one_client);
         return;
     }
     let count: usize = words[0].parse().unwrap();
