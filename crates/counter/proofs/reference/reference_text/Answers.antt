@@ -13,4 +13,4 @@ returns c =
     c.in_ok-write_iiop.ensures.ok ∙ ap (λ (xs : List ℕ). xs ++ encapsulation_of (iiop_body c.in_ok-profile_at.field-0)) c.new-octets.ensures.items
     ∙ ap (λ (v : Value). encapsulation_of v) c.in_ok-profile_at.ensures.1 in
     subst (λ (v : Value). IfOk c.print_text.result (λ text. string_bytes text ≡ reference_text v))
-    (reference-is c.args.port _ _ _ c.in_ok-from_slice.ensures.items c.in_ok-one.ensures refl octets) c.print_text.ensures
+    (reference-is c.args.port _ _ _ c.in_ok-from_slice.ensures.items c.in_ok-vec.ensures.items refl octets) c.print_text.ensures
