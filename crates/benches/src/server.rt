@@ -14,9 +14,9 @@ use crate::report::{Report, mixed};
 use crate::serving::{Owned, Serving};
 use crate::stop::Stop;
 use crate::words::number;
+use counter::Counter;
 use ft_orb::{Engine, Server};
 use giop_frames::Limits;
-use giop_run::Counter;
 use std::alloc::{AllocError, Global};
 use std::hash::RandomState;
 

@@ -1,9 +1,9 @@
 //! What messages are fed to: a server that performs them, or an engine whose owner does.
 
 use cdr_core::Val;
+use counter::Counter;
 use ft_log::Outcome;
 use ft_orb::{Engine, Fed, Server};
-use giop_run::Counter;
 use std::alloc::Global;
 
 /// A counter that is served on connection 1.

@@ -4,10 +4,11 @@
 use crate::clients::{Done, add, client, completes, feed_in_pieces, join};
 use crate::octets::{ADD_7, SEVEN, SEVEN_1};
 use cdr_core::Order;
+use counter::Counter;
 use ft_client::FtClient;
 use ft_orb::Server;
 use giop_frames::Limits;
-use giop_run::{CAPACITY, Counter};
+use giop_run::CAPACITY;
 use std::alloc::Global;
 use std::hash::RandomState;
 use std::process::Abort;

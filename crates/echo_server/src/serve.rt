@@ -6,8 +6,8 @@ ghost use Rattle.ft_orb.specs.Engines.{waits_in};
 use crate::echo::Echo;
 use crate::socket::Socket;
 use ft_orb::{Engine, Interfaces, serve_engine};
+use ft_tcp::SystemClock;
 use giop_frames::Limits;
-use giop_run::SystemClock;
 use std::hash::RandomState;
 use std::io;
 use std::net::{Ipv4Addr, TcpListener, TcpStream};
@@ -33,7 +33,7 @@ fn new_engine(rt: &HostRuntime) -> io::Result<Engine<Interfaces>>
 }
 
 /// Serves one connection to its end.
-fn serve_one(
+fn serve_connection(
     rt: &HostRuntime,
     engine: &mut Engine<Interfaces>,
     echo: &mut Echo,
@@ -65,7 +65,7 @@ pub(crate) fn serve(rt: &HostRuntime, port: u16, connections: u32) -> io::Result
     let listener = TcpListener::bind(rt, (Ipv4Addr::LOCALHOST, port))?;
     for i in 0..connections {
         let (stream, _) = listener.accept()?;
-        serve_one(rt, &mut engine, &mut echo, u64::from(i) + 1, stream);
+        serve_connection(rt, &mut engine, &mut echo, u64::from(i) + 1, stream);
     }
     Ok(())
 }

@@ -1,8 +1,8 @@
 //! An engine and its owner: how pieces are fed, and what is asked is answered.
 
 use crate::owner::Owner;
+use counter::Counter;
 use ft_orb::{ConnectError, Engine, Fed, ServeError};
-use giop_run::Counter;
 
 /// Why something that happened on a connection was not served to its end.
 #[derive(Clone, Copy, Debug)]

@@ -4,5 +4,3 @@ pub mod Lines
 pub mod Endings
 pub mod Printing
 pub mod Scripts
-pub mod Visits
-pub mod Addresses

@@ -7,7 +7,7 @@ use Rattle.ft_orb.specs.Outputs.{Made, Plays, law_says, noted, past_after, table
 use Rattle.ft_orb.specs.Requests.{rules_of}
 use Rattle.ft_orb.specs.declared.events.Event.{Event}
 use Rattle.ft_orb.specs.declared.events.Written.{Written}
-use Rattle.giop_run.specs.Counter.{counter_meaning, is_counter}
+use Rattle.counter.specs.Counter.{counter_meaning, is_counter}
 use Rattle.giop_run.specs.Plays.{AreOfLaw, AreOfTable}
 use Rattle.giop_run.specs.declared.play.Terms.{Terms}
 

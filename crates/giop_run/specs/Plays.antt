@@ -4,7 +4,7 @@ use Rattle.ft_orb.specs.ExactlyOnce.{OneExpiration, state_of}
 use Rattle.ft_orb.specs.History.{Event, arrivals}
 use Rattle.ft_orb.specs.Outputs.{Made, Noted, Plays, law_says, past_after, table_says}
 use Rattle.ft_orb.specs.Requests.{rules_of}
-use Rattle.giop_run.specs.Counter.{counter_meaning, is_counter}
+use Rattle.counter.specs.Counter.{counter_meaning, is_counter}
 use Rattle.giop_run.specs.declared.play.Terms.{Terms}
 
 -- the server of a play: its servant is a counter with the total at the beginning

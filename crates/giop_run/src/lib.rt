@@ -4,9 +4,6 @@
 //! counter over TCP.
 #![tactic(auto)]
 
-mod address;
-mod clock;
-mod counter;
 mod digits;
 mod messages;
 mod play;
@@ -14,22 +11,15 @@ mod program;
 mod reference;
 mod script;
 mod service;
-mod serving;
 mod setting;
-mod socket;
 mod stop;
 mod stream;
 mod text;
-mod vector;
 
 // what the program is asked for, and all of it over a reader and writers
 pub use program::run;
 pub use script::{ScriptError, read_script};
 pub use setting::{CAPACITY, LIMIT, PARTIALS, START, Setting};
 
-// the counter, and its server over TCP
-pub use address::reference_text;
-pub use clock::{SystemClock, UNIX_EPOCH};
-pub use counter::Counter;
+// a server of the counter over TCP
 pub use service::serve;
-pub use serving::serve_on;

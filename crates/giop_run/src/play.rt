@@ -5,8 +5,8 @@ ghost use Rattle.ft_orb.specs.History.{event_of};
 ghost use Rattle.ft_orb.specs.Outputs.{noted};
 ghost use Rattle.giop_run.specs.Plays.{AreOfLaw, AreOfTable};
 
-use crate::counter::Counter;
 use crate::stop::Stop;
+use counter::Counter;
 use ft_orb::{Event, Server, Written, play};
 use giop_frames::Limits;
 use std::alloc::Global;

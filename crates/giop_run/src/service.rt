@@ -3,14 +3,12 @@
 ghost use Rattle.std.specs.Prelude.{◌≤◌, IfOk};
 ghost use Rattle.giop_run.specs.Services.{IsNewService};
 
-use crate::address::reference_text;
-use crate::clock::SystemClock;
-use crate::counter::Counter;
 use crate::program::print_stop;
-use crate::serving::serve_on;
 use crate::setting::{CAPACITY, START};
 use crate::stop::Stop;
+use counter::{Counter, reference_text};
 use ft_orb::Server;
+use ft_tcp::{SystemClock, serve_on};
 use giop_frames::Limits;
 use std::alloc::{AllocError, Global};
 use std::hash::RandomState;

@@ -2,8 +2,9 @@
 
 use crate::messages::{CLOSE, HERE, LOCATE};
 use crate::visits::new_server;
+use counter::{Counter, reference_text};
 use ft_orb::{Clock, Server};
-use giop_run::{Counter, SystemClock, UNIX_EPOCH, reference_text, serve_on};
+use ft_tcp::{SystemClock, UNIX_EPOCH, serve_on};
 use std::alloc::Global;
 use std::hash::RandomState;
 use std::io;

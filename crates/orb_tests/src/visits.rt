@@ -1,9 +1,10 @@
 //! A connection that is served over a wire in memory.
 
 use crate::{Act, MemoryClock, MemoryWire, Terms};
+use counter::Counter;
 use ft_orb::{Server, StreamEnd, serve_stream};
 use giop_frames::Limits;
-use giop_run::{CAPACITY, Counter};
+use giop_run::CAPACITY;
 use std::alloc::{AllocError, Global};
 use std::hash::RandomState;
 use std::test::Fail;

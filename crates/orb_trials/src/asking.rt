@@ -2,9 +2,9 @@
 
 use crate::misses::{connect_miss, serve_miss};
 use crate::server_samples::{AGAIN, ANSWER};
+use counter::Counter;
 use ft_orb::{ServeError, Server};
 use giop_frames::Limits;
-use giop_run::Counter;
 use std::alloc::{AllocError, Global};
 use std::hash::RandomState;
 use trials::{Gives, Miss, Output, Room, Sample, Trial, Wrong};

@@ -2,8 +2,8 @@
 
 use crate::asking::new_server;
 use crate::misses::{connect_miss, serve_miss};
+use counter::Counter;
 use ft_orb::{ServeError, Server};
-use giop_run::Counter;
 use std::alloc::Global;
 use std::hash::RandomState;
 use trials::{Miss, Output, Room, Sample, Trial, Wrong};

@@ -5,10 +5,10 @@ ghost use Rattle.ft_ends.specs.Playing.{IsCallable};
 
 use crate::schedule::Terms;
 use cdr_core::Order;
+use counter::Counter;
 use ft_client::{Ended, FtClient, ReplyBody};
 use ft_ends::{Step, both_ends};
 use ft_orb::{PlayError, Server};
-use giop_run::Counter;
 use std::alloc::{AllocError, Global};
 use std::hash::RandomState;
 use std::io;

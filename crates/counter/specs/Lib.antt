@@ -1,0 +1,8 @@
+-- What the counter promises, in the order in which to read it.
+
+-- the object: its key, its operations, and what each gives
+pub mod Counter
+-- its object reference
+pub mod Addresses
+-- a proof that an `impl` cites
+pub mod CounterFacts

@@ -1,0 +1,12 @@
+//! A counter as a CORBA object: a servant of `ft_orb`, and its object reference.
+//!
+//! It stands on `ft_orb`, whose servant it is, and on `ior_core`, which writes references. It promises that the counter
+//! does what its table of operations says, and that its reference is that of an object of this type at a port of this
+//! machine.
+#![tactic(auto)]
+
+mod reference;
+mod servant;
+
+pub use reference::reference_text;
+pub use servant::Counter;
