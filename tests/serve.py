@@ -4,7 +4,7 @@
 usage: serve.py PROGRAM [NAME..]
 
 Each check starts a server of its own on a free port, for the number of connections that it makes, and wants it to
-end with status 0, nothing on standard error, and the counter's reference alone on standard output. Requests and
+end with status 0, nothing on standard error but the lines of --log, and the counter's reference alone on standard output. Requests and
 answers are written out from the layouts of GIOP. Without NAME all checks run.
 
 The last line is 'N passed, M failed'; the status is 0 only where all passed.
@@ -45,6 +45,7 @@ REFERENCE = (
 MARSHAL = "0000001e 49444c3a6f6d672e6f72672f434f5242412f4d41525348414c3a312e3000 0000 00000000 00000001"
 BAD_CONTEXT = "00000022 49444c3a6f6d672e6f72672f434f5242412f4241445f434f4e544558543a312e3000 0000 00000000 00000001"
 BAD_OPERATION = "00000024 49444c3a6f6d672e6f72672f434f5242412f4241445f4f5045524154494f4e3a312e3000 00000000 00000001"
+NO_RESOURCES = "00000023 49444c3a6f6d672e6f72672f434f5242412f4e4f5f5245534f55524345533a312e3000 00 00000000 00000001"
 NO_OBJECT = "00000027 49444c3a6f6d672e6f72672f434f5242412f4f424a4543545f4e4f545f45584953543a312e3000 00 00000000 00000001"
 # 1 January 1970 in units of 100 ns since 15 October 1582: 141,427 days
 EPOCH = 141_427 * 24 * 3600 * 10_000_000
@@ -146,10 +147,10 @@ def abandon(peer):
 
 
 @contextlib.contextmanager
-def serving(connections, status=0, error="", port=None, env=None):
-    """A server that ends with this status, once the block is done."""
+def serving(connections, status=0, error="", port=None, env=None, options=()):
+    """A server with these options that ends with this status, once the block is done."""
     port = port or free_port()
-    words = [PROGRAM, "serve", "--port", str(port), "--connections", str(connections)]
+    words = [PROGRAM, "serve", "--port", str(port), "--connections", str(connections), *options]
     with subprocess.Popen(words, stdin=subprocess.DEVNULL, stdout=subprocess.PIPE, stderr=subprocess.PIPE, env=env) as server:
         try:
             yield port
@@ -519,9 +520,119 @@ def wait_for(port, server=None):
     raise Wrong("no listener")
 
 
+def capacity():
+    """A server that keeps one outcome: a second request with a key has no room, a repeat of the first its outcome."""
+    with serving(1, options=["--capacity", "1"]) as port:
+        exchange(port, keyed(5) + keyed(6, number=2) + keyed(7) + get(20),
+                 total(5, 7) + raised(6, 0x3c, NO_RESOURCES) + total(7, 7) + total(20, 7))
+
+
+def share():
+    """A server that keeps one outcome of each client: there is room for another client, and no more of the first."""
+    with serving(1, options=["--capacity", "2", "--share", "1"]) as port:
+        exchange(port, keyed(5) + keyed(6, number=2) + keyed(7, client="B"),
+                 total(5, 7) + raised(6, 0x3c, NO_RESOURCES) + total(7, 14))
+
+
+def start():
+    """The total at the beginning."""
+    with serving(1, options=["--start", "9223372036854775800"]) as port:
+        exchange(port, get(20) + add(21), total(20, (1 << 63) - 8) + total(21, (1 << 63) - 1))
+
+
+def limit():
+    """A message of 4,096 octets is answered, one of 4,097 is a fault."""
+    filled = LOCATE.replace("0000000d", "00000ff4") + "00" * (0xff4 - 0xd)
+    with serving(2, options=["--limit", "4096"]) as port:
+        exchange(port, filled, HERE)
+        with connect(port) as peer:
+            peer.sendall(octets(f"{G} 01020003 00000ff5"))
+            answered(peer, ERROR)
+            ended(peer)
+
+
+def partials():
+    """A second message that is partial is one too many where one may be, and not where two may."""
+    first = f"{G} 01020200 00000014 00000005 {F}"
+    second = first.replace("00000005", "00000006")
+    with serving(1, options=["--partials", "1"]) as port, connect(port) as peer:
+        peer.sendall(octets(first + second))
+        answered(peer, ERROR)
+        ended(peer)
+    with serving(1, options=["--partials", "2"]) as port:
+        exchange(port, first + second + LOCATE, HERE)
+
+
+def timeout():
+    """A client that sends nothing, and one that reads nothing, hold a connection for a second and no longer."""
+    with serving(3, options=["--timeout", "1"]) as port:
+        with connect(port) as peer:
+            began = time.monotonic()
+            ended(peer, "after a second")
+            want(0.5 < time.monotonic() - began < SECONDS / 2, True, "that it lasted a second")
+        with connect(port, room=1 << 12) as peer:
+            peer.settimeout(SECONDS)
+            with contextlib.suppress(ConnectionError):
+                for _ in range(1000):
+                    peer.sendall(octets(LITTLE) * 1000)
+                raise Wrong("all was taken of a client that reads nothing")
+        exchange(port, get(20), total(20, 0))
+
+
+def log():
+    """A line for each request."""
+    sub = f"{G} 01020000 00000020 00000006 {F} {SUB} 00000000"
+    other = sub.replace("63000000", "64000000")
+    lines = """1 Request id 5 key 63 operation add performed
+1 Request id 9 key 63 operation add repeat
+1 Request id 6 key 63 operation sub refused IDL:omg.org/CORBA/BAD_OPERATION:1.0
+1 Request id 6 key 64 operation sub refused IDL:omg.org/CORBA/OBJECT_NOT_EXIST:1.0
+1 Request id 10 key 63 operation add refused IDL:omg.org/CORBA/BAD_CONTEXT:1.0
+2 Request id 11 key 63 operation add repeat
+2 Request id 12 key 63 operation add performed
+2 Request id 13 key 63 operation add not performed
+2 Request id 20 key 63 operation get performed
+"""
+    with serving(2, options=["--log"], error=lines) as port:
+        exchange(port, keyed(5) + LOCATE + keyed(9) + sub + other + keyed(10, number=2, expiration=100),
+                 total(5, 7) + HERE + total(9, 7) + raised(6, 0x3c, BAD_OPERATION) + raised(6, 0x40, NO_OBJECT)
+                 + raised(10, 0x3c, BAD_CONTEXT))
+        exchange(port, None, total(11, 7) + total(20, 14),
+                 singly(keyed(11) + keyed(12, number=3, flags="00") + keyed(13, number=3, flags="00") + get(20)))
+
+
+def log_of_faults():
+    """A request in fragments has one line; after a fault there is none."""
+    first = f"{G} 01020200 00000014 00000005 {F}"
+    last = f"{G} 01020007 00000018 00000005 {ADD} 00000000 00000000 00000007"
+    with serving(2, options=["--log"], error="1 Request id 5 key 63 operation add performed\n") as port:
+        exchange(port, first + last, total(5, 7))
+        with connect(port) as peer:
+            peer.sendall(octets("00" * 12 + get(20)))
+            answered(peer, ERROR)
+            ended(peer)
+
+
+def bad_share():
+    """A share that is none of the capacity is refused before anything is printed."""
+    for number in "0", "3":
+        words = [PROGRAM, "serve", "--port", "1", "--connections", "1", "--capacity", "2", "--share", number]
+        ran = subprocess.run(words, stdin=subprocess.DEVNULL, capture_output=True, timeout=SECONDS, check=False)
+        want((ran.returncode, ran.stdout, ran.stderr), (1, b"", b"serve: bad share\n"), f"the share {number}")
+
+
+def unwritable():
+    """A reference that can't be written is named, and nothing is served."""
+    with open("/dev/full", "wb") as full:
+        words = [PROGRAM, "serve", "--port", str(free_port()), "--connections", "1"]
+        ran = subprocess.run(words, stdin=subprocess.DEVNULL, stdout=full, stderr=subprocess.PIPE, timeout=SECONDS, check=False)
+    want((ran.returncode, ran.stderr), (1, b"output: No space left on device (os error 28)\n"), "the end")
+
+
 CHECKS = [locates, profile, retry, retry_unread, versions, unwished, clients, expired, refusals, implicit, little, fragments,
           octet_by_octet, in_two, pipelined, cut_off, nothing_sent, client_closes, malformed, unread, never_read, resets, in_a_row,
-          in_turn, port_in_use, refused_allocations, buffers, ten_lines]
+          in_turn, port_in_use, refused_allocations, buffers, ten_lines, capacity, share, start, limit, partials, timeout, log,
+          log_of_faults, bad_share, unwritable]
 
 
 def main():

@@ -8,7 +8,6 @@
 
 mod echo;
 mod serve;
-mod socket;
 
 use std::process::ExitCode;
 use std::{env, io};

@@ -4,9 +4,8 @@ ghost use Rattle.std.specs.Prelude.{◌≡◌, IfOk, None};
 ghost use Rattle.ft_orb.specs.Engines.{waits_in};
 
 use crate::echo::Echo;
-use crate::socket::Socket;
 use ft_orb::{Engine, Interfaces, serve_engine};
-use ft_tcp::SystemClock;
+use ft_tcp::{Socket, SystemClock};
 use giop_frames::Limits;
 use std::hash::RandomState;
 use std::io;
@@ -43,7 +42,7 @@ fn serve_connection(
     requires idle { waits_in engine.old ≡ None }
     ensures idle { waits_in engine.new ≡ None }
 {
-    let mut wire = Socket(stream);
+    let mut wire = Socket::new(stream, None);
     let mut clock = SystemClock::new(rt);
     if engine.connect(connection).is_ok() {
         serve_engine(

@@ -12,12 +12,14 @@ use ft_orb::{Clock, Servant, Server, Wire, serve_stream};
 use std::alloc::Global;
 use std::io;
 use std::net::TcpListener;
+use std::time::Duration;
 
 /// The most reads of a connection.
 const MAX_READS: u32 = 1_000_000;
 
-/// Opens a connection, and serves it over a wire to its end. Where it can't be opened, the wire is left alone.
-fn serve_connection<S: Servant + Drop, W: Wire, C: Clock>(
+/// Opens a connection, and serves it over a wire to its end, however it ends, with at most 1,000,000 reads. Where it
+/// can't be opened, the wire is left alone.
+pub fn serve_connection<S: Servant + Drop, W: Wire, C: Clock>(
     alloc: Global,
     connection: u64,
     wire: &mut W,
@@ -38,9 +40,34 @@ fn serve_connection<S: Servant + Drop, W: Wire, C: Clock>(
 
 /// Serves so many connections, one after another: the first that a listener accepts is connection 1, and each is
 /// served to its end, however it ends, with at most 1,000,000 reads. One whose number the server refuses is
-/// dropped, and counts. What is written on a socket goes out at once (TCP_NODELAY).
+/// dropped, and counts. What is written on a socket goes out at once (TCP_NODELAY). With a timeout, which is not 0, a
+/// connection ends with a read or a write that takes longer.
 ///
 /// An error is that of accepting a connection. Those before it were served.
+pub fn serve_listener<S: Servant + Drop, C: Clock>(
+    alloc: Global,
+    listener: &TcpListener,
+    connections: u32,
+    timeout: Option<Duration>,
+    server: &mut Server<S>,
+    clock: &mut C,
+) -> io::Result<()>
+    ensures { (made : Made S) (past : List history.Event) → Stands S.meaning made server.old past → (visits : List Visit)
+        × AreVisits made.limits S.meaning.knows (table_says S.meaning made) past 1 visits
+        × Stands S.meaning made server.new (past_with_visits made.limits past 1 visits)
+        × Follows (λ before now. now ≡ before ++ moments_in visits) (C.given clock.old) (C.given clock.new)
+        × (length visits ≤ connections)
+        × IfOk result (λ _. length visits ≡ connections) }
+{
+    for i in 0..connections {
+        let (stream, _) = listener.accept()?;
+        let mut socket = Socket::new(stream, timeout);
+        serve_connection(alloc, u64::from(i) + 1, &mut socket, server, clock);
+    }
+    Ok(())
+}
+
+/// As `serve_listener` without a timeout.
 pub fn serve_on<S: Servant + Drop, C: Clock>(
     alloc: Global,
     listener: &TcpListener,
@@ -55,10 +82,5 @@ pub fn serve_on<S: Servant + Drop, C: Clock>(
         × (length visits ≤ connections)
         × IfOk result (λ _. length visits ≡ connections) }
 {
-    for i in 0..connections {
-        let (stream, _) = listener.accept()?;
-        let mut socket = Socket::new(stream);
-        serve_connection(alloc, u64::from(i) + 1, &mut socket, server, clock);
-    }
-    Ok(())
+    serve_listener(alloc, listener, connections, None, server, clock)
 }

@@ -3,15 +3,20 @@
 use ft_orb::{Wire, WireError};
 use std::io::{Read, Write};
 use std::net::TcpStream;
+use std::time::Duration;
 
 /// A connection that was accepted. No contract knows what the system did with it.
 #[derive(Drop)]
-pub(crate) struct Socket(TcpStream);
+pub struct Socket(TcpStream);
 
 impl Socket {
-    /// The connection, whose answers go out at once. Where that can't be set it is served all the same.
-    pub(crate) fn new(stream: TcpStream) -> Socket {
+    /// The connection, whose answers go out at once (TCP_NODELAY). With a timeout, which is not 0, a read or a write
+    /// that takes longer fails, as one of a connection that was reset does. Where either can't be set the connection
+    /// is served all the same.
+    pub fn new(stream: TcpStream, timeout: Option<Duration>) -> Socket {
         let _ = stream.set_nodelay(true);
+        let _ = stream.set_read_timeout(timeout);
+        let _ = stream.set_write_timeout(timeout);
         Socket(stream)
     }
 }

@@ -8,11 +8,10 @@ pub mod StreamLines
 pub mod StreamEnds
 -- `giop ior`
 pub mod ReferenceLines
--- `giop play`: its numbers, its script, and what its events write
+-- `giop play` and `giop serve`: their numbers, and what a server keeps to by them; the script of a play, and what its events write
 pub mod Settings
+pub mod Services
 pub mod Script
 pub mod Plays
--- `giop serve`: its server
-pub mod Services
 -- vocabulary of private functions, which no promise of the crate needs
 pub mod Private

@@ -1,20 +1,12 @@
--- The server of a service on this machine.
-use Rattle.std.specs.Prelude.{◌≡◌, ℤ}
-use Rattle.ft_orb.specs.declared.server.Server.{Server}
-use Rattle.ft_orb.specs.Outputs.{Made}
-use Rattle.ft_orb.specs.Standing.{IsNew}
-use Rattle.giop_frames.specs.declared.limits.Limits.{Limits}
-use Rattle.giop_run.specs.declared.setting.TheConstants.{CAPACITY, LIMIT, PARTIALS, START}
+-- What the server of a play and of a service keeps to.
+use Rattle.std.specs.Prelude.{◌≡◌, ◌<◌, ◌⊎◌, unwrap_or}
+use Rattle.giop_run.specs.declared.play.Terms.{Terms}
+use Rattle.giop_run.specs.declared.setting.Numbers.{Numbers}
 
--- the limits of a connection where nothing else is asked for
-abbrev pub AreDefault : Limits → Type 0
-AreDefault limits = (limits.message ≡ LIMIT) × (limits.partials ≡ PARTIALS)
+-- what a server with these numbers keeps to: as many outcomes of each client as of all where no share is given
+abbrev pub AreTermsOf : Numbers → Terms → Type 0
+AreTermsOf n t = (t.capacity ≡ n.capacity) × (t.share ≡ unwrap_or n.share n.capacity) × (t.start ≡ n.start) × (t.limits.message ≡ n.limit) × (t.limits.partials ≡ n.partials)
 
--- as a play's server where nothing else is asked for: it keeps so many outcomes, as many of one client, and its servant is a counter with
--- the total at the beginning
-abbrev pub service : Limits → Made ℤ
-service limits = record { limits = limits; capacity = CAPACITY; share = CAPACITY; opening = START }
-
--- a new server of a service, with the default limits
-abbrev pub IsNewService : Server ℤ → Type 0
-IsNewService server = (limits : Limits) × AreDefault limits × IsNew (service limits) server
+-- the share is none of the capacity: 0, or greater
+abbrev pub HasBadShare : Numbers → Type 0
+HasBadShare n = (unwrap_or n.share n.capacity ≡ 0) ⊎ (n.capacity < unwrap_or n.share n.capacity)

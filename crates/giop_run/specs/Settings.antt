@@ -1,16 +1,26 @@
--- The numbers that a setting has.
-use Rattle.std.specs.Prelude.{◌≤◌, pos, ◌≤ℤ◌, ⊤}
-use Rattle.giop_run.specs.declared.setting.Setting.{Setting}
-use Rattle.giop_run.specs.declared.setting.Setting.TheVariants as setting
+-- The numbers that a task and a service have.
+use Rattle.std.specs.Prelude.{◌≢◌, ◌≤◌, pos, ◌≤ℤ◌, Some, IsSome, ⊤}
+use Rattle.giop_run.specs.declared.setting.Numbers.{Numbers}
+use Rattle.giop_run.specs.declared.setting.Service.{Service}
+use Rattle.giop_run.specs.declared.setting.Task.{Task}
+use Rattle.giop_run.specs.declared.setting.Task.TheVariants as task
+use Rattle.giop_run.specs.declared.setting.TheConstants.{LEAST_LIMIT, MOST_CONNECTIONS, MOST_LIMIT, MOST_OUTCOMES, MOST_PARTIALS}
 
--- The numbers of a play and of a service lie in their ranges. A port is an unsigned short. A share has none: one that is no share of the capacity is refused by the play.
-abbrev pub IsInRange : Setting → Type 0
-IsInRange (setting.Play capacity share start limit partials) =
-    (1 ≤ capacity) × (capacity ≤ 65536) × (pos 0 ≤ℤ start) × (4096 ≤ limit) × (limit ≤ 16777216) × (1 ≤ partials) × (partials ≤ 16)
-IsInRange (setting.Serve port connections) = (1 ≤ port) × (1 ≤ connections) × (connections ≤ 1000)
+-- The numbers of a server lie in their ranges. A share has none: one that is no share of the capacity is refused when the server is made.
+abbrev pub AreInRange : Numbers → Type 0
+AreInRange n = (1 ≤ n.capacity) × (n.capacity ≤ MOST_OUTCOMES) × (pos 0 ≤ℤ n.start) × (LEAST_LIMIT ≤ n.limit) × (n.limit ≤ MOST_LIMIT) × (1 ≤ n.partials) × (n.partials ≤ MOST_PARTIALS)
+
+-- those of a task
+abbrev pub IsInRange : Task → Type 0
+IsInRange (task.Play numbers) = AreInRange numbers
 IsInRange _ = ⊤
 
--- what is done over a reader and two writers: all but to serve
-abbrev pub IsOverStreams : Setting → Type 0
-IsOverStreams (setting.Serve port connections) = ⊥
-IsOverStreams _ = ⊤
+-- those of a service. A port is an unsigned short; a timeout of no seconds is none
+abbrev pub IsServable : Service → Type 0
+IsServable service = (1 ≤ service.port) × (1 ≤ service.connections) × (service.connections ≤ MOST_CONNECTIONS) × (service.timeout ≢ Some 0) × AreInRange service.numbers
+
+-- a task reads a file
+abbrev pub HasFile : Task → Type 0
+HasFile (task.Show input) = IsSome input.file
+HasFile (task.Check input) = IsSome input.file
+HasFile _ = ⊥

@@ -5,6 +5,8 @@
 #![tactic(auto)]
 
 mod digits;
+mod hint;
+mod input;
 mod messages;
 mod play;
 mod program;
@@ -15,11 +17,17 @@ mod setting;
 mod stop;
 mod stream;
 mod text;
+mod watching;
 
 // what the program is asked for, and all of it over a reader and writers
-pub use program::run;
+pub use input::read_octets;
+pub use program::{Streams, run};
 pub use script::{ScriptError, read_script};
-pub use setting::{CAPACITY, LIMIT, PARTIALS, START, Setting};
+pub use setting::{
+    CAPACITY, DONE, FAILED, Form, Input, LEAST_LIMIT, LIMIT, MOST_CONNECTIONS, MOST_LIMIT,
+    MOST_OUTCOMES, MOST_PARTIALS, Numbers, PARTIALS, REFUSED, START, Service, Task,
+};
+pub use stop::Stop;
 
 // a server of the counter over TCP
 pub use service::serve;

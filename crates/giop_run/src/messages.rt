@@ -1,6 +1,6 @@
 //! The lines that show a message.
 
-ghost use Rattle.std.specs.Prelude.{◌≡◌, ◌++◌, string_bytes, OnOk};
+ghost use Rattle.std.specs.Prelude.{◌≡◌, ◌++◌, ℕ, List, Option, Some, string_bytes, OnOk};
 ghost use Rattle.giop_core.specs.Ft.{ft_seen};
 ghost use Rattle.giop_core.specs.Items.{contexts_left};
 ghost use Rattle.giop_core.specs.Lent.{addressed_by, content_of, reply_of, request_of};
@@ -12,9 +12,14 @@ use giop_core::{
     ReplyStatus, Request, Target, ft_request,
 };
 use std::alloc::{AllocError, Global};
+use std::fmt;
 
 /// Appends what a target is.
-fn put_target(alloc: Global, target: &Target, text: &mut String) -> Result<(), AllocError>
+pub(crate) fn put_target(
+    alloc: Global,
+    target: &Target,
+    text: &mut String,
+) -> Result<(), AllocError>
     ensures { OnOk result (string_bytes text.new ≡ string_bytes text.old ++ lines.target_text (addressed_by target.now)) }
 {
     match target {
@@ -100,11 +105,14 @@ fn put_body(alloc: Global, body: &Body, text: &mut String) -> Result<(), AllocEr
     write!(text, " body {body}\n")
 }
 
-/// Appends the name of the status of a Reply, or a question mark for a number that has none.
-fn put_reply_status(status: u32, text: &mut String) -> Result<(), AllocError>
-    ensures { OnOk result (string_bytes text.new ≡ string_bytes text.old ++ lines.reply_status status) }
+/// Appends the name of a status, or a question mark for a number that has none.
+fn put_status<T: fmt::Display + Drop>(
+    status: Option<T>,
+    text: &mut String,
+) -> Result<(), AllocError>
+    ensures { OnOk result ((name : T → List ℕ) → ((one : T) → T.output one ≡ Some (name one)) → string_bytes text.new ≡ string_bytes text.old ++ lines.text_by name status) }
 {
-    match ReplyStatus::from_number(status) {
+    match status {
         Some(status) => write!(text, "{status}"),
         None => text.push('?'),
     }
@@ -116,7 +124,7 @@ fn put_reply_line(alloc: Global, reply: &Reply, text: &mut String) -> Result<(),
 {
     let id = reply.request_id;
     write!(text, "Reply id {id} status ")?;
-    put_reply_status(reply.status, text)?;
+    put_status(ReplyStatus::from_number(reply.status), text)?;
     put_body(alloc, &reply.body, text)
 }
 
@@ -149,23 +157,13 @@ fn put_locate_request(
     text.push('\n')
 }
 
-/// Appends the name of the status of a LocateReply, or a question mark for a number that has none.
-fn put_locate_status(status: u32, text: &mut String) -> Result<(), AllocError>
-    ensures { OnOk result (string_bytes text.new ≡ string_bytes text.old ++ lines.locate_status status) }
-{
-    match LocateStatus::from_number(status) {
-        Some(status) => write!(text, "{status}"),
-        None => text.push('?'),
-    }
-}
-
 /// Appends the line of a LocateReply.
 fn put_locate_reply(alloc: Global, reply: &LocateReply, text: &mut String) -> Result<(), AllocError>
     ensures { OnOk result (string_bytes text.new ≡ string_bytes text.old ++ lines.locate_reply_line reply.now.request_id reply.now.status reply.now.body.octets.now) }
 {
     let id = reply.request_id;
     write!(text, "LocateReply id {id} status ")?;
-    put_locate_status(reply.status, text)?;
+    put_status(LocateStatus::from_number(reply.status), text)?;
     put_body(alloc, &reply.body, text)
 }
 

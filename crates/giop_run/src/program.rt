@@ -1,42 +1,25 @@
 //! The program over a reader and two writers.
 
-ghost use Rattle.std.specs.Prelude.{◌≡◌, ◌<◌, ◌≤◌, ◌⊎◌, IfOk, OnErr, unwrap_or};
-ghost use Rattle.giop_run.specs.Settings.{IsInRange, IsOverStreams};
+ghost use Rattle.std.specs.Prelude.{◌≡◌, ◌<◌, ◌≤◌, ◌⊎◌, MatchOption, unwrap_or};
+ghost use Rattle.giop_run.specs.Services.{AreTermsOf, HasBadShare};
+ghost use Rattle.giop_run.specs.Settings.{AreInRange, HasFile, IsInRange};
 
+use crate::hint::{Hint, hint_of};
+use crate::input::{read_input, read_octets};
 use crate::play::{Terms, play_events};
 use crate::reference::reference_lines;
 use crate::script::read_script;
-use crate::setting::Setting;
+use crate::setting::{DONE, FAILED, Form, Input, Numbers, REFUSED, Task};
 use crate::stop::Stop;
-use crate::stream::{Detail, show_stream};
+use crate::stream::{Detail, show_octets, show_stream};
 use ft_orb::{Event, Note, Written};
 use giop_frames::Limits;
 use ior_core::parse_text;
 use std::alloc::Global;
 use std::hash::RandomState;
-use std::io;
-use std::io::{BufWriter, ErrorKind, Read, Write};
-
-/// All that a reader gives. A reader that hasn't ended after 4,294,967,295 reads is unreadable.
-fn read_all<R: Read>(alloc: Global, input: &mut R) -> Result<Vec<u8>, Stop> {
-    let mut all = Vec::new(alloc);
-    let mut buffer = [0u8; 8192];
-    for _ in 0..u32::MAX {
-        match input.read(&mut buffer) {
-            Ok(0) => return Ok(all),
-            Ok(n) => all.extend_from_slice(&buffer[..n])?,
-            Err(error) if error.kind() == ErrorKind::Interrupted => {}
-            Err(_) => return Err(Stop::Unreadable),
-        }
-    }
-    Err(Stop::Unreadable)
-}
-
-/// The text that a reader gives, which is to be UTF-8.
-fn read_text<R: Read>(alloc: Global, input: &mut R) -> Result<String, Stop> {
-    let octets = read_all(alloc, input)?;
-    String::from_utf8(octets).map_err(|_| Stop::Unreadable)
-}
+use std::io::{BufWriter, Read, Write};
+use std::rt::Files;
+use std::str;
 
 /// Prints a line for an entry, if it has octets.
 fn print_entry<W: Write>(alloc: Global, entry: &Written, out: &mut W) -> Result<(), Stop> {
@@ -72,8 +55,11 @@ fn is_cut_short(entry: &Written) -> bool {
 
 /// The events of the script that a reader gives.
 fn read_events<R: Read>(alloc: Global, input: &mut R) -> Result<Vec<Event>, Stop> {
-    let script = read_text(alloc, input)?;
-    Ok(read_script(alloc, &script)?)
+    let octets = read_input(alloc, input)?;
+    let Ok(script) = str::from_utf8(&octets) else {
+        return Err(Stop::Unreadable);
+    };
+    Ok(read_script(alloc, script)?)
 }
 
 /// Plays the script that a reader gives, and prints what is written.
@@ -92,16 +78,16 @@ fn play_script<R: Read, W: Write>(
     print_written(alloc, played.written.as_slice(), played.total, out)
 }
 
-/// The share of each client, which is the capacity where none is given.
-fn share_in(capacity: u32, share: Option<u32>) -> Result<u32, Stop>
+/// The share of each client, which is the capacity where none is given. None where it is 0 or greater than the
+/// capacity.
+fn share_in(capacity: u32, share: Option<u32>) -> Option<u32>
     requires { 1 ≤ capacity }
-    ensures ok { IfOk result (λ n. (n ≡ unwrap_or share capacity) × (1 ≤ n) × (n ≤ capacity)) }
-    ensures err { OnErr result ((unwrap_or share capacity ≡ 0) ⊎ (capacity < unwrap_or share capacity)) }
+    ensures { MatchOption result ((unwrap_or share capacity ≡ 0) ⊎ (capacity < unwrap_or share capacity)) (λ n. (n ≡ unwrap_or share capacity) × (1 ≤ n) × (n ≤ capacity)) }
 {
     match share.unwrap_or(capacity) {
-        0 => Err(Stop::BadShare),
-        n if capacity < n => Err(Stop::BadShare),
-        n => Ok(n),
+        0 => None,
+        n if capacity < n => None,
+        n => Some(n),
     }
 }
 
@@ -114,91 +100,162 @@ fn print_reference<W: Write>(alloc: Global, text: &str, out: &mut W) -> Result<(
     Ok(())
 }
 
-/// Prints what is asked for of the stream that a reader gives, under the default limits, and returns
-/// whether it ends well.
-fn print_stream<R: Read, W: Write>(
+/// Shows a stream that was read, under the default limits, and returns whether it ends well.
+fn show<W: Write>(
     alloc: Global,
-    input: &mut R,
+    form: Form,
+    octets: &[u8],
     detail: Detail,
     out: &mut W,
 ) -> Result<bool, Stop> {
-    let text = read_text(alloc, input)?;
-    show_stream(alloc, Limits::default(), &text, detail, out)
+    let limits = Limits::default();
+    if form == Form::Raw {
+        return show_octets(alloc, limits, octets, detail, out);
+    }
+    match str::from_utf8(octets) {
+        Ok(text) => show_stream(alloc, limits, text, detail, out),
+        Err(_) => Err(Stop::Unreadable),
+    }
 }
 
-/// Does what a setting asks for, and returns whether it ended well.
-fn perform<R: Read, W: Write>(
-    alloc: Global,
-    setting: &Setting,
-    hasher: RandomState,
-    input: &mut R,
-    out: &mut W,
-) -> Result<bool, Stop>
-    requires range { IsInRange setting.now }
-    requires streams { IsOverStreams setting.now }
-{
-    match *setting {
-        Setting::Play {
-            capacity,
-            share,
-            start,
-            limit,
-            partials,
-        } => {
-            let terms = Terms {
-                capacity,
-                share: share_in(capacity, share)?,
-                start,
-                limits: Limits::new(limit, partials).unwrap(),
-            };
-            play_script(alloc, terms, hasher, input, out)?;
-        }
-        Setting::Ior(text) => print_reference(alloc, text, out)?,
-        Setting::Show => return print_stream(alloc, input, Detail::Messages, out),
-        Setting::Check => return print_stream(alloc, input, Detail::EndAlone, out),
-        Setting::Serve { .. } => unreachable!(),
+/// What came of a task: whether it ended well, or why it stopped, and what helps where it did not.
+#[derive(Debug, Drop)]
+struct End {
+    came: Result<bool, Stop>,
+    hint: Option<Hint>,
+}
+
+impl End {
+    /// An end with which nothing helps.
+    fn plain(came: Result<bool, Stop>) -> End {
+        End { came, hint: None }
     }
+}
+
+/// Reads an input and shows its stream.
+fn show_input<F: Files, R: Read, W: Write, E: Write>(
+    alloc: Global,
+    rt: &F,
+    input: &Input,
+    detail: Detail,
+    streams: &mut Streams<'_, R, W, E>,
+) -> End {
+    let octets = match read_octets(alloc, rt, input, streams.input) {
+        Ok(octets) => octets,
+        Err(stop) => return End::plain(Err(stop)),
+    };
+    let came = show(alloc, input.form, &octets, detail, streams.out);
+    End {
+        came,
+        hint: hint_of(&octets, input.form),
+    }
+}
+
+/// What a server with these numbers keeps to, but where the share is bad.
+pub(crate) fn terms_of(numbers: Numbers) -> Option<Terms>
+    requires { AreInRange numbers }
+    ensures { MatchOption result (HasBadShare numbers) (AreTermsOf numbers) }
+{
+    Some(Terms {
+        capacity: numbers.capacity,
+        share: share_in(numbers.capacity, numbers.share)?,
+        start: numbers.start,
+        limits: Limits::new(numbers.limit, numbers.partials).unwrap(),
+    })
+}
+
+/// Plays the script on standard input, unless the share is bad.
+fn play_input<R: Read, W: Write, E: Write>(
+    alloc: Global,
+    numbers: Numbers,
+    hasher: RandomState,
+    streams: &mut Streams<'_, R, W, E>,
+) -> Result<bool, Stop>
+    requires { AreInRange numbers }
+{
+    let terms = terms_of(numbers).ok_or(Stop::BadShare)?;
+    play_script(alloc, terms, hasher, streams.input, streams.out)?;
     Ok(true)
 }
 
-/// Prints why the program stops. Nothing is printed where the output can't be written.
-pub(crate) fn print_stop<E: Write>(stop: Stop, err: &mut E) -> io::Result<()> {
-    match stop {
-        Stop::Memory => writeln!(err, "memory"),
-        Stop::Unreadable => writeln!(err, "input: unreadable"),
-        Stop::BadShare => writeln!(err, "play: bad share"),
-        Stop::BadLine(line) => writeln!(err, "line {line}: bad event"),
-        Stop::BadText(error) => writeln!(err, "ior: {error}"),
-        Stop::OddDigits => writeln!(err, "input: odd digits"),
-        Stop::BadDigit => writeln!(err, "input: bad digit"),
-        Stop::CannotListen => writeln!(err, "serve: cannot listen"),
-        Stop::CannotAccept => writeln!(err, "serve: cannot accept"),
-        Stop::Unwritable => Ok(()),
+/// Does a task.
+fn perform<F: Files, R: Read, W: Write, E: Write>(
+    alloc: Global,
+    rt: &F,
+    task: &Task,
+    hasher: RandomState,
+    streams: &mut Streams<'_, R, W, E>,
+) -> End
+    requires { IsInRange task.now }
+{
+    match task {
+        Task::Play(numbers) => End::plain(play_input(alloc, *numbers, hasher, streams)),
+        Task::Ior(text) => End::plain(print_reference(alloc, text, streams.out).map(|_| true)),
+        Task::Show(input) => show_input(alloc, rt, input, Detail::Messages, streams),
+        Task::Check(input) => show_input(alloc, rt, input, Detail::EndAlone, streams),
     }
 }
 
-/// Does what a setting asks for, unless that is to serve, and returns the exit status: 0, or 1 where a
-/// stream doesn't end after a message, the input is refused, the output can't be written or an allocation
-/// fails. Why the input is refused, and that an allocation failed, is printed to `err`. The hasher is that
-/// of the log of a play.
-pub fn run<R: Read, W: Write, E: Write>(
-    alloc: Global,
-    setting: &Setting,
-    hasher: RandomState,
-    input: &mut R,
-    out: &mut W,
-    err: &mut E,
-) -> u8
-    requires range { IsInRange setting.now }
-    requires streams { IsOverStreams setting.now }
-    ensures { result ≤ 1 }
-{
-    match perform(alloc, setting, hasher, input, out) {
-        Ok(true) => 0,
-        Ok(false) => 1,
-        Err(stop) => {
-            let _ = print_stop(stop, err);
-            1
-        }
+/// The standard streams.
+#[derive(Drop)]
+pub struct Streams<'s, R, W, E> {
+    pub input: &'s mut R,
+    pub out: &'s mut W,
+    pub err: &'s mut E,
+    /// Whether `input` is a terminal.
+    pub is_typed: bool,
+    /// Whether `err` is a terminal: then a line more says what helps.
+    pub is_read: bool,
+}
+
+/// Prints a line that helps, where one sits before a terminal.
+fn print_hint<R: Read, W: Write, E: Write>(hint: Option<Hint>, streams: &mut Streams<'_, R, W, E>) {
+    if let Some(hint) = hint
+        && streams.is_read
+    {
+        let _ = writeln!(streams.err, "{hint}");
     }
+}
+
+/// The status of a task that stopped.
+fn status_of(task: &Task, stop: &Stop) -> u8
+    ensures { (result ≡ FAILED) ⊎ ((result ≡ REFUSED) × HasFile task.now) }
+{
+    match stop {
+        Stop::File(..) if task.has_file() => REFUSED,
+        _ => FAILED,
+    }
+}
+
+/// Does a task, and returns the exit status: 0; or 2 where its file can't be read; or 1 where a stream doesn't end
+/// after a message, the input is refused, the output can't be written or an allocation fails. Why the input is
+/// refused, the output can't be written, and that an allocation failed, is printed to `err`; and where that is a
+/// terminal, what helps. The hasher is that of the log of a play.
+pub fn run<F: Files, R: Read, W: Write, E: Write>(
+    alloc: Global,
+    rt: &F,
+    task: &Task,
+    hasher: RandomState,
+    streams: &mut Streams<'_, R, W, E>,
+) -> u8
+    requires { IsInRange task.now }
+    ensures status { result ≤ REFUSED }
+    ensures file { result ≡ REFUSED → HasFile task.now }
+{
+    if streams.is_typed && task.has_input() {
+        print_hint(Some(Hint::Waiting), streams);
+    }
+    let End { came, hint } = perform(alloc, rt, task, hasher, streams);
+    let status = match came {
+        Ok(true) => DONE,
+        Ok(false) => FAILED,
+        Err(stop) => {
+            let _ = writeln!(streams.err, "{stop}");
+            status_of(task, &stop)
+        }
+    };
+    if status != DONE {
+        print_hint(hint, streams);
+    }
+    status
 }

@@ -1,20 +1,24 @@
 //! The counter as a service on this machine.
 
-ghost use Rattle.std.specs.Prelude.{◌≤◌, IfOk};
-ghost use Rattle.giop_run.specs.Services.{IsNewService};
+ghost use Rattle.std.specs.Prelude.{◌≤◌};
+ghost use Rattle.ft_orb.specs.Standing.{IsNew};
+ghost use Rattle.giop_run.specs.Settings.{IsServable};
 
-use crate::program::print_stop;
-use crate::setting::{CAPACITY, START};
+use crate::play::Terms;
+use crate::program::terms_of;
+use crate::setting::{DONE, FAILED, Service};
 use crate::stop::Stop;
+use crate::watching::{Watch, Watched};
 use counter::{Counter, reference_text};
-use ft_orb::Server;
-use ft_tcp::{SystemClock, serve_on};
-use giop_frames::Limits;
-use std::alloc::{AllocError, Global};
+use ft_orb::{Clock, Servant, Server};
+use ft_tcp::{Socket, SystemClock, serve_connection, serve_listener};
+use std::alloc::Global;
+use std::cell::Cell;
 use std::hash::RandomState;
 use std::io::Write;
 use std::net::{Ipv4Addr, Net, TcpListener, TcpStream};
 use std::rt;
+use std::time::Duration;
 
 /// Prints the counter's reference at a port, for a client that waits for it.
 fn print_address<W: Write>(alloc: Global, port: u16, out: &mut W) -> Result<(), Stop> {
@@ -25,64 +29,124 @@ fn print_address<W: Write>(alloc: Global, port: u16, out: &mut W) -> Result<(), 
     Ok(())
 }
 
-/// A new server of a counter, as a play has it where nothing else is asked for.
-fn new_server(alloc: Global, hasher: RandomState) -> Result<Server<Counter>, AllocError>
-    ensures { IfOk result IsNewService }
+/// A new server that keeps to these terms.
+fn new_server<S: Servant + Drop>(
+    alloc: Global,
+    servant: S,
+    terms: Terms,
+    hasher: RandomState,
+) -> Server<S>
+    ensures { IsNew (record { limits = terms.limits; capacity = terms.capacity; share = terms.share; opening = servant }) result }
 {
-    let counter = Counter::new(alloc, START)?;
-    let limits = Limits::default();
-    Ok(Server::new(alloc, counter, limits, CAPACITY, CAPACITY, hasher))
+    let (capacity, share) = (terms.capacity, terms.share);
+    Server::new(alloc, servant, terms.limits, capacity, share, hasher)
 }
 
-/// Listens, and serves so many connections.
-fn listen<R: Net<Listener = TcpListener, Stream = TcpStream> + rt::Clock>(
+/// How long a read or a write may take.
+fn timeout_of(service: &Service) -> Option<Duration> {
+    service
+        .timeout
+        .map(|seconds| Duration::from_secs(u64::from(seconds)))
+}
+
+/// Serves the connections of a listener, and prints a line for each request.
+fn serve_watched<C: Clock, E: Write>(
     alloc: Global,
-    rt: &R,
-    port: u16,
-    connections: u32,
-    server: &mut Server<Counter>,
+    listener: &TcpListener,
+    service: &Service,
+    terms: Terms,
+    counter: Counter,
+    hasher: RandomState,
+    clock: &mut C,
+    err: &mut E,
 ) -> Result<(), Stop> {
-    let Ok(listener) = TcpListener::bind(rt, (Ipv4Addr::LOCALHOST, port)) else {
-        return Err(Stop::CannotListen);
-    };
-    let mut clock = SystemClock::new(rt);
-    serve_on(alloc, &listener, connections, server, &mut clock).map_err(|_| Stop::CannotAccept)
+    let performed = Cell::new(0);
+    let counter = Watched::new(counter, &performed);
+    let mut server = new_server(alloc, counter, terms, hasher);
+    for i in 0..service.connections {
+        let Ok((stream, _)) = listener.accept() else {
+            return Err(Stop::CannotAccept);
+        };
+        let connection = u64::from(i) + 1;
+        let socket = Socket::new(stream, timeout_of(service));
+        let mut wire = Watch::new(alloc, terms.limits, connection, &performed, socket, err);
+        serve_connection(alloc, connection, &mut wire, &mut server, clock);
+        let _ = wire.tell();
+    }
+    Ok(())
+}
+
+/// Serves the connections of a listener.
+fn serve_plain<C: Clock>(
+    alloc: Global,
+    listener: &TcpListener,
+    service: &Service,
+    terms: Terms,
+    counter: Counter,
+    hasher: RandomState,
+    clock: &mut C,
+) -> Result<(), Stop> {
+    let mut server = new_server(alloc, counter, terms, hasher);
+    let timeout = timeout_of(service);
+    serve_listener(
+        alloc,
+        listener,
+        service.connections,
+        timeout,
+        &mut server,
+        clock,
+    )
+    .map_err(|_| Stop::CannotAccept)
 }
 
 /// Prints the reference, listens, and serves so many connections.
-fn offer<R: Net<Listener = TcpListener, Stream = TcpStream> + rt::Clock, W: Write>(
+fn offer<R: Net<Listener = TcpListener, Stream = TcpStream> + rt::Clock, W: Write, E: Write>(
     alloc: Global,
     rt: &R,
-    port: u16,
-    connections: u32,
+    service: &Service,
     hasher: RandomState,
     out: &mut W,
-) -> Result<(), Stop> {
-    let mut server = new_server(alloc, hasher)?;
-    print_address(alloc, port, out)?;
-    listen(alloc, rt, port, connections, &mut server)
+    err: &mut E,
+) -> Result<(), Stop>
+    requires { IsServable service.now }
+{
+    let terms = terms_of(service.numbers).ok_or(Stop::BadServiceShare)?;
+    let counter = Counter::new(alloc, terms.start)?;
+    print_address(alloc, service.port, out)?;
+    let Ok(listener) = TcpListener::bind(rt, (Ipv4Addr::LOCALHOST, service.port)) else {
+        return Err(Stop::CannotListen);
+    };
+    let mut clock = SystemClock::new(rt);
+    if service.log {
+        return serve_watched(
+            alloc, &listener, service, terms, counter, hasher, &mut clock, err,
+        );
+    }
+    serve_plain(
+        alloc, &listener, service, terms, counter, hasher, &mut clock,
+    )
 }
 
-/// Serves a counter from 0 on 127.0.0.1: prints its reference, listens on the port, serves so many connections
-/// one after another as a play serves them where nothing else is asked for, and returns the exit status: 0, or 1
-/// where the port can't be listened on, a connection can't be accepted, the reference can't be printed or an
-/// allocation fails. Why is printed to `err`. The hasher is that of the server's log.
+/// Serves a counter on 127.0.0.1: prints its reference, listens on the port, serves its connections one after another
+/// as a play serves them, and returns the exit status: 0, or 1 where the share is bad, the port can't be listened on, a
+/// connection can't be accepted, the reference can't be printed or an allocation fails. Why is printed to `err`. The
+/// hasher is that of the server's log.
 pub fn serve<R: Net<Listener = TcpListener, Stream = TcpStream> + rt::Clock, W: Write, E: Write>(
     alloc: Global,
     rt: &R,
-    port: u16,
-    connections: u32,
+    service: &Service,
     hasher: RandomState,
     out: &mut W,
     err: &mut E,
 ) -> u8
-    ensures { result ≤ 1 }
+    requires { IsServable service.now }
+    ensures { result ≤ FAILED }
 {
-    match offer(alloc, rt, port, connections, hasher, out) {
-        Ok(()) => 0,
+    match offer(alloc, rt, service, hasher, out, err) {
+        Ok(()) => DONE,
         Err(stop) => {
-            let _ = print_stop(stop, err);
-            1
+            let _ = writeln!(err, "{stop}");
+            FAILED
         }
     }
 }

@@ -1,4 +1,4 @@
-//! Why the program ends with status 1.
+//! Why the program ends before its work is done.
 
 use crate::digits::DigitError;
 use crate::script::ScriptError;
@@ -7,29 +7,46 @@ use ior_core::IorError;
 use std::alloc::{AllocError, AllocFailed};
 use std::io;
 use std::io::ErrorKind;
+use thiserror::Error;
 
-/// Why the program stops before its work is done.
-#[derive(Debug, Drop)]
-pub(crate) enum Stop {
+/// Why the program stops before its work is done, in the words that it prints.
+#[derive(Debug, Drop, Error)]
+pub enum Stop {
     /// An allocation failed.
+    #[error("memory")]
     Memory,
     /// The input can't be read, isn't UTF-8, or hasn't ended.
+    #[error("input: unreadable")]
     Unreadable,
-    /// The share is 0 or greater than the capacity.
+    /// The file of that name can't be read.
+    #[error("input: {0}: {1}")]
+    File(String, io::Error),
+    /// The share of a play is 0 or greater than the capacity.
+    #[error("play: bad share")]
     BadShare,
+    /// That of a service is.
+    #[error("serve: bad share")]
+    BadServiceShare,
     /// The line of the script with that number is no event.
+    #[error("line {0}: bad event")]
     BadLine(u64),
     /// The text is no reference.
+    #[error("ior: {0}")]
     BadText(IorError),
     /// The input has an odd number of digits.
+    #[error("input: odd digits")]
     OddDigits,
     /// The input has something that is no digit.
+    #[error("input: bad digit")]
     BadDigit,
     /// The output can't be written.
-    Unwritable,
+    #[error("output: {0}")]
+    Unwritable(io::Error),
     /// The port can't be listened on.
+    #[error("serve: cannot listen")]
     CannotListen,
     /// A connection can't be accepted.
+    #[error("serve: cannot accept")]
     CannotAccept,
 }
 
@@ -80,7 +97,7 @@ impl From<io::Error> for Stop {
     fn from(error: io::Error) -> Stop {
         match error.kind() {
             ErrorKind::OutOfMemory => Stop::Memory,
-            _ => Stop::Unwritable,
+            _ => Stop::Unwritable(error),
         }
     }
 }

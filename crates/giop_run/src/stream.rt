@@ -131,8 +131,25 @@ fn print_summary<W: Write>(summary: Summary, out: &mut W) -> io::Result<()> {
     }
 }
 
-/// Prints how a stream of digits ends, and before it the messages, where they are asked for. Returns
-/// whether it ends after a message with nothing left.
+/// Prints how a stream ends, and before it the messages, where they are asked for. Returns whether it ends after a
+/// message with nothing left.
+pub fn show_octets<W: Write>(
+    alloc: Global,
+    limits: Limits,
+    octets: &[u8],
+    detail: Detail,
+    out: &mut W,
+) -> Result<bool, Stop>
+    ensures { IfOk result (λ ends_well. IsTrue ends_well ↔ EndsWell limits octets.now) }
+{
+    let mut out = BufWriter::new(alloc, out)?;
+    let summary = read_stream(alloc, limits, octets, detail, &mut out)?;
+    print_summary(summary, &mut out)?;
+    out.flush()?;
+    Ok(summary.ending == Ending::Clean)
+}
+
+/// The same of the octets that a text gives in digits.
 pub fn show_stream<W: Write>(
     alloc: Global,
     limits: Limits,
@@ -143,9 +160,5 @@ pub fn show_stream<W: Write>(
     ensures { IfOk result (λ ends_well. (s : List ℕ) × (octets_in text.now ≡ Ok s) × (IsTrue ends_well ↔ EndsWell limits s)) }
 {
     let octets = octets_of(alloc, text)?;
-    let mut out = BufWriter::new(alloc, out)?;
-    let summary = read_stream(alloc, limits, octets.as_slice(), detail, &mut out)?;
-    print_summary(summary, &mut out)?;
-    out.flush()?;
-    Ok(summary.ending == Ending::Clean)
+    show_octets(alloc, limits, octets.as_slice(), detail, out)
 }

@@ -1,4 +1,10 @@
-//! The texts of the program's help: each subcommand's input by an example, and its exit status.
+//! The texts of the program's help: what each subcommand is for, what goes in, what its lines mean, and an example.
+
+use giop_run::{
+    CAPACITY, LEAST_LIMIT, LIMIT, MOST_CONNECTIONS, MOST_LIMIT, MOST_OUTCOMES, MOST_PARTIALS,
+    PARTIALS, START,
+};
+use std::alloc::{AllocError, Global};
 
 /// The version that `giop --version` prints.
 pub(crate) const VERSION: &str = "0.1.0";
@@ -8,27 +14,40 @@ pub(crate) const BASE: &str =
     "Shows GIOP streams and object references, and serves a counter: to scripts, and over TCP.
 Without a subcommand it plays a script";
 
-/// The help of the options of `giop play`.
-pub(crate) const CAPACITY: &str =
-    "How many outcomes of requests are kept at a time, 1 to 65536 [default: 1024]";
+/// What the help of `giop` says after its options.
+pub(crate) const DOCUMENTS: &str = "`giop help COMMAND` has an example of each.
 
+Documents, by their paths in the repository:
+  docs/CLI.md      every option, line, refusal and exit status of this program
+  docs/INTEROP.md  calling `giop serve` from an ORB, and what a hostile peer can take of it
+  docs/GUIDE.md    the same engine from Rattle
+  docs/EMBEDDING.md  the same engine from C, C++, Python and Rust
+  docs/giop.1      this help as a manual page";
+
+/// What each subcommand is for.
+pub(crate) const PLAYS: &str =
+    "Plays a script of events on standard input, and prints what is written";
+
+pub(crate) const SHOWS: &str = "Shows the messages of a stream";
+
+pub(crate) const CHECKS: &str = "Prints how a stream ends";
+
+pub(crate) const IORS: &str = "Shows the type and the profiles of an object reference";
+
+pub(crate) const SERVES: &str = "Serves a counter on 127.0.0.1, and prints its object reference";
+
+/// The help of what a subcommand that reads a stream takes.
+pub(crate) const FILE: &str = "The file that has the stream, or - for standard input [default: -]";
+
+pub(crate) const RAW: &str = "Takes the octets as they are, and not as hexadecimal digits";
+
+/// The help of the other options and words that are no numbers in a range.
 pub(crate) const SHARE: &str =
     "How many of them are kept of one client, 1 to the capacity [default: the capacity]";
 
-pub(crate) const START: &str =
-    "The counter's total at the beginning, 0 to 9223372036854775807 [default: 0]";
+pub(crate) const LOG: &str = "Writes a line for each request on standard error";
 
-pub(crate) const LIMIT: &str =
-    "How many octets a message may have, 4096 to 16777216 [default: 1048576]";
-
-pub(crate) const PARTIALS: &str =
-    "How many messages may be partial at a time on a connection, 1 to 16 [default: 8]";
-
-/// The help of the options of `giop serve`.
-pub(crate) const PORT: &str = "The TCP port to listen on, 1 to 65535";
-
-pub(crate) const CONNECTIONS: &str =
-    "How many connections are served, one after another, 1 to 1000";
+pub(crate) const TEXT: &str = "IOR: and hexadecimal digits";
 
 /// What the help of `giop play` says after its options.
 pub(crate) const PLAY: &str =
@@ -37,6 +56,9 @@ of a connection, M a moment in units of 100 ns, and HEX octets in hexadecimal di
 
 The server has one object, a counter with the object key `c` and the operations `add(in long n)`, which
 returns the new total, and `get()`, both of a long long.
+
+Lines: `C HEX` for each event at which the server writes to connection C, and last `total N`, the counter's
+total.
 
 Example: the request get() of GIOP 1.2, its reply, and the total
   $ cat get.script
@@ -48,27 +70,32 @@ Example: the request get() of GIOP 1.2, its reply, and the total
 
 Exit status: 0 where the script is played, else 1";
 
-/// What the help of `giop show` says after its options.
-pub(crate) const SHOW: &str = "Input: spaces, tabs and line ends may stand between the digits.
+/// What the help of `giop show` says of its lines.
+const SHOW_LINES: &str =
+    "Lines: a message's version, byte order, kind and fields, and below it one for each service context and for
+what FT_REQUEST says. Then how the stream ends:
+  end N messages                 after a message, with nothing left over
+  rest K octets, P partial       in a frame that is not whole, or before the last fragment of P messages
+  fault after N messages: FAULT  where the octets are no GIOP; docs/CLI.md has the faults
 
 Example:
   $ echo 47494f50 01000005 00000000 | giop show
   1.0 big CloseConnection
-  end 1 messages
+  end 1 messages";
 
-Exit status: 0 where the stream ends after a message with nothing left, else 1";
-
-/// What the help of `giop check` says after its options.
-pub(crate) const CHECK: &str = "Input: spaces, tabs and line ends may stand between the digits.
+/// What the help of `giop check` says of its line.
+const CHECK_LINES: &str = "Line: how the stream ends, as the last line of `giop show`.
 
 Example:
   $ echo 47494f50 01000005 00000000 | giop check
-  end 1 messages
-
-Exit status: 0 where the stream ends after a message with nothing left, else 1";
+  end 1 messages";
 
 /// What the help of `giop ior` says after its options.
-pub(crate) const IOR: &str = "Example:
+pub(crate) const IOR: &str =
+    "Lines: the type, and for each profile its version of IIOP, host, port and object key, with a line for each
+tagged component; `nil` for the nil reference.
+
+Example:
   $ giop ior IOR:000000000000000a49444c3a413a312e30000000000000010000000000000011000100000000000268000af90000000163
   type IDL:A:1.0
   profile 0 iiop 1.0 host h port 2809 key 63
@@ -78,11 +105,100 @@ Exit status: 0 where TEXT is a reference, else 1";
 /// What the help of `giop serve` says after its options.
 pub(crate) const SERVE: &str =
     "It listens on 127.0.0.1 once the reference is printed, serves each connection to its end, however that
-comes, and stops after the last one. The object is the counter of `giop play`, with a total of 0 at the
-beginning; the other options of `giop play` are as they are there when they are not given.
+comes, and stops after the last one. The object is the counter of `giop play`.
+
+Lines: the object reference. With --log on standard error, for each request as it is answered,
+  C Request id N TARGET operation TEXT RESULT
+where C is the connection, and RESULT `performed`, `repeat`, `refused ID` with the repository id of the system
+exception, or `not performed` where no reply says why.
 
 Example:
   $ giop serve --port 2809 --connections 1
   IOR:000000000000001049444c3a436f756e7465723a312e3000000000010000000000000020000102000000000a3132372e302e302e31000af9000000016300000000000000
 
 Exit status: 0 where all connections were served, else 1";
+
+/// The texts that have numbers.
+#[derive(Drop)]
+pub(crate) struct Texts {
+    pub(crate) capacity: String,
+    pub(crate) start: String,
+    pub(crate) limit: String,
+    pub(crate) partials: String,
+    pub(crate) port: String,
+    pub(crate) connections: String,
+    pub(crate) timeout: String,
+    pub(crate) show: String,
+    pub(crate) check: String,
+}
+
+/// The help of an option whose number lies in a range.
+fn ranged(alloc: Global, what: &str, least: u64, most: u64) -> Result<String, AllocError> {
+    format!(in alloc; "{what}, {least} to {most}")
+}
+
+/// The same of an option that may be missing.
+fn optional(
+    alloc: Global,
+    what: &str,
+    least: u64,
+    most: u64,
+    default: u64,
+) -> Result<String, AllocError> {
+    format!(in alloc; "{what}, {least} to {most} [default: {default}]")
+}
+
+/// What goes into a subcommand that reads a stream, and then its lines.
+fn stream_text(alloc: Global, lines: &str) -> Result<String, AllocError> {
+    format!(in alloc;
+        "Input: one direction of one connection, what a client sent or what a server sent, as hexadecimal digits of
+either case; spaces, tabs and line ends between them mean nothing. With --raw it is the octets themselves. All of
+it is read first. A message may have {LIMIT} octets, and {PARTIALS} messages may be partial at a time.
+
+{lines}
+
+Exit status: 0 where the stream ends after a message with nothing left, 2 where FILE can't be read, else 1"
+    )
+}
+
+impl Texts {
+    /// The texts, with the numbers that the parser keeps to.
+    pub(crate) fn new(alloc: Global) -> Result<Texts, AllocError> {
+        let (outcomes, octets, messages) = (
+            "How many outcomes of requests are kept at a time",
+            "How many octets a message may have",
+            "How many messages may be partial at a time on a connection",
+        );
+        let most_limit = u64::from(MOST_LIMIT);
+        let (least_limit, limit) = (u64::from(LEAST_LIMIT), u64::from(LIMIT));
+        let most_partials = u64::from(MOST_PARTIALS);
+        let most_outcomes = u64::from(MOST_OUTCOMES);
+        Ok(Texts {
+            capacity: optional(alloc, outcomes, 1, most_outcomes, u64::from(CAPACITY))?,
+            start: optional(
+                alloc,
+                "The counter's total at the beginning",
+                0,
+                i64::MAX as u64,
+                START as u64,
+            )?,
+            limit: optional(alloc, octets, least_limit, most_limit, limit)?,
+            partials: optional(alloc, messages, 1, most_partials, u64::from(PARTIALS))?,
+            port: ranged(alloc, "The TCP port to listen on", 1, u64::from(u16::MAX))?,
+            connections: ranged(
+                alloc,
+                "How many connections are served, one after another",
+                1,
+                u64::from(MOST_CONNECTIONS),
+            )?,
+            timeout: ranged(
+                alloc,
+                "After how many seconds a read or a write fails, and with it its connection",
+                1,
+                u64::from(u32::MAX),
+            )?,
+            show: stream_text(alloc, SHOW_LINES)?,
+            check: stream_text(alloc, CHECK_LINES)?,
+        })
+    }
+}

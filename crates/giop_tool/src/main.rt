@@ -4,52 +4,49 @@
 mod help;
 mod settings;
 
-ghost use Rattle.giop_run.specs.Settings.{IsInRange, IsOverStreams};
+ghost use Rattle.giop_run.specs.Settings.{IsInRange, IsServable};
+ghost use Rattle.giop_tool.specs.Settings.{IsMeant};
 
-use giop_run::{Setting, run, serve};
-use settings::{SettingError, settings};
+use giop_run::{FAILED, REFUSED, Service, Streams, Task, run, serve};
+use help::Texts;
+use settings::{Setting, SettingError, settings};
 use std::hash::RandomState;
+use std::io::IsTerminal;
 use std::process::ExitCode;
 use std::{env, io};
 
 /// Serves on the standard streams, and returns the exit status.
-fn serve_port(rt: &HostRuntime, port: u16, connections: u32, hasher: RandomState) -> u8 {
-    let (mut out, mut err) = (rt.stdout(), rt.stderr());
-    serve(
-        rt.alloc(),
-        rt,
-        port,
-        connections,
-        hasher,
-        &mut out,
-        &mut err,
-    )
-}
-
-/// Does on the standard streams what a setting asks for, unless that is to serve, and returns the exit status.
-fn run_streams(rt: &HostRuntime, setting: &Setting, hasher: RandomState) -> u8
-    requires range { IsInRange setting.now }
-    requires streams { IsOverStreams setting.now }
+fn run_service(rt: &HostRuntime, service: &Service, hasher: RandomState) -> u8
+    requires { IsServable service.now }
 {
     let (mut out, mut err) = (rt.stdout(), rt.stderr());
-    run(
-        rt.alloc(),
-        setting,
-        hasher,
-        &mut rt.stdin(),
-        &mut out,
-        &mut err,
-    )
+    serve(rt.alloc(), rt, service, hasher, &mut out, &mut err)
+}
+
+/// Does a task on the standard streams, and returns the exit status.
+fn run_task(rt: &HostRuntime, task: &Task, hasher: RandomState) -> u8
+    requires { IsInRange task.now }
+{
+    let (mut input, mut out, mut err) = (rt.stdin(), rt.stdout(), rt.stderr());
+    let (is_typed, is_read) = (input.is_terminal(), err.is_terminal());
+    let mut streams = Streams {
+        input: &mut input,
+        out: &mut out,
+        err: &mut err,
+        is_typed,
+        is_read,
+    };
+    run(rt.alloc(), rt, task, hasher, &mut streams)
 }
 
 /// Does what a setting asks for, and returns the exit status.
 fn run_setting(rt: &HostRuntime, setting: &Setting) -> io::Result<u8>
-    requires { IsInRange setting.now }
+    requires { IsMeant setting.now }
 {
     let hasher = RandomState::new(rt)?;
-    match *setting {
-        Setting::Serve { port, connections } => Ok(serve_port(rt, port, connections, hasher)),
-        _ => Ok(run_streams(rt, setting, hasher)),
+    match setting {
+        Setting::Run(task) => Ok(run_task(rt, task, hasher)),
+        Setting::Serve(service) => Ok(run_service(rt, service, hasher)),
     }
 }
 
@@ -62,11 +59,11 @@ fn print_answer(rt: &HostRuntime, error: &SettingError) -> io::Result<u8> {
         }
         SettingError::Range => {
             eprintln!(rt; "range")?;
-            Ok(2)
+            Ok(REFUSED)
         }
         SettingError::Memory => {
             eprintln!(rt; "memory")?;
-            Ok(1)
+            Ok(FAILED)
         }
     }
 }
@@ -75,11 +72,12 @@ fn print_answer(rt: &HostRuntime, error: &SettingError) -> io::Result<u8> {
 fn run_words(rt: &HostRuntime) -> io::Result<u8> {
     let alloc = rt.alloc();
     let words: Vec<String> = env::args(rt)?.collect(alloc)?;
-    let mut texts = Vec::with_capacity(alloc, words.len())?;
+    let mut given = Vec::with_capacity(alloc, words.len())?;
     for word in words.iter().skip(1) {
-        texts.push(word.as_str())?;
+        given.push(word.as_str())?;
     }
-    match settings(alloc, texts.as_slice()) {
+    let texts = Texts::new(alloc)?;
+    match settings(alloc, &texts, given.as_slice()) {
         Ok(setting) => run_setting(rt, &setting),
         Err(error) => print_answer(rt, &error),
     }
@@ -92,7 +90,7 @@ fn main(rt: HostRuntime) -> ExitCode {
             if error.kind() == io::ErrorKind::OutOfMemory {
                 let _ = eprintln!(&rt; "memory");
             }
-            ExitCode::from(1)
+            ExitCode::from(FAILED)
         }
     }
 }

@@ -1,15 +1,39 @@
 //! What the words of the command line ask for.
 
-ghost use Rattle.std.specs.Prelude.{IfErr, IfOk};
-ghost use Rattle.giop_run.specs.Settings.{IsInRange};
-ghost use Rattle.giop_tool.specs.Settings.{IsOfWords};
+ghost use Rattle.std.specs.Prelude.{◌↔◌, IfErr, IfOk, IsTrue};
+ghost use Rattle.giop_tool.specs.Settings.{IsMeant, IsOfWords};
 
 use crate::help;
+use crate::help::Texts;
 use clap::builder::ValueParser;
 use clap::error::ErrorKind;
 use clap::{Arg, ArgAction, ArgMatches, Command};
-use giop_run::{CAPACITY, LIMIT, PARTIALS, START, Setting};
+use giop_run::{
+    CAPACITY, Form, Input, LEAST_LIMIT, LIMIT, MOST_CONNECTIONS, MOST_LIMIT, MOST_OUTCOMES,
+    MOST_PARTIALS, Numbers, PARTIALS, START, Service, Task,
+};
 use std::alloc::{AllocError, Global};
+
+/// What the program is to do.
+#[derive(Clone, Copy, Debug, PartialEq, Eq)]
+pub(crate) enum Setting<'a> {
+    /// A task on the standard streams.
+    Run(Task<'a>),
+    /// To serve over TCP.
+    Serve(Service),
+}
+
+impl Setting<'_> {
+    /// Whether its numbers lie in their ranges.
+    fn is_in_range(&self) -> bool
+        ensures { IsTrue result ↔ IsMeant self.now }
+    {
+        match *self {
+            Setting::Run(task) => task.is_in_range(),
+            Setting::Serve(service) => service.is_in_range(),
+        }
+    }
+}
 
 /// Why the words were refused.
 #[derive(Debug, Drop)]
@@ -20,17 +44,6 @@ pub(crate) enum SettingError {
     Range,
     /// An allocation failed.
     Memory,
-}
-
-impl From<AllocError> for SettingError {
-    ghost use Rattle.std.specs.Prelude.{◌≡◌};
-    ghost use Rattle.giop_tool.specs.declared.settings.SettingError.TheVariants.{Memory};
-
-    ghost from_gives = { λ _ e. e ≡ Memory };
-
-    fn from(_e: AllocError) -> SettingError {
-        SettingError::Memory
-    }
 }
 
 /// An option that takes a number.
@@ -60,59 +73,97 @@ fn with_number<'a>(
 }
 
 /// The options for what a play keeps.
-fn with_log<'a>(alloc: Global, command: Command<'a>) -> Result<Command<'a>, AllocError> {
-    let outcomes = ValueParser::unsigned(1, 65_536);
-    let command = with_number(alloc, command, "capacity", help::CAPACITY, outcomes)?;
+fn with_log<'a>(
+    alloc: Global,
+    texts: &'a Texts,
+    command: Command<'a>,
+) -> Result<Command<'a>, AllocError> {
+    let outcomes = ValueParser::unsigned(1, u64::from(MOST_OUTCOMES));
+    let command = with_number(alloc, command, "capacity", &texts.capacity, outcomes)?;
     let outcomes_each = ValueParser::unsigned(0, u64::from(u32::MAX));
     with_number(alloc, command, "share", help::SHARE, outcomes_each)
 }
 
 /// The options for the limits of a connection.
-fn with_limits<'a>(alloc: Global, command: Command<'a>) -> Result<Command<'a>, AllocError> {
-    let octets = ValueParser::unsigned(4_096, 16_777_216);
-    let command = with_number(alloc, command, "limit", help::LIMIT, octets)?;
-    let messages = ValueParser::unsigned(1, 16);
-    with_number(alloc, command, "partials", help::PARTIALS, messages)
+fn with_limits<'a>(
+    alloc: Global,
+    texts: &'a Texts,
+    command: Command<'a>,
+) -> Result<Command<'a>, AllocError> {
+    let octets = ValueParser::unsigned(u64::from(LEAST_LIMIT), u64::from(MOST_LIMIT));
+    let command = with_number(alloc, command, "limit", &texts.limit, octets)?;
+    let messages = ValueParser::unsigned(1, u64::from(MOST_PARTIALS));
+    with_number(alloc, command, "partials", &texts.partials, messages)
 }
 
 /// The option for the counter.
-fn with_start<'a>(alloc: Global, command: Command<'a>) -> Result<Command<'a>, AllocError> {
+fn with_start<'a>(
+    alloc: Global,
+    texts: &'a Texts,
+    command: Command<'a>,
+) -> Result<Command<'a>, AllocError> {
     let totals = ValueParser::unsigned(0, i64::MAX as u64);
-    with_number(alloc, command, "start", help::START, totals)
+    with_number(alloc, command, "start", &texts.start, totals)
+}
+
+/// The options for a server of one counter.
+fn with_numbers<'a>(
+    alloc: Global,
+    texts: &'a Texts,
+    command: Command<'a>,
+) -> Result<Command<'a>, AllocError> {
+    let command = with_log(alloc, texts, command)?;
+    let command = with_start(alloc, texts, command)?;
+    with_limits(alloc, texts, command)
 }
 
 /// `giop play`.
-fn play_command<'a>(alloc: Global) -> Result<Command<'a>, AllocError> {
+fn play_command<'a>(alloc: Global, texts: &'a Texts) -> Result<Command<'a>, AllocError> {
     let command = Command::new(alloc, "play")
-        .about("Plays a script of events on standard input, and prints what is written")
+        .about(help::PLAYS)
         .after_help(help::PLAY);
-    let command = with_log(alloc, command)?;
-    let command = with_start(alloc, command)?;
-    with_limits(alloc, command)
+    with_numbers(alloc, texts, command)
 }
 
-/// `giop show`.
-fn show_command<'a>(alloc: Global) -> Command<'a> {
-    Command::new(alloc, "show")
-        .about("Shows the messages of a stream, which standard input gives in hexadecimal digits")
-        .after_help(help::SHOW)
+/// A subcommand that reads a stream.
+fn stream_command<'a>(
+    alloc: Global,
+    name: &'a str,
+    about: &'a str,
+    help: &'a str,
+) -> Result<Command<'a>, AllocError> {
+    let file = Arg::new(alloc, "FILE")
+        .help(help::FILE)
+        .action(ArgAction::Set);
+    let raw = Arg::new(alloc, "raw")
+        .long("raw")
+        .help(help::RAW)
+        .action(ArgAction::SetTrue);
+    Command::new(alloc, name)
+        .about(about)
+        .after_help(help)
+        .arg(file)?
+        .arg(raw)
 }
 
-/// `giop check`.
-fn check_command<'a>(alloc: Global) -> Command<'a> {
-    Command::new(alloc, "check")
-        .about("Prints how a stream ends, which standard input gives in hexadecimal digits")
-        .after_help(help::CHECK)
+/// `giop show [FILE]`.
+fn show_command<'a>(alloc: Global, texts: &'a Texts) -> Result<Command<'a>, AllocError> {
+    stream_command(alloc, "show", help::SHOWS, &texts.show)
+}
+
+/// `giop check [FILE]`.
+fn check_command<'a>(alloc: Global, texts: &'a Texts) -> Result<Command<'a>, AllocError> {
+    stream_command(alloc, "check", help::CHECKS, &texts.check)
 }
 
 /// `giop ior TEXT`.
 fn ior_command<'a>(alloc: Global) -> Result<Command<'a>, AllocError> {
     let text = Arg::new(alloc, "TEXT")
-        .help("IOR: and hexadecimal digits")
+        .help(help::TEXT)
         .required(true)
         .action(ArgAction::Set);
     Command::new(alloc, "ior")
-        .about("Shows the type and the profiles of an object reference")
+        .about(help::IORS)
         .after_help(help::IOR)
         .arg(text)
 }
@@ -129,14 +180,22 @@ fn with_required<'a>(
 }
 
 /// `giop serve`.
-fn serve_command<'a>(alloc: Global) -> Result<Command<'a>, AllocError> {
+fn serve_command<'a>(alloc: Global, texts: &'a Texts) -> Result<Command<'a>, AllocError> {
     let command = Command::new(alloc, "serve")
-        .about("Serves a counter on 127.0.0.1, and prints its object reference")
+        .about(help::SERVES)
         .after_help(help::SERVE);
     let ports = ValueParser::unsigned(1, u64::from(u16::MAX));
-    let command = with_required(alloc, command, "port", help::PORT, ports)?;
-    let counts = ValueParser::unsigned(1, 1_000);
-    with_required(alloc, command, "connections", help::CONNECTIONS, counts)
+    let command = with_required(alloc, command, "port", &texts.port, ports)?;
+    let counts = ValueParser::unsigned(1, u64::from(MOST_CONNECTIONS));
+    let command = with_required(alloc, command, "connections", &texts.connections, counts)?;
+    let command = with_numbers(alloc, texts, command)?;
+    let seconds = ValueParser::unsigned(1, u64::from(u32::MAX));
+    let command = with_number(alloc, command, "timeout", &texts.timeout, seconds)?;
+    let log = Arg::new(alloc, "log")
+        .long("log")
+        .help(help::LOG)
+        .action(ArgAction::SetTrue);
+    command.arg(log)
 }
 
 /// `giop` without a subcommand.
@@ -144,15 +203,9 @@ fn base_command<'a>(alloc: Global) -> Result<Command<'a>, AllocError> {
     Command::new(alloc, "giop")
         .version(help::VERSION)
         .about(help::BASE)
+        .after_help(help::DOCUMENTS)
         .no_binary_name(true)
         .bin_name("giop")
-}
-
-/// The subcommands over a stream.
-fn with_streams<'a>(alloc: Global, command: Command<'a>) -> Result<Command<'a>, AllocError> {
-    command
-        .subcommand(show_command(alloc))?
-        .subcommand(check_command(alloc))
 }
 
 /// With a subcommand.
@@ -164,15 +217,16 @@ fn with<'a>(
 }
 
 /// The whole command line.
-fn command<'a>(alloc: Global) -> Result<Command<'a>, AllocError> {
-    let command = with(base_command(alloc)?, play_command(alloc))?;
-    let command = with_streams(alloc, command)?;
+fn command<'a>(alloc: Global, texts: &'a Texts) -> Result<Command<'a>, AllocError> {
+    let command = with(base_command(alloc)?, play_command(alloc, texts))?;
+    let command = with(command, show_command(alloc, texts))?;
+    let command = with(command, check_command(alloc, texts))?;
     let command = with(command, ior_command(alloc))?;
-    with(command, serve_command(alloc))
+    with(command, serve_command(alloc, texts))
 }
 
-/// A play whose numbers are those that the words don't say.
-const PLAY: Setting<'static> = Setting::Play {
+/// The numbers of a server where the words say none.
+const USUAL: Numbers = Numbers {
     capacity: CAPACITY,
     share: None,
     start: START,
@@ -180,9 +234,9 @@ const PLAY: Setting<'static> = Setting::Play {
     partials: PARTIALS,
 };
 
-/// The play that the words of `giop play` ask for.
-fn play_of<'a>(words: &ArgMatches<'a>) -> Setting<'a> {
-    Setting::Play {
+/// The numbers of a server that the words say.
+fn numbers_of(words: &ArgMatches) -> Numbers {
+    Numbers {
         capacity: words.get_one::<u32>("capacity").unwrap_or(CAPACITY),
         share: words.get_one::<u32>("share"),
         start: words.get_one::<i64>("start").unwrap_or(START),
@@ -192,39 +246,63 @@ fn play_of<'a>(words: &ArgMatches<'a>) -> Setting<'a> {
 }
 
 /// The service that the words of `giop serve` ask for. A number that is not there is out of its range.
-fn service_of<'a>(words: &ArgMatches<'a>) -> Setting<'a> {
-    Setting::Serve {
+fn service_of(words: &ArgMatches) -> Service {
+    Service {
         port: words.get_one::<u16>("port").unwrap_or(0),
         connections: words.get_one::<u32>("connections").unwrap_or(0),
+        numbers: numbers_of(words),
+        timeout: words.get_one::<u32>("timeout"),
+        log: words.get_flag("log"),
     }
 }
 
-/// The setting that parsed words ask for.
-fn setting_of<'a>(matches: &ArgMatches<'a>) -> Setting<'a> {
-    if matches.subcommand_matches("show").is_some() {
-        return Setting::Show;
+/// The name of standard input where a file may stand.
+const STANDARD: &str = "-";
+
+/// The input that the words of a subcommand that reads a stream ask for.
+fn input_of<'a>(words: &ArgMatches<'a>) -> Input<'a> {
+    let form = if words.get_flag("raw") {
+        Form::Raw
+    } else {
+        Form::Digits
+    };
+    Input {
+        file: words.get_str("FILE").filter(|name| *name != STANDARD),
+        form,
     }
-    if matches.subcommand_matches("check").is_some() {
-        return Setting::Check;
+}
+
+/// The task that parsed words ask for. Each subcommand that reads a stream takes its input by `input_of`.
+fn task_of<'a>(matches: &ArgMatches<'a>) -> Task<'a> {
+    if let Some(words) = matches.subcommand_matches("show") {
+        return Task::Show(input_of(words));
+    }
+    if let Some(words) = matches.subcommand_matches("check") {
+        return Task::Check(input_of(words));
     }
     if let Some(words) = matches.subcommand_matches("play") {
-        return play_of(words);
-    }
-    if let Some(words) = matches.subcommand_matches("serve") {
-        return service_of(words);
+        return Task::Play(numbers_of(words));
     }
     match matches
         .subcommand_matches("ior")
         .and_then(|ior| ior.get_str("TEXT"))
     {
-        Some(text) => Setting::Ior(text),
-        None => PLAY,
+        Some(text) => Task::Ior(text),
+        None => Task::Play(USUAL),
+    }
+}
+
+/// The setting that parsed words ask for.
+fn setting_of<'a>(matches: &ArgMatches<'a>) -> Setting<'a> {
+    match matches.subcommand_matches("serve") {
+        Some(words) => Setting::Serve(service_of(words)),
+        None => Setting::Run(task_of(matches)),
     }
 }
 
 /// A setting, unless a number of it is out of its range.
 fn in_range<'a>(setting: Setting<'a>) -> Result<Setting<'a>, SettingError>
-    ensures range { IfOk result IsInRange }
+    ensures range { IfOk result IsMeant }
     ensures words { IfErr result IsOfWords }
 {
     if !setting.is_in_range() {
@@ -235,11 +313,15 @@ fn in_range<'a>(setting: Setting<'a>) -> Result<Setting<'a>, SettingError>
 
 /// What the words after the program's name ask for: the setting, or a text to print. No words ask for
 /// `play`.
-pub(crate) fn settings<'a>(alloc: Global, words: &'a [&'a str]) -> Result<Setting<'a>, SettingError>
-    ensures range { IfOk result IsInRange }
+pub(crate) fn settings<'a>(
+    alloc: Global,
+    texts: &'a Texts,
+    words: &'a [&'a str],
+) -> Result<Setting<'a>, SettingError>
+    ensures range { IfOk result IsMeant }
     ensures words { IfErr result IsOfWords }
 {
-    let command = command(alloc)?;
+    let command = command(alloc, texts).map_err(|_| SettingError::Memory)?;
     match command.try_get_matches_from(words) {
         Ok(matches) => in_range(setting_of(&matches)),
         Err(error) => {

@@ -4,7 +4,7 @@ use Rattle.ft_orb.specs.Standing.{Stands}
 use Rattle.ft_orb.proofs.Streams.{grows-none}
 use Rattle.ft_tcp.specs.Visits.{past_with_visits}
 use Rattle.ft_tcp.proofs.Visits.{moments-more, past-more, visits-more}
-use Rattle.ft_tcp.proofs.serving.serve_on.Goals as goal
+use Rattle.ft_tcp.proofs.serving.serve_listener.Goals as goal
 
 if_ok-err : {A E : Type 0} (r : Result A E) (P : A → Type 0) → is_err r ≡ true → IfOk r P
 if_ok-err (Ok x) P is = absurd cc

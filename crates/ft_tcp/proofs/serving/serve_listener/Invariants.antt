@@ -4,7 +4,7 @@ use Rattle.ft_orb.specs.Outputs.{Made, table_says}
 use Rattle.ft_orb.specs.Standing.{Stands}
 use Rattle.ft_orb.specs.Wires.{IfKnown}
 use Rattle.ft_tcp.specs.Visits.{AreVisits, Visit, moments_in, past_with_visits}
-use Rattle.ft_tcp.proofs.serving.serve_on.Given as goal
+use Rattle.ft_tcp.proofs.serving.serve_listener.Given as goal
 
 -- as many visits were made as sockets were accepted
 abbrev pub invariant-loop-i : goal.invariant-loop-i
