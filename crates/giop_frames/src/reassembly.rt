@@ -264,14 +264,13 @@ fn end(
     ensures { IfOk result (λ v. IsSettledAs role.Ends v limits.now header.now frame.old.items frame.new.items (entries parts.old.items) (entries parts.new.items)) }
 {
     match take_up(limits, header, frame.as_slice(), parts)? {
-        TakenUp::Refused(fault) => Ok(Settled::Bad(fault)),
-        TakenUp::Continued(
-            Part {
+        TakenUp::Continued(part) => {
+            let Part {
+                key: _,
                 header: first,
                 octets,
-                ..
-            },
-        ) => {
+                named: _,
+            } = part;
             *frame = octets;
             let size = (frame.len() - Header::LEN) as u32;
             let header = Header {
@@ -281,6 +280,7 @@ fn end(
             };
             Ok(whole(&header, frame.as_slice()))
         }
+        TakenUp::Refused(fault) => Ok(Settled::Bad(fault)),
     }
 }
 
