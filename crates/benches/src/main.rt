@@ -1,11 +1,12 @@
 //! The program `benches`: does a kind of work again and again, to be timed, and prints a line.
 //!
-//! The first word is `frames`, `values`, `server` or `engine`, and the modules of these names say what the others are
-//! (of `engine` that of `server`). The word `all` does each of the four once, on a small input. Where the words are wrong the program says in a line
+//! The first word is `frames`, `values`, `server`, `engine` or `log`, and the modules of these names say what the others are
+//! (of `engine` that of `server`, of `log` `keeping`). The word `all` does each of the five once, on a small input. Where the words are wrong the program says in a line
 //! on standard error how they go, and ends with status 2.
 #![tactic(auto)]
 
 mod frames;
+mod keeping;
 mod messages;
 mod report;
 mod server;
@@ -22,14 +23,15 @@ use stop::Stop;
 use words::texts_of;
 
 /// How the words go.
-const USAGE: &str = "usage: benches frames|values|server|engine WORD.. | all";
+const USAGE: &str = "usage: benches frames|values|server|engine|log WORD.. | all";
 
 /// What `all` does.
-const ALL: [(&str, &[&str]); 4] = [
+const ALL: [(&str, &[&str]); 5] = [
     ("frames", &["10000", "84"]),
     ("values", &["read", "structs", "1"]),
     ("server", &["1000", "4096", "add"]),
     ("engine", &["1000", "4096", "add"]),
+    ("log", &["2000", "1024", "1024", "rising"]),
 ];
 
 /// Does the work of a name that the words ask for.
@@ -39,6 +41,7 @@ fn work(rt: &HostRuntime, name: &str, words: &[&str]) -> Result<Report, Stop> {
         "values" => values::run(rt.alloc(), words),
         "server" => server::run(rt.alloc(), RandomState::new(rt)?, words),
         "engine" => server::run_owned(rt.alloc(), RandomState::new(rt)?, words),
+        "log" => keeping::run(rt.alloc(), RandomState::new(rt)?, words),
         _ => Err(Stop::Words(USAGE)),
     }
 }

@@ -65,11 +65,11 @@ fn added(tally: Tally, written: &[u8]) -> Tally {
 }
 
 /// The moment of the first message with a key of its own.
-const FIRST: u64 = 1000;
+pub(crate) const FIRST: u64 = 1000;
 
 /// The last moment at which the outcome of a message is kept, where the server keeps `entries` of them: one expires
 /// with each message that comes after the first `entries`.
-fn expiration(index: u64, entries: u64, is_scattered: bool) -> u64 {
+pub(crate) fn expiration(index: u64, entries: u64, is_scattered: bool) -> u64 {
     let mask = entries.wrapping_sub(1);
     let place = index & mask;
     let turn = if is_scattered {

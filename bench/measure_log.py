@@ -1,0 +1,86 @@
+#!/usr/bin/env python3
+"""Measures a retention log against a plain one in Rust: instructions for an outcome, and memory.
+
+usage: measure_log.py OURS PLAIN
+
+OURS is the program of crates/benches, PLAIN that of bench/plain.rs. An outcome costs what callgrind counts of 4,000 more:
+its key is made, what expired is forgotten, the key is looked up, room is made, and the outcome is kept. Each is of a client
+of its own, whose id has 32 octets. Both programs have to print the same of each kind.
+
+The status is 1 where they don't, where 1,000,000 outcomes of as many clients leave more memory in use than 5,000 do in a log
+of 1,024, or where a full log of 65,536 takes more than 20 megabytes.
+"""
+import re
+import subprocess
+import sys
+
+KINDS = [(entries, kind) for entries in (1024, 65536) for kind in ("rising", "scattered")]
+MORE = 4000
+# the most that a log of 65,536 may take, and what two runs of one program may differ by, in octets
+MOST = 20_000_000
+APART = 1_000_000
+
+
+def printed(program, *words):
+    return subprocess.run([program, "log", *map(str, words)], stdout=subprocess.PIPE, text=True, check=True).stdout
+
+
+def instructions(program, *words):
+    words = ["valgrind", "--tool=callgrind", "--callgrind-out-file=/dev/null", program, "log", *map(str, words)]
+    said = subprocess.run(words, stdout=subprocess.DEVNULL, stderr=subprocess.PIPE, text=True, check=True).stderr
+    return int(re.search(r"Collected : (\d+)", said)[1])
+
+
+def peak(program, *words):
+    """The most memory that is resident in a run, as the system counts it. A shell starts the program, so that what this one
+    takes isn't counted."""
+    words = ["/usr/bin/time", "-f", "%M", program, "log", *map(str, words)]
+    said = subprocess.run(words, stdout=subprocess.DEVNULL, stderr=subprocess.PIPE, text=True, check=True).stderr
+    return int(said) * 1024
+
+
+def costs(programs):
+    print("instructions for an outcome: ours, plain, ratio")
+    for entries, kind in KINDS:
+        ours, plain = [
+            (instructions(program, entries + 1000 + MORE, entries, entries, kind) - instructions(program, entries + 1000, entries, entries, kind)) / MORE
+            for program in programs
+        ]
+        print(f"{entries:>6} kept, {kind:9} {ours:8.0f} {plain:8.0f} {ours / plain:5.2f}")
+    ours = (instructions(programs[0], 2024 + MORE, 1024, 1023, "rising") - instructions(programs[0], 2024, 1024, 1023, "rising")) / MORE
+    print(f"  1024 kept, clients counted {ours:.0f}")
+    print("a call that forgets as many at once: instructions for each")
+    for entries in (1024, 65536):
+        full, more = (instructions(programs[0], entries + i, entries, entries, "together") for i in (0, 1))
+        print(f"{entries:>6} {(more - full) / entries:8.0f}")
+
+
+def alike(programs):
+    for entries, kind in KINDS + [(1024, "together"), (65536, "together")]:
+        for count in (3000, 70_001, 200_000):
+            ours, plain = (printed(program, count, entries, entries, kind) for program in programs)
+            if ours != plain:
+                sys.exit(f"{count} {kind}, {entries} kept: ours printed {ours!r}, plain {plain!r}")
+
+
+def memory(programs):
+    print("megabytes of a log of 65,536, each of a client of its own: ours, plain, ours where clients are counted")
+    ours, plain = (peak(program, 65536, 65536, 65536, "together") - peak(program, 1, 65536, 65536, "together") for program in programs)
+    counted = peak(programs[0], 65536, 65536, 65535, "together") - peak(programs[0], 1, 65536, 65535, "together")
+    print(f"{ours / 1e6:8.1f} {plain / 1e6:8.1f} {counted / 1e6:8.1f}")
+    if not 0 < ours <= MOST:
+        sys.exit(f"a log of 65,536 takes {ours:,} octets, and not at most {MOST:,}")
+    few, many = (peak(programs[0], count, 1024, 1024, "rising") for count in (5000, 1_000_000))
+    print(f"octets that 1,000,000 outcomes of as many clients leave in use beyond 5,000, in a log of 1,024: {many - few:,}")
+    if many - few > APART:
+        sys.exit("memory is not flat")
+
+
+def main():
+    programs = sys.argv[1:3]
+    alike(programs)
+    memory(programs)
+    costs(programs)
+
+
+main()
