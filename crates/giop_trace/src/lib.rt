@@ -5,10 +5,24 @@
 //! octets of an input belong to which side of which connection, and which request each message has to do with.
 #![tactic(auto)]
 
+mod direction;
 mod either;
+mod exceptions;
 mod follow;
+mod json;
+mod lines;
+mod moments;
+mod names;
+mod operations;
 mod pairing;
+mod printing;
+mod program;
 mod sender;
+mod session;
+mod shown;
+mod stop;
+mod summary;
+mod texts;
 mod tracer;
 
 // the octets of connections, and the side that sent them
@@ -19,3 +33,8 @@ pub use sender::Sender;
 pub use either::Either;
 pub use pairing::Tie;
 pub use tracer::{Seen, Trace};
+
+// what `giop trace` does
+pub use printing::Format;
+pub use program::{Options, trace};
+pub use stop::Stop;
