@@ -1,0 +1,4 @@
+pub mod Latest
+pub mod LineEnds
+pub mod News
+pub mod Feeding
