@@ -13,7 +13,7 @@ ROOT = os.path.dirname(os.path.dirname(os.path.abspath(__file__)))
 SECONDS = 20
 PAGE, COMPLETIONS = "docs/giop.1", "docs/giop.bash"
 # the subcommands that take the name of a file
-READING = ("show", "check")
+READING = ("show", "check", "trace")
 
 
 def help_of(*words):

@@ -59,6 +59,12 @@ def words_of(case):
         return f.read().splitlines()
 
 
+def follow(name):
+    """Both directions of a recorded connection."""
+    with open(os.path.join(HERE, "follow", name + ".txt"), "rb") as f:
+        return f.read()
+
+
 # what is run: a name, the words after the program's name, and the standard input
 INPUTS = [
     ("an empty script", [], b""),
@@ -75,6 +81,12 @@ INPUTS = [
     ("a message in three fragments", ["show"], FRAGMENTS.encode()),
     ("a stream that ends in a fault", ["check"], (REQUEST + "00" * 12).encode()),
     ("digits that are none", ["check"], b"47 4g"),
+    ("a retry over two connections", ["trace"], follow("omni-12-ftkill")),
+    ("an exception, as JSON", ["trace", "--json"], follow("omni-12-undeclared")),
+    ("a fault after which reading goes on", ["trace", "--resume"], follow("omni-12-overflow") + b"00" * 12 + b"\n"
+     + REQUEST.replace(" ", "").encode() + b"\n"),
+    ("octets of one direction", ["trace", "--raw"], bytes.fromhex(REQUEST)),
+    ("a line of odd digits", ["trace"], b"474\n"),
     ("an unknown word", ["swim"], b""),
     ("help", ["--help"], b""),
     ("the version", ["--version"], b""),

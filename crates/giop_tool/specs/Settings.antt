@@ -18,3 +18,4 @@ IsOfWords setting.Memory = ⊤
 abbrev pub IsMeant : Setting → Type 0
 IsMeant (meant.Run task) = IsInRange task
 IsMeant (meant.Serve service) = IsServable service
+IsMeant (meant.Trace tracing) = ⊤

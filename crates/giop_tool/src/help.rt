@@ -32,6 +32,9 @@ pub(crate) const SHOWS: &str = "Shows the messages of a stream";
 
 pub(crate) const CHECKS: &str = "Prints how a stream ends";
 
+pub(crate) const TRACES: &str =
+    "Shows both directions of connections, with the request that each reply answers";
+
 pub(crate) const IORS: &str = "Shows the type and the profiles of an object reference";
 
 pub(crate) const SERVES: &str = "Serves a counter on 127.0.0.1, and prints its object reference";
@@ -44,6 +47,10 @@ pub(crate) const RAW: &str = "Takes the octets as they are, and not as hexadecim
 /// The help of the other options and words that are no numbers in a range.
 pub(crate) const SHARE: &str =
     "How many of them are kept of one client, 1 to the capacity [default: the capacity]";
+
+pub(crate) const RESUME: &str = "After a fault goes on at the next header of a plausible message";
+
+pub(crate) const JSON: &str = "Prints an object of JSON a line";
 
 pub(crate) const LOG: &str = "Writes a line for each request on standard error";
 
@@ -89,6 +96,31 @@ const CHECK_LINES: &str = "Line: how the stream ends, as the last line of `giop 
 Example:
   $ echo 47494f50 01000005 00000000 | giop check
   end 1 messages";
+
+/// What the help of `giop trace` says after its options.
+pub(crate) const TRACE: &str =
+    "Input: what `tshark -r CAPTURE -q -z follow,tcp,raw,N` prints, with N from 0 for each connection, one after
+another: lines of hexadecimal digits, those that begin with a tab of the side that accepted the connection.
+Other lines are passed over. With --raw octets of one direction. A message has at most 1,048,576 octets.
+
+Lines: one for each message of either side, in order: its number, its direction, `>` from the side that opened
+the connection and `<` from the one that accepted it, how many octets of that direction have come with its last
+one, and what it says. At the end what was counted.
+
+Example:
+  $ tshark -r retry.pcap -q -z follow,tcp,raw,0 | giop trace
+  connection 1
+  1 > to 52 1.2 little Request id 2: add on key c, 4 octets
+  2 < to 32 1.2 little Reply id 2 to add, 1 after request 1: NO_EXCEPTION, 8 octets
+  3 > to 64 1.2 little CloseConnection
+  end 3 messages on 1 connections
+  requests without a reply 0
+  of these cancelled 0
+  replies without a request 0
+  repeats 0
+  faults 0, 0 octets passed over
+
+Exit status: 0 where each direction ends after a message with nothing left, 2 where FILE can't be read, else 1";
 
 /// What the help of `giop ior` says after its options.
 pub(crate) const IOR: &str =

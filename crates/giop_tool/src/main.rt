@@ -3,6 +3,7 @@
 
 mod help;
 mod settings;
+mod tracing;
 
 ghost use Rattle.giop_run.specs.Settings.{IsInRange, IsServable};
 ghost use Rattle.giop_tool.specs.Settings.{IsMeant};
@@ -14,6 +15,7 @@ use std::hash::RandomState;
 use std::io::IsTerminal;
 use std::process::ExitCode;
 use std::{env, io};
+use tracing::run_trace;
 
 /// Serves on the standard streams, and returns the exit status.
 fn run_service(rt: &HostRuntime, service: &Service, hasher: RandomState) -> u8
@@ -43,10 +45,10 @@ fn run_task(rt: &HostRuntime, task: &Task, hasher: RandomState) -> u8
 fn run_setting(rt: &HostRuntime, setting: &Setting) -> io::Result<u8>
     requires { IsMeant setting.now }
 {
-    let hasher = RandomState::new(rt)?;
     match setting {
-        Setting::Run(task) => Ok(run_task(rt, task, hasher)),
-        Setting::Serve(service) => Ok(run_service(rt, service, hasher)),
+        Setting::Run(task) => Ok(run_task(rt, task, RandomState::new(rt)?)),
+        Setting::Serve(service) => Ok(run_service(rt, service, RandomState::new(rt)?)),
+        Setting::Trace(tracing) => Ok(run_trace(rt, tracing)),
     }
 }
 

@@ -5,6 +5,7 @@ ghost use Rattle.giop_tool.specs.Settings.{IsMeant, IsOfWords};
 
 use crate::help;
 use crate::help::Texts;
+use crate::tracing::Tracing;
 use clap::builder::ValueParser;
 use clap::error::ErrorKind;
 use clap::{Arg, ArgAction, ArgMatches, Command};
@@ -12,6 +13,7 @@ use giop_run::{
     CAPACITY, Form, Input, LEAST_LIMIT, LIMIT, MOST_CONNECTIONS, MOST_LIMIT, MOST_OUTCOMES,
     MOST_PARTIALS, Numbers, PARTIALS, START, Service, Task,
 };
+use giop_trace::{Format, Options};
 use std::alloc::{AllocError, Global};
 
 /// What the program is to do.
@@ -21,6 +23,8 @@ pub(crate) enum Setting<'a> {
     Run(Task<'a>),
     /// To serve over TCP.
     Serve(Service),
+    /// To trace what was said on connections.
+    Trace(Tracing<'a>),
 }
 
 impl Setting<'_> {
@@ -31,6 +35,7 @@ impl Setting<'_> {
         match *self {
             Setting::Run(task) => task.is_in_range(),
             Setting::Serve(service) => service.is_in_range(),
+            Setting::Trace(_) => true,
         }
     }
 }
@@ -44,6 +49,14 @@ pub(crate) enum SettingError {
     Range,
     /// An allocation failed.
     Memory,
+}
+
+/// An option without a value.
+fn flag<'a>(alloc: Global, name: &'a str, help: &'a str) -> Arg<'a> {
+    Arg::new(alloc, name)
+        .long(name)
+        .help(help)
+        .action(ArgAction::SetTrue)
 }
 
 /// An option that takes a number.
@@ -135,15 +148,11 @@ fn stream_command<'a>(
     let file = Arg::new(alloc, "FILE")
         .help(help::FILE)
         .action(ArgAction::Set);
-    let raw = Arg::new(alloc, "raw")
-        .long("raw")
-        .help(help::RAW)
-        .action(ArgAction::SetTrue);
     Command::new(alloc, name)
         .about(about)
         .after_help(help)
         .arg(file)?
-        .arg(raw)
+        .arg(flag(alloc, "raw", help::RAW))
 }
 
 /// `giop show [FILE]`.
@@ -154,6 +163,13 @@ fn show_command<'a>(alloc: Global, texts: &'a Texts) -> Result<Command<'a>, Allo
 /// `giop check [FILE]`.
 fn check_command<'a>(alloc: Global, texts: &'a Texts) -> Result<Command<'a>, AllocError> {
     stream_command(alloc, "check", help::CHECKS, &texts.check)
+}
+
+/// `giop trace [FILE]`.
+fn trace_command<'a>(alloc: Global) -> Result<Command<'a>, AllocError> {
+    stream_command(alloc, "trace", help::TRACES, help::TRACE)?
+        .arg(flag(alloc, "resume", help::RESUME))?
+        .arg(flag(alloc, "json", help::JSON))
 }
 
 /// `giop ior TEXT`.
@@ -191,11 +207,7 @@ fn serve_command<'a>(alloc: Global, texts: &'a Texts) -> Result<Command<'a>, All
     let command = with_numbers(alloc, texts, command)?;
     let seconds = ValueParser::unsigned(1, u64::from(u32::MAX));
     let command = with_number(alloc, command, "timeout", &texts.timeout, seconds)?;
-    let log = Arg::new(alloc, "log")
-        .long("log")
-        .help(help::LOG)
-        .action(ArgAction::SetTrue);
-    command.arg(log)
+    command.arg(flag(alloc, "log", help::LOG))
 }
 
 /// `giop` without a subcommand.
@@ -221,6 +233,7 @@ fn command<'a>(alloc: Global, texts: &'a Texts) -> Result<Command<'a>, AllocErro
     let command = with(base_command(alloc)?, play_command(alloc, texts))?;
     let command = with(command, show_command(alloc, texts))?;
     let command = with(command, check_command(alloc, texts))?;
+    let command = with(command, trace_command(alloc))?;
     let command = with(command, ior_command(alloc))?;
     with(command, serve_command(alloc, texts))
 }
@@ -292,10 +305,30 @@ fn task_of<'a>(matches: &ArgMatches<'a>) -> Task<'a> {
     }
 }
 
+/// The trace that the words of `giop trace` ask for.
+fn tracing_of<'a>(words: &ArgMatches<'a>) -> Tracing<'a> {
+    let input = input_of(words);
+    Tracing {
+        input,
+        options: Options {
+            is_raw: input.form == Form::Raw,
+            resumes: words.get_flag("resume"),
+            format: if words.get_flag("json") {
+                Format::Json
+            } else {
+                Format::Lines
+            },
+        },
+    }
+}
+
 /// The setting that parsed words ask for.
 fn setting_of<'a>(matches: &ArgMatches<'a>) -> Setting<'a> {
-    match matches.subcommand_matches("serve") {
-        Some(words) => Setting::Serve(service_of(words)),
+    if let Some(words) = matches.subcommand_matches("serve") {
+        return Setting::Serve(service_of(words));
+    }
+    match matches.subcommand_matches("trace") {
+        Some(words) => Setting::Trace(tracing_of(words)),
         None => Setting::Run(task_of(matches)),
     }
 }

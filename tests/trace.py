@@ -1,0 +1,419 @@
+#!/usr/bin/env python3
+"""Checks what `giop trace --json` prints, field by field.
+
+usage: trace.py PROGRAM
+
+- Each recorded connection of tests/follow is traced, and each of its messages is compared with what is read of its
+  octets here.
+- Sessions are made at random, whose pairs of requests and answers are known: several connections, on which both sides
+  ask, ids that are used again, requests that want no reply, cancels, replies that nobody asked for, fragments, keys
+  that come again; and each message in lines that are cut anywhere. The lines for a person are compared with the
+  objects.
+- Octets that are no message stand between messages, and with --resume each message is found.
+
+The last line is 'N passed, M failed'; the status is 0 only where all passed.
+"""
+import datetime
+import json
+import os
+import random
+import re
+import struct
+import subprocess
+import sys
+
+HERE = os.path.dirname(os.path.abspath(__file__))
+FOLLOW = os.path.join(HERE, "follow")
+SESSIONS = 60
+SEED = 20261126
+KINDS = ["Request", "Reply", "CancelRequest", "LocateRequest", "LocateReply", "CloseConnection", "MessageError"]
+REQUEST, REPLY, CANCEL, LOCATE, LOCATED, CLOSE, ERROR, FRAGMENT = range(8)
+STATUSES = ["NO_EXCEPTION", "USER_EXCEPTION", "SYSTEM_EXCEPTION", "LOCATION_FORWARD"]
+LOCATIONS = ["UNKNOWN_OBJECT", "OBJECT_HERE", "OBJECT_FORWARD"]
+WISHES = {0: "none", 1: "empty", 3: "full"}
+NAMES = {1: "CodeSets", 13: "FT_REQUEST"}
+EPOCH = datetime.datetime(1582, 10, 15)
+
+
+def cdr_string(order, text):
+    return struct.pack(order + "I", len(text) + 1) + text + b"\0"
+
+
+def padded(octets, size, at=0):
+    return octets + bytes(-(at + len(octets)) % size)
+
+
+def ft_context(order, client, retention, expiration):
+    body = bytes([1 if order == "<" else 0])
+    body = padded(body, 4) + cdr_string(order, client)
+    body = padded(body, 4) + struct.pack(order + "i", retention)
+    return padded(body, 8) + struct.pack(order + "Q", expiration)
+
+
+class Message:
+    """A message to be sent: what it says, and its octets."""
+
+    def __init__(self, kind, minor, order, request_id, **says):
+        self.kind, self.minor, self.order, self.id, self.says = kind, minor, order, request_id, says
+
+    def contexts(self):
+        found = []
+        if self.says.get("codesets"):
+            found.append((1, bytes(12)))
+        if "ft" in self.says:
+            found.append((13, ft_context(self.order, *self.says["ft"])))
+        return found
+
+    def put_contexts(self, out):
+        out = padded(out, 4, 12) + struct.pack(self.order + "I", len(self.contexts()))
+        for number, octets in self.contexts():
+            out = padded(out, 4, 12) + struct.pack(self.order + "II", number, len(octets)) + octets
+        return out
+
+    def put_key(self, out):
+        if self.minor == 2:
+            out = padded(out, 2, 12) + struct.pack(self.order + "h", 0)
+        return padded(out, 4, 12) + struct.pack(self.order + "I", 1) + b"k"
+
+    def fields(self):
+        pack = lambda form, *values: struct.pack(self.order + form, *values)
+        wish = self.says.get("wish", 3)
+        if self.kind in (CANCEL,):
+            return pack("I", self.id)
+        if self.kind in (CLOSE, ERROR):
+            return b""
+        if self.kind == LOCATE:
+            return self.put_key(pack("I", self.id))
+        if self.kind == LOCATED:
+            return pack("II", self.id, self.says["status"])
+        if self.kind == REPLY:
+            if self.minor == 2:
+                return padded(self.put_contexts(pack("II", self.id, self.says["status"])), 8, 12)
+            return padded(self.put_contexts(b""), 4, 12) + pack("II", self.id, self.says["status"])
+        if self.minor == 2:
+            out = self.put_key(pack("IB", self.id, wish) + bytes(3))
+            out = padded(out, 4, 12) + cdr_string(self.order, self.says["operation"])
+            return padded(self.put_contexts(out), 8, 12)
+        out = padded(self.put_contexts(b""), 4, 12) + pack("IB", self.id, 1 if wish else 0)
+        if self.minor == 1:
+            out += bytes(3)
+        out = padded(self.put_key(out), 4, 12) + cdr_string(self.order, self.says["operation"])
+        return padded(out, 4, 12) + pack("I", 0)
+
+    def octets(self):
+        """Its octets in one frame."""
+        return self.frame(self.kind, self.fields() + self.says.get("body", b""), False)
+
+    def frame(self, kind, octets, more):
+        flags = (1 if self.order == "<" else 0) | (2 if more else 0)
+        return b"GIOP\1" + bytes([self.minor, flags, kind]) + struct.pack(self.order + "I", len(octets)) + octets
+
+    def frames(self, rng):
+        """Its octets in one frame, or in two where its version lets it be cut."""
+        whole = self.fields() + self.says.get("body", b"")
+        if self.kind not in (REQUEST, REPLY) or self.minor == 0 or rng.random() < 0.7:
+            return [self.octets()]
+        # the first frame ends 8 octets further on, with its header: in 1.1 it leaves 4
+        places = [n for n in range(12, len(whole)) if (n + 12) % 8 == (0 if self.minor == 2 else 4)]
+        if not places:
+            return [self.octets()]
+        cut = rng.choice(places)
+        head = struct.pack(self.order + "I", self.id) if self.minor == 2 else b""
+        return [self.frame(self.kind, whole[:cut], True), self.frame(FRAGMENT, head + whole[cut:], False)]
+
+
+def expires(moment):
+    """The time of UTC of a moment in units of 100 ns, as jiff prints it; None after the year 9999."""
+    try:
+        time = EPOCH + datetime.timedelta(microseconds=moment // 10)
+    except OverflowError:
+        return None
+    fraction = moment % 10_000_000
+    digits = f".{fraction:07d}".rstrip("0") if fraction else ""
+    return f"{time:%Y-%m-%dT%H:%M:%S}".rjust(19, "0") + digits + "Z"
+
+
+class Session:
+    """Messages in the order in which they complete, each with what is to be printed of it."""
+
+    def __init__(self, rng):
+        self.rng, self.sent, self.text, self.connection = rng, [], [], 0
+        self.ends = {}
+
+    def open(self):
+        self.connection += 1
+        self.ends = {0: 0, 1: 0}
+        self.text.append(f"\n===\nFollow: tcp,raw\nFilter: tcp.stream eq {self.connection - 1}\nNode 0: 127.0.0.1:1\n")
+
+    def send(self, side, message):
+        """Sends a message in lines that are cut anywhere."""
+        for octets in message.frames(self.rng):
+            self.write(side, octets)
+        self.sent.append((self.connection, side, message, self.ends[side]))
+
+    def write(self, side, octets):
+        self.ends[side] += len(octets)
+        cut = self.rng.randrange(1, len(octets)) if len(octets) > 1 and self.rng.random() < 0.3 else len(octets)
+        for piece in (octets[:cut], octets[cut:]):
+            if piece:
+                self.text.append("\t" * side + piece.hex() + "\n")
+
+    def is_request(self, k, side, kind, request_id, connection):
+        """Whether message k is a request of the side with the id, whose answer is of that kind."""
+        where, sender, asked, _ = self.sent[k]
+        wants = {REQUEST: REPLY, LOCATE: LOCATED}.get(asked.kind)
+        return (where, sender, asked.id) == (connection, side, request_id) and wants == kind and (
+            asked.kind == LOCATE or asked.says["wish"] != 0)
+
+    def pairs(self):
+        """For each message the number of the request that it answers or cancels, or None."""
+        answered, found = set(), []
+        for n, (connection, side, message, _) in enumerate(self.sent):
+            if message.kind in (REPLY, LOCATED):
+                fits = [k for k in range(n) if k not in answered
+                        and self.is_request(k, 1 - side, message.kind, message.id, connection)]
+                if fits:
+                    answered.add(fits[-1])
+            elif message.kind == CANCEL:
+                fits = [k for k in range(n) if k not in answered
+                        and any(self.is_request(k, side, kind, message.id, connection) for kind in (REPLY, LOCATED))]
+            else:
+                fits = []
+            found.append(fits[-1] + 1 if fits else None)
+        return found
+
+    def repeats(self):
+        """For each message the number of the first with its key, or None."""
+        first, found = {}, []
+        for n, (_, _, message, _) in enumerate(self.sent):
+            key = message.says["ft"][:2] if "ft" in message.says else None
+            found.append(first.get(key) if key else None)
+            if key:
+                first.setdefault(key, n + 1)
+        return found
+
+    def objects(self):
+        """What is to be printed of each message."""
+        for n, ((connection, side, message, end), request, repeat) in enumerate(
+                zip(self.sent, self.pairs(), self.repeats()), 1):
+            earlier = self.sent[request - 1][2] if request else None
+            yield object_of(message, n, connection, side, end, request, repeat, earlier)
+
+
+def object_of(message, number, connection, side, end, request, repeat, earlier):
+    says, kind = message.says, message.kind
+    has_contexts = kind in (REQUEST, REPLY)
+    operation = says.get("operation")
+    if kind in (REPLY, CANCEL) and earlier is not None:
+        operation = earlier.says.get("operation")
+    status = {REPLY: STATUSES, LOCATED: LOCATIONS}.get(kind)
+    ft = None
+    if "ft" in says:
+        client, retention, expiration = says["ft"]
+        ft = {"valid": True, "client": client.decode(), "retention": retention, "expiration": expiration,
+              "expires": expires(expiration)}
+    return {
+        "line": "message", "number": number, "connection": connection, "direction": ["opener", "acceptor"][side],
+        "to": end, "version": f"1.{message.minor}", "order": "little" if message.order == "<" else "big",
+        "kind": KINDS[kind], "id": None if kind in (CLOSE, ERROR) else message.id,
+        "reply": WISHES[says["wish"]] if kind == REQUEST else None,
+        "target": {"key": "6b", "text": "k", "tag": None, "profile": None, "index": None}
+                  if kind in (REQUEST, LOCATE) else None,
+        "operation": operation.decode() if operation else None,
+        "octets": len(says.get("body", b"")) if kind in (REQUEST, REPLY, LOCATED) else None,
+        "status": status[says["status"]] if status else None,
+        "request": request, "later": number - request if request else None, "exception": says.get("exception"),
+        "contexts": [{"id": i, "name": NAMES[i], "octets": o.hex()} for i, o in message.contexts()] if has_contexts else [],
+        "ft": ft, "repeats": repeat,
+    }
+
+
+def exception(order, rng):
+    """A system exception: its octets, and what is printed of it."""
+    name, minor, done = rng.choice(["UNKNOWN", "MARSHAL", "TIMEOUT"]), rng.randrange(1 << 32), rng.randrange(3)
+    text = f"IDL:omg.org/CORBA/{name}:1.0".encode()
+    body = padded(cdr_string(order, text), 4) + struct.pack(order + "II", minor, done)
+    return body, {"id": text.decode(), "name": name, "minor": minor, "completed": ["YES", "NO", "MAYBE"][done]}
+
+
+def request(rng, minor, order):
+    says = {"wish": rng.choice([3, 3, 3, 1, 0] if minor == 2 else [3, 3, 0]),
+            "operation": rng.choice([b"add", b"get", b"_is_a"]), "body": bytes(rng.randrange(3) * 8)}
+    if rng.random() < 0.2:
+        says["codesets"] = True
+    if rng.random() < 0.3:
+        says["ft"] = (rng.choice([b"A", b"B"]), rng.randrange(-1, 2), rng.choice([0, 1 << 56, 200000000000000001, (1 << 64) - 1]))
+    return Message(REQUEST, minor, order, rng.randrange(4), **says)
+
+
+def reply(rng, minor, order):
+    body, raised = bytes(rng.randrange(3) * 8), None
+    status = rng.choice([0, 0, 2])
+    if status == 2:
+        body, raised = exception(order, rng)
+    return Message(REPLY, minor, order, rng.randrange(4), status=status, body=body, exception=raised)
+
+
+def any_message(rng, minor):
+    order = rng.choice("<>")
+    kind = rng.choice([REQUEST] * 6 + [REPLY] * 6 + [CANCEL, LOCATE, LOCATE, LOCATED, LOCATED])
+    if kind == REQUEST:
+        return request(rng, minor, order)
+    if kind == REPLY:
+        return reply(rng, minor, order)
+    if kind == LOCATED:
+        return Message(LOCATED, minor, order, rng.randrange(4), status=rng.choice([0, 1]))
+    return Message(kind, minor, order, rng.randrange(4))
+
+
+def session(rng):
+    made = Session(rng)
+    for _ in range(rng.randrange(1, 4)):
+        made.open()
+        minor = rng.choice([0, 1, 2, 2])
+        for _ in range(rng.randrange(1, 40)):
+            made.send(rng.randrange(2), any_message(rng, minor))
+        if rng.random() < 0.5:
+            made.send(0, Message(rng.choice([CLOSE, ERROR]), minor, ">", None))
+    return made
+
+
+class Program:
+    def __init__(self, path):
+        self.path = os.path.abspath(path)
+
+    def run(self, text, *words):
+        ran = subprocess.run([self.path, "trace", *words], input=text.encode(), capture_output=True, timeout=60)
+        return ran.returncode, ran.stdout.decode(), ran.stderr.decode()
+
+    def objects(self, text, *words):
+        status, out, err = self.run(text, "--json", *words)
+        return status, [json.loads(line) for line in out.splitlines()], err
+
+
+def differences(wanted, got):
+    """The first field that differs, or None."""
+    if set(wanted) != set(got):
+        return f"fields {sorted(set(wanted) ^ set(got))}"
+    for field, value in wanted.items():
+        if got[field] != value or type(got[field]) is not type(value):
+            return f"{field}: {got[field]!r} in place of {value!r}"
+    return None
+
+
+def compared(wanted, got):
+    for n, (one, other) in enumerate(zip(wanted, got), 1):
+        differs = differences(one, other)
+        if differs:
+            return f"message {n}: {differs}"
+    return None if len(wanted) == len(got) else f"{len(got)} messages in place of {len(wanted)}"
+
+
+def ending(made, objects, faults=0, passed=0):
+    """The object at the end."""
+    answered = {o["request"] for o in objects if o["kind"] in ("Reply", "LocateReply")}
+    cancelled = {o["request"] for o in objects if o["kind"] == "CancelRequest"}
+    waits = [o["number"] for o in objects if o["number"] not in answered
+             and (o["kind"] == "LocateRequest" or o["kind"] == "Request" and o["reply"] != "none")]
+    return {
+        "line": "end", "messages": len(objects), "connections": made.connection, "unanswered": waits,
+        "cancelled": [n for n in waits if n in cancelled],
+        "strays": [o["number"] for o in objects if o["kind"] in ("Reply", "LocateReply") and o["request"] is None],
+        "repeats": [o["number"] for o in objects if o["repeats"] is not None], "faults": faults, "passed": passed,
+    }
+
+
+def line_heads(out):
+    """The number, the direction, the place and the kind of each line of a message for a person."""
+    return re.findall(r"^(\d+) ([<>]) to (\d+) (1\.[012]) (big|little) (\w+)", out, re.M)
+
+
+def check_session(program, seed):
+    """What is wrong with the trace of a session, or None."""
+    made = session(random.Random(seed))
+    wanted, text = list(made.objects()), "".join(made.text)
+    status, got, err = program.objects(text)
+    if err or status != 0:
+        return f"status {status}, {err!r}"
+    wrong = compared(wanted, got[:-1]) or differences(ending(made, wanted), got[-1])
+    if wrong:
+        return wrong
+    heads = [(str(o["number"]), "<" if o["direction"] == "acceptor" else ">", str(o["to"]), o["version"], o["order"],
+              o["kind"]) for o in wanted]
+    return None if line_heads(program.run(text)[1]) == heads else "the lines for a person differ"
+
+
+def check_junk(program, seed):
+    """Octets that are no message between messages: what is wrong with the trace that resumes, or None."""
+    rng = random.Random(seed)
+    made = Session(rng)
+    made.open()
+    faults = passed = 0
+    for n in range(20):
+        made.send(0, Message(REQUEST, 2, ">", n, wish=3, operation=b"get"))
+        if rng.random() < 0.4:
+            junk = bytes(rng.choice(b"GIOP\0\1\2") for _ in range(rng.randrange(12, 40)))
+            if b"GIOP\1" in junk or junk.endswith((b"G", b"GI", b"GIO", b"GIOP")):
+                continue
+            made.write(0, junk)
+            faults, passed = faults + 1, passed + len(junk)
+    wanted = list(made.objects())
+    status, got, err = program.objects("".join(made.text), "--resume")
+    if err or status != (1 if faults else 0):
+        return f"status {status}, {err!r}"
+    lines = [o for o in got[:-1] if o["line"] == "message"]
+    counted = sum(o["octets"] for o in got if o["line"] == "passed")
+    if counted != passed:
+        return f"{counted} octets passed over in place of {passed}"
+    return compared(wanted, lines) or differences(ending(made, wanted, faults, passed), got[-1])
+
+
+def recorded(name):
+    """The text of a recorded connection, and the octets of its messages in the order of their ends, by side."""
+    with open(os.path.join(FOLLOW, name), encoding="ascii") as file:
+        text = file.read()
+    found = []
+    for line in text.splitlines():
+        if re.fullmatch(r"\t?([0-9a-f]{2})+", line):
+            found.append((line.startswith("\t"), bytes.fromhex(line.strip())))
+    return text, found
+
+
+def check_recorded(program, name):
+    """What is wrong with the trace of a recorded connection, in which each line is a frame, or None."""
+    text, frames = recorded(name)
+    whole = [(side, o) for side, o in frames if not o[6] & 2]
+    status, got, err = program.objects(text)
+    if err or status != 0:
+        return f"status {status}, {err!r}"
+    if len(got) != len(whole) + 1 or got[-1]["messages"] != len(whole):
+        return f"{len(got) - 1} messages in place of {len(whole)}"
+    for (side, octets), one in zip(whole, got):
+        kind = "Request" if octets[7] == FRAGMENT else KINDS[octets[7]]
+        head = (["opener", "acceptor"][side], f"1.{octets[5]}", "little" if octets[6] & 1 else "big", kind)
+        if (one["direction"], one["version"], one["order"], one["kind"]) != head:
+            return f"message {one['number']}: {one} in place of {head}"
+        if kind in ("Reply", "LocateReply") and one["request"] != one["number"] - 1:
+            return f"message {one['number']} answers {one['request']}"
+    return None
+
+
+def main(words):
+    if len(words) != 1:
+        sys.exit("usage: trace.py PROGRAM")
+    program = Program(words[0])
+    checks = [(f"recorded {name}", check_recorded, name) for name in sorted(os.listdir(FOLLOW)) if name.endswith(".txt")]
+    checks += [(f"session {n}", check_session, SEED + n) for n in range(SESSIONS)]
+    checks += [(f"octets that are no message {n}", check_junk, SEED + n) for n in range(SESSIONS // 3)]
+    failed = 0
+    for name, check, what in checks:
+        wrong = check(program, what)
+        if wrong:
+            failed += 1
+            print(f"{name}: {wrong}")
+    print(f"{len(checks) - failed} passed, {failed} failed")
+    return 1 if failed else 0
+
+
+if __name__ == "__main__":
+    sys.exit(main(sys.argv[1:]))
