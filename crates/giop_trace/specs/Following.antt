@@ -54,7 +54,7 @@ pub record Stretched : Type 0 where
   pub octets : List ℕ
 
 -- the octets in lines, after so many heads: what stands before the first head is of the first connection, as what stands
--- behind it is
+-- after it is
 abbrev pub stretches : ℕ → List (List ℕ) → List Stretched
 stretches heads [] = []
 stretches heads (line ∷ later) =

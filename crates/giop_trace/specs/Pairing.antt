@@ -33,7 +33,7 @@ asked_by wish.None id = Apart
 asked_by wish.Empty id = Asks wanted.Reply id
 asked_by wish.Full id = Asks wanted.Reply id
 
--- GIOP 9.4.2 to 9.4.6: what a message is to the pairs: a request of an id, by the kind of its answer; an answer; a cancel
+-- GIOP 9.4.2 to GIOP 9.4.6: what a message is to the pairs: a request of an id, by the kind of its answer; an answer; a cancel
 abbrev pub part_of : Content → Part
 part_of (content.request id wish to operation contexts body) = asked_by wish id
 part_of (content.locate_request id to) = Asks wanted.Location id
@@ -102,7 +102,7 @@ abbrev pub number_of : Option Asked → Option ℕ
 number_of None = None
 number_of (Some a) = Some a.number
 
--- GIOP 9.4.3, 9.4.4, 9.4.6: which request a message answers or cancels: the latest that waits, and that it is about
+-- GIOP 9.4.3, GIOP 9.4.4, GIOP 9.4.6: which request a message answers or cancels: the latest that waits, and that it is about
 abbrev pub request_of : Said → List Said → Option ℕ
 request_of m earlier = number_of (latest (is_about m.connection m.sender (part_of m.content)) (waiting earlier))
 

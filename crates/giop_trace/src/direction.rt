@@ -1,5 +1,5 @@
 //! One side's octets on a connection, as they are given to the trace: frame by frame, so that the place of a fault is
-//! known, and reading can go on behind it.
+//! known, and reading can go on after it.
 
 use crate::sender::Sender;
 use crate::stop::Stop;
@@ -63,7 +63,7 @@ fn header_at(octets: &[u8]) -> Option<Header> {
 }
 
 /// Whether octets begin with the header of a message that can come by itself: it is no Fragment, it is within the limit,
-/// and a message that is its header alone has no more octets (a rule of this project).
+/// and a message that is its header alone has no more octets (own rule).
 fn is_plausible(octets: &[u8], limit: u32) -> bool {
     let Some(header) = header_at(octets) else {
         return false;

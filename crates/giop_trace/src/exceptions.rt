@@ -1,4 +1,4 @@
-//! The exceptions in the bodies of replies (CORBA 3.3 Part 2, 9.4.3.2).
+//! The exceptions in the bodies of replies (GIOP 9.4.3.2).
 
 use cdr_core::Cursor;
 use giop_core::Body;

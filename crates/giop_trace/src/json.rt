@@ -423,7 +423,7 @@ fn put_object<T: Serialize>(alloc: Global, object: &T, text: &mut String) -> Res
             text.push('\n')?;
             Ok(())
         }
-        // the writer of JSON fails for want of memory alone
+        // the writer of JSON fails for lack of memory alone
         Err(_) => Err(Stop::Memory),
     }
 }

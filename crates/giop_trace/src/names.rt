@@ -72,7 +72,7 @@ pub(crate) fn completion(number: u32) -> &'static str {
     }
 }
 
-/// The name of a service context's id (CORBA 3.3 Part 2, 7.7, and the standards that add to it).
+/// The name of a service context's id (IOP 7.7, and the standards that add to it).
 pub(crate) fn context(id: u32) -> Option<&'static str> {
     let name = match id {
         0 => "TransactionService",

@@ -57,7 +57,7 @@ pub struct Seen<'t> {
 /// message that completes, with the request that it answers or cancels, and the one that it repeats.
 ///
 /// A message may be of either side: requests of the side that accepted the connection count as well, and have ids of
-/// their own (CORBA 3.3 Part 2, 9.8: bi-directional GIOP).
+/// their own (GIOP 9.8: bi-directional GIOP).
 #[derive(Debug, Drop)]
 pub struct Trace {
     alloc: Global,
