@@ -57,6 +57,7 @@ COSTS = {
     "ft_tcp": (25, 8),
     "counter": (50, 8),
     "giop_run": (260, 18),
+    "giop_trace": (200, 12),
     "uses": (200, 20),
     "orb_tests": (120, 20),
     "lemonrudder": (600, 14),
