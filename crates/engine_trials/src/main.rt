@@ -10,7 +10,7 @@
 //! tests/refused_allocations.py run the program.
 #![tactic(auto)]
 
-mod counter;
+mod count;
 mod host;
 mod lines;
 mod owner;

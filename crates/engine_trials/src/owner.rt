@@ -1,6 +1,6 @@
 //! The owner of an engine: it performs what the engine asks, or does not.
 
-use crate::counter::Count;
+use crate::count::Count;
 use cdr_core::Val;
 use ft_log::{Completion, Outcome, SystemName};
 use ft_orb::Asked;

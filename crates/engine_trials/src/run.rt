@@ -3,7 +3,7 @@
 ghost use Rattle.std.specs.Prelude.{◌≡◌, IfOk, None};
 ghost use Rattle.ft_orb.specs.Engines.{waits_in};
 
-use crate::counter::Count;
+use crate::count::Count;
 use crate::host::Host;
 use crate::lines::play_lines;
 use crate::owner::{Manner, Owner};
