@@ -55,7 +55,7 @@ pub fn serve_listener<S: Servant + Drop, C: Clock>(
     ensures { (made : Made S) (past : List history.Event) → Stands S.meaning made server.old past → (visits : List Visit)
         × AreVisits made.limits S.meaning.knows (table_says S.meaning made) past 1 visits
         × Stands S.meaning made server.new (past_with_visits made.limits past 1 visits)
-        × Follows (λ before now. now ≡ before ++ moments_in visits) (C.given clock.old) (C.given clock.new)
+        × IfKnown (λ before now. now ≡ before ++ moments_in visits) (C.given clock.old) (C.given clock.new)
         × (length visits ≤ connections)
         × IfOk result (λ _. length visits ≡ connections) }
 {
