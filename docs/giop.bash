@@ -2,12 +2,13 @@
 _giop() {
     local word=${COMP_WORDS[COMP_CWORD]} words files=
     case $COMP_CWORD:${COMP_WORDS[1]} in
-    1:*) words='play show check ior serve help --help --version' ;;
-    2:help) words='play show check ior serve' ;;
+    1:*) words='play show check trace ior serve help --help --version' ;;
+    2:help) words='play show check trace ior serve' ;;
     *) case ${COMP_WORDS[1]} in
     play) words='--capacity --share --start --limit --partials --help' ;;
     show) words='--raw --help' files=1 ;;
     check) words='--raw --help' files=1 ;;
+    trace) words='--raw --resume --json --help' files=1 ;;
     ior) words='--help' ;;
     serve) words='--port --connections --capacity --share --start --limit --partials --timeout --log --help' ;;
     esac ;;
