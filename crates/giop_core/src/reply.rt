@@ -1,11 +1,11 @@
 //! Reply (GIOP 9.4.3).
 
-ghost use Rattle.std.specs.Prelude.{◌↔◌, Some, IsTrue, ◌≡◌, IfOk, MatchResult, ◌≤◌, ◌<◌, ◌++◌, length, map};
+ghost use Rattle.std.specs.Prelude.{◌↔◌, Some, IsTrue, ◌≡◌, IfOk, MatchResult, ◌≤◌, ◌<◌, ◌++◌, [], length, map, OnErr, OnOk};
 ghost use Rattle.cdr_core.specs.Private.{Keeps};
 ghost use Rattle.cdr_core.specs.Spelling.{IsClean};
 ghost use Rattle.cdr_core.specs.Value.{values};
 ghost use Rattle.cdr_core.specs.View.{values_of};
-ghost use Rattle.cdr_core.specs.Writing.{place_in, AreWritable, PutsAll};
+ghost use Rattle.cdr_core.specs.Writing.{octets_of_all, place_in, AreWritable, PutsAll};
 ghost use Rattle.giop_core.specs.Items.{item_at};
 ghost use Rattle.giop_core.specs.Lent.{content_of, Shows};
 ghost use Rattle.giop_core.specs.Messages.{message_of};
@@ -234,6 +234,23 @@ fn put_reply(
     }
 }
 
+/// Appends the fields of a Reply of 1.2 without service contexts, which begin behind its header: three unsigned longs,
+/// the last the number of contexts.
+fn put_bare_reply(
+    order: Order,
+    request_id: u32,
+    status: u32,
+    out: &mut Vec<u8>,
+) -> Result<(), AllocError>
+    ensures ok { OnOk result (out.new.items ≡ out.old.items ++ octets_of_all order (values (reply_fields V12 request_id status [])) 12) }
+    ensures err { OnErr result (out.new.items ≡ out.old.items) }
+{
+    let mut fields = [0; 12];
+    order.put_ulong(request_id, &mut fields[..4]);
+    order.put_ulong(status, &mut fields[4..8]);
+    out.extend_from_slice(&fields)
+}
+
 /// Appends a Reply as far as its fields, with zeros in place of its header. Where that fails `out` may
 /// keep a part of it at its end.
 fn begin_reply(
@@ -248,6 +265,10 @@ fn begin_reply(
 {
     check_contexts(contexts)?;
     let writer = begin(order, out)?;
+    if let (Version::V12, []) = (version, contexts) {
+        put_bare_reply(order, request_id, status, out)?;
+        return Ok(writer);
+    }
     put_reply(version, &writer, request_id, status, contexts, out)?;
     Ok(writer)
 }
