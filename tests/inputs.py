@@ -122,7 +122,7 @@ def unreadable():
 
 def unwritable():
     """Output that can't be written is named."""
-    for words, given in ((["show"], DIGITS), (["check"], DIGITS), (["play"], b""), (["ior", "IOR:00000000000000010000000000000000"], b"")):
+    for words, given in ((["show"], DIGITS), (["check"], DIGITS), (["play"], b""), (["trace"], b""), (["ior", "IOR:00000000000000010000000000000000"], b"")):
         with open("/dev/full", "wb") as full:
             ran = subprocess.run([PROGRAM, *words], input=given, stdout=full, stderr=subprocess.PIPE, timeout=SECONDS, check=False)
         want((ran.returncode, ran.stderr), (1, b"output: No space left on device (os error 28)\n"), words[0])
@@ -147,6 +147,8 @@ def waiting():
     # (the terminal shows what is typed, too)
     want(on_terminal("show", status=0).replace(b"^D\b\b", b""), WAITING, "show")
     want(on_terminal("play", status=0).replace(b"^D\b\b", b""), WAITING, "play")
+    want(on_terminal("trace", status=0).replace(b"^D\b\b", b""), WAITING, "trace")
+    want(on_terminal("trace", "/dev/null", status=0).replace(b"^D\b\b", b""), b"", "trace of a file")
     want(on_terminal("ior", "IOR:00000000000000010000000000000000", status=0).replace(b"^D\b\b", b""), b"", "ior")
 
 

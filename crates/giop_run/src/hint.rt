@@ -7,7 +7,7 @@ use std::fmt;
 
 /// What helps where a stream was refused or doesn't end well.
 #[derive(Clone, Copy, Debug, PartialEq, Eq)]
-pub(crate) enum Hint {
+pub enum Hint {
     /// Input comes from a terminal.
     Waiting,
     /// The input is a packet capture.

@@ -20,6 +20,7 @@ mod text;
 mod watching;
 
 // what the program is asked for, and all of it over a reader and writers
+pub use hint::Hint;
 pub use input::read_octets;
 pub use program::{Streams, run};
 pub use script::{ScriptError, read_script};

@@ -1,8 +1,9 @@
 //! `giop trace`: what is asked of it, and what it does.
 
-use giop_run::{DONE, FAILED, Input, REFUSED, read_octets};
+use giop_run::{DONE, FAILED, Hint, Input, REFUSED, read_octets};
 use giop_trace::{Options, trace};
 use std::io;
+use std::io::IsTerminal;
 
 /// What is asked of a trace, and of which input.
 #[derive(Clone, Copy, Debug, PartialEq, Eq)]
@@ -30,9 +31,18 @@ impl Failure {
     }
 }
 
+/// Says that input is waited for, where it is read from a terminal and one sits before it.
+fn print_waiting(rt: &HostRuntime, input: &Input) -> io::Result<()> {
+    if input.file.is_none() && rt.stdin().is_terminal() && rt.stderr().is_terminal() {
+        eprintln!(rt; "{}", Hint::Waiting)?;
+    }
+    Ok(())
+}
+
 /// Prints the trace, and returns whether each direction ends well.
 fn print_trace(rt: &HostRuntime, tracing: &Tracing) -> Result<bool, Failure> {
     let alloc = rt.alloc();
+    let _ = print_waiting(rt, &tracing.input);
     let (mut input, mut out) = (rt.stdin(), rt.stdout());
     let octets = read_octets(alloc, rt, &tracing.input, &mut input).map_err(Failure::Input)?;
     trace(alloc, &tracing.options, octets.as_slice(), &mut out).map_err(Failure::Trace)

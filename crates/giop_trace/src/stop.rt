@@ -7,7 +7,7 @@ use std::io::ErrorKind;
 use thiserror::Error;
 
 /// Why a trace stops before its work is done.
-#[derive(Clone, Copy, Debug, PartialEq, Eq, Error)]
+#[derive(Debug, Drop, Error)]
 pub enum Stop {
     /// An allocation failed.
     #[error("memory")]
@@ -25,8 +25,8 @@ pub enum Stop {
     #[error("line {0}: colons between digits; give what `tshark -q -z follow,tcp,raw,N` prints")]
     Colons(u64),
     /// The output can't be written.
-    #[error("output: unwritable")]
-    Unwritable,
+    #[error("output: {0}")]
+    Unwritable(io::Error),
 }
 
 impl From<AllocError> for Stop {
@@ -59,7 +59,7 @@ impl From<io::Error> for Stop {
     fn from(error: io::Error) -> Stop {
         match error.kind() {
             ErrorKind::OutOfMemory => Stop::Memory,
-            _ => Stop::Unwritable,
+            _ => Stop::Unwritable(error),
         }
     }
 }
