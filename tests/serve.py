@@ -583,14 +583,16 @@ def log():
     """A line for each request."""
     sub = f"{G} 01020000 00000020 00000006 {F} {SUB} 00000000"
     other = sub.replace("63000000", "64000000")
-    lines = """1 Request id 5 key 63 operation add performed
-1 Request id 9 key 63 operation add repeat
+    first, third = (f"ft client A retention {n} expiration {NEVER}" for n in (1, 3))
+    late = "ft client A retention 2 expiration 100"
+    lines = f"""1 Request id 5 key 63 operation add {first} performed
+1 Request id 9 key 63 operation add {first} repeat
 1 Request id 6 key 63 operation sub refused IDL:omg.org/CORBA/BAD_OPERATION:1.0
 1 Request id 6 key 64 operation sub refused IDL:omg.org/CORBA/OBJECT_NOT_EXIST:1.0
-1 Request id 10 key 63 operation add refused IDL:omg.org/CORBA/BAD_CONTEXT:1.0
-2 Request id 11 key 63 operation add repeat
-2 Request id 12 key 63 operation add performed
-2 Request id 13 key 63 operation add not performed
+1 Request id 10 key 63 operation add {late} refused IDL:omg.org/CORBA/BAD_CONTEXT:1.0
+2 Request id 11 key 63 operation add {first} repeat
+2 Request id 12 key 63 operation add {third} performed
+2 Request id 13 key 63 operation add {third} not performed
 2 Request id 20 key 63 operation get performed
 """
     with serving(2, options=["--log"], error=lines) as port:

@@ -2,14 +2,14 @@
 
 ghost use Rattle.std.specs.Prelude.{◌≡◌, ◌<◌, ◌≤◌, IfOk, length};
 
-use crate::messages::put_target;
+use crate::messages::{put_ft_text, put_target};
 use crate::text::text_of;
 use cdr_core::{Cursor, Val};
 use counter::Counter;
 use ft_log::Outcome;
 use ft_orb::{Lookup, Servant, Wire, WireError};
 use ft_tcp::Socket;
-use giop_core::{Content, Reply, ReplyStatus, Request};
+use giop_core::{Content, FtField, Reply, ReplyStatus, Request, ft_request};
 use giop_frames::{Assembler, Limits};
 use std::alloc::{AllocError, Global};
 use std::cell::Cell;
@@ -124,6 +124,22 @@ fn verdict_of(alloc: Global, limits: Limits, answer: &[u8]) -> Result<Verdict, A
     }
 }
 
+/// Appends the key of a request, if it has one.
+fn put_key(alloc: Global, request: &Request, line: &mut String) -> Result<(), AllocError> {
+    match ft_request(&request.contexts) {
+        FtField::Absent => Ok(()),
+        FtField::Bad => line.push_str(" ft bad"),
+        FtField::Present {
+            client_id,
+            retention_id,
+            expiration,
+        } => {
+            line.push(' ')?;
+            put_ft_text(alloc, client_id, retention_id, expiration, line)
+        }
+    }
+}
+
 /// Appends which request it is.
 fn put_asked(
     alloc: Global,
@@ -135,7 +151,8 @@ fn put_asked(
     write!(line, "{connection} Request id {id} ")?;
     put_target(alloc, &request.target, line)?;
     let operation = text_of(alloc, request.operation)?;
-    write!(line, " operation {operation}")
+    write!(line, " operation {operation}")?;
+    put_key(alloc, request, line)
 }
 
 /// A socket that prints a line for each request that comes on it.

@@ -140,9 +140,10 @@ pub(crate) const SERVE: &str =
 comes, and stops after the last one. The object is the counter of `giop play`.
 
 Lines: the object reference. With --log on standard error, for each request as it is answered,
-  C Request id N TARGET operation TEXT RESULT
-where C is the connection, and RESULT `performed`, `repeat`, `refused ID` with the repository id of the system
-exception, or `not performed` where no reply says why.
+  C Request id N TARGET operation TEXT[ ft client TEXT retention N expiration N] RESULT
+where C is the connection, ft what an FT_REQUEST context says (`ft bad` where it is not valid), and RESULT
+`performed`, `repeat`, `refused ID` with the repository id of the system exception, or `not performed` where no reply
+says why.
 
 Example:
   $ giop serve --port 2809 --connections 1
