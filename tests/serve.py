@@ -583,6 +583,7 @@ def log():
     """A line for each request."""
     sub = f"{G} 01020000 00000020 00000006 {F} {SUB} 00000000"
     other = sub.replace("63000000", "64000000")
+    bad = f"{G} 01020000 00000030 00000007 {F} {ADD} 00000001 0000000d 00000000 00000000 00000007"
     first, third = (f"ft client A retention {n} expiration {NEVER}" for n in (1, 3))
     late = "ft client A retention 2 expiration 100"
     lines = f"""1 Request id 5 key 63 operation add {first} performed
@@ -590,15 +591,16 @@ def log():
 1 Request id 6 key 63 operation sub refused IDL:omg.org/CORBA/BAD_OPERATION:1.0
 1 Request id 6 key 64 operation sub refused IDL:omg.org/CORBA/OBJECT_NOT_EXIST:1.0
 1 Request id 10 key 63 operation add {late} refused IDL:omg.org/CORBA/BAD_CONTEXT:1.0
+1 Request id 7 key 63 operation add ft bad refused IDL:omg.org/CORBA/MARSHAL:1.0
 2 Request id 11 key 63 operation add {first} repeat
 2 Request id 12 key 63 operation add {third} performed
 2 Request id 13 key 63 operation add {third} not performed
 2 Request id 20 key 63 operation get performed
 """
     with serving(2, options=["--log"], error=lines) as port:
-        exchange(port, keyed(5) + LOCATE + keyed(9) + sub + other + keyed(10, number=2, expiration=100),
+        exchange(port, keyed(5) + LOCATE + keyed(9) + sub + other + keyed(10, number=2, expiration=100) + bad,
                  total(5, 7) + HERE + total(9, 7) + raised(6, 0x3c, BAD_OPERATION) + raised(6, 0x40, NO_OBJECT)
-                 + raised(10, 0x3c, BAD_CONTEXT))
+                 + raised(10, 0x3c, BAD_CONTEXT) + raised(7, 0x38, MARSHAL))
         exchange(port, None, total(11, 7) + total(20, 14),
                  singly(keyed(11) + keyed(12, number=3, flags="00") + keyed(13, number=3, flags="00") + get(20)))
 
