@@ -16,10 +16,15 @@ commit), then those of crates above one whose specs changed, and then one of eig
 
 With --since SECONDS the libraries are those that the run of `rt ci` left that began then.
 
+An edit that an earlier run on this machine refused is not tried again while nothing has changed that its check reads:
+the kit, the sources of its crate and of those below, the edit and this file. With --anew it is.
+
 The last line is 'N passed, M failed'; the status is 0 only where some were tried and all were refused.
 """
 import argparse
 import contextlib
+import hashlib
+import json
 import os
 import re
 import shutil
@@ -235,25 +240,84 @@ def short(text):
     return name[1] if name and not OF_NAMES.search(text) else re.sub(r"\s+", " ", text)[:160]
 
 
+class Refusals:
+    """What earlier runs on this machine refused: a file for each edit, by the sum of all that its check reads."""
+
+    def __init__(self, kit, anew):
+        cache = os.environ.get("XDG_CACHE_HOME") or os.path.expanduser("~/.cache")
+        self.at = os.path.join(cache, "lemonrudder", "refused")
+        self.kit, self.anew, self.began, self.sums = kit, anew, time.time(), {}
+
+    def files_of(self, crate):
+        """The sources of a crate and of those below."""
+        return [file for it in [crate, *crate.below()] for file in self.kit.files_of(it.folder)]
+
+    def sum_of(self, crate):
+        """A sum of the kit, of those sources, and of what judges here."""
+        if crate.name not in self.sums:
+            total = hashlib.sha256(repr([it.said for it in [crate, *crate.below()]]).encode())
+            for file in [f"{self.kit.KIT}/WHAT", os.path.abspath(__file__), *self.files_of(crate)]:
+                with open(file, "rb") as it:
+                    total.update(repr((os.path.relpath(file, ROOT), it.read())).encode())
+            self.sums[crate.name] = total.hexdigest()
+        return self.sums[crate.name]
+
+    def file_of(self, crate, edit):
+        said = repr((crate.name, self.sum_of(crate), edit.name, edit.pairs))
+        return os.path.join(self.at, hashlib.sha256(said.encode()).hexdigest())
+
+    def find(self, crate, edit):
+        """What an earlier run said of an edit that it refused, or None."""
+        if self.anew:
+            return None
+        try:
+            kind, text = json.loads(text_of(self.file_of(crate, edit)))
+        except (OSError, ValueError):
+            return None
+        return Result(kind, text) if kind in (REFUSED, NAMES_ONLY) else None
+
+    def keep(self, crate, edit, result):
+        """Keeps that an edit is refused. Where it can't be kept, or a source has changed meanwhile, it is tried again."""
+        if result.kind not in (REFUSED, NAMES_ONLY):
+            return
+        with contextlib.suppress(OSError):
+            if any(os.stat(file).st_mtime >= self.began for file in self.files_of(crate)):
+                return
+            os.makedirs(self.at, mode=0o700, exist_ok=True)
+            with tempfile.NamedTemporaryFile("w", dir=self.at, delete=False, encoding="utf-8") as file:
+                json.dump(result, file)
+            os.replace(file.name, self.file_of(crate, edit))
+
+
 class Trials:
     """Wrong bodies that are tried, beside one another, and what came of them."""
 
-    def __init__(self, kit, budget, since):
-        self.kit, self.budget, self.since = kit, budget, since
+    def __init__(self, kit, budget, since, refusals):
+        self.kit, self.budget, self.since, self.refusals = kit, budget, since, refusals
         self.crates = {crate.name: crate for crate in kit.crates_below(ROOT)}
         self.guard = kit.guarded()
         self.lanes = lanes()
         self.lock = threading.Lock()
-        self.spent, self.results = 0.0, {}
+        self.spent, self.results, self.earlier = 0.0, {}, 0
         self.room = tempfile.mkdtemp(prefix="wrong-bodies-")
 
     def has_time(self):
         return self.budget is None or self.spent < self.budget
 
     def note(self, edit, result):
+        self.refusals.keep(self.crates[edit.crate], edit, result)
         with self.lock:
             self.results[edit.crate, edit.name] = result
         print(f"{edit.crate}/{edit.name}: {result.kind}: {result.text}", flush=True)
+
+    def is_known(self, crate, edit):
+        """Whether an earlier run refused an edit, which is then noted."""
+        found = self.refusals.find(crate, edit)
+        if found:
+            with self.lock:
+                self.results[edit.crate, edit.name] = found
+                self.earlier += 1
+        return found is not None
 
     def check(self, crate, texts, seed, jobs=1):
         """Checks a copy of a crate with these texts in place of its own, over the work kept in a folder."""
@@ -301,7 +365,7 @@ class Trials:
         for edit in edits:
             if edit.fault:
                 self.note(edit, Result(BAD, edit.fault))
-        rounds = planned([edit for edit in edits if not edit.fault])
+        rounds = planned([edit for edit in edits if not edit.fault and not self.is_known(crate, edit)])
         if not rounds:
             return []
         seed = self.seed_of(crate)
@@ -512,7 +576,8 @@ def chosen(options, edits, crates):
 
 
 def main():
-    parser = argparse.ArgumentParser(usage="tests/wrong_bodies.py [--since SECONDS] --turns | --all | CRATE [EDIT..]")
+    parser = argparse.ArgumentParser(usage="tests/wrong_bodies.py [--anew] [--since SECONDS] --turns | --all | CRATE [EDIT..]")
+    parser.add_argument("--anew", action="store_true")
     parser.add_argument("--turns", action="store_true")
     parser.add_argument("--all", action="store_true")
     parser.add_argument("--since", type=float)
@@ -523,7 +588,8 @@ def main():
         parser.error("one of --turns, --all and a crate")
     if shutil.which("rt") is None:
         sys.exit("rt, the command of the Rattle toolchain, is not on the path")
-    trials = Trials(load_kit(), BUDGET if options.turns else None, options.since)
+    kit = load_kit()
+    trials = Trials(kit, BUDGET if options.turns else None, options.since, Refusals(kit, options.anew))
     edits = {name: edits_of(name) for name in trials.crates if edits_of(name)}
     wanted = chosen(options, edits, trials.crates)
     try:
@@ -547,7 +613,8 @@ def report(trials, edits):
     for crate, name in failed:
         print(f"NOT REFUSED: {crate}/{name}: {results[crate, name].kind}: {results[crate, name].text}")
     others = "" if len(results) == count else "; the others by turns"
-    print(f"wrong bodies: {len(results)} of {count} tried in this run, {len(refused)} refused{others}; "
+    earlier = f", {trials.earlier} of them by earlier runs of the same sources" if trials.earlier else ""
+    print(f"wrong bodies: {len(results)} of {count} tried, {len(refused)} refused{earlier}{others}; "
           f"{trials.spent / 60:.1f} minutes of processor time")
     print(f"{len(refused)} passed, {len(failed) + (not results)} failed")
     return 0 if results and not failed else 1
