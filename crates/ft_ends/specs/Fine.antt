@@ -10,6 +10,7 @@ use Rattle.giop_link.specs.Hearing.{Hearing, heard}
 use Rattle.ft_client.specs.Directions.{stream}
 use Rattle.ft_client.specs.Messages.{Answer, Asked, Call, Said, Transmission, Withdrawn, contexts_of, incoming_of, octets_said, request_behind}
 use Rattle.ft_orb.specs.ExactlyOnce.{Present}
+use Rattle.ft_orb.specs.Replies.{body_limit}
 use Rattle.ft_orb.specs.Requests.{field_of}
 use Rattle.ft_ends.specs.Both.{key_of}
 use Rattle.ft_orb.specs.Tellings.{Closing, Failed, Located, Replied, Telling, octets_told}
@@ -39,7 +40,7 @@ IsFineSaid (Withdrawn version id) = id < 2 ^ 32
 
 -- the same of what the server says: a reply's status is at most 3, and its body takes at most 1,048,576 octets in its order
 abbrev pub IsFineTelling : Telling → Type 0
-IsFineTelling (Replied version order id status body) = (id < 2 ^ 32) × (status ≤ 3) × (length (octets_of_all order body 24) ≤ 1048576)
+IsFineTelling (Replied version order id status body) = (id < 2 ^ 32) × (status ≤ 3) × (length (octets_of_all order body 24) ≤ body_limit)
 IsFineTelling (Located version id status) = (id < 2 ^ 32) × (status ≤ 1)
 IsFineTelling Failed = Unit {0}
 IsFineTelling Closing = Unit {0}

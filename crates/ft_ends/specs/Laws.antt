@@ -13,7 +13,7 @@ use Rattle.ft_client.specs.Standing.{down}
 use Rattle.ft_orb.specs.ExactlyOnce.{Arrival, answer_of}
 use Rattle.ft_orb.specs.History.{Event}
 use Rattle.ft_orb.specs.Outputs.{Made, law_says, output}
-use Rattle.ft_orb.specs.Replies.{answered_as, body_of, order_of}
+use Rattle.ft_orb.specs.Replies.{answered_as, body_limit, body_of, order_of}
 use Rattle.ft_orb.specs.Requests.{Wanted, asking, locating, rules_of}
 use Rattle.ft_orb.specs.Servants.{Meaning}
 use Rattle.ft_ends.specs.Both.{ActsOnce, AreDistinct}
@@ -45,7 +45,7 @@ ArePlain arrivals = AllByRecursion (λ a. IsPlain a.content) arrivals
 
 -- the body of an outcome takes at most 1,048,576 octets, in its order at the place 24
 abbrev pub IsShort : Performed → Type 0
-IsShort p = length (octets_of_all (order_of p) (body_of p) 24) ≤ 1048576
+IsShort p = length (octets_of_all (order_of p) (body_of p) 24) ≤ body_limit
 
 -- so does that of each answer of a server
 abbrev pub AreShort : {State : Type 0} → Meaning State → Made State → Type 0

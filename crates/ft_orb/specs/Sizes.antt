@@ -7,6 +7,7 @@ use Rattle.cdr_core.specs.Value.{Value, Values}
 use Rattle.cdr_core.specs.Writing.{AreWritable, IsWritable, octets_of, octets_of_all}
 use Rattle.cdr_core.specs.declared.order.Order.{Order}
 use Rattle.ft_orb.specs.Interfaces.{Types}
+use Rattle.ft_orb.specs.Replies.{body_limit}
 
 abbrev mutual
   -- CDR 9.3.1, CDR 9.3.2: the most octets that a value of the type takes, with the padding before its numbers
@@ -32,10 +33,10 @@ abbrev mutual
   most_octets_of_member (form.otherwise t) = most_octets t
   most_octets_of_member (form.labelled k t cs) = max (most_octets t) (most_octets_of_member cs)
 
--- what an operation returns and raises takes at most 1,048,576 octets, an exception with its repository id
+-- what an operation returns and raises takes no more octets than a body may have, an exception with its repository id
 abbrev pub is_bounded : Types → Bool
 is_bounded t =
-    nat_le (most_octets_of_all t.results) 1048576 && list_all (λ r. nat_le (7 + length r.0 + 1 + most_octets_of_all r.1) 1048576) t.raises
+    nat_le (most_octets_of_all t.results) body_limit && list_all (λ r. nat_le (7 + length r.0 + 1 + most_octets_of_all r.1) body_limit) t.raises
 
 -- a value can be written, and takes at most n octets in either order and at any place
 pub record IsWithin (n : ℕ) (v : Value) : Type 0 where

@@ -24,7 +24,7 @@ use Rattle.ft_log.specs.declared.system_exception.Completion.{Completion}
 use Rattle.ft_log.specs.declared.system_exception.SystemName.{SystemName}
 use Rattle.ft_log.specs.declared.system_exception.SystemName.TheVariants as name
 use Rattle.ft_orb.specs.Interfaces.{IsOutcomeOf, IsRaised, Types, operation}
-use Rattle.ft_orb.specs.Replies.{IsRenderable, system_members}
+use Rattle.ft_orb.specs.Replies.{IsRenderable, body_limit, system_members}
 use Rattle.ft_orb.specs.Sizes.{AreWithin, IsWithin, is_bounded, most_octets, most_octets_of_all, most_octets_of_member}
 
 high_length : (n x : ℕ) → length (bytes_high_first n x) ≡ n
@@ -177,17 +177,17 @@ clean_by (x ∷ xs) h =
     above_zero (suc x) h = λ e. cc
 
 -- results of bounded types can be sent
-pub returned_is_renderable : (ts : Forms) (results : Values) → IsTrue (nat_le (most_octets_of_all ts) 1048576) → FitsMembers ts results → IsRenderable (returned results)
+pub returned_is_renderable : (ts : Forms) (results : Values) → IsTrue (nat_le (most_octets_of_all ts) body_limit) → FitsMembers ts results → IsRenderable (returned results)
 returned_is_renderable ts results few h =
-    let all = more_within (most_octets_of_all ts) 1048576 results (leb-true _ _ few) (members_within ts results h) in
+    let all = more_within (most_octets_of_all ts) body_limit results (leb-true _ _ few) (members_within ts results h) in
     (all.writable, all.short Big 24)
 
 -- an exception of members of bounded types can be sent
-pub raised_is_renderable : (ts : Forms) (id : List ℕ) (members : Values) → IsTrue (nat_le (7 + length id + 1 + most_octets_of_all ts) 1048576) → IsClean id → FitsMembers ts members → IsRenderable (raised id members)
+pub raised_is_renderable : (ts : Forms) (id : List ℕ) (members : Values) → IsTrue (nat_le (7 + length id + 1 + most_octets_of_all ts) body_limit) → IsClean id → FitsMembers ts members → IsRenderable (raised id members)
 raised_is_renderable ts id members few clean h =
-    let le : 7 + length id + 1 + most_octets_of_all ts ≤ 1048576 = leb-true _ _ few in
+    let le : 7 + length id + 1 + most_octets_of_all ts ≤ body_limit = leb-true _ _ few in
     let head = text_is_within (length id) id (omega arith) (omega (arith, le)) clean in
-    let all = more_within _ 1048576 (value.value (value.string id) members) le (both_within (7 + length id + 1) (most_octets_of_all ts) (value.string id) members head (members_within ts members h)) in
+    let all = more_within _ body_limit (value.value (value.string id) members) le (both_within (7 + length id + 1) (most_octets_of_all ts) (value.string id) members head (members_within ts members h)) in
     (all.writable, all.short Big 24)
 
 -- the repository ids of system exceptions are short, and hold no NUL
@@ -213,25 +213,25 @@ system_is_renderable n minor completion =
     let head = text_is_within 64 id few (omega (arith, few)) (clean_by id parts.1) in
     let last = both_within 7 0 (value.enumeration (completion_number completion)) value.no_values (enumeration_is_within (completion_number completion)) none_within in
     let members = both_within 7 7 (ulong_value minor) _ (number_is_within form.ulong (pos minor)) last in
-    let all = more_within 86 1048576 _ (omega arith) (both_within 72 14 (value.string id) (system_members minor (completion_number completion)) head members) in
+    let all = more_within 86 body_limit _ (omega arith) (both_within 72 14 (value.string id) (system_members minor (completion_number completion)) head members) in
     (all.writable, all.short Big 24)
 
-raised_of : (raises : List (List ℕ × Forms)) (id : List ℕ) (members : Values) → list_all (λ r. nat_le (7 + length r.0 + 1 + most_octets_of_all r.1) 1048576) raises ≡ true → IsClean id → IsRaised raises id members → IsRenderable (raised id members)
+raised_of : (raises : List (List ℕ × Forms)) (id : List ℕ) (members : Values) → list_all (λ r. nat_le (7 + length r.0 + 1 + most_octets_of_all r.1) body_limit) raises ≡ true → IsClean id → IsRaised raises id members → IsRenderable (raised id members)
 raised_of [] id members few clean is = absurd is
 raised_of (r ∷ rs) id members few clean is =
-    let parts = and_parts (nat_le (7 + length r.0 + 1 + most_octets_of_all r.1) 1048576) (list_all (λ r. nat_le (7 + length r.0 + 1 + most_octets_of_all r.1) 1048576) rs) few in
+    let parts = and_parts (nat_le (7 + length r.0 + 1 + most_octets_of_all r.1) body_limit) (list_all (λ r. nat_le (7 + length r.0 + 1 + most_octets_of_all r.1) body_limit) rs) few in
     elim is [
-      | inl this ↦ raised_is_renderable r.1 id members (subst (λ (own : List ℕ). nat_le (7 + length own + 1 + most_octets_of_all r.1) 1048576 ≡ true) this.0 parts.0) clean this.1
+      | inl this ↦ raised_is_renderable r.1 id members (subst (λ (own : List ℕ). nat_le (7 + length own + 1 + most_octets_of_all r.1) body_limit ≡ true) this.0 parts.0) clean this.1
       | inr other ↦ raised_of rs id members parts.1 clean other
     ]
 
 -- each outcome of an operation of bounded types can be sent
 pub outcome_is_renderable : (t : Types) (p : Performed) → IsTrue (is_bounded t) → IsOutcomeOf (operation t) p → IsRenderable p
 outcome_is_renderable t p few =
-    let parts = and_parts (nat_le (most_octets_of_all t.results) 1048576) (list_all (λ r. nat_le (7 + length r.0 + 1 + most_octets_of_all r.1) 1048576) t.raises) few in
+    let parts = and_parts (nat_le (most_octets_of_all t.results) body_limit) (list_all (λ r. nat_le (7 + length r.0 + 1 + most_octets_of_all r.1) body_limit) t.raises) few in
     go p parts.0 parts.1
   where
-    go : (p : Performed) → IsTrue (nat_le (most_octets_of_all t.results) 1048576) → list_all (λ r. nat_le (7 + length r.0 + 1 + most_octets_of_all r.1) 1048576) t.raises ≡ true → IsOutcomeOf (operation t) p → IsRenderable p
+    go : (p : Performed) → IsTrue (nat_le (most_octets_of_all t.results) body_limit) → list_all (λ r. nat_le (7 + length r.0 + 1 + most_octets_of_all r.1) body_limit) t.raises ≡ true → IsOutcomeOf (operation t) p → IsRenderable p
     go (returned results) some all h = returned_is_renderable t.results results some h
     go (raised id members) some all h = raised_of t.raises id members all h.0 h.1
     go (system n minor completion) some all h = system_is_renderable n minor completion

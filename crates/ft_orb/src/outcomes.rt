@@ -10,7 +10,7 @@ ghost use Rattle.giop_core.specs.Written.{exception_body};
 ghost use Rattle.ft_log.specs.Performed.{system};
 ghost use Rattle.ft_log.specs.View.{performed_in};
 ghost use Rattle.ft_orb.specs.Interfaces.{IsOutcomeOf, IsRaised, IsValidInterface, interface_of, raise_of};
-ghost use Rattle.ft_orb.specs.Replies.{IsRenderable};
+ghost use Rattle.ft_orb.specs.Replies.{IsRenderable, body_limit};
 
 use crate::signature::Lookup;
 use cdr_core::{Ty, Val, are_writable, end_of_list, fits, has_no_nul};
@@ -34,7 +34,7 @@ fn ends_in_time(place: u64, values: &[Val]) -> bool
 
 /// Whether the body of an exception can be sent: its repository id, and then its members.
 fn can_raise(id: &[u8], members: &[Val]) -> bool
-    ensures { IsTrue result ↔ (AreWritable (exception_body id.now (values_of members.now)) × (length (octets_of_all Big (exception_body id.now (values_of members.now)) 24) ≤ 1048576)) }
+    ensures { IsTrue result ↔ (AreWritable (exception_body id.now (values_of members.now)) × (length (octets_of_all Big (exception_body id.now (values_of members.now)) 24) ≤ body_limit)) }
 {
     let size = id.len() as u64;
     size <= MOST
