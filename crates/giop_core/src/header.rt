@@ -57,6 +57,26 @@ pub enum MessageKind {
     Fragment,
 }
 
+impl MessageKind {
+    /// Whether a version lets messages of this kind be cut into fragments: 1.1 a Request and a Reply, 1.2 also a
+    /// LocateRequest and a LocateReply, 1.0 none. A Fragment is one of them where there is one: others may follow it
+    /// (GIOP 9.4.1, GIOP 9.4.9).
+    #[inline]
+    pub fn can_be_cut(self, version: Version) -> bool
+        ensures { result ≡ can_be_cut version self }
+    {
+        match self {
+            MessageKind::Request | MessageKind::Reply | MessageKind::Fragment => {
+                !matches!(version, Version::V10)
+            }
+            MessageKind::LocateRequest | MessageKind::LocateReply => {
+                matches!(version, Version::V12)
+            }
+            _ => false,
+        }
+    }
+}
+
 /// The name that the standard gives it, as `CancelRequest`.
 impl fmt::Display for MessageKind {
     ghost output = { λ kind. Some (kind_text kind) };
@@ -204,19 +224,6 @@ fn has_kind(version: Version, kind: MessageKind) -> bool
     !matches!((version, kind), (Version::V10, MessageKind::Fragment))
 }
 
-/// Whether a version lets messages of a kind be cut into fragments.
-fn can_be_cut(version: Version, kind: MessageKind) -> bool
-    ensures { result ≡ can_be_cut version kind }
-{
-    match kind {
-        MessageKind::Request | MessageKind::Reply | MessageKind::Fragment => {
-            !matches!(version, Version::V10)
-        }
-        MessageKind::LocateRequest | MessageKind::LocateReply => matches!(version, Version::V12),
-        _ => false,
-    }
-}
-
 impl Header {
     /// How many octets a header has.
     pub const LEN: usize = 12;
@@ -235,7 +242,7 @@ impl Header {
         if !has_kind(version, kind) {
             return Err(HeaderFault::BadType);
         }
-        if more && !can_be_cut(version, kind) {
+        if more && !kind.can_be_cut(version) {
             return Err(HeaderFault::BadCut);
         }
         Ok(Header {
@@ -252,7 +259,7 @@ impl Header {
     pub fn is_possible(&self) -> bool
         ensures { result ≡ is_possible self.now }
     {
-        has_kind(self.version, self.kind) && (!self.more || can_be_cut(self.version, self.kind))
+        has_kind(self.version, self.kind) && (!self.more || self.kind.can_be_cut(self.version))
     }
 
     /// The octets of the header, which can be one.
