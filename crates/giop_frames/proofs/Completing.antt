@@ -20,6 +20,7 @@ use Rattle.giop_frames.specs.declared.partial.Key.TheVariants.{Of11}
 use Rattle.giop_frames.specs.declared.reassembly.Role.{Role}
 use Rattle.giop_frames.specs.declared.reassembly.Role.TheVariants.{Opens, Carries, Ends, Drops, Uncut, Apart}
 use Rattle.giop_frames.specs.Completing.{AreMessages, AreRising, IsMessage}
+use Rattle.giop_frames.specs.Cutting.{is_fragment}
 use Rattle.giop_frames.specs.Fragments.{Bad, Done, Partial, Quiet, Verdict, content_of, has_id, key_of, may_come, is_same_order, joinable, joined, judged, judged_as, judged_by, judged_carried, judged_ended, judged_whole, on_content, partial_of, partials_in, payload_of, role_in, role_of}
 use Rattle.giop_frames.specs.Frames.{Frame, Refused, Split, Waiting, Whole, sight, split, split_from}
 use Rattle.giop_frames.specs.Laws.{MessagesAreWhole, PartialsAreCounted, PlacesRise}
@@ -81,11 +82,6 @@ IsAlone Drops = Unit {0}
 IsAlone Uncut = Unit {0}
 IsAlone Apart = Unit {0}
 
--- whether the kind is that of a Fragment
-abbrev is_fragment : MessageKind → Bool
-is_fragment Fragment = true
-is_fragment _ = false
-
 no-fragment : (kind : MessageKind) → is_fragment kind ≡ false → kind ≡ Fragment → ⊥
 no-fragment kind e k = let t : is_fragment Fragment ≡ false = subst (λ (x : MessageKind). is_fragment x ≡ false) k e in absurd cc
 
@@ -141,11 +137,8 @@ plain V12 MessageError false possible alone = (refl, refl)
 -- a first frame is no Fragment
 
 fragment-role : (v : Version) (more : Bool) → role_in v Fragment more ≡ Opens → ⊥
-fragment-role V10 more e = absurd cc
-fragment-role V11 true e = absurd cc
-fragment-role V11 false e = absurd cc
-fragment-role V12 true e = absurd cc
-fragment-role V12 false e = absurd cc
+fragment-role v true e = absurd cc
+fragment-role v false e = absurd cc
 
 opens-kind : (h : Header) → role_of h ≡ Opens → h.kind ≡ Fragment → ⊥
 opens-kind h is k = fragment-role h.version h.more (ap (λ (x : MessageKind). role_in h.version x h.more) (sym k) ∙ is)

@@ -24,9 +24,9 @@ use Rattle.giop_frames.specs.declared.limits.Limits.{Limits}
 use Rattle.giop_frames.specs.declared.partial.Key.TheVariants.{Of11}
 use Rattle.giop_frames.specs.declared.reassembly.Role.{Role}
 use Rattle.giop_frames.specs.declared.reassembly.Role.TheVariants.{Opens, Carries, Ends, Drops, Uncut, Apart}
-use Rattle.giop_frames.specs.Cutting.{frame_octets, is_cut_kind}
-use Rattle.giop_frames.specs.Fragments.{Done, Partial, Quiet, partial_of, payload_of, has_id, id_length, key_in, key_of, may_come, is_same_order, joined, judged, judged_as, judged_by, judged_carried, judged_ended, judged_whole, on_content, partials_in, role_in, role_of, content_of}
-use Rattle.giop_frames.specs.Frames.{Frame, admitted, frame_size, is_unaligned}
+use Rattle.giop_frames.specs.Cutting.{frame_octets, is_fragment}
+use Rattle.giop_frames.specs.Fragments.{Done, Partial, Quiet, partial_of, payload_of, has_id, key_in, key_of, may_come, is_same_order, joined, judged, judged_as, judged_by, judged_carried, judged_ended, judged_whole, on_content, partials_in, role_in, role_of, content_of}
+use Rattle.giop_frames.specs.Frames.{Frame, admitted, frame_size, id_length, is_unaligned}
 use Rattle.giop_frames.specs.Splitting.{IsFrame, Splits}
 use Rattle.giop_frames.proofs.Deciding.{test_lt}
 use Rattle.giop_frames.proofs.Judging.{fits, opens-quiet}
@@ -109,7 +109,10 @@ key-take V10 order x = refl
 key-take V11 order x = refl
 key-take V12 order x = ap (λ (n : ℕ). key_in V12 n) (number-take order x)
 
--- the kinds that can be cut
+-- the kinds of messages that can be cut: a Fragment is no message
+
+abbrev pub is_cut_kind : Version → MessageKind → Bool
+is_cut_kind v k = can_be_cut v k && not (is_fragment k)
 
 pub cut-opens : (v : Version) (k : MessageKind) → is_cut_kind v k ≡ true → role_in v k true ≡ Opens
 cut-opens V10 k e = absurd cc

@@ -14,8 +14,8 @@ use Rattle.giop_frames.specs.declared.reassembly.Role.TheVariants.{Opens, Carrie
 use Rattle.giop_frames.specs.declared.reassembly.Settled.{Settled}
 use Rattle.giop_frames.specs.declared.reassembly.TakenUp.{TakenUp}
 use Rattle.giop_frames.specs.declared.reassembly.Settled.TheVariants.{Quiet as SettledQuiet, Done as SettledDone, Bad as SettledBad}
-use Rattle.giop_frames.specs.Frames.{Frame}
-use Rattle.giop_frames.specs.Fragments.{Bad, Partial, Quiet, Verdict, opened_by, content_of, continued_by, payload_of, has_id, id_length, id_of, key_of, may_come, is_same_order, joined, judged_as, judged_by, joinable, judged_carried, judged_ended, judged_whole, on_content, role_of, too_short}
+use Rattle.giop_frames.specs.Frames.{Frame, id_length}
+use Rattle.giop_frames.specs.Fragments.{Bad, Partial, Quiet, Verdict, opened_by, content_of, continued_by, payload_of, has_id, id_of, key_of, may_come, is_same_order, joined, judged_as, judged_by, joinable, judged_carried, judged_ended, judged_whole, on_content, role_of, too_short}
 use Rattle.giop_frames.specs.Streams.{Entry, part_in}
 use Rattle.giop_frames.specs.Private.{parts_as, uncancelled, without}
 use Rattle.giop_frames.specs.Private.{IsContinued, IsLeft, IsSettled, IsSettledAs, IsTakenUp, judged_uncut, verdict_at}

@@ -10,7 +10,7 @@ use Rattle.giop_core.specs.declared.header.MessageKind.{MessageKind}
 use Rattle.giop_core.specs.declared.header.MessageKind.TheVariants.{Request, Reply, CancelRequest, LocateRequest, LocateReply, CloseConnection, MessageError, Fragment}
 use Rattle.giop_core.specs.declared.header.Version.{Version}
 use Rattle.giop_core.specs.declared.header.Version.TheVariants.{V10, V11, V12}
-use Rattle.giop_core.specs.Headers.{can_be_cut, header_of}
+use Rattle.giop_core.specs.Headers.{can_be_cut, header_of, minor_of}
 use Rattle.giop_frames.specs.declared.fault.StreamFault.{StreamFault}
 use Rattle.giop_frames.specs.declared.limits.Limits.{Limits}
 use Rattle.giop_frames.specs.declared.partial.Key.{Key}
@@ -18,13 +18,13 @@ use Rattle.giop_frames.specs.declared.partial.Key.TheVariants.{Of11, Of12}
 use Rattle.giop_frames.specs.declared.reassembly.Role.{Role}
 use Rattle.giop_frames.specs.declared.reassembly.Role.TheVariants.{Opens, Carries, Ends, Drops, Uncut, Apart}
 use Rattle.giop_frames.specs.ReadAgain.{Completes, CutIsReadAgain, is_cancel, left_by, under}
-use Rattle.giop_frames.specs.Cutting.{cut_octets, first_frame, fragment_of, fragments_of, frame_octets, is_cut_kind, is_cuttable_in, is_cuttable_under, is_version, chunks_from}
-use Rattle.giop_frames.specs.Fragments.{Done, Partial, Quiet, partial_of, content_of, continued_by, payload_of, id_length, id_of, is_cancelled, is_same_order, judged, key_in, key_of, less_if, may_come, partials_in, role_in, role_of}
-use Rattle.giop_frames.specs.Frames.{Frame, Split, cut_place, frame_size, is_unaligned, split, split_from}
+use Rattle.giop_frames.specs.Cutting.{cut_octets, first_frame, fragment_of, fragments_of, frame_octets, is_cuttable_in, is_cuttable_under, is_fragment, chunks_from}
+use Rattle.giop_frames.specs.Fragments.{Done, Partial, Quiet, partial_of, content_of, continued_by, payload_of, id_of, is_cancelled, is_same_order, judged, key_in, key_of, less_if, may_come, partials_in, role_in, role_of}
+use Rattle.giop_frames.specs.Frames.{Frame, Split, cut_place, frame_size, id_length, is_unaligned, split, split_from}
 use Rattle.giop_frames.specs.Splitting.{IsFrame, Splits}
 use Rattle.giop_frames.specs.Streams.{Reading, fault_of, frames_of, messages_of, place_after, reading_from, reading_of, rest_of}
 use Rattle.giop_core.specs.Laws.{HeadersAreReadAgain}
-use Rattle.giop_frames.proofs.CutFrames.{AreFrames, admit-cut, and-not, cut-can, cut-has_id, cut-opens, cut-whole, fragment-roles, frame-again, frames-split, free-none, judged-alone, judged-carrying, judged-ending, judged-opening, key-front, key-take, same-order, whole_role}
+use Rattle.giop_frames.proofs.CutFrames.{AreFrames, admit-cut, and-not, cut-can, cut-has_id, cut-opens, cut-whole, fragment-roles, frame-again, frames-split, free-none, is_cut_kind, judged-alone, judged-carrying, judged-ending, judged-opening, key-front, key-take, same-order, whole_role}
 use Rattle.giop_frames.proofs.Cuts.{fragments-more, chunks-last, chunks-more}
 use Rattle.giop_frames.proofs.Deciding.{test_eq, test_key, test_le, test_lt}
 use Rattle.giop_frames.proofs.Places.{faultless-split, place-length}
@@ -304,7 +304,7 @@ not-true : (b : Bool) → not b ≡ true → b ≡ false
 not-true true e = absurd cc
 not-true false e = refl
 
-same-version : (a b : Version) → is_version a b ≡ true → a ≡ b
+same-version : (a b : Version) → (minor_of a == minor_of b) ≡ true → a ≡ b
 same-version V10 V10 e = refl
 same-version V10 V11 e = absurd cc
 same-version V10 V12 e = absurd cc
@@ -326,13 +326,14 @@ cuttable-is : (v : Version) (message : List ℕ) (h : Header) → is_cuttable_in
 cuttable-is v message h is e =
     let a = both (nat_le 12 (length message)) _ is in
     let b : is_cuttable_under v (length message) (Ok h) ≡ true = ap (is_cuttable_under v (length message)) (sym e) ∙ a.1 in
-    let c = both (is_version h.version v && is_cut_kind h.version h.kind && not h.more) (frame_size h == length message) b in
-    let d = both (is_version h.version v && is_cut_kind h.version h.kind) (not h.more) c.0 in
-    let g = both (is_version h.version v) (is_cut_kind h.version h.kind) d.0 in
+    let c = both ((minor_of h.version == minor_of v) && can_be_cut h.version h.kind && not (is_fragment h.kind) && not h.more) (frame_size h == length message) b in
+    let d = both ((minor_of h.version == minor_of v) && can_be_cut h.version h.kind && not (is_fragment h.kind)) (not h.more) c.0 in
+    let f = both ((minor_of h.version == minor_of v) && can_be_cut h.version h.kind) (not (is_fragment h.kind)) d.0 in
+    let g = both (minor_of h.version == minor_of v) (can_be_cut h.version h.kind) f.0 in
     record {
       long = elim (test_le 12 (length message)) [ inl t ↦ t.1 | inr t ↦ absurd (let k = a.0 in cc) ];
       version = same-version h.version v g.0;
-      kind = g.1;
+      kind = rw (g.1, f.1) refl;
       alone = not-true h.more d.1;
       size = elim (test_eq (frame_size h) (length message)) [ inl t ↦ t.1 | inr t ↦ absurd (let k = c.1 in cc) ];
     }

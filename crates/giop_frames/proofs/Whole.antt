@@ -12,19 +12,19 @@ use Rattle.giop_core.specs.declared.header.Version.TheVariants.{V10, V11, V12}
 use Rattle.giop_core.specs.Headers.{header_octets, header_of, is_possible}
 use Rattle.giop_core.specs.Laws.{HeadersAreReadAgain}
 use Rattle.giop_core.specs.Messages.{message_of}
-use Rattle.giop_core.specs.Rows.{row}
+use Rattle.giop_core.specs.Rows.{has_id_first, row}
 use Rattle.giop_core.specs.Written.{header_for, message_octets}
 use Rattle.giop_frames.specs.declared.fault.StreamFault.TheVariants.{TooLarge}
 use Rattle.giop_frames.specs.declared.limits.Limits.{Limits}
 use Rattle.giop_frames.specs.declared.partial.Key.TheVariants.{Of11}
+use Rattle.giop_frames.specs.declared.reassembly.Role.{Role}
 use Rattle.giop_frames.specs.declared.reassembly.Role.TheVariants.{Apart, Drops, Uncut}
 use Rattle.giop_frames.specs.ReadAgain.{WrittenIsReadAgain, WrittenTooLarge, is_cancel, written}
-use Rattle.giop_frames.specs.Cutting.{is_cut_kind}
-use Rattle.giop_frames.specs.Fragments.{Done, partial_of, judged, judged_as, key_of, partials_in, role_in, role_in_10, role_of, content_of}
+use Rattle.giop_frames.specs.Fragments.{Done, partial_of, judged, judged_as, key_of, partials_in, role_in, role_of, content_of}
 use Rattle.giop_frames.specs.Frames.{Frame, Refused, admitted, frame_size, judged_header, sight, under_header}
 use Rattle.giop_frames.specs.Splitting.{IsFrame}
 use Rattle.giop_frames.specs.Streams.{Stands, frames_of}
-use Rattle.giop_frames.proofs.CutFrames.{cut-has_id, free-none, judged-alone, judged-role, length-header, too_few, whole-done}
+use Rattle.giop_frames.proofs.CutFrames.{cut-has_id, free-none, is_cut_kind, judged-alone, judged-role, length-header, too_few, whole-done}
 use Rattle.giop_frames.proofs.Deciding.{test_lt}
 use Rattle.giop_frames.proofs.Readings.{step-done}
 use Rattle.giop_frames.proofs.Completing.{partials_counted}
@@ -77,16 +77,21 @@ cancel-long v order x ok =
       | inr t ↦ t.1
     ]
 
--- in 1.1 a whole message has the role that it has in 1.0
-like-10 : (k : MessageKind) → (k ≡ Fragment → ⊥) → role_in V11 k false ≡ role_in_10 k
-like-10 Request not = refl
-like-10 Reply not = refl
-like-10 CancelRequest not = refl
-like-10 LocateRequest not = refl
-like-10 LocateReply not = refl
-like-10 CloseConnection not = refl
-like-10 MessageError not = refl
-like-10 Fragment not = absurd (not refl)
+-- the role of a whole message of a version in which none is held against the partial ones
+
+abbrev early_role : MessageKind → Role
+early_role CancelRequest = Drops
+early_role _ = Apart
+
+early-roles : (v : Version) → has_id_first v ≡ false → (k : MessageKind) → (k ≡ Fragment → ⊥) → role_in v k false ≡ early_role k
+early-roles v e Request not = rw e refl
+early-roles v e Reply not = rw e refl
+early-roles v e CancelRequest not = refl
+early-roles v e LocateRequest not = rw e refl
+early-roles v e LocateReply not = rw e refl
+early-roles v e CloseConnection not = rw e refl
+early-roles v e MessageError not = rw e refl
+early-roles v e Fragment not = absurd (not refl)
 
 -- a whole message is judged to be itself
 
@@ -105,7 +110,7 @@ module _ (limits : Limits) (earlier : List Frame) where
       → judged limits earlier (written v k order body) ≡ Done (written v k order body)
 
   -- of a version in which no whole message is held against the partial ones
-  early : (v : Version) → ((k : MessageKind) → (k ≡ Fragment → ⊥) → role_in v k false ≡ role_in_10 k) → (k : MessageKind) (order : Order) (body : List ℕ) → (k ≡ Fragment → ⊥) → IsJudged v k order body
+  early : (v : Version) → ((k : MessageKind) → (k ≡ Fragment → ⊥) → role_in v k false ≡ early_role k) → (k : MessageKind) (order : Order) (body : List ℕ) → (k ≡ Fragment → ⊥) → IsJudged v k order body
   early v same Request order body not new none ok = judged-apart (written v Request order body) (same Request not) (none refl) ok
   early v same Reply order body not new none ok = judged-apart (written v Reply order body) (same Reply not) (none refl) ok
   early v same CancelRequest order body not new none ok = judged-drops (written v CancelRequest order body) (same CancelRequest not) (cancel-long v order body ok) ok
@@ -119,8 +124,8 @@ module _ (limits : Limits) (earlier : List Frame) where
   uncut-12 k kind is order body free new none ok = judged-alone limits earlier (written V12 k order body) V12 refl is free (cut-has_id V12 k order body kind ok) (λ u. new is) ok
 
   is-judged : (v : Version) (k : MessageKind) (order : Order) (body : List ℕ) → (k ≡ Fragment → ⊥) → IsJudged v k order body
-  is-judged V10 k order body not new none ok = early V10 (λ x n. refl) k order body not new none ok
-  is-judged V11 k order body not new none ok = early V11 like-10 k order body not new none ok
+  is-judged V10 k order body not new none ok = early V10 (early-roles V10 refl) k order body not new none ok
+  is-judged V11 k order body not new none ok = early V11 (early-roles V11 refl) k order body not new none ok
   is-judged V12 Request order body not new none ok = uncut-12 Request refl refl order body (none refl) new none ok
   is-judged V12 Reply order body not new none ok = uncut-12 Reply refl refl order body (none refl) new none ok
   is-judged V12 CancelRequest order body not new none ok = judged-drops (written V12 CancelRequest order body) refl (cancel-long V12 order body ok) ok
@@ -132,7 +137,7 @@ module _ (limits : Limits) (earlier : List Frame) where
 
 -- what it leaves of the partial messages
 
-leaves-early : (v : Version) → ((k : MessageKind) → (k ≡ Fragment → ⊥) → role_in v k false ≡ role_in_10 k) → (k : MessageKind) (order : Order) (body : List ℕ) (earlier : List Frame) → (k ≡ Fragment → ⊥) → Leaves (written v k order body) earlier (written v k order body ∷ earlier)
+leaves-early : (v : Version) → ((k : MessageKind) → (k ≡ Fragment → ⊥) → role_in v k false ≡ early_role k) → (k : MessageKind) (order : Order) (body : List ℕ) (earlier : List Frame) → (k ≡ Fragment → ⊥) → Leaves (written v k order body) earlier (written v k order body ∷ earlier)
 leaves-early v same Request order body earlier not = leaves-role (written v Request order body) earlier Apart false (same Request not) refl tt
 leaves-early v same Reply order body earlier not = leaves-role (written v Reply order body) earlier Apart false (same Reply not) refl tt
 leaves-early v same CancelRequest order body earlier not = leaves-role (written v CancelRequest order body) earlier Drops true (same CancelRequest not) refl tt
@@ -151,8 +156,8 @@ leaves-written V12 CancelRequest order body earlier not = leaves-role (written V
 leaves-written V12 CloseConnection order body earlier not = leaves-role (written V12 CloseConnection order body) earlier Apart false refl refl tt
 leaves-written V12 MessageError order body earlier not = leaves-role (written V12 MessageError order body) earlier Apart false refl refl tt
 leaves-written V12 Fragment order body earlier not = absurd (not refl)
-leaves-written V10 k order body earlier not = leaves-early V10 (λ x n. refl) k order body earlier not
-leaves-written V11 k order body earlier not = leaves-early V11 like-10 k order body earlier not
+leaves-written V10 k order body earlier not = leaves-early V10 (early-roles V10 refl) k order body earlier not
+leaves-written V11 k order body earlier not = leaves-early V11 (early-roles V11 refl) k order body earlier not
 
 pub written_again : HeadersAreReadAgain → WrittenIsReadAgain
 written_again again limits s body v k order faultless none new early not fits ok =

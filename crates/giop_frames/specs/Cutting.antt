@@ -4,34 +4,21 @@ use Rattle.std.specs.List.{flat_map}
 use Rattle.giop_core.specs.declared.header.Header.{Header}
 use Rattle.giop_core.specs.declared.header.HeaderFault.{HeaderFault}
 use Rattle.giop_core.specs.declared.header.MessageKind.{MessageKind}
-use Rattle.giop_core.specs.declared.header.MessageKind.TheVariants.{Request, Reply, LocateRequest, LocateReply, Fragment}
+use Rattle.giop_core.specs.declared.header.MessageKind.TheVariants.{Fragment}
 use Rattle.giop_core.specs.declared.header.Version.{Version}
-use Rattle.giop_core.specs.declared.header.Version.TheVariants.{V10, V11, V12}
-use Rattle.giop_core.specs.Headers.{header_octets, header_of}
-use Rattle.giop_frames.specs.Fragments.{id_length}
-use Rattle.giop_frames.specs.Frames.{Frame, frame_size}
+use Rattle.giop_core.specs.declared.header.Version.TheVariants.{V11, V12}
+use Rattle.giop_core.specs.Headers.{can_be_cut, header_octets, header_of, minor_of}
+use Rattle.giop_frames.specs.Frames.{Frame, frame_size, id_length}
 
--- the messages of a version that can be cut; a Fragment is one part of such a message
-abbrev pub is_cut_kind : Version → MessageKind → Bool
-is_cut_kind V12 Request = true
-is_cut_kind V12 Reply = true
-is_cut_kind V12 LocateRequest = true
-is_cut_kind V12 LocateReply = true
-is_cut_kind V11 Request = true
-is_cut_kind V11 Reply = true
-is_cut_kind _ _ = false
-
--- whether two versions are one
-abbrev pub is_version : Version → Version → Bool
-is_version V10 V10 = true
-is_version V11 V11 = true
-is_version V12 V12 = true
-is_version _ _ = false
+-- a Fragment is a part of a message that is cut, and no message
+abbrev pub is_fragment : MessageKind → Bool
+is_fragment Fragment = true
+is_fragment _ = false
 
 -- a header of so many octets that are one whole message of a version that can be cut
 abbrev pub is_cuttable_under : Version → ℕ → Result Header HeaderFault → Bool
 is_cuttable_under v n (Err e) = false
-is_cuttable_under v n (Ok h) = is_version h.version v && is_cut_kind h.version h.kind && not h.more && (frame_size h == n)
+is_cuttable_under v n (Ok h) = (minor_of h.version == minor_of v) && can_be_cut h.version h.kind && not (is_fragment h.kind) && not h.more && (frame_size h == n)
 
 -- octets that are one whole message of a version that can be cut
 abbrev pub is_cuttable_in : Version → List ℕ → Bool

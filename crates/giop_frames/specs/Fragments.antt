@@ -10,12 +10,13 @@ use Rattle.giop_core.specs.declared.error.MessageFault.{MessageFault}
 use Rattle.giop_core.specs.declared.error.MessageFault.TheVariants.{Cdr}
 use Rattle.giop_core.specs.declared.header.Header.{Header}
 use Rattle.giop_core.specs.declared.header.MessageKind.{MessageKind}
-use Rattle.giop_core.specs.declared.header.MessageKind.TheVariants.{CancelRequest, CloseConnection, MessageError, Fragment}
+use Rattle.giop_core.specs.declared.header.MessageKind.TheVariants.{CancelRequest, Fragment}
 use Rattle.giop_core.specs.declared.header.Version.{Version}
-use Rattle.giop_core.specs.declared.header.Version.TheVariants.{V10, V11, V12}
 use Rattle.giop_core.specs.Begun.{request_id_in}
 use Rattle.giop_core.specs.Content.{Content}
+use Rattle.giop_core.specs.Headers.{can_be_cut}
 use Rattle.giop_core.specs.Messages.{message_of}
+use Rattle.giop_core.specs.Rows.{has_id_first}
 use Rattle.giop_frames.specs.declared.fault.StreamFault.{StreamFault}
 use Rattle.giop_frames.specs.declared.fault.StreamFault.TheVariants.{Body, MixedOrder, StrayFragment, TooLarge, TooManyPartial, TwiceStarted}
 use Rattle.giop_frames.specs.declared.limits.Limits.{Limits}
@@ -23,37 +24,17 @@ use Rattle.giop_frames.specs.declared.partial.Key.{Key}
 use Rattle.giop_frames.specs.declared.partial.Key.TheVariants.{Of11, Of12}
 use Rattle.giop_frames.specs.declared.reassembly.Role.{Role}
 use Rattle.giop_frames.specs.declared.reassembly.Role.TheVariants.{Opens, Carries, Ends, Drops, Uncut, Apart}
-use Rattle.giop_frames.specs.Frames.{Frame}
+use Rattle.giop_frames.specs.Frames.{Frame, id_length}
 
--- GIOP 9.4.9: in 1.2 every message with a request id but a CancelRequest may be cut
-abbrev pub role_in_12 : MessageKind → Bool → Role
-role_in_12 Fragment true = Carries
-role_in_12 Fragment false = Ends
-role_in_12 CancelRequest more = Drops
-role_in_12 CloseConnection more = Apart
-role_in_12 MessageError more = Apart
-role_in_12 _ true = Opens
-role_in_12 _ false = Uncut
-
--- GIOP 9.4.9: in 1.1 a Request or a Reply may be cut: no other header has the bit
-abbrev pub role_in_11 : MessageKind → Bool → Role
-role_in_11 Fragment true = Carries
-role_in_11 Fragment false = Ends
-role_in_11 CancelRequest more = Drops
-role_in_11 _ true = Opens
-role_in_11 _ false = Apart
-
--- in 1.0 no message is cut
-abbrev pub role_in_10 : MessageKind → Role
-role_in_10 CancelRequest = Drops
-role_in_10 _ = Apart
-
--- the role of a kind of message in a version; own rule: a CancelRequest of any version drops what has come
--- of its message
+-- GIOP 9.4.9: the role of a kind of message in a version, by whether more fragments follow, which a header says only where
+-- the version lets the kind be cut. Own rules: a CancelRequest of any version drops what has come of its message; and a whole
+-- message that could have been cut is held against the partial ones where these are known by their request ids.
 abbrev pub role_in : Version → MessageKind → Bool → Role
-role_in V12 kind more = role_in_12 kind more
-role_in V11 kind more = role_in_11 kind more
-role_in V10 kind more = role_in_10 kind
+role_in _ Fragment true = Carries
+role_in _ Fragment false = Ends
+role_in _ CancelRequest more = Drops
+role_in _ _ true = Opens
+role_in version kind false = if has_id_first version && can_be_cut version kind then Uncut else Apart
 
 -- what a frame under a header is to the partial messages
 abbrev pub role_of : Header → Role
@@ -65,8 +46,7 @@ id_of f = number_of f.header.order 4 f.octets
 
 -- what a partial message is known by: in 1.2 its request id; in 1.1 a Fragment has none, and one message is partial at most
 abbrev pub key_in : Version → ℕ → Key
-key_in V12 i = Of12 i
-key_in _ i = Of11
+key_in v i = if has_id_first v then Of12 i else Of11
 
 -- the key of the message that a frame is a part of
 abbrev pub key_of : Frame → Key
@@ -77,11 +57,6 @@ abbrev pub is_key : Key → Key → Bool
 is_key (Of12 i) (Of12 j) = i == j
 is_key Of11 Of11 = true
 is_key _ _ = false
-
--- how many octets of a Fragment come before its payload: in 1.2 those of its request id
-abbrev pub id_length : Version → ℕ
-id_length V12 = 4
-id_length _ = 0
 
 -- the payload of a Fragment
 abbrev pub payload_of : Frame → List ℕ
@@ -209,8 +184,7 @@ judged_as Apart limits before n f = judged_whole f
 abbrev pub has_id : Role → Version → Bool
 has_id Drops v = true
 has_id Apart v = false
-has_id _ V12 = true
-has_id _ v = false
+has_id _ v = has_id_first v
 
 -- the octets end inside the request id, which is at offset 12
 abbrev pub too_short : Verdict
@@ -219,8 +193,8 @@ too_short = Bad (Body (Cdr (record { kind = Short; at = 12 })))
 -- what may come while a message of 1.1 is partial: its Fragments, and CancelRequests; own rule
 abbrev pub may_come : Role → Version → Bool
 may_come Drops v = true
-may_come Carries V11 = true
-may_come Ends V11 = true
+may_come Carries v = not (has_id_first v)
+may_come Ends v = not (has_id_first v)
 may_come _ v = false
 
 -- the judgement of a whole frame, by the partial message of 1.1, if there is one, and that of the frame's key, and how many

@@ -4,8 +4,8 @@ use Rattle.std.specs.Prelude.{ℕ, ◌+◌, ◌%◌, ◌==◌, ◌&&◌, nat_lt,
 use Rattle.giop_core.specs.declared.header.Header.{Header}
 use Rattle.giop_core.specs.declared.header.HeaderFault.{HeaderFault}
 use Rattle.giop_core.specs.declared.header.Version.{Version}
-use Rattle.giop_core.specs.declared.header.Version.TheVariants.{V11}
 use Rattle.giop_core.specs.Headers.{header_of}
+use Rattle.giop_core.specs.Rows.{has_id_first}
 use Rattle.giop_frames.specs.declared.fault.StreamFault.{StreamFault}
 use Rattle.giop_frames.specs.declared.fault.StreamFault.TheVariants.{Header as BadHeader, TooLarge, UnalignedFragment}
 use Rattle.giop_frames.specs.declared.limits.Limits.{Limits}
@@ -19,12 +19,15 @@ pub record Frame : Type 0 where
 abbrev pub frame_size : Header → ℕ
 frame_size h = 12 + h.size
 
--- GIOP 9.4.9: in 1.2 each frame of a cut message but the last has a length divisible by 8. Own rule, where the
--- clause is silent: in 1.1 that length is 4 modulo 8, so that the octets after the next header stand, modulo 8, where they
--- stand in the whole message.
+-- GIOP 9.4.9: how many octets of a Fragment come before its payload: those of its request id, where the version has it there
+abbrev pub id_length : Version → ℕ
+id_length v = if has_id_first v then 4 else 0
+
+-- GIOP 9.4.9: the length modulo 8 of each frame of a cut message but the last, such that the octets after the header of a
+-- Fragment, and after its request id, stand, modulo 8, where they stand in the whole message: in 1.2 it is divisible by 8.
+-- Own rule, where the clause is silent: in 1.1, where a Fragment has no id, it is 4 modulo 8.
 abbrev pub cut_place : Version → ℕ
-cut_place V11 = 4
-cut_place _ = 0
+cut_place v = (12 + id_length v) % 8
 
 -- more frames follow one of another length
 abbrev pub is_unaligned : Header → Bool

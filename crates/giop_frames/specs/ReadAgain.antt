@@ -16,8 +16,8 @@ use Rattle.giop_frames.specs.declared.partial.Key.{Key}
 use Rattle.giop_frames.specs.declared.partial.Key.TheVariants.{Of11}
 use Rattle.giop_frames.specs.declared.reassembly.Role.TheVariants.{Uncut}
 use Rattle.giop_frames.specs.Cutting.{cut_octets, is_cuttable_in}
-use Rattle.giop_frames.specs.Fragments.{Partial, content_of, id_length, id_of, is_cancelled, key_of, partial_of, partials_in, role_of}
-use Rattle.giop_frames.specs.Frames.{Frame, cut_place}
+use Rattle.giop_frames.specs.Fragments.{Partial, content_of, id_of, is_cancelled, key_of, partial_of, partials_in, role_of}
+use Rattle.giop_frames.specs.Frames.{Frame, cut_place, id_length}
 use Rattle.giop_frames.specs.Streams.{Completed, Faults, fault_of, frames_of, messages_of, rest_of}
 
 -- a message under its header

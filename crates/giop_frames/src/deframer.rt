@@ -2,7 +2,7 @@
 
 ghost use Rattle.std.specs.Prelude.{◌≡◌, ◌+◌, ◌<◌, ◌≤◌, ◌++◌, length, take, IfOk, []};
 ghost use Rattle.giop_core.specs.Headers.{header_of};
-ghost use Rattle.giop_frames.specs.Frames.{admitted, cut_place, frame_size, is_unaligned, judged_header, sight};
+ghost use Rattle.giop_frames.specs.Frames.{admitted, cut_place, frame_size, id_length, is_unaligned, judged_header, sight};
 ghost use Rattle.giop_frames.specs.Private.{Needs, IsExact, NeedsAsSeen, sight_at};
 
 use crate::fault::StreamFault;
@@ -33,15 +33,22 @@ pub(crate) fn frame_size(header: &Header) -> usize
     Header::LEN + header.size as usize
 }
 
-/// The length modulo 8 of each frame of a cut message but the last: in 1.2 it is GIOP 9.4.9's, in 1.1
-/// own rule.
+/// How many octets a request id has.
+pub(crate) const ID_LEN: usize = 4;
+
+/// How many octets of a Fragment come before its payload.
+pub(crate) fn id_length(version: Version) -> usize
+    ensures { result ≡ id_length version }
+{
+    if version.has_id_first() { ID_LEN } else { 0 }
+}
+
+/// The length modulo 8 of each frame of a cut message but the last, with which the payload of a Fragment stands, modulo 8,
+/// where it stands in the whole message: in 1.2 it is GIOP 9.4.9's, in 1.1 own rule.
 fn cut_place(version: Version) -> usize
     ensures { result ≡ cut_place version }
 {
-    match version {
-        Version::V11 => 4,
-        Version::V10 | Version::V12 => 0,
-    }
+    (Header::LEN + id_length(version)) % 8
 }
 
 /// Whether more frames follow one after which a message must not be cut.

@@ -5,41 +5,13 @@ ghost use Rattle.std.specs.List.{flat_map};
 ghost use Rattle.giop_core.specs.declared.header.Header.{Header as GivenHeader};
 ghost use Rattle.giop_core.specs.declared.header.MessageKind.TheVariants.{Fragment};
 ghost use Rattle.giop_core.specs.Headers.{can_be_cut, header_of};
-ghost use Rattle.giop_frames.specs.Cutting.{cut_octets, fragment_of, fragments_of, frame_octets, is_cut_kind, is_cuttable, is_cuttable_11, is_cuttable_in, is_version, chunks_from};
-ghost use Rattle.giop_frames.specs.Fragments.{id_length};
+ghost use Rattle.giop_frames.specs.Cutting.{cut_octets, fragment_of, fragments_of, frame_octets, is_cuttable, is_cuttable_11, is_cuttable_in, chunks_from};
+ghost use Rattle.giop_frames.specs.Frames.{id_length};
 ghost use Rattle.giop_frames.specs.Private.{IsAppended};
 
-use crate::deframer::frame_size;
-use crate::reassembly::id_length;
+use crate::deframer::{frame_size, id_length};
 use giop_core::{Header, MessageKind, Version};
 use std::alloc::AllocError;
-
-/// Whether whole messages of a kind in a version can be cut.
-fn is_cut_kind(version: Version, kind: MessageKind) -> bool
-    ensures { result ≡ is_cut_kind version kind }
-{
-    match (version, kind) {
-        (
-            Version::V12,
-            MessageKind::Request
-            | MessageKind::Reply
-            | MessageKind::LocateRequest
-            | MessageKind::LocateReply,
-        )
-        | (Version::V11, MessageKind::Request | MessageKind::Reply) => true,
-        _ => false,
-    }
-}
-
-/// Whether two versions are one.
-fn is_version(first: Version, second: Version) -> bool
-    ensures { result ≡ is_version first second }
-{
-    matches!(
-        (first, second),
-        (Version::V10, Version::V10) | (Version::V11, Version::V11) | (Version::V12, Version::V12)
-    )
-}
 
 /// The header of octets that are one whole message of a version that can be cut.
 fn cuttable(version: Version, octets: &[u8]) -> Option<Header>
@@ -47,9 +19,10 @@ fn cuttable(version: Version, octets: &[u8]) -> Option<Header>
 {
     let head = octets.first_chunk::<{ Header::LEN }>()?;
     let header = Header::read(head).ok()?;
-    let whole = frame_size(&header) == octets.len();
-    let cuts = is_version(header.version, version) && is_cut_kind(header.version, header.kind);
-    if cuts && !header.more && whole {
+    let whole = !header.more && frame_size(&header) == octets.len();
+    let cuts = header.kind.can_be_cut(header.version)
+        && !matches!(header.kind, MessageKind::Fragment);
+    if header.version == version && cuts && whole {
         Some(header)
     } else {
         None

@@ -8,8 +8,10 @@ ghost use Rattle.giop_frames.specs.declared.reassembly.Role.TheVariants as role;
 ghost use Rattle.giop_frames.specs.Private.{IsSettled, IsSettledAs, IsTakenUp, judged_uncut, uncancelled, verdict_at};
 ghost use Rattle.giop_frames.specs.Standing.{framed, entries};
 ghost use Rattle.giop_frames.specs.Streams.{part_in};
-ghost use Rattle.giop_frames.specs.Fragments.{has_id, id_length, id_of, judged_whole, key_of, may_come, role_in_11, role_in_12, role_of};
+ghost use Rattle.giop_frames.specs.Fragments.{has_id, id_of, judged_whole, key_of, may_come, role_of};
+ghost use Rattle.giop_frames.specs.Frames.{id_length};
 
+use crate::deframer::{ID_LEN, id_length};
 use crate::fault::StreamFault;
 use crate::limits::Limits;
 use crate::naming::Named;
@@ -36,49 +38,24 @@ pub enum Role {
     Apart,
 }
 
-/// The role of a frame of 1.2 (GIOP 9.4.9).
-fn role_in_12(kind: MessageKind, more: bool) -> Role
-    ensures { result ≡ role_in_12 kind more }
-{
-    match (kind, more) {
-        (MessageKind::Fragment, true) => Role::Carries,
-        (MessageKind::Fragment, false) => Role::Ends,
-        (MessageKind::CancelRequest, _) => Role::Drops,
-        (MessageKind::CloseConnection | MessageKind::MessageError, _) => Role::Apart,
-        (_, true) => Role::Opens,
-        (_, false) => Role::Uncut,
-    }
-}
-
-/// The role of a frame of 1.1 (GIOP 9.4.9).
-fn role_in_11(kind: MessageKind, more: bool) -> Role
-    ensures { result ≡ role_in_11 kind more }
-{
-    match (kind, more) {
-        (MessageKind::Fragment, true) => Role::Carries,
-        (MessageKind::Fragment, false) => Role::Ends,
-        (MessageKind::CancelRequest, _) => Role::Drops,
-        (_, true) => Role::Opens,
-        (_, false) => Role::Apart,
-    }
-}
-
-/// The role of a frame under a header.
+/// The role of a frame under a header (GIOP 9.4.9).
 fn role_of(header: &Header) -> Role
     ensures { result ≡ role_of header.now }
 {
-    match header.version {
-        Version::V12 => role_in_12(header.kind, header.more),
-        Version::V11 => role_in_11(header.kind, header.more),
-        Version::V10 => match header.kind {
-            MessageKind::CancelRequest => Role::Drops,
-            _ => Role::Apart,
-        },
+    match (header.kind, header.more) {
+        (MessageKind::Fragment, true) => Role::Carries,
+        (MessageKind::Fragment, false) => Role::Ends,
+        (MessageKind::CancelRequest, _) => Role::Drops,
+        (_, true) => Role::Opens,
+        (kind, false) => {
+            if header.version.has_id_first() && kind.can_be_cut(header.version) {
+                Role::Uncut
+            } else {
+                Role::Apart
+            }
+        }
     }
 }
-
-/// How many octets a request id has.
-const ID_LEN: usize = 4;
 
 /// Whether a frame must begin with a request id.
 fn has_id(role: Role, version: Version) -> bool
@@ -95,10 +72,11 @@ fn has_id(role: Role, version: Version) -> bool
 fn may_come(role: Role, version: Version) -> bool
     ensures { result ≡ may_come role version }
 {
-    matches!(
-        (role, version),
-        (Role::Drops, _) | (Role::Carries | Role::Ends, Version::V11)
-    )
+    match role {
+        Role::Drops => true,
+        Role::Carries | Role::Ends => !version.has_id_first(),
+        Role::Opens | Role::Uncut | Role::Apart => false,
+    }
 }
 
 /// Whether a frame comes where only a Fragment of 1.1 or a CancelRequest may.
@@ -113,13 +91,6 @@ fn lacks_id(role: Role, version: Version, frame: &[u8]) -> bool
     ensures { result ≡ (has_id role version && nat_lt (length frame.now) 16) }
 {
     frame.len() < Header::LEN + ID_LEN && has_id(role, version)
-}
-
-/// How many octets of a Fragment come before its payload.
-pub(crate) fn id_length(version: Version) -> usize
-    ensures { result ≡ id_length version }
-{
-    if version.has_id_first() { ID_LEN } else { 0 }
 }
 
 /// The key of the message that a frame is a part of.
