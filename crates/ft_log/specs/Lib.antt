@@ -8,7 +8,7 @@
 --   View        what a `Key`, an `Outcome` and an entry of the code stand for
 --   Logged      what a `Log` stands for, and how many slots it has
 -- Laws          what the tests of keys say, and of repository ids
--- Names, Maps, Placed, Shelf, Dues, Without, Tied      words for the fields of a `Log`; no public contract, definition or law uses them
+-- Names, Maps, Placed, Shelf, Dues, Without, Tied, Store      words for the fields of a `Log`; no public contract, definition or law uses them
 pub mod Exceptions
 pub mod Statuses
 pub mod Performed
@@ -24,3 +24,4 @@ pub mod Shelf
 pub mod Dues
 pub mod Without
 pub mod Tied
+pub mod Store

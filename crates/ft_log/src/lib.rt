@@ -16,6 +16,7 @@ mod order;
 mod outcome;
 mod room;
 mod shelf;
+mod store;
 mod story;
 mod system_exception;
 

@@ -1,59 +1,40 @@
 //! The log: outcomes by their keys.
 
-ghost use Rattle.std.specs.Prelude.{◌≡◌, ◌≤◌, ◌+◌, IsTrue, List, ℕ, if◌then◌else◌, length, nat_lt, not, option_map};
-ghost use Rattle.std.specs.List.{count_by, sum_by};
-ghost use Rattle.indexmap.specs.IndexMap.{index_map_len};
-ghost use Rattle.ft_log.specs.Dues.{dues, places};
-ghost use Rattle.ft_log.specs.Keys.{RequestKey, are_distinct, clients_in, held_of};
+ghost use Rattle.std.specs.Prelude.{◌≡◌, ◌≤◌, ◌+◌, IsTrue, List, ℕ, length, option_map};
+ghost use Rattle.ft_log.specs.Keys.{are_distinct, clients_in, held_of};
 ghost use Rattle.ft_log.specs.Kept.{keys_of};
-ghost use Rattle.ft_log.specs.Maps.{held_at, key_in};
-ghost use Rattle.ft_log.specs.Tied.{AreDues, AreOutcomes, AreOutcomes-prop, is_copied, is_free, is_ready, is_slotted};
-ghost use Rattle.ft_log.specs.View.{entries_at, key_of};
+ghost use Rattle.ft_log.specs.View.{key_of};
 
-use crate::counts::{Counts, count_down_if, count_of, count_up_if, reserve_if};
 use crate::error::LogError;
 use crate::key::Key;
-use crate::order::{Due, Order};
 use crate::outcome::Outcome;
-use crate::room::{Room, room_for};
-use crate::shelf::Shelf;
-use crate::story::{Entry, Story};
-use indexmap::IndexMap;
+use crate::store::Store;
 use std::alloc::Global;
-use std::cmp::Reverse;
 use std::fmt;
 use std::hash::RandomState;
+use std::marker::Model;
 
 /// The outcomes that a server keeps, in the order in which they were kept, each under a key of its own.
 ///
 /// A contract sees a log as `logged` of it: how many outcomes it may keep, how many of each client, the
 /// entries, and the key that room is made for, if there is one. `find`, `forget`, `keep`, `len`,
 /// `held_by` and `next_expiry` allocate nothing.
-///
-/// `kept` has the outcome of each entry and no other, and `order` its slot there, by its expiration. `counts` has how many
-/// entries each client of an entry has, where the share is below the capacity, and nothing else. There `room` holds a copy of
-/// a client id, so that keeping takes no memory. `story` takes none.
 #[derive(Drop)]
 pub struct Log {
-    capacity: u32,
-    share: u32,
-    alloc: Global,
-    kept: Shelf,
-    counts: Counts,
-    order: Order,
-    room: Option<Room>,
-    story: Story,
-    ghost within: { length story.entries ≤ capacity },
-    ghost distinct: { IsTrue (are_distinct (keys_of (entries_at story.entries))) },
-    ghost shared: { (client : List ℕ) → held_of client (keys_of (entries_at story.entries)) ≤ share },
-    ghost found: { AreOutcomes kept story.entries } by { AreOutcomes-prop kept story.entries },
-    ghost listed: { (f : RequestKey → ℕ) → sum_by (λ p. f (key_in p.0)) kept.outcomes.entries ≡ sum_by f (keys_of (entries_at story.entries)) },
-    ghost counted: { IsTrue (nat_lt share capacity) → (client : List ℕ) → held_at counts client ≡ held_of client (keys_of (entries_at story.entries)) },
-    ghost slim: { index_map_len counts ≤ (if nat_lt share capacity then clients_in (keys_of (entries_at story.entries)) else 0) },
-    ghost dated: { AreDues order story.entries },
-    ghost slotted: { count_by (λ d. not (is_slotted kept d)) (dues order) ≡ 0 },
-    ghost copied: { IsTrue (nat_lt share capacity) → IsTrue (is_copied room) },
-    ghost ready: { IsTrue (is_ready (option_map (λ r. key_of r.key.key) room) (keys_of (entries_at story.entries)) capacity share (places order) (is_free (nat_lt share capacity) kept counts)) },
+    store: Store,
+}
+
+impl Model for Log {
+    ghost use Rattle.ft_log.specs.Logged.{Shown};
+    ghost use Rattle.ft_log.specs.Store.{shown};
+    ghost use Rattle.ft_log.specs.contracts.story.Entry as entry;
+    ghost use Rattle.std.specs.Coded.{codes};
+
+    ghost Value = { Shown };
+
+    ghost coded = { Prim.hlevel (codes, entry.the_row.coded) };
+
+    ghost view = { λ l. shown l.store };
 }
 
 impl Log {
@@ -64,114 +45,55 @@ impl Log {
     ghost use Rattle.ft_log.specs.declared.error.LogError.TheVariants.{Full, ShareFull};
 
     /// A log that keeps nothing. It may keep `capacity` outcomes, `share` of them for each client.
-    #[tactic(auto, unfolding(crate::specs::Logged::logged))]
     pub fn new(alloc: Global, capacity: u32, share: u32, hasher: RandomState) -> Log
         ensures { logged result ≡ record { capacity = capacity; share = share; entries = []; room = None } }
     {
         Log {
-            capacity,
-            share,
-            alloc,
-            kept: Shelf::new(alloc, hasher),
-            counts: IndexMap::with_hasher(alloc, hasher),
-            order: Order::new(alloc),
-            room: None,
-            story: Story::new(),
+            store: Store::new(alloc, capacity, share, hasher),
         }
     }
 
     /// The outcome that is kept for a key.
-    #[tactic(auto, unfolding(crate::specs::Logged::logged))]
     pub fn find(&self, key: &Key) -> Option<&Outcome>
         ensures { option_map (λ o. performed_in o.now) result ≡ kept_for (key_of key.now) (logged self.now).entries }
     {
-        self.kept.outcome_at(key)
+        self.store.find(key)
     }
 
     /// How many outcomes are kept.
-    #[tactic(auto, unfolding(crate::specs::Logged::logged))]
     pub fn len(&self) -> usize
         ensures length { result ≡ length (logged self.now).entries }
         ensures bound { result ≤ (logged self.now).capacity }
     {
-        self.order.len()
+        self.store.len()
     }
 
     /// How many outcomes of a client are kept.
-    #[tactic(auto, unfolding(crate::specs::Logged::logged))]
     pub fn held_by(&self, client_id: &[u8]) -> u32
         ensures held { result ≡ held_of client_id.now (keys_of (logged self.now).entries) }
         ensures bound { result ≤ (logged self.now).share }
     {
-        let _share = self.share;
-        if self.counts_clients() {
-            count_of(&self.counts, client_id)
-        } else {
-            self.kept.held_by(client_id) as u32
-        }
-    }
-
-    /// Whether the share is below the capacity. Where it isn't, no client can have its share before the log is full, and
-    /// clients are not counted.
-    #[tactic(auto, unfolding(crate::specs::Logged::logged))]
-    #[inline(always)]
-    fn counts_clients(&self) -> bool
-        ensures { result ≡ nat_lt (logged self.now).share (logged self.now).capacity }
-    {
-        self.share < self.capacity
+        self.store.held_by(client_id)
     }
 
     /// The least expiration of what is kept.
-    #[tactic(auto, unfolding(crate::specs::Logged::logged))]
     pub fn next_expiry(&self) -> Option<u64>
         ensures least { result ≡ least_expiration (logged self.now).entries }
         ensures stays { (now : ℕ) → MatchOption result (Unit {0}) (λ t. now ≤ t) → unexpired now (logged self.now).entries ≡ (logged self.now).entries }
     {
-        self.order.least()
+        self.store.next_expiry()
     }
 
     /// Drops exactly the entries whose expiration lies before a moment, given as the number of 100 ns
     /// since 15 October 1582.
-    #[tactic(auto, unfolding(crate::specs::Logged::logged))]
     pub fn forget(&mut self, now: u64)
         ensures { logged self.new ≡ record (logged self.old) { entries = unexpired now (logged self.old).entries } }
     {
-        while self.forget_next(now) {}
-    }
-
-    /// Drops one entry whose expiration lies before a moment, and says whether there was one.
-    #[tactic(auto, unfolding(crate::specs::Logged::logged))]
-    fn forget_next(&mut self, now: u64) -> bool
-        ensures fewer { IsTrue result → length (logged self.new).entries < length (logged self.old).entries }
-        ensures none { result ≡ false → unexpired now (logged self.new).entries ≡ (logged self.new).entries }
-        ensures same { unexpired now (logged self.new).entries ≡ unexpired now (logged self.old).entries }
-        ensures others { logged self.new ≡ record (logged self.old) { entries = (logged self.new).entries } }
-    {
-        let counts = self.counts_clients();
-        match self.order.pop_before(now) {
-            Some(due) => {
-                let client_id = self.kept.take(due.slot, &due.key);
-                count_down_if(counts, &mut self.counts, client_id.as_slice());
-                self.story = Story::without(&self.story, &due.key);
-                true
-            }
-            None => false,
-        }
-    }
-
-    /// Whether a client has its share, in a log that isn't full.
-    #[tactic(auto, unfolding(crate::specs::Logged::logged))]
-    fn is_share_full(&self, client_id: &[u8]) -> bool
-        requires { length (logged self.now).entries < (logged self.now).capacity }
-        ensures yes { result ≡ true → held_of client_id.now (keys_of (logged self.now).entries) ≡ (logged self.now).share }
-        ensures no { result ≡ false → held_of client_id.now (keys_of (logged self.now).entries) < (logged self.now).share }
-    {
-        self.counts_clients() && count_of(&self.counts, client_id) == self.share
+        self.store.forget(now);
     }
 
     /// Makes room for the outcome of a key that has none, and for no other. An error leaves room for no
     /// key. The entries stay as they are in every case.
-    #[tactic(auto, unfolding(crate::specs::Logged::logged))]
     pub fn make_room(&mut self, key: &Key) -> Result<(), LogError>
         requires { kept_for (key_of key.now) (logged self.old).entries ≡ None }
         ensures ok { OnOk result (logged self.new ≡ record (logged self.old) { room = Some (key_of key.now) }) }
@@ -182,25 +104,11 @@ impl Log {
         ensures within { OnOk result (length (logged self.old).entries < (logged self.old).capacity) }
         ensures shared { OnOk result (held_of (key_of key.now).client_id (keys_of (logged self.old).entries) < (logged self.old).share) }
     {
-        self.room = None;
-        if self.len() == self.capacity as usize {
-            return Err(LogError::Full);
-        }
-        if self.is_share_full(&key.client_id) {
-            return Err(LogError::ShareFull);
-        }
-        let counts = self.counts_clients();
-        let room = room_for(counts, self.alloc, key)?;
-        self.order.reserve()?;
-        self.kept.reserve()?;
-        reserve_if(counts, &mut self.counts)?;
-        self.room = Some(room);
-        Ok(())
+        self.store.make_room(key)
     }
 
     /// Keeps the outcome of the key that room is made for, last of all, until its expiration. Afterwards
     /// room is made for none. It can't fail.
-    #[tactic(auto, unfolding(crate::specs::Logged::logged))]
     pub fn keep(&mut self, key: Key, expiration: u64, outcome: Outcome)
         requires { (logged self.old).room ≡ Some (key_of key) }
         ensures { logged self.new ≡ record (logged self.old) {
@@ -208,48 +116,33 @@ impl Log {
           room = None;
         } }
     {
-        let _share = self.share;
-        let counts = self.counts_clients();
-        let Some(room) = self.room.take() else {
-            return;
-        };
-        let entry = Entry {
-            key,
-            expiration,
-            outcome,
-        };
-        self.story = Story::with(&self.story, &entry);
-        let slot = self.kept.put(entry.key, entry.outcome);
-        self.order.push(Due {
-            until: Reverse(expiration),
-            slot,
-            key: room.key,
-        });
-        count_up_if(counts, &mut self.counts, room.client_id);
+        self.store.keep(key, expiration, outcome);
     }
 
     /// No two entries have one key.
-    #[tactic(auto, unfolding(crate::specs::Logged::logged))]
     pub fn keys_are_distinct(&self)
         ensures { IsTrue (are_distinct (keys_of (logged self.now).entries)) }
-    {}
+    {
+        self.store.keys_are_distinct();
+    }
 
     /// The map has at most one slot for each entry and one for each client of an entry, however many clients
     /// have asked.
-    #[tactic(auto, unfolding(crate::specs::Logged::logged, crate::specs::Logged::slots_of))]
     pub fn slots_are_few(&self)
         ensures each { slots_of self.now ≤ length (logged self.now).entries + clients_in (keys_of (logged self.now).entries) }
         ensures twice { slots_of self.now ≤ 2 * length (logged self.now).entries }
         ensures bound { slots_of self.now ≤ 2 * (logged self.now).capacity }
-    {}
+    {
+        self.store.slots_are_few();
+    }
 }
 
 /// How many outcomes are kept, and how many may be; not the outcomes.
 impl fmt::Debug for Log {
     fn fmt<W: fmt::Write>(&self, f: &mut fmt::Formatter<W>) -> fmt::Result {
         f.debug_struct("Log")
-            .field("capacity", &self.capacity)
-            .field("share", &self.share)
+            .field("capacity", &self.store.capacity)
+            .field("share", &self.store.share)
             .field("len", &self.len())
             .finish_non_exhaustive()
     }

@@ -1,6 +1,6 @@
 use Rattle.std.proofs.Common.{rules}
 use Rattle.ft_log.specs.Logged.{logged}
-use Rattle.ft_log.proofs.log.Log.forget.Goals as goal
+use Rattle.ft_log.proofs.store.Store.forget.Goals as goal
 
 pub loop-init : goal.loop-init
 unfolding logged

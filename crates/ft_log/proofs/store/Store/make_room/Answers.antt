@@ -15,7 +15,7 @@ use Rattle.ft_log.proofs.Listed.{none_kept, length_keys, other_error}
 use Rattle.ft_log.proofs.Ready.{IsReady, ready_from}
 use Rattle.ft_log.proofs.Moved.{counted_in, dated_in, found_in, listed_in, slotted_in}
 use Rattle.ft_log.proofs.Slotted.{free_from}
-use Rattle.ft_log.proofs.log.Log.make_room.Goals as goal
+use Rattle.ft_log.proofs.store.Store.make_room.Goals as goal
 
 -- the client of a key has fewer than its share
 below : {client : List ℕ} {slice : List ℕ} {share : ℕ} (es : List Entry) → slice ≡ client → held_of slice (keys_at es) < share → held_of client (keys_at es) < share

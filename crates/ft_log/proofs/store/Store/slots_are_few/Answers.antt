@@ -6,7 +6,7 @@ use Rattle.ft_log.specs.View.{entry_in}
 use Rattle.ft_log.proofs.Entries.{clients_few, keys_at, length_sum}
 use Rattle.ft_log.proofs.Listed.{length_keys}
 use Rattle.ft_log.proofs.Slots.{counted_few}
-use Rattle.ft_log.proofs.log.Log.slots_are_few.Goals as goal
+use Rattle.ft_log.proofs.store.Store.slots_are_few.Goals as goal
 
 pub returns-clause-each : goal.returns-clause-each
 unfolding logged slots_of

@@ -1,6 +1,6 @@
 use Rattle.ft_log.specs.Logged.{logged}
 use Rattle.ft_log.proofs.Dated.{least_of, stay_before}
-use Rattle.ft_log.proofs.log.Log.next_expiry.Goals as goal
+use Rattle.ft_log.proofs.store.Store.next_expiry.Goals as goal
 
 pub returns-clause-least : goal.returns-clause-least
 unfolding logged

@@ -19,8 +19,8 @@ use Rattle.ft_log.proofs.Entries.{IsLeft, all_stay, are_distinct-without, held_l
 use Rattle.ft_log.proofs.Ready.{ready-without}
 use Rattle.ft_log.proofs.Slots.{slim-without}
 use Rattle.ft_log.proofs.Slotted.{countable_stays, free_from, free_parts, is_none, keys_sum, none_due, none_left, outcome_taken, slot_is, slotted-change}
-use Rattle.ft_log.proofs.log.Log.forget_next.Goals as goal
-use Rattle.ft_log.proofs.log.Log.forget_next.Goals.{In-Some}
+use Rattle.ft_log.proofs.store.Store.forget_next.Goals as goal
+use Rattle.ft_log.proofs.store.Store.forget_next.Goals.{In-Some}
 
 -- the entry that goes is one of them
 left : (c : In-Some) → IsLeft c.in-Some.due.until.0 (key_of c.in-Some.due.key.key) c.args.self.now.story.entries

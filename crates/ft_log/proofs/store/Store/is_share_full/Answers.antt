@@ -1,7 +1,7 @@
 use Rattle.std.proofs.Common.{◌∙◌, sym, arith}
 use Rattle.std.proofs.lemmas.Bool.Decides.{nat_tests}
 use Rattle.ft_log.specs.Logged.{logged}
-use Rattle.ft_log.proofs.log.Log.is_share_full.Goals as goal
+use Rattle.ft_log.proofs.store.Store.is_share_full.Goals as goal
 
 pub returns-then-counts_clients-clause-no : goal.returns-then-counts_clients-clause-no
 unfolding logged

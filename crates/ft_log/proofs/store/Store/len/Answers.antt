@@ -4,7 +4,7 @@ use Rattle.ft_log.specs.Dues.{dues}
 use Rattle.ft_log.specs.Logged.{logged}
 use Rattle.ft_log.specs.View.{entry_in}
 use Rattle.ft_log.proofs.Entries.{length_sum}
-use Rattle.ft_log.proofs.log.Log.len.Goals as goal
+use Rattle.ft_log.proofs.store.Store.len.Goals as goal
 
 pub returns-clause-length : goal.returns-clause-length
 unfolding logged

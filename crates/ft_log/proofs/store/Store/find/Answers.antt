@@ -2,7 +2,7 @@ use Rattle.std.proofs.Common.{option_map, ap, ◌∙◌}
 use Rattle.ft_log.specs.Logged.{logged}
 use Rattle.ft_log.specs.View.{key_of, performed_in}
 use Rattle.ft_log.proofs.Entries.{copied, kept_for-outcome}
-use Rattle.ft_log.proofs.log.Log.find.Goals as goal
+use Rattle.ft_log.proofs.store.Store.find.Goals as goal
 
 pub returns : goal.returns
 unfolding logged

@@ -19,8 +19,8 @@ use Rattle.ft_log.proofs.Listed.{are_distinct-push, keys-push, length_keys, with
 use Rattle.ft_log.proofs.Ready.{IsReady, ready_at}
 use Rattle.ft_log.proofs.Slots.{slim-with}
 use Rattle.ft_log.proofs.Slotted.{free_parts, none_due, none_new, nothing_there, outcome_none, outcome_put, slot_here, slotted-change}
-use Rattle.ft_log.proofs.log.Log.keep.Goals as goal
-use Rattle.ft_log.proofs.log.Log.keep.Goals.{In-Some}
+use Rattle.ft_log.proofs.store.Store.keep.Goals as goal
+use Rattle.ft_log.proofs.store.Store.keep.Goals.{In-Some}
 
 -- there is a place for the key
 place : (c : In-Some) → let s = c.args.self.now in IsReady (key_of c.args.key) (keys_at s.story.entries) s.capacity s.share (places s.order) (is_free (nat_lt s.share s.capacity) s.kept s.counts)

@@ -2,8 +2,8 @@ use Rattle.std.proofs.Common.{◌≡◌, ◌∙◌, cond, bytes_eq, sym, arith}
 use Rattle.ft_log.specs.Keys.{held_of}
 use Rattle.ft_log.specs.Logged.{logged}
 use Rattle.ft_log.proofs.Entries.{keys_at}
-use Rattle.ft_log.proofs.log.Log.held_by.Goals as goal
-use Rattle.ft_log.proofs.log.Log.held_by.Goals.{After-held_by}
+use Rattle.ft_log.proofs.store.Store.held_by.Goals as goal
+use Rattle.ft_log.proofs.store.Store.held_by.Goals.{After-held_by}
 
 -- the keys in the map are those of the entries
 walked : (c : After-held_by) → c.held_by.result ≡ held_of c.args.client_id.now (keys_at c.args.self.now.story.entries)

@@ -1,0 +1,241 @@
+//! What a log has, and what it says of each other.
+
+ghost use Rattle.std.specs.Prelude.{◌≡◌, ◌≤◌, ◌+◌, IsTrue, List, ℕ, if◌then◌else◌, length, nat_lt, not, option_map};
+ghost use Rattle.std.specs.List.{count_by, sum_by};
+ghost use Rattle.indexmap.specs.IndexMap.{index_map_len};
+ghost use Rattle.ft_log.specs.Dues.{dues, places};
+ghost use Rattle.ft_log.specs.Keys.{RequestKey, are_distinct, clients_in, held_of};
+ghost use Rattle.ft_log.specs.Kept.{keys_of};
+ghost use Rattle.ft_log.specs.Maps.{held_at, key_in};
+ghost use Rattle.ft_log.specs.Tied.{AreDues, AreOutcomes, AreOutcomes-prop, is_copied, is_free, is_ready, is_slotted};
+ghost use Rattle.ft_log.specs.View.{entries_at, key_of};
+
+use crate::counts::{Counts, count_down_if, count_of, count_up_if, reserve_if};
+use crate::error::LogError;
+use crate::key::Key;
+use crate::order::{Due, Order};
+use crate::outcome::Outcome;
+use crate::room::{Room, room_for};
+use crate::shelf::Shelf;
+use crate::story::{Entry, Story};
+use indexmap::IndexMap;
+use std::alloc::Global;
+use std::cmp::Reverse;
+use std::hash::RandomState;
+
+/// The outcomes that a log keeps, in the order in which they were kept, each under a key of its own.
+///
+/// `kept` has the outcome of each entry and no other, and `order` its slot there, by its expiration. `counts` has how many
+/// entries each client of an entry has, where the share is below the capacity, and nothing else. There `room` holds a copy of
+/// a client id, so that keeping takes no memory. `story` takes none.
+#[derive(Drop)]
+pub(crate) struct Store {
+    pub(crate) capacity: u32,
+    pub(crate) share: u32,
+    alloc: Global,
+    kept: Shelf,
+    counts: Counts,
+    order: Order,
+    room: Option<Room>,
+    story: Story,
+    ghost within: { length story.entries ≤ capacity },
+    ghost distinct: { IsTrue (are_distinct (keys_of (entries_at story.entries))) },
+    ghost shared: { (client : List ℕ) → held_of client (keys_of (entries_at story.entries)) ≤ share },
+    ghost found: { AreOutcomes kept story.entries } by { AreOutcomes-prop kept story.entries },
+    ghost listed: { (f : RequestKey → ℕ) → sum_by (λ p. f (key_in p.0)) kept.outcomes.entries ≡ sum_by f (keys_of (entries_at story.entries)) },
+    ghost counted: { IsTrue (nat_lt share capacity) → (client : List ℕ) → held_at counts client ≡ held_of client (keys_of (entries_at story.entries)) },
+    ghost slim: { index_map_len counts ≤ (if nat_lt share capacity then clients_in (keys_of (entries_at story.entries)) else 0) },
+    ghost dated: { AreDues order story.entries },
+    ghost slotted: { count_by (λ d. not (is_slotted kept d)) (dues order) ≡ 0 },
+    ghost copied: { IsTrue (nat_lt share capacity) → IsTrue (is_copied room) },
+    ghost ready: { IsTrue (is_ready (option_map (λ r. key_of r.key.key) room) (keys_of (entries_at story.entries)) capacity share (places order) (is_free (nat_lt share capacity) kept counts)) },
+}
+
+impl Store {
+    ghost use Rattle.std.specs.Prelude.{◌≡◌, ◌↔◌, ◌<◌, ◌*◌, ◌++◌, [], ◌∷◌, None, Some, Err, OnOk, OnErr, MatchOption, true, false, length};
+    ghost use Rattle.ft_log.specs.Kept.{kept_for, least_expiration, unexpired};
+    ghost use Rattle.ft_log.specs.Logged.{logged, slots_of};
+    ghost use Rattle.ft_log.specs.Store.{shown};
+    ghost use Rattle.ft_log.specs.View.{performed_in};
+    ghost use Rattle.ft_log.specs.declared.error.LogError.TheVariants.{Full, ShareFull};
+
+    /// A log that keeps nothing. It may keep `capacity` outcomes, `share` of them for each client.
+    #[tactic(auto, unfolding(crate::specs::Logged::logged))]
+    pub(crate) fn new(alloc: Global, capacity: u32, share: u32, hasher: RandomState) -> Store
+        ensures { logged (shown result) ≡ record { capacity = capacity; share = share; entries = []; room = None } }
+    {
+        Store {
+            capacity,
+            share,
+            alloc,
+            kept: Shelf::new(alloc, hasher),
+            counts: IndexMap::with_hasher(alloc, hasher),
+            order: Order::new(alloc),
+            room: None,
+            story: Story::new(),
+        }
+    }
+
+    /// The outcome that is kept for a key.
+    #[tactic(auto, unfolding(crate::specs::Logged::logged))]
+    pub(crate) fn find(&self, key: &Key) -> Option<&Outcome>
+        ensures { option_map (λ o. performed_in o.now) result ≡ kept_for (key_of key.now) (logged (shown self.now)).entries }
+    {
+        self.kept.outcome_at(key)
+    }
+
+    /// How many outcomes are kept.
+    #[tactic(auto, unfolding(crate::specs::Logged::logged))]
+    pub(crate) fn len(&self) -> usize
+        ensures length { result ≡ length (logged (shown self.now)).entries }
+        ensures bound { result ≤ (logged (shown self.now)).capacity }
+    {
+        self.order.len()
+    }
+
+    /// How many outcomes of a client are kept.
+    #[tactic(auto, unfolding(crate::specs::Logged::logged))]
+    pub(crate) fn held_by(&self, client_id: &[u8]) -> u32
+        ensures held { result ≡ held_of client_id.now (keys_of (logged (shown self.now)).entries) }
+        ensures bound { result ≤ (logged (shown self.now)).share }
+    {
+        let _share = self.share;
+        if self.counts_clients() {
+            count_of(&self.counts, client_id)
+        } else {
+            self.kept.held_by(client_id) as u32
+        }
+    }
+
+    /// Whether the share is below the capacity. Where it isn't, no client can have its share before the log is full, and
+    /// clients are not counted.
+    #[tactic(auto, unfolding(crate::specs::Logged::logged))]
+    #[inline(always)]
+    fn counts_clients(&self) -> bool
+        ensures { result ≡ nat_lt (logged (shown self.now)).share (logged (shown self.now)).capacity }
+    {
+        self.share < self.capacity
+    }
+
+    /// The least expiration of what is kept.
+    #[tactic(auto, unfolding(crate::specs::Logged::logged))]
+    pub(crate) fn next_expiry(&self) -> Option<u64>
+        ensures least { result ≡ least_expiration (logged (shown self.now)).entries }
+        ensures stays { (now : ℕ) → MatchOption result (Unit {0}) (λ t. now ≤ t) → unexpired now (logged (shown self.now)).entries ≡ (logged (shown self.now)).entries }
+    {
+        self.order.least()
+    }
+
+    /// Drops exactly the entries whose expiration lies before a moment, given as the number of 100 ns
+    /// since 15 October 1582.
+    #[tactic(auto, unfolding(crate::specs::Logged::logged))]
+    pub(crate) fn forget(&mut self, now: u64)
+        ensures { logged (shown self.new) ≡ record (logged (shown self.old)) { entries = unexpired now (logged (shown self.old)).entries } }
+    {
+        while self.forget_next(now) {}
+    }
+
+    /// Drops one entry whose expiration lies before a moment, and says whether there was one.
+    #[tactic(auto, unfolding(crate::specs::Logged::logged))]
+    fn forget_next(&mut self, now: u64) -> bool
+        ensures fewer { IsTrue result → length (logged (shown self.new)).entries < length (logged (shown self.old)).entries }
+        ensures none { result ≡ false → unexpired now (logged (shown self.new)).entries ≡ (logged (shown self.new)).entries }
+        ensures same { unexpired now (logged (shown self.new)).entries ≡ unexpired now (logged (shown self.old)).entries }
+        ensures others { logged (shown self.new) ≡ record (logged (shown self.old)) { entries = (logged (shown self.new)).entries } }
+    {
+        let counts = self.counts_clients();
+        match self.order.pop_before(now) {
+            Some(due) => {
+                let client_id = self.kept.take(due.slot, &due.key);
+                count_down_if(counts, &mut self.counts, client_id.as_slice());
+                self.story = Story::without(&self.story, &due.key);
+                true
+            }
+            None => false,
+        }
+    }
+
+    /// Whether a client has its share, in a log that isn't full.
+    #[tactic(auto, unfolding(crate::specs::Logged::logged))]
+    fn is_share_full(&self, client_id: &[u8]) -> bool
+        requires { length (logged (shown self.now)).entries < (logged (shown self.now)).capacity }
+        ensures yes { result ≡ true → held_of client_id.now (keys_of (logged (shown self.now)).entries) ≡ (logged (shown self.now)).share }
+        ensures no { result ≡ false → held_of client_id.now (keys_of (logged (shown self.now)).entries) < (logged (shown self.now)).share }
+    {
+        self.counts_clients() && count_of(&self.counts, client_id) == self.share
+    }
+
+    /// Makes room for the outcome of a key that has none, and for no other. An error leaves room for no
+    /// key. The entries stay as they are in every case.
+    #[tactic(auto, unfolding(crate::specs::Logged::logged))]
+    pub(crate) fn make_room(&mut self, key: &Key) -> Result<(), LogError>
+        requires { kept_for (key_of key.now) (logged (shown self.old)).entries ≡ None }
+        ensures ok { OnOk result (logged (shown self.new) ≡ record (logged (shown self.old)) { room = Some (key_of key.now) }) }
+        ensures err { OnErr result (logged (shown self.new) ≡ record (logged (shown self.old)) { room = None }) }
+        ensures full { (result ≡ Err Full) ↔ (length (logged (shown self.old)).entries ≡ (logged (shown self.old)).capacity) }
+        ensures share_full { (result ≡ Err ShareFull) ↔ ((length (logged (shown self.old)).entries < (logged (shown self.old)).capacity)
+            × (held_of (key_of key.now).client_id (keys_of (logged (shown self.old)).entries) ≡ (logged (shown self.old)).share)) }
+        ensures within { OnOk result (length (logged (shown self.old)).entries < (logged (shown self.old)).capacity) }
+        ensures shared { OnOk result (held_of (key_of key.now).client_id (keys_of (logged (shown self.old)).entries) < (logged (shown self.old)).share) }
+    {
+        self.room = None;
+        if self.len() == self.capacity as usize {
+            return Err(LogError::Full);
+        }
+        if self.is_share_full(&key.client_id) {
+            return Err(LogError::ShareFull);
+        }
+        let counts = self.counts_clients();
+        let room = room_for(counts, self.alloc, key)?;
+        self.order.reserve()?;
+        self.kept.reserve()?;
+        reserve_if(counts, &mut self.counts)?;
+        self.room = Some(room);
+        Ok(())
+    }
+
+    /// Keeps the outcome of the key that room is made for, last of all, until its expiration. Afterwards
+    /// room is made for none. It can't fail.
+    #[tactic(auto, unfolding(crate::specs::Logged::logged))]
+    pub(crate) fn keep(&mut self, key: Key, expiration: u64, outcome: Outcome)
+        requires { (logged (shown self.old)).room ≡ Some (key_of key) }
+        ensures { logged (shown self.new) ≡ record (logged (shown self.old)) {
+          entries = (logged (shown self.old)).entries ++ record { key = key_of key; expiration = expiration; outcome = performed_in outcome } ∷ [];
+          room = None;
+        } }
+    {
+        let _share = self.share;
+        let counts = self.counts_clients();
+        let Some(room) = self.room.take() else {
+            return;
+        };
+        let entry = Entry {
+            key,
+            expiration,
+            outcome,
+        };
+        self.story = Story::with(&self.story, &entry);
+        let slot = self.kept.put(entry.key, entry.outcome);
+        self.order.push(Due {
+            until: Reverse(expiration),
+            slot,
+            key: room.key,
+        });
+        count_up_if(counts, &mut self.counts, room.client_id);
+    }
+
+    /// No two entries have one key.
+    #[tactic(auto, unfolding(crate::specs::Logged::logged))]
+    pub(crate) fn keys_are_distinct(&self)
+        ensures { IsTrue (are_distinct (keys_of (logged (shown self.now)).entries)) }
+    {}
+
+    /// The map has at most one slot for each entry and one for each client of an entry, however many clients
+    /// have asked.
+    #[tactic(auto, unfolding(crate::specs::Logged::logged, crate::specs::Logged::slots_of))]
+    pub(crate) fn slots_are_few(&self)
+        ensures each { slots_of (shown self.now) ≤ length (logged (shown self.now)).entries + clients_in (keys_of (logged (shown self.now)).entries) }
+        ensures twice { slots_of (shown self.now) ≤ 2 * length (logged (shown self.now)).entries }
+        ensures bound { slots_of (shown self.now) ≤ 2 * (logged (shown self.now)).capacity }
+    {}
+}
