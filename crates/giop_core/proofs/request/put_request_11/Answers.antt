@@ -9,59 +9,6 @@ use Rattle.giop_core.specs.Lent.{addressed_by}
 use Rattle.giop_core.specs.Written.{response_expected, key_value, zeros}
 use Rattle.giop_core.proofs.request.put_request_11.Goals as goal
 
-pub returns-in_err-put_contexts : goal.returns-in_err-put_contexts
-returns-in_err-put_contexts c =
-    let p = err_from_is_err_and c.from_residual.result c.from_residual.ensures.1 in
-    rw (p.1) (keeps_as_kept (stands c.requires.start) c.in_err-put_contexts.ensures)
-
-pub ulong-requires : goal.ulong-requires
-ulong-requires c = (then_stands _ (stands c.requires.start) c.in_ok-put_contexts.ensures).0
-
-pub returns-in_err-ulong : goal.returns-in_err-ulong
-returns-in_err-ulong c =
-    let p = err_from_is_err_and c.from_residual-in_err-ulong.result c.from_residual-in_err-ulong.ensures.1 in
-    rw (p.1) (keeps_as (then_stands _ (stands c.requires.start) c.in_ok-put_contexts.ensures) c.in_err-ulong.ensures)
-
-pub boolean-requires : goal.boolean-requires
-boolean-requires c = (then_stands _ (then_stands _ (stands c.requires.start) c.in_ok-put_contexts.ensures) c.in_ok-ulong.ensures).0
-
-pub returns-in_err-boolean : goal.returns-in_err-boolean
-returns-in_err-boolean c =
-    let p = err_from_is_err_and c.from_residual-in_err-boolean.result c.from_residual-in_err-boolean.ensures.1 in
-    rw (p.1) (keeps_as (then_stands _ (then_stands _ (stands c.requires.start) c.in_ok-put_contexts.ensures) c.in_ok-ulong.ensures) c.in_err-boolean.ensures)
-
-pub put_reserved-requires : goal.put_reserved-requires
-put_reserved-requires c = (then_stands _ (then_stands _ (then_stands _ (stands c.requires.start) c.in_ok-put_contexts.ensures) c.in_ok-ulong.ensures) c.in_ok-boolean.ensures).0
-
-pub returns-in_err-put_reserved : goal.returns-in_err-put_reserved
-returns-in_err-put_reserved c =
-    let p = err_from_is_err_and c.from_residual-in_err-put_reserved.result c.from_residual-in_err-put_reserved.ensures.1 in
-    rw (p.1) (keeps_as_kept (then_stands _ (then_stands _ (then_stands _ (stands c.requires.start) c.in_ok-put_contexts.ensures) c.in_ok-ulong.ensures) c.in_ok-boolean.ensures) c.in_err-put_reserved.ensures)
-
-pub put_key-requires-clause-start : goal.put_key-requires-clause-start
-put_key-requires-clause-start c = (then_stands _ (then_stands _ (then_stands _ (then_stands _ (stands c.requires.start) c.in_ok-put_contexts.ensures) c.in_ok-ulong.ensures) c.in_ok-boolean.ensures) c.in_ok-put_reserved.ensures).0
-
-pub returns-in_err-put_key : goal.returns-in_err-put_key
-returns-in_err-put_key c =
-    let p = err_from_is_err_and c.from_residual-in_err-put_key.result c.from_residual-in_err-put_key.ensures.1 in
-    rw (p.1) (keeps_as_kept (then_stands _ (then_stands _ (then_stands _ (then_stands _ (stands c.requires.start) c.in_ok-put_contexts.ensures) c.in_ok-ulong.ensures) c.in_ok-boolean.ensures) c.in_ok-put_reserved.ensures) c.in_err-put_key.ensures)
-
-pub string-requires-clause-start : goal.string-requires-clause-start
-string-requires-clause-start c = (then_stands _ (then_stands _ (then_stands _ (then_stands _ (then_stands _ (stands c.requires.start) c.in_ok-put_contexts.ensures) c.in_ok-ulong.ensures) c.in_ok-boolean.ensures) c.in_ok-put_reserved.ensures) c.in_ok-put_key.ensures).0
-
-pub returns-in_err-string : goal.returns-in_err-string
-returns-in_err-string c =
-    let p = err_from_is_err_and c.from_residual-in_err-string.result c.from_residual-in_err-string.ensures.1 in
-    rw (p.1) (keeps_as (then_stands _ (then_stands _ (then_stands _ (then_stands _ (then_stands _ (stands c.requires.start) c.in_ok-put_contexts.ensures) c.in_ok-ulong.ensures) c.in_ok-boolean.ensures) c.in_ok-put_reserved.ensures) c.in_ok-put_key.ensures) c.in_err-string.ensures)
-
-pub put_principal-requires : goal.put_principal-requires
-put_principal-requires c = (then_stands _ (then_stands _ (then_stands _ (then_stands _ (then_stands _ (then_stands _ (stands c.requires.start) c.in_ok-put_contexts.ensures) c.in_ok-ulong.ensures) c.in_ok-boolean.ensures) c.in_ok-put_reserved.ensures) c.in_ok-put_key.ensures) c.in_ok-string.ensures).0
-
-pub returns-in_err-put_principal : goal.returns-in_err-put_principal
-returns-in_err-put_principal c =
-    let p = err_from_is_err_and c.from_residual-in_err-put_principal.result c.from_residual-in_err-put_principal.ensures.1 in
-    rw (p.1) (keeps_as_kept (then_stands _ (then_stands _ (then_stands _ (then_stands _ (then_stands _ (then_stands _ (stands c.requires.start) c.in_ok-put_contexts.ensures) c.in_ok-ulong.ensures) c.in_ok-boolean.ensures) c.in_ok-put_reserved.ensures) c.in_ok-put_key.ensures) c.in_ok-string.ensures) c.in_err-put_principal.ensures)
-
 pub returns : goal.returns
 returns c =
     let a = c.args in

@@ -12,14 +12,6 @@ use Rattle.giop_core.proofs.target_address.put_target.Goals as goal
 pub octets-requires-clause-long : goal.octets-requires-clause-long
 octets-requires-clause-long c = (rw c.in-Key.is at c.requires.writable).1.0
 
-pub octets-requires-clause-start : goal.octets-requires-clause-start
-octets-requires-clause-start c = (then_stands _ (stands c.requires.start) c.in_ok-short-in-Key.ensures).0
-
-pub returns-in_err-short-in-Key : goal.returns-in_err-short-in-Key
-returns-in_err-short-in-Key c =
-    let p = err_from_is_err_and c.from_residual.result c.from_residual.ensures.1 in
-    rw (p.1) (keeps_all c.args.out.now.items c.short.new.out.items c.in_err-short-in-Key.ensures)
-
 pub returns-in_ok-short-in-Key : goal.returns-in_ok-short-in-Key
 returns-in_ok-short-in-Key c =
     let a = c.args in
@@ -29,16 +21,8 @@ returns-in_ok-short-in-Key c =
     let new = c.octets.new.out.items in
     rw c.in-Key.is (puts_second w (short_value (pos 0)) a.out.now.items mid c.in_ok-short-in-Key.ensures c.requires.start key new c.octets.result (puts_or_keeps w key c.octets.result mid new c.octets.ensures))
 
-pub put_tagged-requires-clause-start : goal.put_tagged-requires-clause-start
-put_tagged-requires-clause-start c = (then_stands _ (stands c.requires.start) c.in_ok-short-in-Profile.ensures).0
-
 pub put_tagged-requires-clause-long : goal.put_tagged-requires-clause-long
 put_tagged-requires-clause-long c = (rw c.in-Profile.is at c.requires.writable).1.0.1.0
-
-pub returns-in_err-short-in-Profile : goal.returns-in_err-short-in-Profile
-returns-in_err-short-in-Profile c =
-    let p = err_from_is_err_and c.from_residual-in_err-short-in-Profile.result c.from_residual-in_err-short-in-Profile.ensures.1 in
-    rw (p.1) (keeps_all c.args.out.now.items c.short-in-Profile.new.out.items c.in_err-short-in-Profile.ensures)
 
 pub returns-in_ok-short-in-Profile : goal.returns-in_ok-short-in-Profile
 returns-in_ok-short-in-Profile c =
@@ -46,24 +30,8 @@ returns-in_ok-short-in-Profile c =
     let profile = tagged_value (c.in-Profile.tag, c.in-Profile.octets.now) in
     rw c.in-Profile.is (puts_second a.writer.now (short_value (pos 1)) a.out.now.items c.short-in-Profile.new.out.items c.in_ok-short-in-Profile.ensures c.requires.start profile c.put_tagged.new.out.items c.put_tagged.result c.put_tagged.ensures)
 
-pub ulong-requires : goal.ulong-requires
-ulong-requires c = (then_stands _ (stands c.requires.start) c.in_ok-short-in-Reference.ensures).0
-
-pub put_reference-requires-clause-start : goal.put_reference-requires-clause-start
-put_reference-requires-clause-start c = (then_stands _ (then_stands _ (stands c.requires.start) c.in_ok-short-in-Reference.ensures) c.in_ok-ulong-in-Reference.ensures).0
-
 pub put_reference-requires-clause-writable : goal.put_reference-requires-clause-writable
 put_reference-requires-clause-writable c = (rw c.in-Reference.is at c.requires.writable).1.0.1.0
-
-pub returns-in_err-short-in-Reference : goal.returns-in_err-short-in-Reference
-returns-in_err-short-in-Reference c =
-    let p = err_from_is_err_and c.from_residual-in_err-short-in-Reference.result c.from_residual-in_err-short-in-Reference.ensures.1 in
-    rw (p.1) (keeps_all c.args.out.now.items c.short-in-Reference.new.out.items c.in_err-short-in-Reference.ensures)
-
-pub returns-in_err-ulong-in-Reference : goal.returns-in_err-ulong-in-Reference
-returns-in_err-ulong-in-Reference c =
-    let p = err_from_is_err_and c.from_residual-in_err-ulong-in-Reference.result c.from_residual-in_err-ulong-in-Reference.ensures.1 in
-    rw (p.1) (keeps_as (then_stands _ (stands c.requires.start) c.in_ok-short-in-Reference.ensures) c.in_err-ulong-in-Reference.ensures)
 
 pub returns-in_ok-ulong-in-Reference : goal.returns-in_ok-ulong-in-Reference
 returns-in_ok-ulong-in-Reference c =
