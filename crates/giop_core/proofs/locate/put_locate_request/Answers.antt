@@ -7,19 +7,6 @@ use Rattle.giop_core.specs.Lent.{addressed_by}
 use Rattle.giop_core.specs.Written.{target_in}
 use Rattle.giop_core.proofs.locate.put_locate_request.Goals as goal
 
-pub returns-in_err-ulong : goal.returns-in_err-ulong
-returns-in_err-ulong c =
-    let p = err_from_is_err_and c.from_residual.result c.from_residual.ensures.1 in
-    rw (p.1) (keeps_as (stands c.requires.start) c.in_err-ulong.ensures)
-
-pub put_target_in-requires-clause-start : goal.put_target_in-requires-clause-start
-put_target_in-requires-clause-start c = (then_stands _ (stands c.requires.start) c.in_ok-ulong.ensures).0
-
-pub returns-in_err-put_target_in : goal.returns-in_err-put_target_in
-returns-in_err-put_target_in c =
-    let p = err_from_is_err_and c.from_residual-in_err-put_target_in.result c.from_residual-in_err-put_target_in.ensures.1 in
-    rw (p.1) (keeps_as_kept (then_stands _ (stands c.requires.start) c.in_ok-ulong.ensures) c.in_err-put_target_in.ensures)
-
 pub returns : goal.returns
 returns c =
     let a = c.args in
