@@ -3,7 +3,7 @@
 ghost use Rattle.cdr_core.specs.View.{values_of};
 ghost use Rattle.cdr_core.specs.Writing.{AreWritable};
 
-use super::said::{
+use crate::said::{
     Aim, Asked, Row, Said, assert_octets, assert_written, expect, octets_in, target_in,
 };
 use cdr_core::{Order, Val, are_writable, has_no_nul};
@@ -15,7 +15,7 @@ use std::process::Abort;
 
 /// What is written as a body.
 #[derive(Clone, Copy)]
-pub(super) enum Values {
+pub(crate) enum Values {
     Nothing,
     /// A struct without members.
     Empty,
@@ -186,7 +186,7 @@ fn assert_next(rt: &(impl Abort + AllocGlobal), values: Values, row: &Row, out: 
 
 /// Asserts that messages are written so one after another, with these values as their bodies, and that
 /// each is read again. The first stands after an octet, from which no place counts.
-pub(super) fn assert_sent(rt: &(impl Abort + AllocGlobal), values: Values, rows: &[Row]) {
+pub(crate) fn assert_sent(rt: &(impl Abort + AllocGlobal), values: Values, rows: &[Row]) {
     let mut out = one_octet(rt);
     for row in rows {
         assert_next(rt, values, row, &mut out);
@@ -203,10 +203,10 @@ fn assert_turn(rt: &(impl Abort + AllocGlobal), values: Values, source: &str, ro
 }
 
 /// The digits of a LocateRequest, and a message whose target is its reference.
-pub(super) type Turned = (&'static str, Row);
+pub(crate) type Turned = (&'static str, Row);
 
 /// Asserts that messages whose targets are the references of LocateRequests are written so.
-pub(super) fn assert_turned(rt: &(impl Abort + AllocGlobal), values: Values, rows: &[Turned]) {
+pub(crate) fn assert_turned(rt: &(impl Abort + AllocGlobal), values: Values, rows: &[Turned]) {
     for (source, row) in rows {
         assert_turn(rt, values, source, row);
     }
@@ -214,7 +214,7 @@ pub(super) fn assert_turned(rt: &(impl Abort + AllocGlobal), values: Values, row
 
 /// An FT_REQUEST context: its order, the client, the number of the request, the expiration, and the
 /// digits.
-pub(super) type Client = (Order, &'static [u8], i32, u64, &'static str);
+pub(crate) type Client = (Order, &'static [u8], i32, u64, &'static str);
 
 /// Writes a context. Whether it can be written and is.
 fn put_client(row: &Client, out: &mut Vec<u8>) -> bool {
@@ -222,7 +222,7 @@ fn put_client(row: &Client, out: &mut Vec<u8>) -> bool {
 }
 
 /// Asserts that a context is written so, after another octet, from which no place counts.
-pub(super) fn assert_client(rt: &(impl Abort + AllocGlobal), row: &Client) {
+pub(crate) fn assert_client(rt: &(impl Abort + AllocGlobal), row: &Client) {
     let mut out = one_octet(rt);
     let is_put = put_client(row, &mut out);
     expect(rt, is_put, row.4);

@@ -8,36 +8,36 @@ use giop_core::{
 use std::process::Abort;
 
 /// A profile of IIOP 1.2 in big order: host 127.0.0.1, port 2809, key `c`, no components.
-pub(super) const COUNTER: &[u8] = &[
+pub(crate) const COUNTER: &[u8] = &[
     0, 1, 2, 0, 0, 0, 0, 10, b'1', b'2', b'7', b'.', b'0', b'.', b'0', b'.', b'1', 0, 0x0a, 0xf9,
     0, 0, 0, 1, b'c', 0, 0, 0, 0, 0, 0, 0,
 ];
 
 /// A profile of IIOP 1.0 in little order: host `h`, port 1, key `key`.
-pub(super) const LITTLE: &[u8] = &[
+pub(crate) const LITTLE: &[u8] = &[
     1, 1, 0, 0, 2, 0, 0, 0, b'h', 0, 1, 0, 3, 0, 0, 0, b'k', b'e', b'y',
 ];
 
 /// A profile of tag 1, and one of IIOP.
-pub(super) const PAIR: Items = &[(1, &[0xaa, 0xbb]), (0, LITTLE)];
+pub(crate) const PAIR: Items = &[(1, &[0xaa, 0xbb]), (0, LITTLE)];
 
 /// Contexts or profiles: the number of each and its octets.
-pub(super) type Items = &'static [(u32, &'static [u8])];
+pub(crate) type Items = &'static [(u32, &'static [u8])];
 
 /// What a Request says.
 #[derive(Clone, Copy)]
-pub(super) struct Asked {
-    pub(super) id: u32,
-    pub(super) wish: ReplyWish,
-    pub(super) target: Aim,
-    pub(super) operation: &'static [u8],
-    pub(super) contexts: Items,
-    pub(super) body: Placed,
+pub(crate) struct Asked {
+    pub(crate) id: u32,
+    pub(crate) wish: ReplyWish,
+    pub(crate) target: Aim,
+    pub(crate) operation: &'static [u8],
+    pub(crate) contexts: Items,
+    pub(crate) body: Placed,
 }
 
 /// What a target says.
 #[derive(Clone, Copy)]
-pub(super) enum Aim {
+pub(crate) enum Aim {
     Key(&'static [u8]),
     Profile(u32, &'static [u8]),
     /// The number of the profile, the type, and the profiles.
@@ -45,10 +45,10 @@ pub(super) enum Aim {
 }
 
 /// Where octets stand in their message, and the octets.
-pub(super) type Placed = (u64, &'static [u8]);
+pub(crate) type Placed = (u64, &'static [u8]);
 
 /// What a message says.
-pub(super) enum Said {
+pub(crate) enum Said {
     Request(Asked),
     Reply(u32, u32, Items, Placed),
     Cancel(u32),
@@ -60,10 +60,10 @@ pub(super) enum Said {
 }
 
 /// A version, an order, the digits of a message in them, and what it says.
-pub(super) type Row = (Version, Order, &'static str, Said);
+pub(crate) type Row = (Version, Order, &'static str, Said);
 
 /// The octets that words of hexadecimal digits stand for.
-pub(super) fn octets_in(rt: &(impl Abort + AllocGlobal), text: &str) -> Vec<u8> {
+pub(crate) fn octets_in(rt: &(impl Abort + AllocGlobal), text: &str) -> Vec<u8> {
     match trials::octets_in(rt.alloc(), text) {
         Ok(octets) => octets,
         Err(_) => rt.abort(),
@@ -94,7 +94,7 @@ fn whole<'m>(rt: &impl Abort, octets: &'m [u8]) -> Message<'m> {
 }
 
 /// The Request that octets are.
-pub(super) fn request_in<'m>(rt: &impl Abort, octets: &'m [u8]) -> Request<'m> {
+pub(crate) fn request_in<'m>(rt: &impl Abort, octets: &'m [u8]) -> Request<'m> {
     match whole(rt, octets).content {
         Content::Request(request) => request,
         _ => rt.abort(),
@@ -102,7 +102,7 @@ pub(super) fn request_in<'m>(rt: &impl Abort, octets: &'m [u8]) -> Request<'m> {
 }
 
 /// The target of the LocateRequest that octets are.
-pub(super) fn target_in<'m>(rt: &impl Abort, octets: &'m [u8]) -> Target<'m> {
+pub(crate) fn target_in<'m>(rt: &impl Abort, octets: &'m [u8]) -> Target<'m> {
     match whole(rt, octets).content {
         Content::LocateRequest(request) => request.target,
         _ => rt.abort(),
@@ -220,7 +220,7 @@ fn is_message(found: Message, row: &Row) -> bool {
 }
 
 /// Asserts what was found of the row of that text.
-pub(super) fn expect(rt: &impl Abort, is_found: bool, text: &str) {
+pub(crate) fn expect(rt: &impl Abort, is_found: bool, text: &str) {
     assert!(rt; is_found, "{text}");
 }
 
@@ -231,7 +231,7 @@ fn assert_message(rt: &impl Abort, octets: &[u8], row: &Row) {
 }
 
 /// Asserts that each row is a message, and what it says.
-pub(super) fn assert_rows(rt: &(impl Abort + AllocGlobal), rows: &[Row]) {
+pub(crate) fn assert_rows(rt: &(impl Abort + AllocGlobal), rows: &[Row]) {
     for row in rows {
         let octets = octets_in(rt, row.2);
         assert_message(rt, &octets, row);
@@ -239,13 +239,13 @@ pub(super) fn assert_rows(rt: &(impl Abort + AllocGlobal), rows: &[Row]) {
 }
 
 /// Asserts that octets are those of digits.
-pub(super) fn assert_octets(rt: &(impl Abort + AllocGlobal), found: &[u8], text: &str) {
+pub(crate) fn assert_octets(rt: &(impl Abort + AllocGlobal), found: &[u8], text: &str) {
     let wanted = octets_in(rt, text);
     expect(rt, found == wanted.as_slice(), text);
 }
 
 /// Asserts that octets that were written are a message, and that they read as what it says.
-pub(super) fn assert_written(rt: &(impl Abort + AllocGlobal), found: &[u8], row: &Row) {
+pub(crate) fn assert_written(rt: &(impl Abort + AllocGlobal), found: &[u8], row: &Row) {
     assert_octets(rt, found, row.2);
     assert_message(rt, found, row);
 }

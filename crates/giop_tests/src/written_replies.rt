@@ -1,7 +1,7 @@
 //! Replies as they are written in each version and both orders, and that they read again.
 
-use super::put::{Values, assert_sent};
-use super::said::{Row, Said};
+use crate::put::{Values, assert_sent};
+use crate::said::{Row, Said};
 use cdr_core::Order;
 use giop_core::Version;
 

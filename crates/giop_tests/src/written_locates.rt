@@ -1,8 +1,8 @@
 //! LocateRequests and LocateReplies as they are written in each version and both orders, and that
 //! they read again.
 
-use super::put::{Turned, Values, assert_sent, assert_turned};
-use super::said::{Aim, COUNTER, PAIR, Row, Said};
+use crate::put::{Turned, Values, assert_sent, assert_turned};
+use crate::said::{Aim, COUNTER, PAIR, Row, Said};
 use cdr_core::Order;
 use giop_core::Version;
 

@@ -1,6 +1,6 @@
 //! Service contexts as they are lent, and what the first one of id 13 says.
 
-use super::said::{octets_in, request_in};
+use crate::said::{octets_in, request_in};
 use giop_core::{Contexts, FtField, ft_request};
 use std::process::Abort;
 

@@ -1,6 +1,6 @@
 //! Replies that carry an exception as they are written: octets laid out by hand from GIOP 9.4.3.
 
-use super::said::assert_octets;
+use crate::said::assert_octets;
 use cdr_core::{Order, Val, has_no_nul};
 use giop_core::{Version, write_exception};
 use std::process::Abort;

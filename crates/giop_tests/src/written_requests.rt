@@ -1,7 +1,7 @@
 //! Requests as they are written in each version and both orders, and that they read again.
 
-use super::put::{Turned, Values, assert_sent, assert_turned};
-use super::said::{Aim, Asked, LITTLE, PAIR, Row, Said};
+use crate::put::{Turned, Values, assert_sent, assert_turned};
+use crate::said::{Aim, Asked, LITTLE, PAIR, Row, Said};
 use cdr_core::Order;
 use giop_core::{ReplyWish, Version};
 

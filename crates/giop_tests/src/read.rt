@@ -1,6 +1,6 @@
 //! Messages as they are read: one of each kind, and each Fragment, which no stream shows by itself.
 
-use super::said::{Aim, Asked, Row, Said, assert_rows, octets_in, request_in};
+use crate::said::{Aim, Asked, Row, Said, assert_rows, octets_in, request_in};
 use cdr_core::Order;
 use giop_core::{ReplyWish, Target, Version};
 use std::process::Abort;

@@ -1,8 +1,8 @@
 //! CancelRequest, CloseConnection, MessageError and the context FT_REQUEST as they are written, and
 //! messages after other octets.
 
-use super::put::{Client, Values, assert_client, assert_sent};
-use super::said::{Aim, Asked, Row, Said};
+use crate::put::{Client, Values, assert_client, assert_sent};
+use crate::said::{Aim, Asked, Row, Said};
 use cdr_core::Order;
 use giop_core::{ReplyWish, Version};
 

@@ -1,6 +1,6 @@
 //! Messages that are cut.
 
-use super::samples::{
+use crate::samples::{
     FIRST, FIRST_11, LAST, LONG_MIDDLE_11, MIDDLE, SHORT_LAST_11, WHOLE, WHOLE_11,
 };
 use giop_frames::{fragments, fragments_11, is_cuttable, is_cuttable_11};

@@ -1,6 +1,6 @@
 //! Streams whole, in pieces of thirteen octets and in pieces of one, and what they give.
 
-use super::samples::{
+use crate::samples::{
     CANCEL, CANCEL_11, FIRST, FIRST_11, LAST, LAST_11, LITTLE_FIRST, LITTLE_LAST, MIDDLE,
     MIDDLE_11, WHOLE, WHOLE_11,
 };
