@@ -2,7 +2,7 @@
 """Runs a program on hostile input, and refuses each allocation that is large for that input.
 
 usage: bounded_allocations.py PROGRAM            the program `giop`
-       bounded_allocations.py --calls PROGRAM    the program `reading_player`
+       bounded_allocations.py --calls VALUES REFERENCES    the programs `value_player` and `reference_player`
 
 The inputs of `giop` are the streams of the rows (rows/*.txt), for `giop show`, and the references of the cases
 (cases/ior), for `giop ior`: each as it is, and with ffffffff written over four octets, at each place
@@ -11,9 +11,9 @@ either byte order. In a stream the size of each frame is also once one that the 
 so that the frame is waited for: its octets take room as they come. Under a bound of a few times the input's octets the program must print what it prints
 with ample memory: what it takes follows the octets that are there, and no count among them.
 
-The inputs of `reading_player` are the octets of spellings.py, which it reads by types, alone (`read`) and
-after other octets (`read_list`, `Body::read`), or as references (`read_ior`) and profiles (`read_iiop`):
-each as it is, which must give the value there; with each of three large numbers written over the four
+The inputs of the players are the octets of spellings.py, each for the program that has its call. They are read by
+types, alone (`read`) and after other octets (`read_list`, `Body::read`), or as references (`read_ior`) and profiles
+(`read_iiop`): each as it is, which must give the value there; with each of three large numbers written over the four
 octets at each place that is a multiple of 4; and each front whose length is a multiple of 4. No line that
 it prints may say `memory`, and under the bound it must print the same lines.
 
@@ -29,6 +29,7 @@ from collections import namedtuple
 from concurrent.futures import ThreadPoolExecutor
 
 import idl
+import run_readings
 import run_rows
 import spellings
 
@@ -92,7 +93,7 @@ def variants(octets, first):
             yield octets[:place] + HUGE + octets[place + 4:]
 
 
-# a call that `reading_player` makes: the words before the digits, the order, the octets, and what it prints of them
+# a call that a player makes: the words before the digits, the order, the octets, and what it prints of them
 Call = namedtuple("Call", "words order octets printed")
 
 
@@ -140,14 +141,20 @@ def bound_of(octets):
     return max(LEAST, TIMES * len(octets))
 
 
+def library_in(folder):
+    """The library that refuses large allocations, built in that folder."""
+    library = os.path.join(folder, "refuse_allocation.so")
+    subprocess.run(["cc", "-O2", "-Wall", "-shared", "-fPIC", "-o", library,
+                    os.path.join(HERE, "refuse_allocation.c"), "-ldl"], check=True)
+    return library
+
+
 class Program:
     """A program under the library that refuses large allocations."""
 
-    def __init__(self, path, folder):
+    def __init__(self, path, library):
         self.path = os.path.abspath(path)
-        self.library = os.path.join(folder, "refuse_allocation.so")
-        subprocess.run(["cc", "-O2", "-Wall", "-shared", "-fPIC", "-o", self.library,
-                        os.path.join(HERE, "refuse_allocation.c"), "-ldl"], check=True)
+        self.library = library
 
     def run(self, words, given, most=None):
         """How a run ends: its status and what it prints."""
@@ -197,26 +204,31 @@ def fault_of_call(program, call):
     return None if bounded == ample else f"within the bound it ended with {bounded!r}"
 
 
-def cases_of(words):
-    """The cases that the words before the program ask for: a name, what judges it, and what that is given."""
-    if words == ["--calls"]:
-        yield "the bound", fault_of_bound, ([],)
-        for call in calls():
-            yield f"{call.words} {call.octets.hex()}", fault_of_call, (call,)
-        return
-    yield "the bound", fault_of_bound, (["show"],)
+def cases_of_calls(programs):
+    """The cases of the calls: a name, what judges it, the program that has the call, and what else that is given."""
+    for program in programs:
+        yield "the bound", fault_of_bound, (program, [])
+    for call in calls():
+        yield f"{call.words} {call.octets.hex()}", fault_of_call, (run_readings.program_of(call.words, programs), call)
+
+
+def cases_of(program):
+    """The cases of `giop`: a name, what judges it, and what that is given."""
+    yield "the bound", fault_of_bound, (program, ["show"])
     for name, octets, first in streams():
-        yield f"show {name}", fault_of_input, ("show", octets, first)
+        yield f"show {name}", fault_of_input, (program, "show", octets, first)
     for name, octets, first in references():
-        yield f"ior {name}", fault_of_input, ("ior", octets, first)
+        yield f"ior {name}", fault_of_input, (program, "ior", octets, first)
 
 
 def main():
     passed = failed = 0
-    cases = list(cases_of(sys.argv[1:-1]))
+    is_of_calls = sys.argv[1] == "--calls"
     with tempfile.TemporaryDirectory() as folder, ThreadPoolExecutor(os.cpu_count()) as workers:
-        program = Program(sys.argv[-1], folder)
-        faults = workers.map(lambda case: case[1](program, *case[2]), cases)
+        library = library_in(folder)
+        programs = [Program(path, library) for path in sys.argv[1 + is_of_calls:]]
+        cases = list(cases_of_calls(programs) if is_of_calls else cases_of(*programs))
+        faults = workers.map(lambda case: case[1](*case[2]), cases)
         for (name, _, _), fault in zip(cases, faults):
             if fault is None:
                 passed += 1

@@ -1,4 +1,4 @@
-"""Types and values as they stand in the rows of readings/, and the words by which `reading_player` is given them.
+"""Types and values as they stand in the rows of readings/, and the words by which the players are given them.
 
 A type is written as in IDL: boolean, char, octet, short, unsigned short, long, unsigned long, long long,
 unsigned long long; string<N>, octets<N> and sequence<T, N>, whose bound N is left out where there is none;
@@ -8,7 +8,8 @@ its own that the libraries have for a sequence of octets.
 A value is written as `{:?}` prints it, where "TEXT" stands for the list of a text's octets, and x"DIGITS" for
 the list of octets that hexadecimal digits give. 2a*960 in digits stands for 960 times 2a.
 
-The words are those of crates/reading_player/src/types.rt and values.rt: what has parts comes after them.
+The words are those of crates/trials/src/types.rt and crates/value_player/src/values.rt: what has parts comes after
+them.
 """
 import ast
 import re

@@ -1,9 +1,11 @@
 #!/usr/bin/env python3
-"""Makes the calls that the rows of readings/ ask for, by the program `reading_player`, and compares what they give.
+"""Makes the calls that the rows of readings/ ask for, and compares what they give.
 
-usage: run_readings.py PROGRAM [FILE..]
+usage: run_readings.py VALUES REFERENCES [FILE..]
 
-A row is a call, what it takes, and after ' = ' the line that the program prints for it; or what is said of a value,
+The programs are `value_player`, which has the calls of OF_VALUES, and `reference_player`, which has the others.
+
+A row is a call, what it takes, and after ' = ' the line that its program prints for it; or what is said of a value,
 a reference or a profile, for which several calls are made. It stands below what it is about, up to an empty
 line:
 
@@ -52,6 +54,11 @@ from idl import digits_of
 
 HERE = os.path.join(os.path.dirname(os.path.abspath(__file__)), "readings")
 SECONDS = 60
+# the calls of `value_player`
+OF_VALUES = {
+    "read", "read_list", "write", "write_copy", "write_list", "is_valid", "are_valid", "fits", "writable",
+    "are_writable", "has_no_nul",
+}
 # what a call takes: from the lines above it `type`, `reference`, `profile` and `message`, the others from its own
 CALLS = {
     "read": "type place digits",
@@ -320,15 +327,14 @@ def rows_of(name):
             yield from ((place, given, wanted) for given, wanted in calls_of(place, block, word, rest))
 
 
-def main():
-    program = os.path.abspath(sys.argv[1])
-    names = sys.argv[2:] or sorted(os.listdir(HERE))
-    rows = []
-    for name in names:
-        before = len(rows)
-        rows += rows_of(name)
-        if len(rows) == before:
-            sys.exit(f"{name}: no row")
+def program_of(call, programs):
+    """Of the programs of values and of references, the one that has a call."""
+    of_values, of_references = programs
+    return of_values if call.split(" ")[0] in OF_VALUES else of_references
+
+
+def compare(program, rows):
+    """Runs a program on rows, and answers how many of them passed and failed."""
     given = "".join(line + "\n" for _, line, _ in rows)
     run = subprocess.run([program], input=given.encode(), capture_output=True, timeout=SECONDS)
     lines = run.stdout.decode().split("\n")[:-1]
@@ -341,7 +347,21 @@ def main():
     if run.returncode != 0 or len(lines) != len(rows):
         place = rows[len(lines)][0] if len(lines) < len(rows) else "the end"
         print(f"FAILS {place}: it ended with status {run.returncode}, {run.stderr!r}")
-    failed = max(len(rows) - passed, 1 if run.returncode != 0 else 0)
+    return passed, max(len(rows) - passed, 1 if run.returncode != 0 else 0)
+
+
+def main():
+    programs = [os.path.abspath(program) for program in sys.argv[1:3]]
+    names = sys.argv[3:] or sorted(os.listdir(HERE))
+    rows = {program: [] for program in programs}
+    for name in names:
+        of_file = list(rows_of(name))
+        if not of_file:
+            sys.exit(f"{name}: no row")
+        for row in of_file:
+            rows[program_of(row[1], programs)].append(row)
+    counts = [compare(program, asked) for program, asked in rows.items() if asked]
+    passed, failed = map(sum, zip(*counts))
     print(f"{passed} passed, {failed} failed")
     return 1 if failed or not passed else 0
 

@@ -1,18 +1,29 @@
-//! What tests and programs of trials share: rows of tables, and octets as digits; and trials. A trial makes one call
-//! that takes memory on a sample, and makes it again where an allocation of it was refused.
+//! What tests and programs of trials share: rows of tables, and octets as digits; the lines of an input, each of which
+//! asks for a call; and trials. A trial makes one call that takes memory on a sample, and makes it again where an
+//! allocation of it was refused.
 #![tactic(auto)]
 
 mod cases;
+mod input;
+mod lines;
 mod output;
 mod rows;
 mod sample;
 mod shapes;
+mod stack;
 mod stop;
 mod text;
 mod trial;
+mod types;
 
 // rows of tables
 pub use rows::{misprinted, octets_in};
+
+// lines that ask for calls, and the words in them
+pub use input::{Input, input_in, parted, place_in, print_found, print_given, ulong};
+pub use lines::{Calls, play_lines};
+pub use stack::{boxed, only, top};
+pub use types::{type_in, types_in};
 
 // the calls by their names
 pub use cases::{Case, Samples, Suite, print_names};

@@ -1,12 +1,10 @@
 //! Which types are valid, which values fit a type, and which can be written: `true` or `false`.
 
-use crate::input::{parted, print_found};
-use crate::types::{type_in, types_in};
 use crate::values::{value_in, values_in};
 use cdr_core::{are_valid, are_writable, fits, has_no_nul, writable};
 use std::alloc::Global;
 use std::io::Write;
-use trials::Stop;
+use trials::{Stop, parted, print_found, type_in, types_in};
 
 /// `is_valid TYPE`.
 pub(crate) fn is_type<W: Write>(alloc: Global, word: &str, out: &mut W) -> Result<(), Stop> {

@@ -1,12 +1,11 @@
 //! Profiles of IIOP: one is `MINOR HEX PORT HEX LIST`, its minor version, its host, its port, its key and its
 //! components.
 
-use crate::input::{parted, print, print_found, ulong};
 use crate::tagged::list_in;
 use ior_core::{IiopProfile, iiop_key, profile_key, read_iiop, write_iiop};
 use std::alloc::Global;
 use std::io::Write;
-use trials::Stop;
+use trials::{Stop, parted, print_found, print_given, ulong};
 
 /// A profile with the key and the components of `HEX LIST`.
 fn located(
@@ -39,7 +38,7 @@ fn profile_in(alloc: Global, words: &str) -> Result<IiopProfile, Stop> {
 /// `read_iiop HEX`.
 pub(crate) fn read<W: Write>(alloc: Global, digits: &str, out: &mut W) -> Result<(), Stop> {
     let octets = hex::decode(alloc, digits)?;
-    print(read_iiop(alloc, &octets), out)
+    print_given(read_iiop(alloc, &octets), out)
 }
 
 /// `write_iiop MINOR HEX PORT HEX LIST`: the octets of the output, in which 7 stood before.

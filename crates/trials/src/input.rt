@@ -1,18 +1,18 @@
 //! The words of a line, and what is printed for it.
 
+use crate::stop::Stop;
 use cdr_core::Order;
 use std::alloc::Global;
 use std::fmt::{Debug, Display};
 use std::io::Write;
-use trials::Stop;
 
 /// The first word of a text, and what stands after its space.
-pub(crate) fn parted(text: &str) -> Result<(&str, &str), Stop> {
+pub fn parted(text: &str) -> Result<(&str, &str), Stop> {
     text.split_once(' ').ok_or(Stop::BadLine)
 }
 
 /// An unsigned long.
-pub(crate) fn ulong(word: &str) -> Result<u32, Stop> {
+pub fn ulong(word: &str) -> Result<u32, Stop> {
     word.parse().map_err(|_| Stop::BadLine)
 }
 
@@ -26,7 +26,7 @@ fn order_named(name: &str) -> Result<Order, Stop> {
 }
 
 /// The order and the place of `ORDER AT`, and what stands after it.
-pub(crate) fn place_in(words: &str) -> Result<(Order, u32, &str), Stop> {
+pub fn place_in(words: &str) -> Result<(Order, u32, &str), Stop> {
     let (order, words) = parted(words)?;
     let (at, words) = parted(words)?;
     Ok((order_named(order)?, ulong(at)?, words))
@@ -34,21 +34,24 @@ pub(crate) fn place_in(words: &str) -> Result<(Order, u32, &str), Stop> {
 
 /// Octets that are read, their order, and the place of the first.
 #[derive(Drop)]
-pub(crate) struct Input {
-    pub(crate) order: Order,
-    pub(crate) at: u32,
-    pub(crate) octets: Vec<u8>,
+pub struct Input {
+    /// The byte order.
+    pub order: Order,
+    /// The place of the first octet.
+    pub at: u32,
+    /// The octets.
+    pub octets: Vec<u8>,
 }
 
 /// The octets of `ORDER AT HEX`.
-pub(crate) fn input_in(alloc: Global, words: &str) -> Result<Input, Stop> {
+pub fn input_in(alloc: Global, words: &str) -> Result<Input, Stop> {
     let (order, at, digits) = place_in(words)?;
     let octets = hex::decode(alloc, digits)?;
     Ok(Input { order, at, octets })
 }
 
 /// Prints what was read, or why nothing was.
-pub(crate) fn print<T: Debug + Drop, E: Display + Drop, W: Write>(
+pub fn print_given<T: Debug + Drop, E: Display + Drop, W: Write>(
     given: Result<T, E>,
     out: &mut W,
 ) -> Result<(), Stop> {
@@ -60,6 +63,6 @@ pub(crate) fn print<T: Debug + Drop, E: Display + Drop, W: Write>(
 }
 
 /// Prints what was found.
-pub(crate) fn print_found<T: Debug + Drop, W: Write>(found: T, out: &mut W) -> Result<(), Stop> {
+pub fn print_found<T: Debug + Drop, W: Write>(found: T, out: &mut W) -> Result<(), Stop> {
     Ok(writeln!(out, "{found:?}")?)
 }

@@ -1,13 +1,12 @@
 //! Values that are written. What is printed is the values, the octets of the output, in which 7 stood before, and
 //! the place where they end.
 
-use crate::input::place_in;
 use crate::values::{value_in, values_in};
 use cdr_core::{Order, Val, are_writable, end_of, end_of_list, writable, write, write_list};
 use std::alloc::Global;
 use std::fmt::Debug;
 use std::io::Write;
-use trials::Stop;
+use trials::{Stop, place_in};
 
 /// Prints what was written, the octets of the output, and where they end.
 fn print<T: Debug, W: Write>(

@@ -8,9 +8,9 @@
 
 use crate::input::ulong;
 use crate::stack::{boxed, only, top};
+use crate::stop::Stop;
 use cdr_core::{Case, Ty};
 use std::alloc::Global;
-use trials::Stop;
 
 /// The types and the cases that are no part of another type.
 #[derive(Drop)]
@@ -82,7 +82,7 @@ fn push(alloc: Global, made: &mut Made, part: &str) -> Result<(), Stop> {
 }
 
 /// The types of a word.
-pub(crate) fn types_in(alloc: Global, word: &str) -> Result<Vec<Ty>, Stop> {
+pub fn types_in(alloc: Global, word: &str) -> Result<Vec<Ty>, Stop> {
     let mut made = Made {
         types: Vec::new(alloc),
         cases: Vec::new(alloc),
@@ -94,6 +94,6 @@ pub(crate) fn types_in(alloc: Global, word: &str) -> Result<Vec<Ty>, Stop> {
 }
 
 /// The one type of a word.
-pub(crate) fn type_in(alloc: Global, word: &str) -> Result<Ty, Stop> {
+pub fn type_in(alloc: Global, word: &str) -> Result<Ty, Stop> {
     only(types_in(alloc, word)?)
 }

@@ -6,10 +6,9 @@
 //! `struct:COUNT` of so many values before; `union:0` of the value before, and `union:1` of a
 //! discriminator and a member before.
 
-use crate::stack::{boxed, only, top};
 use cdr_core::Val;
 use std::alloc::Global;
-use trials::Stop;
+use trials::{Stop, boxed, only, top};
 
 /// The value of that type and number, if that type has such a value and no parts.
 fn plain(name: &str, number: i128) -> Option<Val> {

@@ -1,12 +1,10 @@
 //! Bodies, and the targets of messages. A message is whole, and not cut.
 
-use crate::input::{input_in, parted, print, print_found, ulong};
-use crate::types::types_in;
 use cdr_core::{Ty, are_valid};
 use giop_core::{Body, Content, Header, IorView, Message, Target, read_message};
 use std::alloc::Global;
 use std::io::Write;
-use trials::Stop;
+use trials::{Stop, input_in, parted, print_found, print_given, types_in, ulong};
 
 /// Prints the values of these types in a body.
 fn print_values<W: Write>(
@@ -18,7 +16,7 @@ fn print_values<W: Write>(
     if !are_valid(types) || body.at > u64::from(u32::MAX) {
         return Err(Stop::BadLine);
     }
-    print(body.read(alloc, types), out)
+    print_given(body.read(alloc, types), out)
 }
 
 /// `body TYPES ORDER AT HEX`: the values.

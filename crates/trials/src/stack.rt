@@ -1,10 +1,10 @@
 //! What parts of a word make, one after another: a part takes what it is made of from the end.
 
+use crate::stop::Stop;
 use std::alloc::Global;
-use trials::Stop;
 
 /// Takes so many from the end.
-pub(crate) fn top<T>(stack: &mut Vec<T>, count: u32) -> Result<Vec<T>, Stop> {
+pub fn top<T>(stack: &mut Vec<T>, count: u32) -> Result<Vec<T>, Stop> {
     let at = stack
         .len()
         .checked_sub(count as usize)
@@ -13,13 +13,13 @@ pub(crate) fn top<T>(stack: &mut Vec<T>, count: u32) -> Result<Vec<T>, Stop> {
 }
 
 /// Takes the last, into a box.
-pub(crate) fn boxed<T: Drop>(alloc: Global, stack: &mut Vec<T>) -> Result<Box<T>, Stop> {
+pub fn boxed<T: Drop>(alloc: Global, stack: &mut Vec<T>) -> Result<Box<T>, Stop> {
     let last = stack.pop().ok_or(Stop::BadLine)?;
     Ok(Box::new(alloc, last)?)
 }
 
 /// The one that there is.
-pub(crate) fn only<T: Drop>(mut stack: Vec<T>) -> Result<T, Stop> {
+pub fn only<T: Drop>(mut stack: Vec<T>) -> Result<T, Stop> {
     let last = stack.pop().ok_or(Stop::BadLine)?;
     if !stack.is_empty() {
         return Err(Stop::BadLine);

@@ -1,11 +1,9 @@
 //! Values that are read by types.
 
-use crate::input::{input_in, parted, print};
-use crate::types::{type_in, types_in};
 use cdr_core::{are_valid, read, read_list};
 use std::alloc::Global;
 use std::io::Write;
-use trials::Stop;
+use trials::{Stop, input_in, parted, print_given, type_in, types_in};
 
 /// `read TYPE ORDER AT HEX`: the value, and how many octets it takes.
 pub(crate) fn read_one<W: Write>(alloc: Global, words: &str, out: &mut W) -> Result<(), Stop> {
@@ -16,7 +14,7 @@ pub(crate) fn read_one<W: Write>(alloc: Global, words: &str, out: &mut W) -> Res
         return Err(Stop::BadLine);
     }
     let at = u64::from(input.at);
-    print(read(alloc, &ty, input.order, at, &input.octets), out)
+    print_given(read(alloc, &ty, input.order, at, &input.octets), out)
 }
 
 /// `read_list TYPES ORDER AT HEX`: the values, and how many octets they take.
@@ -29,5 +27,5 @@ pub(crate) fn read_all<W: Write>(alloc: Global, words: &str, out: &mut W) -> Res
     }
     let at = u64::from(input.at);
     let given = read_list(alloc, &types, input.order, at, &input.octets);
-    print(given, out)
+    print_given(given, out)
 }

@@ -1,11 +1,10 @@
 //! Tags with their octets: a LIST is of `TAG:HEX`, with `/` between them, and may be empty.
 
-use crate::input::{input_in, print, ulong};
 use cdr_core::Cursor;
 use ior_core::{Tagged, read_tagged};
 use std::alloc::Global;
 use std::io::Write;
-use trials::Stop;
+use trials::{Stop, input_in, print_given, ulong};
 
 /// A tag with its octets.
 fn tagged_in(alloc: Global, word: &str) -> Result<Tagged, Stop> {
@@ -31,5 +30,5 @@ pub(crate) fn read<W: Write>(alloc: Global, words: &str, out: &mut W) -> Result<
     let mut cursor = Cursor::new(&input.octets, input.order, u64::from(input.at));
     let given = read_tagged(&mut cursor);
     let (place, rest) = (cursor.place(), cursor.rest());
-    print(given.map(|(tag, octets)| (tag, octets, place, rest)), out)
+    print_given(given.map(|(tag, octets)| (tag, octets, place, rest)), out)
 }

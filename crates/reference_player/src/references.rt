@@ -1,11 +1,10 @@
 //! References: one is `HEX LIST`, its type and its profiles.
 
-use crate::input::{input_in, parted, place_in, print as print_given, print_found, ulong};
 use crate::tagged::list_in;
 use ior_core::{Ior, object_key, parse_text, print_text, read_ior, write_ior};
 use std::alloc::Global;
 use std::io::Write;
-use trials::Stop;
+use trials::{Stop, input_in, parted, place_in, print_found, print_given, ulong};
 
 /// The reference of `HEX LIST`.
 fn reference_in(alloc: Global, words: &str) -> Result<Ior, Stop> {
