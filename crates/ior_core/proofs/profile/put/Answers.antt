@@ -8,33 +8,6 @@ use Rattle.ior_core.specs.Profiles.{components_of}
 use Rattle.ior_core.proofs.Appended.{enclosed_stands, puts_joined}
 use Rattle.ior_core.proofs.profile.put.Goals as goal
 
-pub returns-in_err-writer : goal.returns-in_err-writer
-returns-in_err-writer c =
-    let p = err_from_is_err_and c.from_residual.result c.from_residual.ensures.1 in
-    rw (p.1) (keeps_all c.args.out.now.items c.encapsulated.new.out.items c.in_err-writer.ensures)
-
-pub put_head-requires-clause-start : goal.put_head-requires-clause-start
-put_head-requires-clause-start c = (enclosed_stands c.in_ok-writer.ensures).0
-
-pub put_head-requires-clause-writable : goal.put_head-requires-clause-writable
-put_head-requires-clause-writable c = c.requires.writable
-
-pub returns-in_err-put_head : goal.returns-in_err-put_head
-returns-in_err-put_head c =
-    let p = err_from_is_err_and c.from_residual-in_err-put_head.result c.from_residual-in_err-put_head.ensures.1 in
-    rw (p.1) (keeps_as_kept (enclosed_stands c.in_ok-writer.ensures) c.in_err-put_head.ensures)
-
-pub put_components-requires-clause-start : goal.put_components-requires-clause-start
-put_components-requires-clause-start c = (then_stands _ (enclosed_stands c.in_ok-writer.ensures) c.in_ok-put_head.ensures).0
-
-pub put_components-requires-clause-writable : goal.put_components-requires-clause-writable
-put_components-requires-clause-writable c = c.requires.writable
-
-pub returns-in_err-put_components : goal.returns-in_err-put_components
-returns-in_err-put_components c =
-    let p = err_from_is_err_and c.from_residual-in_err-put_components.result c.from_residual-in_err-put_components.ensures.1 in
-    rw (p.1) (keeps_as_kept (then_stands _ (enclosed_stands c.in_ok-writer.ensures) c.in_ok-put_head.ensures) c.in_err-put_components.ensures)
-
 pub returns : goal.returns
 returns c =
     let w = c.in_ok-writer.writer in

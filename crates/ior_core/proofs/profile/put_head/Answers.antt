@@ -6,55 +6,6 @@ use Rattle.cdr_core.specs.Value as value
 use Rattle.cdr_core.specs.Value.{values}
 use Rattle.ior_core.proofs.profile.put_head.Goals as goal
 
-pub octet-requires : goal.octet-requires
-octet-requires c = c.requires.start
-
-pub returns-in_err-octet : goal.returns-in_err-octet
-returns-in_err-octet c =
-    let p = err_from_is_err_and c.from_residual.result c.from_residual.ensures.1 in
-    rw (p.1) (keeps_as (stands c.requires.start) c.in_err-octet.ensures)
-
-pub octet-requires-2 : goal.octet-requires-2
-octet-requires-2 c = (then_stands _ (stands c.requires.start) c.in_ok-octet.ensures).0
-
-pub returns-in_err-octet-2 : goal.returns-in_err-octet-2
-returns-in_err-octet-2 c =
-    let p = err_from_is_err_and c.from_residual-in_err-octet-2.result c.from_residual-in_err-octet-2.ensures.1 in
-    rw (p.1) (keeps_as (then_stands _ (stands c.requires.start) c.in_ok-octet.ensures) c.in_err-octet-2.ensures)
-
-pub string-requires-clause-start : goal.string-requires-clause-start
-string-requires-clause-start c = (then_stands _ (then_stands _ (stands c.requires.start) c.in_ok-octet.ensures) c.in_ok-octet-2.ensures).0
-
-pub string-requires-clause-long : goal.string-requires-clause-long
-string-requires-clause-long c = rw c.deref.ensures.value (c.requires.writable.0.1.1.0.0)
-
-pub string-requires-clause-clean : goal.string-requires-clause-clean
-string-requires-clause-clean c = rw c.deref.ensures.value (c.requires.writable.0.1.1.0.1)
-
-pub returns-in_err-string : goal.returns-in_err-string
-returns-in_err-string c =
-    let p = err_from_is_err_and c.from_residual-in_err-string.result c.from_residual-in_err-string.ensures.1 in
-    rw (p.1) (keeps_as (then_stands _ (then_stands _ (stands c.requires.start) c.in_ok-octet.ensures) c.in_ok-octet-2.ensures) c.in_err-string.ensures)
-
-pub ushort-requires : goal.ushort-requires
-ushort-requires c = (then_stands _ (then_stands _ (then_stands _ (stands c.requires.start) c.in_ok-octet.ensures) c.in_ok-octet-2.ensures) c.in_ok-string.ensures).0
-
-pub returns-in_err-ushort : goal.returns-in_err-ushort
-returns-in_err-ushort c =
-    let p = err_from_is_err_and c.from_residual-in_err-ushort.result c.from_residual-in_err-ushort.ensures.1 in
-    rw (p.1) (keeps_as (then_stands _ (then_stands _ (then_stands _ (stands c.requires.start) c.in_ok-octet.ensures) c.in_ok-octet-2.ensures) c.in_ok-string.ensures) c.in_err-ushort.ensures)
-
-pub octets-requires-clause-start : goal.octets-requires-clause-start
-octets-requires-clause-start c = (then_stands _ (then_stands _ (then_stands _ (then_stands _ (stands c.requires.start) c.in_ok-octet.ensures) c.in_ok-octet-2.ensures) c.in_ok-string.ensures) c.in_ok-ushort.ensures).0
-
-pub octets-requires-clause-long : goal.octets-requires-clause-long
-octets-requires-clause-long c = rw c.deref-2.ensures.value (c.requires.writable.0.1.1.1.1.0)
-
-pub returns-in_err-octets : goal.returns-in_err-octets
-returns-in_err-octets c =
-    let p = err_from_is_err_and c.from_residual-in_err-octets.result c.from_residual-in_err-octets.ensures.1 in
-    rw (p.1) (keeps_as (then_stands _ (then_stands _ (then_stands _ (then_stands _ (stands c.requires.start) c.in_ok-octet.ensures) c.in_ok-octet-2.ensures) c.in_ok-string.ensures) c.in_ok-ushort.ensures) c.in_err-octets.ensures)
-
 pub returns : goal.returns
 returns c =
     let w = c.args.writer.now in

@@ -5,20 +5,6 @@ use Rattle.cdr_core.specs.Value as value
 use Rattle.ior_core.proofs.Appended.{puts_or_keeps, puts_second}
 use Rattle.ior_core.proofs.tagged.put.Goals as goal
 
-pub ulong-requires : goal.ulong-requires
-ulong-requires c = c.requires.start
-
-pub returns-in_err-ulong : goal.returns-in_err-ulong
-returns-in_err-ulong c =
-    let p = err_from_is_err_and c.from_residual.result c.from_residual.ensures.1 in
-    rw (p.1) (keeps_as (stands c.requires.start) c.in_err-ulong.ensures)
-
-pub octets-requires-clause-start : goal.octets-requires-clause-start
-octets-requires-clause-start c = (then_stands _ (stands c.requires.start) c.in_ok-ulong.ensures).0
-
-pub octets-requires-clause-long : goal.octets-requires-clause-long
-octets-requires-clause-long c = rw c.deref.ensures.value c.requires.long
-
 pub returns : goal.returns
 returns c =
     let one = c.args.one.now in
