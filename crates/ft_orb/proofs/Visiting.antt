@@ -103,7 +103,7 @@ module _ {C : Type 0} (offers : C → Offer) (owner : Owner) where
     pub attended-early : (engine : Engine C) → waits_in engine ≡ None → waits_in lost ≡ None → IsVisited offers owner calls past c wire clock engine new now reads (Some end) → Loses engine → IsAttended
     attended-early engine idle gone x loses =
         let then : (p : List Event) → Stands (meaning_of owner) (made_of owner) (as_server engine calls) p → Rests offers owner calls lost (Lost c ∷ p) = λ p st. loses p (record { offer_is = x.0; idle = idle; stands = st }) in
-        attended-by (then (past_with owner.limits past c x.1.0) x.1.2.stands).offer_is gone
+        attended-by (then (past_with owner.limits past c x.1.0) x.1.2.turned.stands).offer_is gone
         (served-early (meaning_of owner) (made_of owner) past c reads wire new clock now (as_server lost calls) end x.1.0 x.1.1 (as_server engine calls) x.1.2 (λ p st. (then p st).stands))
 
     pub attended-all : (engine closed : Engine C) (mid : Option (List Act)) (turns : List Turn) (acts : List Act) (note : Note) → waits_in lost ≡ None

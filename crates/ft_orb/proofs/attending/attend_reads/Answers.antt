@@ -28,7 +28,7 @@ returns-in-Some-clause-table g c =
       λ o calls past rests going agrees.
           let both = agrees-joined o.answers calls v.0 p.0 agrees in
           let x = v.2 o calls past rests going both.0 in
-          let then : Rests g.C.Catalogue.offers o (calls_with calls v.0) c.loop-reads.engine (past_with o.limits past c.args.connection x.1.1.0) = record { offer_is = x.1.0; idle = c.loop-reads.invariant.idle; stands = x.1.1.1.stands } in
+          let then : Rests g.C.Catalogue.offers o (calls_with calls v.0) c.loop-reads.engine (past_with o.limits past c.args.connection x.1.1.0) = record { offer_is = x.1.0; idle = c.loop-reads.invariant.idle; stands = x.1.1.1.turned.stands } in
           let y = p.2 o (calls_with calls v.0) (past_with o.limits past c.args.connection x.1.1.0) then x.1.1.1.ongoing.1 both.1 in (
             are-joined o.offer v.0 p.0 x.0 y.0,
             visit-last g.C.Catalogue.offers o past c.args.connection (g.W.Wire.traffic c.args.wire.now) (g.K.Clock.given c.args.clock.now) (calls_with calls v.0) (calls_with (calls_with calls v.0) p.0) (calls_with calls (v.0 ++ p.0)) c.loop-reads.engine c.attend_read.new.engine _ _ _ _ c.loop-reads.reads
@@ -50,7 +50,7 @@ loop-reads-preserved g c =
         λ o calls past rests going agrees.
             let both = agrees-joined o.answers calls v.0 p.0 agrees in
             let x = v.2 o calls past rests going both.0 in
-            let then : Rests g.C.Catalogue.offers o (calls_with calls v.0) c.loop-reads.engine (past_with o.limits past c.args.connection x.1.1.0) = record { offer_is = x.1.0; idle = c.loop-reads.invariant.idle; stands = x.1.1.1.stands } in
+            let then : Rests g.C.Catalogue.offers o (calls_with calls v.0) c.loop-reads.engine (past_with o.limits past c.args.connection x.1.1.0) = record { offer_is = x.1.0; idle = c.loop-reads.invariant.idle; stands = x.1.1.1.turned.stands } in
             let y = p.2 o (calls_with calls v.0) (past_with o.limits past c.args.connection x.1.1.0) then x.1.1.1.ongoing.1 both.1 in (
               are-joined o.offer v.0 p.0 x.0 y.0,
               visit-more g.C.Catalogue.offers o past c.args.connection (g.W.Wire.traffic c.args.wire.now) (g.K.Clock.given c.args.clock.now) (calls_with calls v.0) (calls_with (calls_with calls v.0) p.0) (calls_with calls (v.0 ++ p.0)) c.loop-reads.engine c.attend_read.new.engine _ _ _ _ c.loop-reads.reads
