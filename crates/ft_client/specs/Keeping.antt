@@ -3,18 +3,17 @@ use Rattle.std.specs.Prelude.{ℕ, zero, suc, ◌+◌, nat_le, if◌then◌else�
 use Rattle.std.specs.List.{filter_map}
 use Rattle.cdr_core.specs.Numbers.{padding, digits_of}
 use Rattle.cdr_core.specs.declared.order.Order.TheVariants.{Big}
+use Rattle.giop_core.specs.Rows.{has_id_first}
 use Rattle.giop_core.specs.Written.{ft_octets}
 use Rattle.giop_core.specs.declared.header.Version.{Version}
-use Rattle.giop_core.specs.declared.header.Version.TheVariants.{V12}
 use Rattle.ft_client.specs.declared.pending.Pending.{Pending as CodePending}
 use Rattle.ft_client.specs.Clients.{Pending, transmission}
 use Rattle.ft_client.specs.Messages.{request_octets}
 
--- GIOP 9.4.2: the place of the request id in a Request with this one context: after the header in 1.2, and after the context
--- before
+-- GIOP 9.4.2: the place of the request id in a Request with this one context: after the header, where it comes first, as in 1.2,
+-- and after the context before
 abbrev pub id_place : Version → List ℕ → ℕ
-id_place V12 context = 12
-id_place _ context = (24 + length context) + padding (24 + length context) 4
+id_place version context = if has_id_first version then 12 else ((24 + length context) + padding (24 + length context) 4)
 
 -- a pending call as it is kept: its octets as it would be sent under the request id 1
 pub record Kept : Type 0 where
