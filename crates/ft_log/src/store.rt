@@ -1,4 +1,4 @@
-//! What a log has, and what it says of each other.
+//! The fields of a log, and what each says of the others.
 
 ghost use Rattle.std.specs.Prelude.{◌≡◌, ◌≤◌, ◌+◌, IsTrue, List, ℕ, if◌then◌else◌, length, nat_lt, not, option_map};
 ghost use Rattle.std.specs.List.{count_by, sum_by};
