@@ -7,8 +7,11 @@ OURS is the program of crates/benches, PLAIN that of bench/plain.rs, GIOP the pr
 kind of work: what it does in one count, so many counts, and the octets of a piece. Times are user time, the best
 of so many rounds, in which the programs take turns; of `check` and `show`, which read their input, user and
 system time. The time of making the stream is left out: it is that of the same program with pieces of 0 octets.
-Instructions are those that callgrind counts, for one count; of `check` and `show` for one digit. Both programs
-have to print the same. The last columns are the octets of memory for each digit.
+Instructions are those that callgrind counts, for one count; of `check` and `show` for one digit. The last columns
+are the octets of memory for each digit.
+
+The status is 1 where the programs don't print the same, where nothing was read, and where work takes no more time,
+instructions or memory than none: such figures can't be.
 """
 import argparse
 import os
@@ -68,6 +71,22 @@ def instructions(words, source=None):
     return int(found[1])
 
 
+def peak(words):
+    """The most memory that is resident in a run, as the system counts it, in octets. A small program starts this one, so
+    that what Python takes isn't counted."""
+    said = subprocess.run(["/usr/bin/time", "-f", "%M"] + words, stdout=subprocess.DEVNULL, stderr=subprocess.PIPE, text=True)
+    if said.returncode != 0:
+        sys.exit(f"{words}: status {said.returncode}")
+    return int(said.stderr) * 1024
+
+
+def figure(title, value):
+    """A figure that is more than nothing; another can't be."""
+    if not value > 0:
+        sys.exit(f"{title}: a figure of {value:g} can't be")
+    return value
+
+
 def best_of(rounds, programs, words, source=None):
     """The least time of each program, and the most memory; they take turns."""
     time, memory = {}, {}
@@ -80,6 +99,7 @@ def best_of(rounds, programs, words, source=None):
             printed.add(text)
         if len(printed) != 1:
             sys.exit(f"{words}: the programs print differently, as {[text[:80] for text in printed]}")
+        figure(f"{words}", int(re.search(rb"\d+", printed.pop())[0]))
     return time, memory
 
 
@@ -101,7 +121,7 @@ def line(title, time, counted, memory=None):
     parts = [f"{title:<32}"]
     for each, form in ((time, ".1f"), (counted, ".1f"), (memory, ".2f")):
         if each:
-            ours, plain = each["ours"], each["plain"]
+            ours, plain = figure(title, each["ours"]), figure(title, each["plain"])
             parts.append(f"{ours:>12,{form}} {plain:>12,{form}} {ours / plain:>6.2f}")
     print(" ".join(parts), flush=True)
 

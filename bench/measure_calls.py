@@ -18,7 +18,7 @@ import subprocess
 import sys
 import tempfile
 
-from measure import instructions, run
+from measure import figure, instructions, run
 
 KINDS = ["add", "repeat", "locate"]
 SIZES = [1, 84, 4096, 65536]
@@ -35,7 +35,7 @@ def programs_of(given):
 def line(title, cost, form):
     """Prints what a message costs by each program, and its ratio to the first."""
     first = next(iter(cost.values()))
-    cells = [f"{value:>10,{form}} {value / first:5.2f}" for value in cost.values()]
+    cells = [f"{figure(title, value):>10,{form}} {value / first:5.2f}" for value in cost.values()]
     print(f"{title:<24}" + "".join(cells), flush=True)
 
 

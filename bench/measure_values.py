@@ -6,12 +6,13 @@ usage: measure_values.py OURS PLAIN [--rounds 5] [--no-instructions]
 OURS is the program of crates/benches, PLAIN that of bench/values.rs. Each time is user and system time
 for one value in microseconds, the best of so many runs in which the programs take turns; the time of making
 the value is left out. Values that were read are dropped, and that counts. Instructions are those that
-callgrind counts for one value.
+callgrind counts for one value. The status is 1 where the programs don't print the same, and where a value takes no time
+or no instructions.
 """
 import argparse
 import sys
 
-from measure import instructions, run
+from measure import figure, instructions, run
 
 # the kinds of values, and how many are read or written in one run
 KINDS = {"structs": 20, "ulongs": 40, "longlongs": 80, "shorts": 30, "booleans": 10, "octets": 1000}
@@ -41,9 +42,10 @@ def main():
             for _ in range(given.rounds):
                 times = [per_value(lambda all_words: run(all_words)[0], each, count) for each in words]
                 best = [min(pair) for pair in zip(best, times)]
+            best = [figure(f"{what} {kind}", each) for each in best]
             line = f"{what:5} {kind:9} {best[0] * 1e6:9.0f} {best[1] * 1e6:9.0f} {best[0] / best[1]:6.2f}"
             if not given.no_instructions:
-                counted = [per_value(instructions, each, 2) for each in words]
+                counted = [figure(f"{what} {kind}", per_value(instructions, each, 2)) for each in words]
                 line += f" {counted[0]:12.0f} {counted[1]:12.0f} {counted[0] / counted[1]:6.2f}"
             print(line, flush=True)
 
