@@ -7,14 +7,17 @@ OURS is the program of crates/benches, PLAIN that of bench/plain.rs. An outcome 
 its key is made, what expired is forgotten, the key is looked up, room is made, and the outcome is kept. Each is of a client
 of its own, whose id has 32 octets. Both programs have to print the same of each kind.
 
-The status is 1 where they don't, where 1,000,000 outcomes of as many clients leave more memory in use than 5,000 do in a log
-of 1,024, or where a full log of 65,536 takes more than 20 megabytes.
+The status is 1 where they don't, where a figure can't be, where 1,000,000 outcomes of as many clients leave more memory in use
+than 5,000 do in a log of 1,024, or where a full log of 65,536 takes more than 20 megabytes.
 """
-import re
 import subprocess
 import sys
 
-KINDS = [(entries, kind) for entries in (1024, 65536) for kind in ("rising", "scattered")]
+import measure
+from measure import figure
+
+# how many outcomes are kept, how many of each client, and how they expire; where the share is less, clients are counted
+KINDS = [(entries, entries, kind) for entries in (1024, 65536) for kind in ("rising", "scattered")] + [(1024, 1023, "rising")]
 MORE = 4000
 # the most that a log of 65,536 may take, and what two runs of one program may differ by, in octets
 MOST = 20_000_000
@@ -26,29 +29,23 @@ def printed(program, *words):
 
 
 def instructions(program, *words):
-    words = ["valgrind", "--tool=callgrind", "--callgrind-out-file=/dev/null", program, "log", *map(str, words)]
-    said = subprocess.run(words, stdout=subprocess.DEVNULL, stderr=subprocess.PIPE, text=True, check=True).stderr
-    return int(re.search(r"Collected : (\d+)", said)[1])
+    return measure.instructions([program, "log", *map(str, words)])
 
 
 def peak(program, *words):
-    """The most memory that is resident in a run, as the system counts it. A shell starts the program, so that what this one
-    takes isn't counted."""
-    words = ["/usr/bin/time", "-f", "%M", program, "log", *map(str, words)]
-    said = subprocess.run(words, stdout=subprocess.DEVNULL, stderr=subprocess.PIPE, text=True, check=True).stderr
-    return int(said) * 1024
+    return measure.peak([program, "log", *map(str, words)])
 
 
 def costs(programs):
     print("instructions for an outcome: ours, plain, ratio")
-    for entries, kind in KINDS:
+    for entries, share, kind in KINDS:
         ours, plain = [
-            (instructions(program, entries + 1000 + MORE, entries, entries, kind) - instructions(program, entries + 1000, entries, entries, kind)) / MORE
+            (instructions(program, entries + 1000 + MORE, entries, share, kind) - instructions(program, entries + 1000, entries, share, kind)) / MORE
             for program in programs
         ]
-        print(f"{entries:>6} kept, {kind:9} {ours:8.0f} {plain:8.0f} {ours / plain:5.2f}")
-    ours = (instructions(programs[0], 2024 + MORE, 1024, 1023, "rising") - instructions(programs[0], 2024, 1024, 1023, "rising")) / MORE
-    print(f"  1024 kept, clients counted {ours:.0f}")
+        title = f"{entries:>6} kept, {share:>6} of each client, {kind:9}"
+        figure(title, min(ours, plain))
+        print(f"{title} {ours:8.0f} {plain:8.0f} {ours / plain:5.2f}")
     print("a call that forgets as many at once: instructions for each")
     for entries in (1024, 65536):
         full, more = (instructions(programs[0], entries + i, entries, entries, "together") for i in (0, 1))
@@ -56,11 +53,11 @@ def costs(programs):
 
 
 def alike(programs):
-    for entries, kind in KINDS + [(1024, "together"), (65536, "together")]:
+    for entries, share, kind in KINDS + [(1024, 1024, "together"), (65536, 65536, "together")]:
         for count in (3000, 70_001, 200_000):
-            ours, plain = (printed(program, count, entries, entries, kind) for program in programs)
+            ours, plain = (printed(program, count, entries, share, kind) for program in programs)
             if ours != plain:
-                sys.exit(f"{count} {kind}, {entries} kept: ours printed {ours!r}, plain {plain!r}")
+                sys.exit(f"{count} {kind}, {entries} kept, {share} of each client: ours printed {ours!r}, plain {plain!r}")
 
 
 def memory(programs):

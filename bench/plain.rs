@@ -1,16 +1,21 @@
 //! A plain assembler of GIOP streams and a plain server, to measure against: no proofs, no crates.
 //!
 //! usage: plain N PIECE [KIND]        does N times a kind of work, as `benches frames` does, and prints a count and a checksum
-//!        plain serve N PIECE KIND [ENTRIES]    serves N messages of a kind, prints what was written
+//!        plain serve N PIECE KIND [ENTRIES [SHARE]]    serves N messages of a kind, as `benches server` does, prints what was written
+//!        plain script CAPACITY SHARE START LIMIT PARTIALS EVENT..     plays events on a server, as `benches script` does, prints the same
 //!        plain log N ENTRIES SHARE rising | scattered | together [one]     keeps N outcomes in a log, as `benches log` does
 //!        plain check | show          reads digits on standard input, prints how the stream ends, or its messages too
+//!
+//! It keeps to the rules of the proved server but for one: a request or a locate whose target is a profile or a reference has
+//! no object here, also where the profile is one of IIOP that names the counter.
 
 use std::cmp::Reverse;
 use std::collections::hash_map::RandomState;
-use std::collections::{BTreeMap, BinaryHeap, TryReserveError};
+use std::collections::{BTreeMap, BinaryHeap, HashMap, TryReserveError};
 use std::fmt;
 use std::hash::{BuildHasher, Hasher};
 use std::io::{BufWriter, Read, Write};
+use std::time::Instant;
 
 const HEADER: usize = 12;
 
@@ -518,6 +523,17 @@ impl Assembler {
         }
     }
 
+    /// The same, with the message's header.
+    #[inline(always)]
+    fn take(&mut self, piece: &[u8]) -> Result<(usize, Option<(Header, Message<'_>)>), Fault> {
+        let (taken, complete) = self.advance(piece)?;
+        self.complete = complete;
+        match complete {
+            Some(header) => Ok((taken, Some((header, read_message(&header, &self.frame)?)))),
+            None => Ok((taken, None)),
+        }
+    }
+
     pub fn pending(&self) -> usize {
         if self.complete.is_some() { 0 } else { self.frame.len() }
     }
@@ -800,11 +816,34 @@ struct Log {
     /// For each entry 32 bits of its hash and, above them, its place and 1. Zero is a free cell; at most half are taken.
     table: Vec<u64>,
     order: BinaryHeap<Reverse<(u64, u32)>>,
+    /// How many entries the log may have, in all and of each client, and how many each client has. Where the two are one
+    /// number, clients aren't counted.
+    capacity: usize,
+    share: usize,
+    counts: HashMap<Box<[u8]>, usize>,
 }
 
 impl Log {
-    fn new() -> Log {
-        Log { hasher: RandomState::new(), entries: Vec::new(), free: Vec::new(), table: Vec::new(), order: BinaryHeap::new() }
+    fn new(capacity: usize, share: usize) -> Log {
+        Log {
+            hasher: RandomState::new(),
+            entries: Vec::new(),
+            free: Vec::new(),
+            table: Vec::new(),
+            order: BinaryHeap::new(),
+            capacity,
+            share,
+            counts: HashMap::new(),
+        }
+    }
+
+    fn counts_clients(&self) -> bool {
+        self.share < self.capacity
+    }
+
+    /// Whether one entry more of a client may be kept.
+    fn has_room(&self, client_id: &[u8]) -> bool {
+        self.len() < self.capacity && (!self.counts_clients() || self.counts.get(client_id).map_or(0, |n| *n) < self.share)
     }
 
     fn len(&self) -> usize {
@@ -839,6 +878,9 @@ impl Log {
     /// Makes room for one entry more.
     fn reserve(&mut self) -> Result<(), TryReserveError> {
         self.order.try_reserve(1)?;
+        if self.counts_clients() {
+            self.counts.try_reserve(1)?;
+        }
         if self.free.is_empty() {
             self.entries.try_reserve(1)?;
             self.free.try_reserve(self.entries.len() + 1)?;
@@ -867,6 +909,12 @@ impl Log {
     /// Keeps an entry, for which room is made.
     fn keep(&mut self, expiration: u64, entry: Entry) {
         let hash = entry.hash;
+        if self.counts_clients() {
+            match self.counts.get_mut(&entry.client_id) {
+                Some(count) => *count += 1,
+                None => drop(self.counts.insert(entry.client_id.clone(), 1)),
+            }
+        }
         let place = match self.free.pop() {
             Some(place) => {
                 self.entries[place as usize] = Some(entry);
@@ -891,8 +939,20 @@ impl Log {
             self.order.pop();
             if let Some(entry) = self.entries[place as usize].take() {
                 self.take(entry.hash, place);
+                self.count_down(&entry.client_id);
             }
             self.free.push(place);
+        }
+    }
+
+    /// Counts one entry of a client less, where clients are counted. A client that has none left is forgotten.
+    fn count_down(&mut self, client_id: &[u8]) {
+        if !self.counts_clients() {
+            return;
+        }
+        match self.counts.get_mut(client_id) {
+            Some(count) if *count > 1 => *count -= 1,
+            _ => drop(self.counts.remove(client_id)),
         }
     }
 
@@ -1060,24 +1120,29 @@ fn arguments(types: &[Ty], order: Order, body: Body) -> Result<Result<Vec<Val>, 
 struct Desk<S> {
     servant: S,
     clock: u64,
-    capacity: usize,
     log: Log,
 }
 
+/// What comes of a request that is not in the log: it is refused, or what is to be performed.
+enum Asked<'a> {
+    Refused(&'static [u8]),
+    Call(&'a [u8], Vec<Val>),
+}
+
 impl<S: Servant> Desk<S> {
-    /// What a request gives that is not in the log, and whether it was performed.
-    fn performed(&mut self, request: &Request, order: Order) -> Result<(Outcome, bool), TryReserveError> {
+    /// What a request asks for that is not in the log.
+    fn asked<'a>(&self, request: &Request<'a>, order: Order) -> Result<Asked<'a>, TryReserveError> {
         let Target::Key(key) = request.target else {
-            return Ok((Outcome::System(OBJECT_NOT_EXIST), false));
+            return Ok(Asked::Refused(OBJECT_NOT_EXIST));
         };
         let signature = match self.servant.interface(key, request.operation) {
-            Lookup::NoObject => return Ok((Outcome::System(OBJECT_NOT_EXIST), false)),
-            Lookup::NoOperation => return Ok((Outcome::System(BAD_OPERATION), false)),
+            Lookup::NoObject => return Ok(Asked::Refused(OBJECT_NOT_EXIST)),
+            Lookup::NoOperation => return Ok(Asked::Refused(BAD_OPERATION)),
             Lookup::Operation(signature) => signature,
         };
         match arguments(&signature.arguments, order, request.body)? {
-            Ok(values) => Ok((self.servant.perform(key, request.operation, &values)?, true)),
-            Err(_) => Ok((Outcome::System(MARSHAL), false)),
+            Ok(values) => Ok(Asked::Call(key, values)),
+            Err(_) => Ok(Asked::Refused(MARSHAL)),
         }
     }
 
@@ -1086,7 +1151,10 @@ impl<S: Servant> Desk<S> {
         let contexts = Contexts { reader: request.contexts.reader, left: request.contexts.left };
         match field(contexts) {
             Field::Absent => {
-                let (outcome, _) = self.performed(&request, order)?;
+                let outcome = match self.asked(&request, order)? {
+                    Asked::Refused(name) => Outcome::System(name),
+                    Asked::Call(key, values) => self.servant.perform(key, request.operation, &values)?,
+                };
                 put_reply(version, id, wish, &outcome, out)
             }
             Field::Bad => put_reply(version, id, wish, &Outcome::System(MARSHAL), out),
@@ -1099,53 +1167,103 @@ impl<S: Servant> Desk<S> {
                 if let Some(outcome) = self.log.find(hash, client_id, retention_id) {
                     return put_reply(version, id, wish, outcome, out);
                 }
-                if self.log.len() == self.capacity {
+                let (key, values) = match self.asked(&request, order)? {
+                    Asked::Refused(name) => return put_reply(version, id, wish, &Outcome::System(name), out),
+                    Asked::Call(key, values) => (key, values),
+                };
+                if !self.log.has_room(client_id) {
                     return put_reply(version, id, wish, &Outcome::System(NO_RESOURCES), out);
                 }
                 self.log.reserve()?;
-                let (outcome, was_performed) = self.performed(&request, order)?;
+                let outcome = self.servant.perform(key, request.operation, &values)?;
                 let put = put_reply(version, id, wish, &outcome, out);
-                if was_performed {
-                    self.log.keep(expiration, Entry { client_id: client_id.into(), retention_id, hash, outcome });
-                }
+                self.log.keep(expiration, Entry { client_id: client_id.into(), retention_id, hash, outcome });
                 put
             }
         }
     }
 }
 
+/// A connection: what has come on it, and whether nothing that comes has a meaning any more.
+struct Link {
+    assembler: Assembler,
+    is_closed: bool,
+}
+
 /// The connections of a servant.
 struct Server<S> {
     desk: Desk<S>,
-    links: BTreeMap<u64, Assembler>,
+    limits: Limits,
+    greatest: Option<u64>,
+    links: BTreeMap<u64, Link>,
 }
 
+const CLOSE_CONNECTION: &[u8; HEADER] = b"GIOP\x01\x00\x00\x05\x00\x00\x00\x00";
+const MESSAGE_ERROR: &[u8; HEADER] = b"GIOP\x01\x00\x00\x06\x00\x00\x00\x00";
+
 impl<S: Servant> Server<S> {
-    fn feed(&mut self, c: u64, now: u64, piece: &[u8], out: &mut Vec<u8>) -> Result<(), Fault> {
+    fn new(servant: S, limits: Limits, capacity: usize, share: usize) -> Server<S> {
+        let desk = Desk { servant, clock: 0, log: Log::new(capacity, share) };
+        Server { desk, limits, greatest: None, links: BTreeMap::new() }
+    }
+
+    /// Opens a connection, whose number is greater than each one before.
+    fn connect(&mut self, c: u64) {
+        if self.greatest.is_none_or(|greatest| greatest < c) {
+            self.greatest = Some(c);
+            self.links.insert(c, Link { assembler: Assembler::new(self.limits), is_closed: false });
+        }
+    }
+
+    /// Says CloseConnection, and closes a connection.
+    fn close(&mut self, c: u64, out: &mut Vec<u8>) {
+        if let Some(link) = self.links.get_mut(&c).filter(|link| !link.is_closed) {
+            link.is_closed = true;
+            out.extend_from_slice(CLOSE_CONNECTION);
+        }
+    }
+
+    /// Answers what a piece completes. At a fault, or a message that only a server sends, it says MessageError and closes the
+    /// connection. The one error is that memory ran out.
+    fn feed(&mut self, c: u64, now: u64, piece: &[u8], out: &mut Vec<u8>) -> Result<(), TryReserveError> {
         self.desk.clock = self.desk.clock.max(now);
-        let Some(link) = self.links.get_mut(&c) else {
+        let Some(link) = self.links.get_mut(&c).filter(|link| !link.is_closed) else {
             return Ok(());
         };
         let mut left = piece;
         while !left.is_empty() {
-            let (taken, complete) = link.advance(left)?;
-            link.complete = complete;
-            if let Some(header) = complete {
-                // (each message is read once)
-                match read_message(&header, &link.frame)? {
-                    Message::Request(request) => self.desk.handle(header.version, header.order, request, out)?,
-                    Message::LocateRequest(id, Target::Key(key)) => {
-                        let start = out.len();
-                        out.try_reserve(20)?;
-                        out.extend_from_slice(&[0; HEADER]);
-                        out.extend_from_slice(&id.to_be_bytes());
-                        out.extend_from_slice(&u32::from(self.desk.servant.has_object(key)).to_be_bytes());
-                        put_header(header.version, 4, start, out);
-                    }
-                    _ => {}
+            let (taken, header, message) = match link.assembler.take(left) {
+                Ok((taken, Some((header, message)))) => (taken, header, message),
+                Ok((_, None)) => return Ok(()),
+                Err(_) => {
+                    link.is_closed = true;
+                    out.extend_from_slice(MESSAGE_ERROR);
+                    return Ok(());
+                }
+            };
+            left = &left[taken..];
+            match message {
+                Message::Cancel(_) => {}
+                Message::Request(request) => self.desk.handle(header.version, header.order, request, out)?,
+                Message::LocateRequest(id, target) => {
+                    let is_here = matches!(target, Target::Key(key) if self.desk.servant.has_object(key));
+                    let start = out.len();
+                    out.try_reserve(20)?;
+                    out.extend_from_slice(&[0; HEADER]);
+                    out.extend_from_slice(&id.to_be_bytes());
+                    out.extend_from_slice(&u32::from(is_here).to_be_bytes());
+                    put_header(header.version, 4, start, out);
+                }
+                Message::Close | Message::Error => {
+                    link.is_closed = true;
+                    return Ok(());
+                }
+                Message::Reply(_) | Message::LocateReply(..) => {
+                    link.is_closed = true;
+                    out.extend_from_slice(MESSAGE_ERROR);
+                    return Ok(());
                 }
             }
-            left = &left[taken..];
         }
         Ok(())
     }
@@ -1162,11 +1280,10 @@ const LOCATE: [u8; 25] = [
     0x47, 0x49, 0x4f, 0x50, 1, 2, 0, 3, 0, 0, 0, 0x0d, 0, 0, 0, 1, 0, 0, 0, 0, 0, 0, 0, 1, 0x63,
 ];
 
-/// A server of a counter that keeps so many outcomes, with connection 1.
-fn counting(entries: usize) -> Server<Counter> {
-    let desk = Desk { servant: Counter::new(0), clock: 0, capacity: entries, log: Log::new() };
-    let mut server = Server { desk, links: BTreeMap::new() };
-    server.links.insert(1, Assembler::new(LIMITS));
+/// A server of a counter that keeps so many outcomes, so many of each client, with connection 1.
+fn counting(entries: usize, share: usize) -> Server<Counter> {
+    let mut server = Server::new(Counter::new(0), LIMITS, entries, share);
+    server.connect(1);
     server
 }
 
@@ -1185,7 +1302,7 @@ fn serve(kind: &str, count: usize, piece: usize) {
         println!("octets {} sum 0 total 0", std::hint::black_box(&stream).len());
         return;
     }
-    let mut server = counting(1024);
+    let mut server = counting(1024, 1024);
     let (mut out, mut written, mut sum) = (Vec::new(), 0, 0u64);
     for piece in stream.chunks(piece) {
         out.clear();
@@ -1199,45 +1316,103 @@ fn serve(kind: &str, count: usize, piece: usize) {
     println!("octets {written} sum {sum} total {}", server.desk.servant.total);
 }
 
-/// Serves N messages, each with a key of its own: the log is full, and one outcome expires with each message.
-fn serve_keyed(is_scattered: bool, count: u64, feeds: bool, entries: u64) {
-    let mut server = counting(entries as usize);
-    let (mut out, mut written, mut sum) = (Vec::new(), 0, 0u64);
-    let mut message = REQUEST;
-    for index in 0..count {
+#[derive(Clone, Copy)]
+enum Expiry {
+    Rising,
+    Scattered,
+    Together,
+}
+
+impl Expiry {
+    fn named(word: &str) -> Expiry {
+        match word {
+            "rising" | "clients" => Expiry::Rising,
+            "scattered" => Expiry::Scattered,
+            _ => Expiry::Together,
+        }
+    }
+
+    /// The moment at which an outcome comes, and the last one at which it is kept, where so many are kept.
+    #[inline(always)]
+    fn moments(self, entries: u64, index: u64) -> (u64, u64) {
         let place = index & (entries - 1);
-        let turn = if is_scattered { place.wrapping_mul(40_503).wrapping_add(97) & (entries - 1) } else { place };
-        message[64..68].copy_from_slice(&(index as u32 + 1).to_be_bytes());
-        message[68..76].copy_from_slice(&(999 + index - place + entries + turn).to_be_bytes());
-        let octets: &[u8] = if feeds {
+        let round = 1000 + index - place;
+        match self {
+            Expiry::Rising => (1000 + index, round + entries - 1 + place),
+            Expiry::Scattered => (1000 + index, round + entries - 1 + (place.wrapping_mul(40_503).wrapping_add(97) & (entries - 1))),
+            Expiry::Together => (round, round),
+        }
+    }
+}
+
+/// Serves N messages, each with a key of its own; of those that expire together it says how many nanoseconds the last took.
+fn serve_keyed(kind: &str, count: u32, feeds: bool, entries: u64, share: usize) {
+    let mut server = counting(entries as usize, share);
+    let (mut out, mut written, mut sum) = (Vec::new(), 0, 0u64);
+    let (mut usual, mut long) = (REQUEST, CLIENT_REQUEST);
+    let is_one_client = matches!(kind, "rising" | "scattered");
+    let expiry = Expiry::named(kind);
+    let mut start = Instant::now();
+    for index in 0..count {
+        if index + 1 == count {
+            start = Instant::now();
+        }
+        let (now, until) = expiry.moments(entries, index.into());
+        let message: &[u8] = if is_one_client {
+            usual[64..68].copy_from_slice(&(index + 1).to_be_bytes());
+            usual[68..76].copy_from_slice(&until.to_be_bytes());
+            &usual
+        } else {
+            long[60..64].copy_from_slice(&((index >> 4) & 0x0f0f_0f0f | 0x4040_4040).to_be_bytes());
+            long[64..68].copy_from_slice(&(index & 0x0f0f_0f0f | 0x4040_4040).to_be_bytes());
+            long[96..100].copy_from_slice(&(index + 1).to_be_bytes());
+            long[100..108].copy_from_slice(&until.to_be_bytes());
+            &long
+        };
+        let octets = if feeds {
             out.clear();
-            if server.feed(1, 1000 + index, &message, &mut out).is_err() {
+            if server.feed(1, now, message, &mut out).is_err() {
                 println!("fault");
                 return;
             }
             &out
         } else {
-            std::hint::black_box(&message)
+            std::hint::black_box(message)
         };
         written += octets.len();
         sum = sum.wrapping_mul(31).wrapping_add(u64::from(*octets.last().unwrap_or(&0)));
     }
-    println!("octets {written} sum {sum} total {}", server.desk.servant.total);
+    let took = start.elapsed().as_nanos();
+    let last = if kind == "together" { format!(" last {took}") } else { String::new() };
+    println!("octets {written} sum {sum} total {}{last}", server.desk.servant.total);
+}
+
+/// Plays an event of a script on a server, and prints what it writes.
+fn play(server: &mut Server<Counter>, event: &str) {
+    let words: Vec<&str> = event.split(' ').collect();
+    let c = words[1].parse().unwrap();
+    let mut out = Vec::new();
+    match words[0] {
+        "open" => server.connect(c),
+        "close" => server.close(c, &mut out),
+        "lost" => drop(server.links.remove(&c)),
+        _ => server.feed(c, words[2].parse().unwrap(), &decode(words[3].as_bytes()).unwrap(), &mut out).unwrap(),
+    }
+    if !out.is_empty() {
+        let mut line = Vec::new();
+        put_digits(&out, &mut line);
+        println!("{c} {}", String::from_utf8(line).unwrap());
+    }
 }
 
 /// Keeps N outcomes in a log of so many entries, as `benches log` does, and says how many were found.
-fn keep_each(count: u32, entries: u64, expiry: &str, is_one_client: bool) {
-    let mut log = Log::new();
+fn keep_each(count: u32, entries: u64, share: usize, expiry: &str, is_one_client: bool) {
+    let mut log = Log::new(entries as usize, share);
     let (mut found, mut sum) = (0u64, 0u64);
+    let expiry = Expiry::named(expiry);
     for index in 0..count {
         let at = u64::from(index);
-        let place = at & (entries - 1);
-        let turn = place.wrapping_mul(40_503).wrapping_add(97) & (entries - 1);
-        let (now, until) = match expiry {
-            "rising" => (1000 + at, 999 + at - place + entries + place),
-            "scattered" => (1000 + at, 999 + at - place + entries + turn),
-            _ => (1000 + at - place, 1000 + at - place),
-        };
+        let (now, until) = expiry.moments(entries, at);
         let mut client_id = *b"........-client-of-the-benchmark";
         if !is_one_client {
             client_id[..8].copy_from_slice(&at.to_be_bytes());
@@ -1246,7 +1421,7 @@ fn keep_each(count: u32, entries: u64, expiry: &str, is_one_client: bool) {
         let hash = log.hash(&client_id, index as i32);
         if log.find(hash, &client_id, index as i32).is_some() {
             found += 1;
-        } else if log.len() < entries as usize && log.reserve().is_ok() {
+        } else if log.has_room(&client_id) && log.reserve().is_ok() {
             let outcome = Outcome::Returned(vec![Val::LongLong(i64::from(index))]);
             log.keep(until, Entry { client_id: client_id.into(), retention_id: index as i32, hash, outcome });
         }
@@ -1260,6 +1435,16 @@ const REQUEST: [u8; 84] = [
     0x47, 0x49, 0x4f, 0x50, 1, 2, 0, 0, 0, 0, 0, 0x48, 0, 0, 0, 5, 3, 0, 0, 0, 0, 0, 0, 0, 0, 0, 0,
     1, 0x63, 0, 0, 0, 0, 0, 0, 4, 0x61, 0x64, 0x64, 0, 0, 0, 0, 1, 0, 0, 0, 0x0d, 0, 0, 0, 0x18, 0,
     0, 0, 0, 0, 0, 0, 2, 0x41, 0, 0, 0, 0, 0, 0, 1, 0, 0, 0, 0, 0, 0, 0, 0x64, 0, 0, 0, 0, 0, 0, 0,
+    7,
+];
+
+/// The same of a client whose id has 32 octets.
+const CLIENT_REQUEST: [u8; 116] = [
+    0x47, 0x49, 0x4f, 0x50, 1, 2, 0, 0, 0, 0, 0, 0x68, 0, 0, 0, 5, 3, 0, 0, 0, 0, 0, 0, 0, 0, 0, 0,
+    1, 0x63, 0, 0, 0, 0, 0, 0, 4, 0x61, 0x64, 0x64, 0, 0, 0, 0, 1, 0, 0, 0, 0x0d, 0, 0, 0, 0x38, 0,
+    0, 0, 0, 0, 0, 0, 0x21, 0x40, 0x40, 0x40, 0x40, 0x40, 0x40, 0x40, 0x40, 0x2d, 0x63, 0x6c, 0x69,
+    0x65, 0x6e, 0x74, 0x2d, 0x6f, 0x66, 0x2d, 0x74, 0x68, 0x65, 0x2d, 0x62, 0x65, 0x6e, 0x63, 0x68,
+    0x6d, 0x61, 0x72, 0x6b, 0, 0, 0, 0, 0, 0, 0, 1, 0, 0, 0, 0, 0, 0, 0, 0x64, 0, 0, 0, 0, 0, 0, 0,
     7,
 ];
 
@@ -1574,18 +1759,30 @@ fn main() {
         return;
     }
     if words[0] == "serve" {
-        let (count, piece): (usize, usize) = (words[1].parse().unwrap(), words[2].parse().unwrap());
+        let (count, piece): (u32, usize) = (words[1].parse().unwrap(), words[2].parse().unwrap());
         match words[3].as_str() {
-            kind @ ("rising" | "scattered") => {
-                serve_keyed(kind == "scattered", count as u64, piece > 0, words[4].parse().unwrap());
+            kind @ ("add" | "repeat" | "locate") => serve(kind, count as usize, piece),
+            kind => {
+                let entries = words[4].parse().unwrap();
+                let share = words.get(5).map_or(entries as usize, |word| word.parse().unwrap());
+                serve_keyed(kind, count, piece > 0, entries, share);
             }
-            kind => serve(kind, count, piece),
         }
+        return;
+    }
+    if words[0] == "script" {
+        let (capacity, share): (usize, usize) = (words[1].parse().unwrap(), words[2].parse().unwrap());
+        let limits = Limits { message: words[4].parse().unwrap(), partials: words[5].parse().unwrap() };
+        let mut server = Server::new(Counter::new(words[3].parse().unwrap()), limits, capacity, share);
+        for event in &words[6..] {
+            play(&mut server, event);
+        }
+        println!("total {}", server.desk.servant.total);
         return;
     }
     if words[0] == "log" {
         let is_one_client = words.get(5).is_some_and(|word| word == "one");
-        keep_each(words[1].parse().unwrap(), words[2].parse().unwrap(), &words[4], is_one_client);
+        keep_each(words[1].parse().unwrap(), words[2].parse().unwrap(), words[3].parse().unwrap(), &words[4], is_one_client);
         return;
     }
     let count: usize = words[0].parse().unwrap();
