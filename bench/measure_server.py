@@ -1,83 +1,155 @@
 #!/usr/bin/env python3
-"""Times a server of one counter against a plain one in Rust, on the same stream in one run.
+"""Compares a server of one counter with a plain one in Rust, and times both, on the same streams in one run.
 
 usage: measure_server.py OURS PLAIN [--rounds 5] [--count 1000000] [--no-instructions]
 
-OURS is the program of crates/benches, PLAIN that of bench/plain.rs. The stream has COUNT messages of a
-kind: `add` is a Request of 52 octets without FT_REQUEST that is performed, `repeat` one of 84 octets of
-which all but the first repeat the first, `locate` a LocateRequest of 25 octets. Each time is user
-time, the best of so many rounds, in which the programs take turns. The time of making the stream is left
-out: it is that of the same program with pieces of 0 octets. Instructions are those that callgrind counts for
-a message. Both programs have to print the same.
+OURS is the program of crates/benches, PLAIN that of bench/plain.rs. First both play the streams of compare_server.py.
 
-Of `rising` and `scattered` each Request of 84 octets has a key of its own and is a piece of its own. The server
-keeps so many outcomes, its log is full, and one outcome expires with each message, in the order in which they
-were kept, or in another. Their memory is the most that is resident, less that of the same program where it only
-makes the messages.
+The streams that are timed have COUNT messages of a kind: `add` is a Request of 52 octets without FT_REQUEST that is
+performed, `repeat` one of 84 octets of which all but the first repeat the first, `locate` a LocateRequest of 25 octets. Each
+time is user time, the best of so many rounds, in which the programs take turns. The time of making the stream is left
+out: it is that of the same program with pieces of 0 octets. Instructions are those that callgrind counts for a message.
+
+Of the other kinds each Request has a key of its own and is a piece of its own. Of `rising` and `scattered` it has 84 octets,
+and all are one client's; of `clients` and `together` it has 116, and each is of a client of its own, whose id has 32. The
+server keeps so many outcomes, so many of each client: where that is fewer, it counts clients. Its log is full, and one
+outcome expires with each message, in the order in which they were kept, or in another (`scattered`), or all of them with
+one message (`together`), whose time is taken by itself. Memory is the most that is resident, less that of the same program
+where it only makes the messages; of 1,024 outcomes it is too little to be told.
+
+The status is 1 where the servers write other octets or end with another total; where a server doesn't answer each message,
+or has another total than that of what it performed; where a figure can't be; and where 1,000,000 requests of as many
+clients leave more memory in use than 5,000 do, in a server that keeps 1,024 outcomes.
 """
 import argparse
 import re
-import subprocess
 import sys
-import time
 
-from measure import instructions, run
+from compare_server import compare
+from measure import figure, instructions, peak, run
 
+# the octets of a message
+MESSAGES = {"add": 52, "repeat": 84, "locate": 25, "rising": 84, "scattered": 84, "clients": 116, "together": 116}
 KINDS = ["add", "repeat", "locate"]
 SIZES = [1, 84, 4096, 65536]
-KEYED = [(kind, entries) for kind in ["rising", "scattered"] for entries in [1024, 65536]]
+# the messages, how many outcomes are kept, and of each client
+LARGE = 65536
+KEYED = [(kind, entries, entries) for kind in ("rising", "scattered") for entries in (1024, LARGE)]
+KEYED += [("clients", entries, entries - less) for entries in (1024, LARGE) for less in (0, 1)]
+# messages whose instructions are counted
+MORE = 10_000
+# what the most memory of two runs of one program may differ by, in octets
+APART = 1_000_000
 
 
-def table(title, cost):
-    """Prints what a message costs by both, and the ratio."""
-    print(title)
-    print(f"{'kind':>7} {'piece':>6} {'ours':>8} {'plain':>8} {'ratio':>6}")
+def words_of(engine, count, size, kind, *kept):
+    """The words of a program."""
+    return engine + [str(count), str(size), kind, *map(str, kept)]
+
+
+def due(count, size, kind):
+    """The octets that are written for messages of a kind, or that these have, and the total after them."""
+    if size == 0:
+        return count * MESSAGES[kind], 0
+    if kind == "locate":
+        return count * 20, 0
+    return count * 32, 7 if kind == "repeat" else 7 * count
+
+
+def answered(text, count, size, kind):
+    """What a program printed, if it is what is due: a checksum, and the nanoseconds of the last message, if it says them."""
+    found = re.fullmatch(rb"octets (\d+) sum (\d+) total (\d+)(?: last (\d+))?\n", text)
+    if not found or (int(found[1]), int(found[3])) != due(count, size, kind):
+        sys.exit(f"{count} messages of {kind} in pieces of {size}: {text.decode().strip()!r}, not {due(count, size, kind)}")
+    return int(found[2]), int(found[4] or 0)
+
+
+class Timed:
+    """The least user time of each program by its words, and the least time of its last message."""
+
+    def __init__(self, engines):
+        self.engines, self.best, self.last, self.sums = engines, {}, {}, {}
+
+    def take(self, *row):
+        """Runs each program once."""
+        for name, engine in self.engines.items():
+            took, text, _ = run(words_of(engine, *row))
+            sum_, last = answered(text, *row[:3])
+            if self.sums.setdefault(row, sum_) != sum_:
+                sys.exit(f"{name}, {row}: the checksum is {sum_}, not {self.sums[row]}")
+            self.best[name, row] = min(self.best.get((name, row), took), took)
+            self.last[name, row] = min(self.last.get((name, row), last), last)
+
+    def net(self, count, size, *others):
+        """The times without that of making the messages."""
+        return {name: self.best[name, (count, size, *others)] - self.best[name, (count, 0, *others)] for name in self.engines}
+
+
+def pair(title, cost, form):
+    """What both cost, and the ratio."""
+    ours, plain = figure(f"{title}, ours", cost["ours"]), figure(f"{title}, plain", cost["plain"])
+    return f"{ours:{form}} {plain:{form}} {ours / plain:5.2f}"
+
+
+def counted(engines, *row):
+    """The instructions of each program."""
+    return {name: instructions(words_of(engine, *row)) for name, engine in engines.items()}
+
+
+def net(after, before, count):
+    """What each program takes more, for one of so many."""
+    return {name: (number - before[name]) / count for name, number in after.items()}
+
+
+def streams(engines, timed, given):
+    """Prints what a message costs in a stream of one kind."""
+    print(f"{'kind':>7} {'piece':>6}   seconds of {given.count}, ours, plain, ratio; instructions a message, ours, plain, ratio")
     for kind in KINDS:
+        made = None if given.no_instructions else counted(engines, MORE, 0, kind)
         for size in SIZES:
-            ours, plain = cost["ours", kind, size], cost["plain", kind, size]
-            print(f"{kind:>7} {size:>6} {ours:8.4g} {plain:8.4g} {ours / plain:6.2f}")
+            title = f"{kind:>7} {size:>6}"
+            line = pair(title, timed.net(given.count, size, kind), "7.3f")
+            if made:
+                line += "   " + pair(title, net(counted(engines, MORE, size, kind), made, MORE), "8.0f")
+            print(f"{title}   {line}", flush=True)
 
 
-def peak(words):
-    """The most memory that is resident in a run, as the system counts it while the program runs."""
-    most = 0
-    with subprocess.Popen(words, stdout=subprocess.DEVNULL) as program:
-        while program.poll() is None:
-            try:
-                with open(f"/proc/{program.pid}/status", encoding="ascii") as lines:
-                    found = re.search(r"VmHWM:\s+(\d+) kB", lines.read())
-            except OSError:
-                found = None
-            most = max(most, int(found[1]) * 1024 if found else 0)
-            time.sleep(0.0005)
-    return most
-
-
-def keyed(engines, given):
-    """Prints what a message with a key of its own costs."""
-    def words(name, kind, entries, count, size):
-        return engines[name] + [str(count), str(size), kind, str(entries)]
-
-    best, printed = {}, {}
-    for _ in range(given.rounds):
-        for row in KEYED:
-            for size in [0, 84]:
-                for name in engines:
-                    took, text, _ = run(words(name, *row, given.count, size))
-                    best[name, row, size] = min(best.get((name, row, size), took), took)
-                    if printed.setdefault((row, size), text) != text:
-                        sys.exit(f"{name}, {row} printed {text!r}, not {printed[row, size]!r}")
-    print("a key of its own: seconds ours, plain, ratio; instructions ours, plain, ratio; megabytes ours, plain")
-    for row in KEYED:
-        took = {name: best[name, row, 84] - best[name, row, 0] for name in engines}
-        held = {name: peak(words(name, *row, given.count, 84)) - peak(words(name, *row, given.count, 0)) for name in engines}
-        line = f"{row[0]:>9} {row[1]:>6} {took['ours']:7.3f} {took['plain']:7.3f} {took['ours'] / took['plain']:5.2f}"
+def keyed(engines, timed, given):
+    """Prints what a message with a key of its own costs, and what a large log takes."""
+    print(f"{'kind':>9} {'kept':>6} {'share':>6}   seconds of {given.count}; instructions a message; megabytes")
+    for kind, *kept in KEYED:
+        title = f"{kind:>9} {kept[0]:>6} {kept[1]:>6}"
+        line = pair(title, timed.net(given.count, 84, kind, *kept), "7.3f")
         if not given.no_instructions:
-            count = 10_000
-            counted = {name: [instructions(words(name, *row, row[1] + more, 84)) for more in [0, count]] for name in engines}
-            each = {name: (after - before) / count for name, (before, after) in counted.items()}
-            line += f" {each['ours']:8.0f} {each['plain']:8.0f} {each['ours'] / each['plain']:5.2f}"
-        print(f"{line} {held['ours'] / 1e6:6.1f} {held['plain'] / 1e6:6.1f}")
+            full, more = (counted(engines, kept[0] + count, 84, kind, *kept) for count in (0, MORE))
+            line += "   " + pair(title, net(more, full, MORE), "8.0f")
+        if kept[0] == LARGE:
+            made, fed = ({name: peak(words_of(engine, 2 * LARGE, size, kind, *kept)) for name, engine in engines.items()} for size in (0, 84))
+            line += "   " + pair(title, net(fed, made, 1e6), "6.2f")
+        print(f"{title}   {line}", flush=True)
+
+
+def all_at_once(engines, timed, given):
+    """Prints what one message costs with which all outcomes expire, beside all messages."""
+    row = (LARGE + 1, 84, "together", LARGE)
+    title = f"{LARGE:,} outcomes expire at one moment"
+    print(f"{title}: milliseconds ours, plain, ratio")
+    print(f"    the one message   {pair(title, {name: timed.last[name, row] / 1e6 for name in engines}, '8.2f')}")
+    print(f"    all {LARGE + 1:,}        {pair(title, {name: timed.best[name, row] * 1e3 for name in engines}, '8.2f')}")
+    if not given.no_instructions:
+        full, more = (counted(engines, count, *row[1:]) for count in (LARGE, LARGE + 1))
+        print(f"    instructions for each outcome   {pair(title, net(more, full, LARGE), '8.0f')}", flush=True)
+
+
+def memory(engines):
+    """Ends with status 1 where memory grows with the number of requests."""
+    for name, engine in engines.items():
+        for share in (1024, 1023):
+            few, many = (figure("memory", peak(words_of(engine, count, 84, "clients", 1024, share))) for count in (5000, 1_000_000))
+            print(f"{name}, 1,024 kept, {share:,} of each client: 1,000,000 requests of as many clients leave {many - few:,} octets "
+                  f"in use beyond 5,000")
+            if many - few > APART:
+                sys.exit("memory is not flat")
 
 
 def main():
@@ -88,28 +160,21 @@ def main():
     parser.add_argument("--count", type=int, default=1_000_000)
     parser.add_argument("--no-instructions", action="store_true")
     given = parser.parse_args()
+    compare(given.ours, given.plain)
     engines = {"ours": [given.ours, "server"], "plain": [given.plain, "serve"]}
-
-    def words(name, kind, count, size):
-        return engines[name] + [str(count), str(size), kind]
-
-    best, printed = {}, {}
+    memory(engines)
+    timed = Timed(engines)
     for _ in range(given.rounds):
         for kind in KINDS:
-            for size in [0] + SIZES:
-                for name in engines:
-                    time, text, _ = run(words(name, kind, given.count, size))
-                    best[name, kind, size] = min(best.get((name, kind, size), time), time)
-                    if printed.setdefault((kind, size), text) != text:
-                        sys.exit(f"{name}, {kind} in pieces of {size} printed {text!r}, not {printed[kind, size]!r}")
-    rows = [(name, kind, size) for name in engines for kind in KINDS for size in SIZES]
-    table(f"{given.count} messages, seconds, best of {given.rounds}", {row: best[row] - best[row[0], row[1], 0] for row in rows})
-    keyed(engines, given)
-    if given.no_instructions:
-        return
-    count = 10_000
-    counted = {(name, kind, size): instructions(words(name, kind, count, size)) for name in engines for kind in KINDS for size in [0] + SIZES}
-    table("instructions a message", {row: (counted[row] - counted[row[0], row[1], 0]) / count for row in rows})
+            for size in [0, *SIZES]:
+                timed.take(given.count, size, kind)
+        for kind, *kept in KEYED:
+            for size in (0, 84):
+                timed.take(given.count, size, kind, *kept)
+        timed.take(LARGE + 1, 84, "together", LARGE)
+    streams(engines, timed, given)
+    keyed(engines, timed, given)
+    all_at_once(engines, timed, given)
 
 
 main()

@@ -1,15 +1,13 @@
 //! A log that keeps outcomes, and nothing else.
 //!
 //! The words are how many outcomes are kept one after the other, how many the log may keep, a power of two from 1,024 to
-//! 65,536, how many outcomes each client may have (as many as the log: clients are not counted), and of what kind they are.
-//! Of `rising` and `scattered` each outcome comes one moment after the one before it, and one expires with each once the log
-//! is full, in the order in which they were kept, or in another. Of `together` all expire at one moment, at which the log is
-//! full, and are forgotten by one call. Each outcome is of a client of its own, whose id has 32 octets, or, with the word `one`
-//! after the kind, all are one client's. What it gives is how many calls found an outcome, and a checksum of how many were
-//! kept after each.
+//! 65,536, how many outcomes each client may have (as many as the log: clients are not counted), and how they expire
+//! (`expiry`): those that expire together are forgotten by one call. Each outcome is of a client of its own, whose id has 32
+//! octets, or, with the word `one` after the kind, all are one client's. What it gives is how many calls found an outcome, and
+//! a checksum of how many were kept after each.
 
+use crate::expiry::{Expiry, moments};
 use crate::report::{Report, mixed};
-use crate::server::{FIRST, expiration};
 use crate::stop::Stop;
 use crate::words::number;
 use cdr_core::Val;
@@ -22,14 +20,6 @@ const USAGE: &str = "usage: benches log COUNT ENTRIES SHARE rising|scattered|tog
 
 /// The octets of a client's id: its number in the first eight.
 const CLIENT: [u8; 32] = *b"........-client-of-the-benchmark";
-
-/// In which order outcomes expire.
-#[derive(Clone, Copy)]
-enum Expiry {
-    Rising,
-    Scattered,
-    Together,
-}
 
 /// What the words ask for.
 #[derive(Clone, Copy)]
@@ -80,20 +70,6 @@ fn task_of(words: &[&str]) -> Option<Task> {
     }
 }
 
-/// The moment at which an outcome comes, and the last one at which it is kept.
-fn moments(task: Task, index: u32) -> (u64, u64) {
-    let entries = u64::from(task.entries);
-    let now = FIRST.wrapping_add(u64::from(index));
-    match task.expiry {
-        Expiry::Rising => (now, expiration(u64::from(index), entries, false)),
-        Expiry::Scattered => (now, expiration(u64::from(index), entries, true)),
-        Expiry::Together => {
-            let round = u64::from(index).wrapping_sub(u64::from(index) & entries.wrapping_sub(1));
-            (FIRST.wrapping_add(round), FIRST.wrapping_add(round))
-        }
-    }
-}
-
 /// A key of its own.
 fn key_of(alloc: Global, task: Task, index: u32) -> Result<Key, AllocError> {
     let mut client = CLIENT;
@@ -112,7 +88,7 @@ fn outcome_of(alloc: Global, index: u32) -> Result<Outcome, AllocError> {
 
 /// Keeps an outcome under a key, if none is kept there, once what expired is forgotten. Whether one was.
 fn keep(alloc: Global, log: &mut Log, task: Task, index: u32) -> Result<bool, LogError> {
-    let (now, until) = moments(task, index);
+    let (now, until) = moments(task.expiry, task.entries, index);
     if log.next_expiry().is_some_and(|least| least < now) {
         log.forget(now);
     }

@@ -1,14 +1,17 @@
 //! The program `benches`: does a kind of work again and again, to be timed, and prints a line.
 //!
-//! The first word is `frames`, `values`, `server`, `engine` or `log`, and the modules of these names say what the others are
-//! (of `engine` that of `server`, of `log` `keeping`). The word `all` does each of the five once, on a small input. Where the words are wrong the program says in a line
-//! on standard error how they go, and ends with status 2.
+//! The first word is `frames`, `values`, `server`, `engine`, `log` or `script`, and the modules of these names say what the
+//! others are (of `engine` that of `server`, of `log` `keeping`). The word `all` does each of the first five once, on a small
+//! input, and a script. Where the words are wrong the program says in a line on standard error how they go, and ends with
+//! status 2.
 #![tactic(auto)]
 
+mod expiry;
 mod frames;
 mod keeping;
 mod messages;
 mod report;
+mod script;
 mod server;
 mod serving;
 mod stop;
@@ -23,15 +26,27 @@ use stop::Stop;
 use words::texts_of;
 
 /// How the words go.
-const USAGE: &str = "usage: benches frames|values|server|engine|log WORD.. | all";
+const USAGE: &str = "usage: benches frames|values|server|engine|log|script WORD.. | all";
 
 /// What `all` does.
-const ALL: [(&str, &[&str]); 5] = [
+const ALL: [(&str, &[&str]); 6] = [
     ("frames", &["10000", "84"]),
     ("values", &["read", "structs", "1"]),
     ("server", &["1000", "4096", "add"]),
     ("engine", &["1000", "4096", "add"]),
     ("log", &["2000", "1024", "1024", "rising"]),
+    (
+        "script",
+        &[
+            "1",
+            "1",
+            "7",
+            "4096",
+            "1",
+            "open 1",
+            "bytes 1 50 47494f50010200000000002800000005030000000000000000000001630000000000000461646400000000000000000000000007",
+        ],
+    ),
 ];
 
 /// Does the work of a name that the words ask for.
@@ -39,8 +54,8 @@ fn work(rt: &HostRuntime, name: &str, words: &[&str]) -> Result<Report, Stop> {
     match name {
         "frames" => frames::run(rt.alloc(), words),
         "values" => values::run(rt.alloc(), words),
-        "server" => server::run(rt.alloc(), RandomState::new(rt)?, words),
-        "engine" => server::run_owned(rt.alloc(), RandomState::new(rt)?, words),
+        "server" => server::run(rt, RandomState::new(rt)?, words),
+        "engine" => server::run_owned(rt, RandomState::new(rt)?, words),
         "log" => keeping::run(rt.alloc(), RandomState::new(rt)?, words),
         _ => Err(Stop::Words(USAGE)),
     }
@@ -48,6 +63,9 @@ fn work(rt: &HostRuntime, name: &str, words: &[&str]) -> Result<Report, Stop> {
 
 /// Does the work of a name, and prints what it gave.
 fn print_work(rt: &HostRuntime, name: &str, words: &[&str]) -> Result<(), Stop> {
+    if name == "script" {
+        return script::run(rt, RandomState::new(rt)?, words);
+    }
     work(rt, name, words)?.print(rt)?;
     Ok(())
 }

@@ -11,13 +11,32 @@ pub(crate) fn mixed(sum: u64, number: u64) -> u64 {
 #[derive(Clone, Copy)]
 pub(crate) enum Report {
     /// A stream of so many octets was made, and nothing else.
-    Stream { octets: usize },
+    Stream {
+        octets: usize,
+    },
     /// So many messages or references were read.
-    Messages { count: u64, sum: u64 },
+    Messages {
+        count: u64,
+        sum: u64,
+    },
     /// A value of so many octets was read or written.
-    Value { octets: usize, sum: u64 },
+    Value {
+        octets: usize,
+        sum: u64,
+    },
     /// A server wrote so many octets, and its counter has that total.
-    Answers { octets: u64, sum: u64, total: i64 },
+    Answers {
+        octets: u64,
+        sum: u64,
+        total: i64,
+    },
+    /// The same, and how many nanoseconds the last message took.
+    Timed {
+        octets: u64,
+        sum: u64,
+        total: i64,
+        last: u128,
+    },
 }
 
 impl Report {
@@ -30,6 +49,12 @@ impl Report {
             Report::Answers { octets, sum, total } => {
                 println!(rt; "octets {octets} sum {sum} total {total}")
             }
+            Report::Timed {
+                octets,
+                sum,
+                total,
+                last,
+            } => println!(rt; "octets {octets} sum {sum} total {total} last {last}"),
         }
     }
 }

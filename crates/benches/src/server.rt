@@ -4,12 +4,14 @@
 //! are: `add` without FT_REQUEST (the one where no word is), `repeat` with one key, or `locate`. What it gives is
 //! how many octets were written, a checksum of them, and the total. With pieces of 0 octets it only makes the stream.
 //!
-//! Of the kinds `rising` and `scattered` each message has a key of its own, is a piece of its own, and comes one
-//! moment after the message before it. The fourth word is how many outcomes the server keeps, a power of two from
-//! 1,024 (the one where no word is) to 65,536: the log is full, and one outcome expires with each message, in the
-//! order in which they were kept, or in another.
+//! Of the other kinds each message has a key of its own and is a piece of its own. The fourth word is how many outcomes
+//! the server keeps, a power of two from 1,024 (the one where no word is) to 65,536, and the fifth how many of each client
+//! (as many where no word is: clients are not counted). They expire as `expiry` says. Of `rising` and `scattered` all
+//! messages are one client's, of `clients` and `together` each is of a client of its own, whose id has 32 octets, and
+//! `clients` expire as `rising` do. Of `together` it also gives how many nanoseconds the last message took.
 
-use crate::messages::{ADD, LOCATE, REQUEST};
+use crate::expiry::{Expiry, moments};
+use crate::messages::{ADD, CLIENT_REQUEST, LOCATE, REQUEST};
 use crate::report::{Report, mixed};
 use crate::serving::{Owned, Serving};
 use crate::stop::Stop;
@@ -19,18 +21,45 @@ use ft_orb::{Engine, Server};
 use giop_frames::Limits;
 use std::alloc::{AllocError, Global};
 use std::hash::RandomState;
+use std::ops::Range;
+use std::time::Instant;
 
 /// How the words go.
 const USAGE: &str =
-    "usage: benches server|engine COUNT PIECE [add|repeat|locate|rising|scattered [ENTRIES]]";
+    "usage: benches server|engine COUNT PIECE [add|repeat|locate|rising|scattered|clients|together [ENTRIES [SHARE]]]";
 
 /// A kind of messages.
 #[derive(Clone, Copy)]
 enum Kind {
     /// The same message again and again.
     Same(&'static [u8]),
-    /// Requests with a key of their own, whose outcomes expire in the order in which they were kept, or in another.
-    Keyed { is_scattered: bool },
+    /// Requests with a key of their own.
+    Keyed(Keys),
+    /// The same, the last of them by a clock.
+    Timed(Keys),
+}
+
+/// Of requests with a key of their own: how their outcomes expire, and whether all are one client's.
+#[derive(Clone, Copy)]
+struct Keys {
+    expiry: Expiry,
+    is_one_client: bool,
+}
+
+/// The keys of one client.
+fn of_one(expiry: Expiry) -> Keys {
+    Keys {
+        expiry,
+        is_one_client: true,
+    }
+}
+
+/// Keys each of a client of its own.
+fn of_each(expiry: Expiry) -> Keys {
+    Keys {
+        expiry,
+        is_one_client: false,
+    }
 }
 
 impl Kind {
@@ -39,10 +68,10 @@ impl Kind {
             "add" => Some(Kind::Same(&ADD)),
             "repeat" => Some(Kind::Same(&REQUEST)),
             "locate" => Some(Kind::Same(&LOCATE)),
-            "rising" => Some(Kind::Keyed {
-                is_scattered: false,
-            }),
-            "scattered" => Some(Kind::Keyed { is_scattered: true }),
+            "rising" => Some(Kind::Keyed(of_one(Expiry::Rising))),
+            "scattered" => Some(Kind::Keyed(of_one(Expiry::Scattered))),
+            "clients" => Some(Kind::Keyed(of_each(Expiry::Rising))),
+            "together" => Some(Kind::Timed(of_each(Expiry::Together))),
             _ => None,
         }
     }
@@ -64,24 +93,8 @@ fn added(tally: Tally, written: &[u8]) -> Tally {
     }
 }
 
-/// The moment of the first message with a key of its own.
-pub(crate) const FIRST: u64 = 1000;
-
-/// The last moment at which the outcome of a message is kept, where the server keeps `entries` of them: one expires
-/// with each message that comes after the first `entries`.
-pub(crate) fn expiration(index: u64, entries: u64, is_scattered: bool) -> u64 {
-    let mask = entries.wrapping_sub(1);
-    let place = index & mask;
-    let turn = if is_scattered {
-        place.wrapping_mul(40_503).wrapping_add(97) & mask
-    } else {
-        place
-    };
-    (FIRST - 1)
-        .wrapping_add(index.wrapping_sub(place))
-        .wrapping_add(entries)
-        .wrapping_add(turn)
-}
+/// What a server gave before anything was written.
+const NOTHING: Tally = Tally { octets: 0, sum: 0 };
 
 /// Puts a key of its own and its expiration into a Request.
 fn put_key(message: &mut [u8; 84], index: u32, expiration: u64) {
@@ -89,31 +102,45 @@ fn put_key(message: &mut [u8; 84], index: u32, expiration: u64) {
     message[68..76].copy_from_slice(&expiration.to_be_bytes());
 }
 
-/// Feeds `count` messages, each with a key of its own, on connection 1; or only makes them.
+/// Puts a client of its own, a number and its expiration into a Request. The client's id begins with eight letters, one for
+/// each half of an octet of the number.
+fn put_client(message: &mut [u8; 116], index: u32, expiration: u64) {
+    let high = (index >> 4) & 0x0f0f_0f0f | 0x4040_4040;
+    let low = index & 0x0f0f_0f0f | 0x4040_4040;
+    message[60..64].copy_from_slice(&high.to_be_bytes());
+    message[64..68].copy_from_slice(&low.to_be_bytes());
+    message[96..100].copy_from_slice(&index.wrapping_add(1).to_be_bytes());
+    message[100..108].copy_from_slice(&expiration.to_be_bytes());
+}
+
+/// Feeds the messages of these numbers, each with a key of its own, on connection 1; or only makes them.
 fn drive_keyed<S: Serving>(
     alloc: Global,
     server: &mut S,
-    count: u32,
-    entries: u64,
-    is_scattered: bool,
-    feeds: bool,
+    numbers: Range<u32>,
+    task: Task,
+    keys: Keys,
+    before: Tally,
 ) -> Option<Tally> {
-    let mut tally = Tally { octets: 0, sum: 0 };
+    let mut tally = before;
     let mut out = Vec::new(alloc);
-    let mut message = REQUEST;
-    for index in 0..count {
-        let moment = FIRST.wrapping_add(u64::from(index));
-        put_key(
-            &mut message,
-            index,
-            expiration(u64::from(index), entries, is_scattered),
-        );
-        if feeds {
+    let mut usual = REQUEST;
+    let mut long = CLIENT_REQUEST;
+    for index in numbers {
+        let (moment, until) = moments(keys.expiry, task.entries, index);
+        let message: &[u8] = if keys.is_one_client {
+            put_key(&mut usual, index, until);
+            &usual
+        } else {
+            put_client(&mut long, index, until);
+            &long
+        };
+        if task.size > 0 {
             out.clear();
-            server.feed(moment, &message, &mut out)?;
+            server.feed(moment, message, &mut out)?;
             tally = added(tally, &out);
         } else {
-            tally = added(tally, &message);
+            tally = added(tally, message);
         }
     }
     Some(tally)
@@ -130,7 +157,7 @@ fn stream_of(alloc: Global, count: u32, message: &[u8]) -> Result<Vec<u8>, Alloc
 
 /// Feeds a stream in pieces of `size` octets, on connection 1 at the moment 50.
 fn drive<S: Serving>(alloc: Global, server: &mut S, stream: &[u8], size: usize) -> Option<Tally> {
-    let mut tally = Tally { octets: 0, sum: 0 };
+    let mut tally = NOTHING;
     let mut out = Vec::new(alloc);
     let mut left = stream;
     for _ in 0..u64::MAX {
@@ -171,6 +198,7 @@ struct Task {
     size: u32,
     kind: Kind,
     entries: u32,
+    share: u32,
 }
 
 /// How many outcomes the server keeps, as a word says.
@@ -181,55 +209,60 @@ fn entries_of(word: &str) -> Option<u32> {
 }
 
 /// A task, each part of it from its word.
-fn task_from(count: &str, size: &str, kind: &str, entries: &str) -> Option<Task> {
+fn task_from(count: &str, size: &str, kind: &str, entries: &str, share: &str) -> Option<Task> {
     Some(Task {
         count: number(count)?,
         size: number(size)?,
         kind: Kind::named(kind)?,
         entries: entries_of(entries)?,
+        share: number(share)?,
     })
 }
 
 /// The task that the words are.
 fn task_of(words: &[&str]) -> Option<Task> {
     match *words {
-        [count, size] => task_from(count, size, "add", "1024"),
-        [count, size, kind] => task_from(count, size, kind, "1024"),
-        [count, size, kind, entries] => task_from(count, size, kind, entries),
+        [count, size] => task_from(count, size, "add", "1024", "1024"),
+        [count, size, kind] => task_from(count, size, kind, "1024", "1024"),
+        [count, size, kind, entries] => task_from(count, size, kind, entries, entries),
+        [count, size, kind, entries, share] => task_from(count, size, kind, entries, share),
         _ => None,
     }
 }
 
+/// Feeds messages with a key of their own, the last of them by a clock.
+fn work_timed<S: Serving>(
+    rt: &HostRuntime,
+    server: &mut S,
+    task: Task,
+    keys: Keys,
+) -> Result<Report, Stop> {
+    let alloc = rt.alloc();
+    let last = task.count.saturating_sub(1);
+    let before = drive_keyed(alloc, server, 0..last, task, keys, NOTHING).ok_or(Stop::Memory)?;
+    let start = Instant::now(rt)?;
+    let tally = drive_keyed(alloc, server, last..task.count, task, keys, before).ok_or(
+        Stop::Memory,
+    )?;
+    let took = start.elapsed(rt)?;
+    Ok(Report::Timed {
+        octets: tally.octets,
+        sum: tally.sum,
+        total: server.total(),
+        last: took.as_nanos(),
+    })
+}
+
 /// Feeds the messages of a task.
-fn work<S: Serving>(alloc: Global, server: &mut S, task: Task) -> Result<Tally, Stop> {
-    let Task {
-        count,
-        size,
-        kind,
-        entries,
-    } = task;
-    match kind {
-        Kind::Same(message) => drive_same(alloc, server, count, size, message),
-        Kind::Keyed { is_scattered } => {
-            let entries = u64::from(entries);
-            drive_keyed(alloc, server, count, entries, is_scattered, size > 0).ok_or(Stop::Memory)
+fn work<S: Serving>(rt: &HostRuntime, server: &mut S, task: Task) -> Result<Report, Stop> {
+    let alloc = rt.alloc();
+    let tally = match task.kind {
+        Kind::Same(message) => drive_same(alloc, server, task.count, task.size, message)?,
+        Kind::Keyed(keys) => {
+            drive_keyed(alloc, server, 0..task.count, task, keys, NOTHING).ok_or(Stop::Memory)?
         }
-    }
-}
-
-/// A server of a counter from 0 that keeps `entries` outcomes, and whose connection 1 is open.
-fn new_server(alloc: Global, hasher: RandomState, entries: u32) -> Result<Server<Counter>, Stop> {
-    let counter = Counter::new(alloc, 0)?;
-    let mut server = Server::new(alloc, counter, Limits::default(), entries, entries, hasher);
-    match server.connect(1) {
-        Ok(()) => Ok(server),
-        Err(_) => Err(Stop::Memory),
-    }
-}
-
-/// What a task gives on a server.
-fn report<S: Serving>(alloc: Global, server: &mut S, task: Task) -> Result<Report, Stop> {
-    let tally = work(alloc, server, task)?;
+        Kind::Timed(keys) => return work_timed(rt, server, task, keys),
+    };
     Ok(Report::Answers {
         octets: tally.octets,
         sum: tally.sum,
@@ -237,15 +270,32 @@ fn report<S: Serving>(alloc: Global, server: &mut S, task: Task) -> Result<Repor
     })
 }
 
-/// An engine that keeps `entries` outcomes, whose connection 1 is open, and whose owner counts from 0.
-fn new_engine(alloc: Global, hasher: RandomState, entries: u32) -> Result<Owned, Stop> {
+/// A server of a counter from 0 that keeps so many outcomes, and whose connection 1 is open.
+fn new_server(alloc: Global, hasher: RandomState, task: Task) -> Result<Server<Counter>, Stop> {
+    let counter = Counter::new(alloc, 0)?;
+    let mut server = Server::new(
+        alloc,
+        counter,
+        Limits::default(),
+        task.entries,
+        task.share,
+        hasher,
+    );
+    match server.connect(1) {
+        Ok(()) => Ok(server),
+        Err(_) => Err(Stop::Memory),
+    }
+}
+
+/// An engine that keeps so many outcomes, whose connection 1 is open, and whose owner counts from 0.
+fn new_engine(alloc: Global, hasher: RandomState, task: Task) -> Result<Owned, Stop> {
     let catalogue = Counter::new(alloc, 0)?;
     let mut engine = Engine::new(
         alloc,
         catalogue,
         Limits::default(),
-        entries,
-        entries,
+        task.entries,
+        task.share,
         hasher,
     );
     match engine.connect(1) {
@@ -259,33 +309,33 @@ fn new_engine(alloc: Global, hasher: RandomState, entries: u32) -> Result<Owned,
 }
 
 /// What a task gives on a new server.
-fn serve(alloc: Global, hasher: RandomState, task: Task) -> Result<Report, Stop> {
-    let mut server = new_server(alloc, hasher, task.entries)?;
-    report(alloc, &mut server, task)
+fn serve(rt: &HostRuntime, hasher: RandomState, task: Task) -> Result<Report, Stop> {
+    let mut server = new_server(rt.alloc(), hasher, task)?;
+    work(rt, &mut server, task)
 }
 
 /// What a task gives on a new engine.
-fn own(alloc: Global, hasher: RandomState, task: Task) -> Result<Report, Stop> {
-    let mut owned = new_engine(alloc, hasher, task.entries)?;
-    report(alloc, &mut owned, task)
+fn own(rt: &HostRuntime, hasher: RandomState, task: Task) -> Result<Report, Stop> {
+    let mut owned = new_engine(rt.alloc(), hasher, task)?;
+    work(rt, &mut owned, task)
 }
 
 /// Does what the words ask for, on a server.
-pub(crate) fn run(alloc: Global, hasher: RandomState, words: &[&str]) -> Result<Report, Stop> {
+pub(crate) fn run(rt: &HostRuntime, hasher: RandomState, words: &[&str]) -> Result<Report, Stop> {
     match task_of(words) {
-        Some(task) => serve(alloc, hasher, task),
+        Some(task) => serve(rt, hasher, task),
         None => Err(Stop::Words(USAGE)),
     }
 }
 
 /// The same on an engine whose owner performs.
 pub(crate) fn run_owned(
-    alloc: Global,
+    rt: &HostRuntime,
     hasher: RandomState,
     words: &[&str],
 ) -> Result<Report, Stop> {
     match task_of(words) {
-        Some(task) => own(alloc, hasher, task),
+        Some(task) => own(rt, hasher, task),
         None => Err(Stop::Words(USAGE)),
     }
 }

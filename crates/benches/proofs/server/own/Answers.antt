@@ -1,4 +1,4 @@
 use Rattle.benches.proofs.server.own.Goals as goal
 
 pub invariant_of-owned-2 : goal.invariant_of-owned-2
-invariant_of-owned-2 c = record { ready = c.report.new.server.engine.ready }
+invariant_of-owned-2 c = record { ready = c.work.new.server.engine.ready }
