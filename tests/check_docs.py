@@ -341,10 +341,20 @@ def links():
             yield None if is_there else f"{name}: there is no {path}"
 
 
+def scripts():
+    """Each script that says how much passed is run by `./test`."""
+    run = text_of("test")
+    for folder in ("tests", "tests/embed"):
+        for name in os.listdir(os.path.join(ROOT, folder)):
+            script = f"{folder}/{name}"
+            if name.endswith(".py") and "'N passed, M failed'" in text_of(script) and script != "tests/pages.py":
+                yield None if script in run else f"test: {script} is not run"
+
+
 def main():
     passed = failed = 0
     parts = (edits, promises, calls, clauses, generated, quotes, headings, counts, landing)
-    for part in parts + (outputs, client, first_programs, crates, rooms, links):
+    for part in parts + (outputs, client, first_programs, crates, rooms, links, scripts):
         results = list(part())
         if not results:
             results = [f"nothing was checked of {part.__name__}"]
