@@ -34,10 +34,7 @@ fn terms_of(words: [&str; 5]) -> Option<Terms> {
         capacity: capacity.parse().ok()?,
         share: share.parse().ok()?,
         start: start.parse().ok()?,
-        limits: Limits {
-            message: message.parse().ok()?,
-            partials: partials.parse().ok()?,
-        },
+        limits: Limits::new(message.parse().ok()?, partials.parse().ok()?)?,
     })
 }
 
