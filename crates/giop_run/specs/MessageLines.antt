@@ -35,16 +35,12 @@ context_line context = concat (codes "  context " ∷ decimal context.0 ∷ code
 abbrev pub context_lines : List (ℕ × List ℕ) → List ℕ
 context_lines contexts = flat_map context_line contexts
 
--- what an FT_REQUEST context says
-abbrev pub ft_text : List ℕ → ℤ → ℕ → List ℕ
-ft_text client retention expiration = concat (codes "ft client " ∷ text_of client ∷ codes " retention " ∷ signed_decimal retention
-    ∷ codes " expiration " ∷ decimal expiration ∷ [])
-
 -- what the contexts say of a client, if they do
 abbrev pub ft_lines : Ft → List ℕ
 ft_lines absent = []
 ft_lines bad = codes "  ft bad\n"
-ft_lines (present client retention expiration) = concat (codes "  " ∷ ft_text client retention expiration ∷ codes "\n" ∷ [])
+ft_lines (present client retention expiration) = concat (codes "  ft client " ∷ text_of client ∷ codes " retention " ∷ signed_decimal retention
+    ∷ codes " expiration " ∷ decimal expiration ∷ codes "\n" ∷ [])
 
 abbrev pub request_line : ℕ → ReplyWish → Addressed → List ℕ → List ℕ → List ℕ
 request_line id asked target operation body = concat (codes "Request id " ∷ decimal id ∷ codes " reply " ∷ wish_text asked ∷ codes " " ∷ target_text target

@@ -53,23 +53,6 @@ fn put_contexts(alloc: Global, contexts: Contexts, text: &mut String) -> Result<
     Ok(())
 }
 
-/// Appends what an FT_REQUEST context says.
-pub(crate) fn put_ft_text(
-    alloc: Global,
-    client_id: &[u8],
-    retention_id: i32,
-    expiration: u64,
-    text: &mut String,
-) -> Result<(), AllocError>
-    ensures { OnOk result (string_bytes text.new ≡ string_bytes text.old ++ lines.ft_text client_id.now retention_id expiration) }
-{
-    let client = text_of(alloc, client_id)?;
-    write!(
-        text,
-        "ft client {client} retention {retention_id} expiration {expiration}"
-    )
-}
-
 /// Appends the line of an FT_REQUEST context, if there is one.
 fn put_ft(alloc: Global, field: FtField, text: &mut String) -> Result<(), AllocError>
     ensures { OnOk result (string_bytes text.new ≡ string_bytes text.old ++ lines.ft_lines (ft_seen field.entry)) }
@@ -82,9 +65,11 @@ fn put_ft(alloc: Global, field: FtField, text: &mut String) -> Result<(), AllocE
             retention_id,
             expiration,
         } => {
-            text.push_str("  ")?;
-            put_ft_text(alloc, client_id, retention_id, expiration, text)?;
-            text.push('\n')
+            let client = text_of(alloc, client_id)?;
+            write!(
+                text,
+                "  ft client {client} retention {retention_id} expiration {expiration}\n"
+            )
         }
     }
 }

@@ -2,7 +2,7 @@
 
 ghost use Rattle.std.specs.Prelude.{◌≡◌, ◌<◌, ◌≤◌, IfOk, length};
 
-use crate::messages::{put_ft_text, put_target};
+use crate::messages::put_target;
 use crate::text::text_of;
 use cdr_core::{Cursor, Val};
 use counter::Counter;
@@ -134,8 +134,11 @@ fn put_key(alloc: Global, request: &Request, line: &mut String) -> Result<(), Al
             retention_id,
             expiration,
         } => {
-            line.push(' ')?;
-            put_ft_text(alloc, client_id, retention_id, expiration, line)
+            let client = text_of(alloc, client_id)?;
+            write!(
+                line,
+                " ft client {client} retention {retention_id} expiration {expiration}"
+            )
         }
     }
 }
