@@ -145,10 +145,13 @@ fn show_input<F: Files, R: Read, W: Write, E: Write>(
         Err(stop) => return End::plain(Err(stop)),
     };
     let came = show(alloc, input.form, &octets, detail, streams.out);
-    End {
-        came,
-        hint: hint_of(&octets, input.form),
-    }
+    // (to look for one takes a pass over the octets)
+    let hint = match came {
+        Ok(true) => None,
+        _ if streams.is_read => hint_of(&octets, input.form),
+        _ => None,
+    };
+    End { came, hint }
 }
 
 /// What a server with these numbers keeps to, but where the share is bad.
