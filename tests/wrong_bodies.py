@@ -12,7 +12,7 @@ refused where the line of its own function says that goals of its own are not pr
 edit is tried alone; where its function is proved, the contract is too weak, and this fails.
 
 --turns tries those of crates whose sources or edits changed since the branch left origin's main (or since the last
-commit), then those of crates above one whose specs changed, and then one of eight groups, by the number of commits.
+commit), then those of crates above one whose specs changed, and then one of sixteen groups, by the number of commits.
 
 With --since SECONDS the libraries are those that the run of `rt ci` left that began then.
 
@@ -41,8 +41,8 @@ sys.path.insert(0, ROOT)
 from scripts.kit import are_of_run, load_kit
 
 # the processor time of --turns, in seconds
-BUDGET = 1200
-GROUPS = 8
+BUDGET = 600
+GROUPS = 16
 # the memory of a check, in bytes
 MEMORY = 3 << 30
 # the most edits of a round: beyond, each further one saves little
