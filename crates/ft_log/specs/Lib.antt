@@ -7,8 +7,9 @@
 --   Kept        kept outcomes: which is found for a key, and which are forgotten
 --   View        what a `Key`, an `Outcome` and an entry of the code stand for
 --   Logged      what a `Log` stands for, and how many slots it has
+-- Store         what shows of a `Log`, by its fields
 -- Laws          what the tests of keys say, and of repository ids
--- Names, Maps, Placed, Shelf, Dues, Without, Tied, Store      words for the fields of a `Log`; no public contract, definition or law uses them
+-- Names, Maps, Placed, Shelf, Dues, Without, Tied      words for the fields of a `Log`; no public contract, definition or law uses them
 pub mod Exceptions
 pub mod Statuses
 pub mod Performed

@@ -1,4 +1,5 @@
--- What shows of a log by its fields. No public contract, definition or law uses this word.
+-- What shows of a `Log`, by its fields. Contracts speak of it as `logged` and `slots_of` have it; that `slots` counts what
+-- the maps hold is said here alone.
 use Rattle.std.specs.Prelude.{◌+◌, option_map}
 use Rattle.indexmap.specs.IndexMap.{index_map_len}
 use Rattle.ft_log.specs.Logged.{Shown}
