@@ -92,6 +92,15 @@ impl<'a> Cursor<'a> {
         self.go_to(place, rest);
     }
 
+    /// Goes past so many of the octets that are left.
+    #[inline(always)]
+    pub fn skip(&mut self, count: usize)
+        requires { count ≤ length self.old.rest }
+        ensures { GoesTo self.old self.new (self.old.place + count) (drop count self.old.rest) }
+    {
+        self.go_to(self.place + count as u64, &self.rest[count..]);
+    }
+
     /// The order in which the octets of a number stand, the place of the next octet, and the octets that
     /// are left.
     #[inline(always)]

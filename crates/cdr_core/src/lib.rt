@@ -29,7 +29,7 @@ pub use fitting::fits;
 pub use measuring::{end_of, end_of_list};
 pub use order::Order;
 pub use parts::has_no_nul;
-pub use reading::{read, read_list};
+pub use reading::{read, read_list, read_list_into};
 pub use types::{Case, Ty};
 pub use validity::are_valid;
 pub use values::Val;

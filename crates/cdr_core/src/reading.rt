@@ -1,6 +1,6 @@
 //! Reading values of a type.
 
-ghost use Rattle.std.specs.Prelude.{◌≡◌, ◌<◌, ◌^◌, ◌++◌, ◌∷◌, [], List, ℕ, length, OnOk};
+ghost use Rattle.std.specs.Prelude.{◌≡◌, ◌<◌, ◌≤◌, ◌^◌, ◌++◌, ◌∷◌, [], List, ℕ, length, IfOk, OnOk, vec_capacity};
 ghost use Rattle.cdr_core.specs.Answering.{Answers, ListAnswers, ListReads, Reads};
 ghost use Rattle.cdr_core.specs.Cursor.{Gives};
 ghost use Rattle.cdr_core.specs.Fitting.{AreValid, IsValid};
@@ -71,7 +71,10 @@ fn value(alloc: Global, ty: &Ty, cursor: &mut Cursor) -> Result<Val, CdrError>
         Ty::Octets(bound) => octets(alloc, *bound, cursor),
         Ty::Seq(bound, member) => sequence(alloc, member, *bound, cursor),
         Ty::Array(count, member) => Ok(Val::Array(each(alloc, member, *count, cursor)?)),
-        Ty::Struct(members) => Ok(Val::Struct(each_of(alloc, members, cursor)?)),
+        Ty::Struct(members) => {
+            let members = each_of(alloc, members, Vec::new(alloc), cursor)?;
+            Ok(Val::Struct(members))
+        }
         Ty::Union(discriminator, _, _) => {
             let discriminator = value(alloc, discriminator, cursor)?;
             union(alloc, ty, discriminator, cursor)
@@ -117,7 +120,8 @@ fn each(alloc: Global, ty: &Ty, count: u32, cursor: &mut Cursor) -> Result<Vec<V
 
 /// Appends a struct's member to those before it. Memory for so many is taken with the first.
 fn push_member(member: Val, members: usize, all: &mut Vec<Val>) -> Result<(), AllocError>
-    ensures { OnOk result (all.new.items ≡ all.old.items ++ member ∷ []) }
+    ensures ok { OnOk result (all.new.items ≡ all.old.items ++ member ∷ []) }
+    ensures room { vec_capacity all.old ≤ vec_capacity all.new }
 {
     if all.is_empty() {
         all.reserve_exact(members)?;
@@ -126,12 +130,20 @@ fn push_member(member: Val, members: usize, all: &mut Vec<Val>) -> Result<(), Al
     Ok(())
 }
 
-/// Reads a value of each type. Memory is taken once the first is read.
+/// Reads a value of each type into a vector in place of what it holds. Memory is taken once the first is read, where
+/// the vector has not room enough.
 #[cycle(reading)]
-fn each_of(alloc: Global, types: &[Ty], cursor: &mut Cursor) -> Result<Vec<Val>, CdrError>
-    ensures { GivesUnlessMemory (λ v. values_of v.items) result (members_at (forms_of types.now) cursor.old.order) (StoresMembers (forms_of types.now) cursor.old.order) cursor.old cursor.new }
+fn each_of(
+    alloc: Global,
+    types: &[Ty],
+    room: Vec<Val>,
+    cursor: &mut Cursor,
+) -> Result<Vec<Val>, CdrError>
+    ensures gives { GivesUnlessMemory (λ v. values_of v.items) result (members_at (forms_of types.now) cursor.old.order) (StoresMembers (forms_of types.now) cursor.old.order) cursor.old cursor.new }
+    ensures room { IfOk result (λ v. vec_capacity room ≤ vec_capacity v) }
 {
-    let mut all = Vec::new(alloc);
+    let mut all = room;
+    all.clear();
     for ty in types {
         let value = value(alloc, ty, cursor)?;
         push_member(value, types.len(), &mut all)?;
@@ -204,8 +216,30 @@ pub fn read_list(
     ensures answers { ListAnswers (forms_of types.now) order at octets.now result }
     ensures only { (vs : Values) (front rest : List ℕ) → octets.now ≡ front ++ rest → SpellsMembers (forms_of types.now) order vs at front → ListReads vs (length front) result }
 {
+    read_list_into(alloc, types, order, at, octets, Vec::new(alloc))
+}
+
+/// Reads what `read_list` reads, into the room of a vector, whose values are dropped first.
+///
+/// A server that reads one request after another takes no memory for a list that has room already. At an error the
+/// vector is dropped.
+pub fn read_list_into(
+    alloc: Global,
+    types: &[Ty],
+    order: Order,
+    at: u64,
+    octets: &[u8],
+    room: Vec<Val>,
+) -> Result<(Vec<Val>, usize), CdrError>
+    requires valid { AreValid (forms_of types.now) }
+    requires at { at < 2 ^ 32 }
+    // it is that vector, which never shrinks
+    ensures room { IfOk result (λ x. vec_capacity room ≤ vec_capacity x.0) }
+    ensures answers { ListAnswers (forms_of types.now) order at octets.now result }
+    ensures only { (vs : Values) (front rest : List ℕ) → octets.now ≡ front ++ rest → SpellsMembers (forms_of types.now) order vs at front → ListReads vs (length front) result }
+{
     let mut cursor = Cursor::new(octets, order, at);
-    let values = each_of(alloc, types, &mut cursor)?;
+    let values = each_of(alloc, types, room, &mut cursor)?;
     let left = cursor.rest().len();
     Ok((values, octets.len() - left))
 }

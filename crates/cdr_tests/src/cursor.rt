@@ -417,11 +417,21 @@ fn an_encapsulation_has_its_order(rt: HostRuntime) {
 /// The steps of the cursor that is forked, up to there.
 static BEFORE: &[Step] = &[Gives(Call::Octet, Number(1))];
 
+/// The steps behind two octets.
+static SKIPPED: &[Step] = &[At(14, &[2, 0]), Gives(Call::Short, Number(2)), At(16, &[])];
+
 /// The steps of the fork.
 static FORKED: &[Step] = &[At(1, &[9, 2, 0]), Gives(Call::Short, Number(2)), At(4, &[])];
 
 /// The steps of the cursor from there on.
 static AFTER: &[Step] = &[At(1, &[9, 2, 0]), Gives(Call::Octet, Number(9))];
+
+#[test]
+fn a_cursor_skips(rt: HostRuntime) {
+    let mut cursor = Cursor::new(&[1, 9, 2, 0], Little, 12);
+    cursor.skip(2);
+    assert_steps(&rt, &mut cursor, "behind two octets", SKIPPED);
+}
 
 #[test]
 fn a_fork_reads_on_alone(rt: HostRuntime) {

@@ -6,6 +6,8 @@
 #[cfg(test)]
 mod cursor;
 #[cfg(test)]
+mod lists;
+#[cfg(test)]
 mod orders;
 #[cfg(test)]
 mod references;

@@ -102,19 +102,20 @@ each_of-loop-ty-preserved t c =
     record {
       order = read.1;
       stores = λ p h. i.stores p (members_store c.args.types.now c.loop-ty.ty-index c.ty-item.result c.args.cursor.now.order c.loop-ty.cursor.place c.loop-ty.cursor.rest (value_of c.in_ok-value.value) cursor.place cursor.rest p c.loop-ty-test.true c.ty-item.is read.0 (inr h));
-      whole = rw (c.in_ok-push_member.ensures, values_of-push)
+      room = omega (arith, i.room, c.push_member.ensures.room);
+      whole = rw (c.in_ok-push_member.ensures.ok, values_of-push)
           (members_more c.args.types.now c.loop-ty.ty-index c.ty-item.result c.args.cursor.now.order (values_of c.loop-ty.all.items) c.loop-ty.cursor.place c.loop-ty.cursor.rest (value_of c.in_ok-value.value) cursor.place cursor.rest _ c.loop-ty-test.true c.ty-item.is read.0 i.whole);
     }
 
-pub each_of-returns-in_err-value : goal.each_of-returns-in_err-value
-each_of-returns-in_err-value t c =
+pub each_of-returns-in_err-value-clause-gives : goal.each_of-returns-in_err-value-clause-gives
+each_of-returns-in_err-value-clause-gives t c =
     let p = err_from_is_err_and c.from_residual.result c.from_residual.ensures.1 in
     let i = c.loop-ty.invariant in
     let read = rw i.order at c.in_err-value.ensures in
     rw (p.1, p.2) (members_end c.in_err-value.field-0.0 c.args.types.now c.loop-ty.ty-index c.ty-item.result c.args.cursor.now.order (values_of c.loop-ty.all.items) c.loop-ty.cursor.place c.loop-ty.cursor.rest _ c.loop-ty-test.true c.ty-item.is read.0 i.whole, if_memory c.in_err-value.field-0.0 (λ h. i.stores c.value.new.cursor.place (member_stores c.args.types.now c.loop-ty.ty-index c.ty-item.result c.args.cursor.now.order c.loop-ty.cursor.place c.loop-ty.cursor.rest c.value.new.cursor.place c.loop-ty-test.true c.ty-item.is h)) read.1)
 
-pub each_of-returns : goal.each_of-returns
-each_of-returns t c =
+pub each_of-returns-clause-gives : goal.each_of-returns-clause-gives
+each_of-returns-clause-gives t c =
     let i = c.loop-ty.invariant in
     (members_done c.args.types.now c.loop-ty.ty-index c.args.cursor.now.order (values_of c.loop-ty.all.items) c.loop-ty.cursor.place c.loop-ty.cursor.rest _ c.loop-ty-test.false i.whole, i.order)
 
@@ -204,8 +205,8 @@ value-returns-in_err-each-in-Array t c =
     rw (p.1, p.2, ap form_of a.is ∙ form_of-Array a.count a.member)
     (array_fails c.in_err-each-in-Array.field-0.0 a.count (form_of a.member.value) old.order old.place old.rest read.0, read.1)
 
-pub each_of-returns-in_err-push_member : goal.each_of-returns-in_err-push_member
-each_of-returns-in_err-push_member t c =
+pub each_of-returns-in_err-push_member-clause-gives : goal.each_of-returns-in_err-push_member-clause-gives
+each_of-returns-in_err-push_member-clause-gives t c =
     let p = err_from_is_err_and c.from_residual-in_err-push_member.result c.from_residual-in_err-push_member.ensures.1 in
     let i = c.loop-ty.invariant in
     let read = rw i.order at c.in_ok-value.ensures in

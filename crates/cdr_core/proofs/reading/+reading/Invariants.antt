@@ -1,4 +1,4 @@
-use Rattle.std.proofs.Common.{◌≡◌, ℕ, ◌-◌, [], drop, length}
+use Rattle.std.proofs.Common.{◌≡◌, ℕ, ◌-◌, ◌≤◌, [], drop, length, vec_capacity}
 use Rattle.cdr_core.specs.Reading.{chosen_at, members_at}
 use Rattle.cdr_core.specs.Value.{label}
 use Rattle.cdr_core.specs.View.{cases_of, form_of, forms_of, value_of, values_of}
@@ -22,6 +22,7 @@ invariant-each_of-loop-ty l = record {
   stores : (p : ℕ) → StoresMembers (forms_of (drop l.ty-index l.types)) l.fn.cursor.order l.cursor.place l.cursor.rest p → StoresMembers (forms_of l.types) l.fn.cursor.order l.fn.cursor.place l.fn.cursor.rest p;
   whole : with_front (values_of l.all.items) (members_at (forms_of (drop l.ty-index l.types)) l.fn.cursor.order l.cursor.place l.cursor.rest)
       ≡ members_at (forms_of l.types) l.fn.cursor.order l.fn.cursor.place l.fn.cursor.rest;
+  room : vec_capacity l.fn.room ≤ vec_capacity l.all;
 }
 
 -- no case so far has the label
