@@ -1,4 +1,5 @@
 pub mod Steps
+pub mod Finding
 pub mod Choices
 pub mod Passing
 pub mod Again
@@ -15,6 +16,7 @@ pub mod Retention
 pub mod FirstContext
 pub mod ReadAgain
 pub mod Near
+pub mod OfKind
 pub mod Refused
 pub mod ReadFits
 pub mod Carried

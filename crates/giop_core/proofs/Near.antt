@@ -1,21 +1,17 @@
 -- Where a body stands.
-use Rattle.std.proofs.Common.{◌≡◌, ℕ, zero, suc, ◌+◌, ◌<◌, ◌≤◌, List, [], ◌++◌, length, take, drop, Result, Ok, Err, ◌⊎◌, inl, inr, refl, ap, subst, sym, ◌∙◌, arith, append_assoc, length-append}
+use Rattle.std.proofs.Common.{◌≡◌, ℕ, zero, suc, ◌+◌, ◌<◌, ◌≤◌, List, [], ◌++◌, length, take, drop, Ok, ◌⊎◌, inl, inr, refl, ap, subst, sym, ◌∙◌, arith, append_assoc, length-append}
 use Rattle.std.proofs.lemmas.List.{append-nil, drop_all, length-take-le, take-append-drop}
-use Rattle.std.specs.Prelude.{IfOk}
 use Rattle.cdr_core.specs.declared.order.Order.{Order}
 use Rattle.cdr_core.proofs.Found.{found}
 use Rattle.cdr_core.specs.Numbers.{padding}
 use Rattle.cdr_core.specs.Value.{Value}
-use Rattle.giop_core.specs.declared.error.MessageFault.{MessageFault}
 use Rattle.giop_core.specs.declared.header.MessageKind.{MessageKind}
 use Rattle.giop_core.specs.declared.header.MessageKind.TheVariants as kind
 use Rattle.giop_core.specs.declared.header.Version.{Version}
 use Rattle.giop_core.specs.declared.header.Version.TheVariants.{V10, V11, V12}
-use Rattle.giop_core.specs.declared.message.Message.{Message}
 use Rattle.giop_core.specs.Content as content
 use Rattle.giop_core.specs.Content.{content, Content, Rest}
 use Rattle.giop_core.specs.Grammar.{IsMessage}
-use Rattle.giop_core.specs.Lent.{content_of, Shows}
 use Rattle.giop_core.specs.Laws.{BodiesAreBacks}
 use Rattle.giop_core.specs.Messages.{aligned, directly, message_of, rest_at, IsBack, OnBody, StandsNear}
 use Rattle.giop_core.proofs.Spelled.{message_found}
@@ -97,8 +93,5 @@ spelled_back version kind order octets m s =
 pub message_back : BodiesAreBacks
 message_back version kind order octets m e = spelled_back version kind order octets m (message_found found version kind order octets m e)
 
-pub shown_near : (version : Version) (kind : MessageKind) (order : Order) (octets : List ℕ) (r : Result Message MessageFault)
-    → Shows (λ (x : Message). content_of x.content) r (message_of version kind order octets) → IfOk r (λ x. OnBody (StandsNear octets) (content_of x.content))
-shown_near version kind order octets (Ok x) h =
-    on_more (IsBack version octets) (StandsNear octets) (back_near version octets) (content_of x.content) (message_back version kind order octets (content_of x.content) h)
-shown_near version kind order octets (Err f) h = tt
+pub said_near : (version : Version) (kind : MessageKind) (order : Order) (octets : List ℕ) (m : Content) → message_of version kind order octets ≡ Ok m → OnBody (StandsNear octets) m
+said_near version kind order octets m e = on_more (IsBack version octets) (StandsNear octets) (back_near version octets) m (message_back version kind order octets m e)

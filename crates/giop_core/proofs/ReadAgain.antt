@@ -33,7 +33,7 @@ use Rattle.giop_core.specs.Laws.{rest_after, written_rest, HaveTags, IsReadAs, I
 use Rattle.giop_core.specs.Messages.{is_unknown, rest_at}
 use Rattle.giop_core.specs.Rows.{contexts, ft_request, reserved, row, target}
 use Rattle.giop_core.specs.Written.{behind_gap, behind_header, body_octets, cancel_fields, response_flags, ft_octets, ft_value_of, response_expected, key_value, locate_reply_fields, locate_request_fields, locate_statuses, reply_fields, reply_statuses, request_fields, selected_as, target_of, zeros, CanAddress, CanAsk}
-use Rattle.giop_core.proofs.Again.{all_again}
+use Rattle.giop_core.proofs.Again.{all_again, object_again}
 use Rattle.giop_core.proofs.FirstContext.{first_behind}
 use Rattle.giop_core.proofs.Longs.{at_least}
 use Rattle.giop_core.proofs.Spelled.{message_only}
@@ -233,11 +233,6 @@ module _ (order : Order) where
 
 -- what the fields say
 
-target_again : (to : Addressed) → addressed (target_of to) ≡ to
-target_again (content.by_key key) = refl
-target_again (content.by_profile tag octets) = refl
-target_again (content.by_reference index id profiles) = ap (content.by_reference index id) (all_again profiles)
-
 key_again : (to : Addressed) → CanAddress V10 to → addressed (key_value to) ≡ to
 key_again (content.by_key key) can = refl
 key_again (content.by_profile tag octets) can = absurd can
@@ -258,7 +253,7 @@ request_says : (version : Version) (id : ℕ) (wish : ReplyWish) (to : Addressed
 unfolding content
 request_says V10 id wish to operation contexts rest ask can = rw (expected_again wish ask, key_again to can, all_again contexts) refl
 request_says V11 id wish to operation contexts rest ask can = rw (expected_again wish ask, key_again to can, all_again contexts) refl
-request_says V12 id wish to operation contexts rest ask can = rw (flags_again wish, target_again to, all_again contexts) refl
+request_says V12 id wish to operation contexts rest ask can = rw (flags_again wish, object_again to, all_again contexts) refl
 
 reply_says : (version : Version) (id status : ℕ) (contexts : List (ℕ × List ℕ)) (rest : Rest) → content version kind.Reply (reply_fields version id status contexts) rest ≡ content.reply id status contexts rest
 unfolding content
@@ -276,7 +271,7 @@ pub locate_request_says : (version : Version) (id : ℕ) (to : Addressed) (rest 
 unfolding content
 locate_request_says V10 id to rest can = rw (key_again to can) refl
 locate_request_says V11 id to rest can = rw (key_again to can) refl
-locate_request_says V12 id to rest can = rw (target_again to) refl
+locate_request_says V12 id to rest can = rw (object_again to) refl
 
 locate_reply_says : (version : Version) (id status : ℕ) (rest : Rest) → content version kind.LocateReply (locate_reply_fields id status) rest ≡ content.locate_reply id status rest
 unfolding content

@@ -2,8 +2,8 @@
 -- "FT" is Fault Tolerant CORBA; "own rule" marks what this project decides where they are silent.
 -- Headers: the header. Rows: the fields of each message. Content: what they say. Messages: reading them from left to
 -- right, or the first fault, and where a body stands. Begun: the request id of a message of which not all octets are there.
--- Grammar: the same as relations, which octets are which message, and
--- which have which fault. Items, Keys, Ft, Bodies: the parts that are lent: service contexts and profiles, object keys,
+-- Places: where the parts of a message lie, and what they say there. Grammar: the same as relations, which octets are which
+-- message, and which have which fault. Items, Keys, Ft, Bodies: the parts that are lent: service contexts and profiles, object keys,
 -- FT_REQUEST, the values of a body. Lent: what the code's types say. Written: how messages are written. Statuses, Texts:
 -- numbers and names. Laws: what holds of these definitions. Private is for private functions alone; Facts is a proof, which
 -- a field of `IorView` cites.
@@ -11,6 +11,7 @@ pub mod Headers
 pub mod Rows
 pub mod Content
 pub mod Messages
+pub mod Places
 pub mod Begun
 pub mod Grammar
 pub mod Items

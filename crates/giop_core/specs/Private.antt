@@ -107,3 +107,8 @@ PutsFields w fields (Err e) old new = Keeps old new
 -- the fields of a Request in a version, as its writers hand them on
 abbrev pub fields_in : Version → RequestFields → List Value
 fields_in version f = request_fields version f.request_id f.wish (addressed_by f.target.now) f.operation.now (map item_at f.contexts.now)
+
+-- a cursor among the octets after a header, and these
+pub record Finding : Type 0 where
+  pub octets : List ℕ
+  pub at : Position

@@ -3,16 +3,15 @@
 ghost use Rattle.std.specs.Prelude.{◌≡◌, ◌++◌, MatchResult};
 ghost use Rattle.cdr_core.specs.Private.{Keeps};
 ghost use Rattle.cdr_core.specs.Value.{no_values};
-ghost use Rattle.giop_core.specs.Lent.{cancel_of, Shows};
-ghost use Rattle.giop_core.specs.Messages.{message_of};
+ghost use Rattle.giop_core.specs.Places.{FindsParts};
 ghost use Rattle.giop_core.specs.Written.{behind_header, cancel_fields, message_octets};
 ghost use Rattle.giop_core.specs.declared.header.MessageKind.TheVariants as kind;
 ghost use Rattle.giop_core.specs.declared.header.Version.TheVariants.{V10};
 
 use crate::error::MessageFault;
 use crate::header::{Header, MessageKind, Version};
-use crate::message::AFTER_HEADER;
-use cdr_core::{Cursor, Order, Writer};
+use crate::places::{Finder, Parts};
+use cdr_core::{Order, Writer};
 use std::alloc::AllocError;
 
 /// A CancelRequest (GIOP 9.4.4): the reply to a request is no longer wanted.
@@ -22,14 +21,19 @@ pub struct CancelRequest {
     pub request_id: u32,
 }
 
-/// Reads a CancelRequest, which every version has alike.
+/// Finds the parts of a CancelRequest, which every version has alike.
 #[tactic(auto, unfolding(crate::specs::Messages::message_of, crate::specs::Rows::row, crate::specs::Content::content))]
-pub(crate) fn read_cancel(order: Order, octets: &[u8]) -> Result<CancelRequest, MessageFault>
-    ensures { Shows cancel_of result (message_of V10 kind.CancelRequest order octets.now) }
+pub(crate) fn find_cancel(
+    order: Order,
+    octets: &[u8],
+    parts: &mut Parts,
+) -> Result<(), MessageFault>
+    ensures { FindsParts V10 kind.CancelRequest order octets.now result parts.new }
 {
-    let mut cursor = Cursor::new(octets, order, AFTER_HEADER);
-    let request_id = cursor.ulong()?;
-    Ok(CancelRequest { request_id })
+    let mut finder = Finder::new(octets, order);
+    let request_id = finder.ulong()?;
+    *parts = Parts::Cancel(request_id);
+    Ok(())
 }
 
 /// Appends a CancelRequest. Where an allocation fails `out` may keep a part of it at its end.

@@ -1,13 +1,12 @@
 //! Fragment (GIOP 9.4.9).
 
-ghost use Rattle.giop_core.specs.Lent.{fragment_of, Shows};
-ghost use Rattle.giop_core.specs.Messages.{message_of};
+ghost use Rattle.giop_core.specs.Places.{FindsParts};
 ghost use Rattle.giop_core.specs.declared.header.MessageKind.TheVariants as kind;
 
 use crate::error::MessageFault;
 use crate::header::Version;
-use crate::message::AFTER_HEADER;
-use cdr_core::{Cursor, Order};
+use crate::places::{Finder, Parts};
+use cdr_core::Order;
 
 /// A Fragment (GIOP 9.4.9): more octets of a message that was cut.
 #[derive(Clone, Copy, Debug, Drop)]
@@ -18,27 +17,25 @@ pub struct Fragment<'m> {
     pub payload: &'m [u8],
 }
 
-/// Reads a Fragment.
+/// Finds the parts of a Fragment.
 #[tactic(auto, unfolding(crate::specs::Messages::message_of, crate::specs::Rows::row, crate::specs::Content::content))]
-pub(crate) fn read_fragment(
+pub(crate) fn find_fragment(
     version: Version,
     order: Order,
     octets: &[u8],
-) -> Result<Fragment<'_>, MessageFault>
-    ensures { Shows fragment_of result (message_of version kind.Fragment order octets.now) }
+    parts: &mut Parts,
+) -> Result<(), MessageFault>
+    ensures { FindsParts version kind.Fragment order octets.now result parts.new }
 {
     match version {
-        Version::V10 | Version::V11 => Ok(Fragment {
-            request_id: None,
-            payload: octets,
-        }),
+        Version::V10 | Version::V11 => {
+            *parts = Parts::Fragment(None, 0);
+        }
         Version::V12 => {
-            let mut cursor = Cursor::new(octets, order, AFTER_HEADER);
-            let request_id = cursor.ulong()?;
-            Ok(Fragment {
-                request_id: Some(request_id),
-                payload: cursor.rest(),
-            })
+            let mut finder = Finder::new(octets, order);
+            let request_id = finder.ulong()?;
+            *parts = Parts::Fragment(Some(request_id), finder.start());
         }
     }
+    Ok(())
 }

@@ -15,6 +15,7 @@ mod ior_view;
 pub mod laws;
 mod locate;
 mod message;
+mod places;
 mod reply;
 mod request;
 mod service_context;
@@ -23,7 +24,7 @@ mod writing;
 
 // a message: its header, and what follows
 pub use header::{Header, HeaderFault, MessageKind, Version};
-pub use message::{Body, Content, Message, read_message};
+pub use message::{Body, Content, Message, Places, Reading, read_message};
 
 // each kind of message, and its writer
 pub use cancel::{CancelRequest, write_cancel};

@@ -4,8 +4,8 @@ ghost use Rattle.std.specs.Prelude.{◌≡◌, ◌↔◌, Some, IsTrue, IfOk, �
 ghost use Rattle.cdr_core.specs.Value.{no_values};
 ghost use Rattle.cdr_core.specs.View.{values_of};
 ghost use Rattle.cdr_core.specs.Writing.{AreWritable, IsWritable};
-ghost use Rattle.giop_core.specs.Lent.{content_of, locate_reply_of, addressed_by, Shows};
-ghost use Rattle.giop_core.specs.Messages.{message_of};
+ghost use Rattle.giop_core.specs.Lent.{addressed_by};
+ghost use Rattle.giop_core.specs.Places.{FindsParts};
 ghost use Rattle.giop_core.specs.Private.{Adds, PutsFields};
 ghost use Rattle.giop_core.specs.Statuses.{locate_status_number, locate_status_of};
 ghost use Rattle.giop_core.specs.Texts.{locate_status_text};
@@ -15,10 +15,11 @@ ghost use Rattle.giop_core.specs.declared.header.Version.TheVariants.{V10, V12};
 
 use crate::error::{MessageFault, WriteError};
 use crate::header::{MessageKind, Version};
-use crate::message::{AFTER_HEADER, Body, Content, Message, body_at};
-use crate::target_address::{Target, check_target, put_target_in, read_target};
+use crate::message::Body;
+use crate::places::{Finder, Parts, TargetPlace};
+use crate::target_address::{Target, check_target, put_target_in};
 use crate::writing::{begin, finish};
-use cdr_core::{Cursor, Order, Val, Writer};
+use cdr_core::{Order, Val, Writer};
 use std::alloc::AllocError;
 use std::fmt;
 
@@ -122,59 +123,36 @@ impl Version {
     }
 }
 
-/// Reads a LocateRequest of 1.0 or 1.1.
+/// Finds the parts of a LocateRequest of 1.0 or 1.1.
 #[tactic(auto, unfolding(crate::specs::Messages::message_of, crate::specs::Rows::row, crate::specs::Content::content))]
-fn read_locate_request_10(
-    version: Version,
+pub(crate) fn find_locate_request_10(
     order: Order,
     octets: &[u8],
-) -> Result<Message<'_>, MessageFault>
-    ensures shows { Shows (λ m. content_of m.content) result (message_of V10 kind.LocateRequest order octets.now) }
-    ensures same { IfOk result (λ m. (m.version ≡ version) × (m.order ≡ order)) }
+    parts: &mut Parts,
+) -> Result<(), MessageFault>
+    ensures { FindsParts V10 kind.LocateRequest order octets.now result parts.new }
 {
-    let mut cursor = Cursor::new(octets, order, AFTER_HEADER);
-    let request_id = cursor.ulong()?;
-    let key = cursor.octets()?;
-    Ok(Message {
-        version,
-        order,
-        content: Content::LocateRequest(LocateRequest {
-            request_id,
-            target: Target::Key(key),
-        }),
-    })
+    let mut finder = Finder::new(octets, order);
+    let request_id = finder.ulong()?;
+    let key = finder.octets()?;
+    *parts = Parts::LocateRequest(request_id, TargetPlace::Key(key));
+    Ok(())
 }
 
-/// Reads a LocateRequest of 1.2.
-#[tactic(auto, unfolding(crate::specs::Messages::message_of, crate::specs::Rows::row, crate::specs::Content::content), using(crate::proofs::Again::addressed_again))]
-fn read_locate_request_12(order: Order, octets: &[u8]) -> Result<Message<'_>, MessageFault>
-    ensures shows { Shows (λ m. content_of m.content) result (message_of V12 kind.LocateRequest order octets.now) }
-    ensures same { IfOk result (λ m. (m.version ≡ V12) × (m.order ≡ order)) }
-{
-    let mut cursor = Cursor::new(octets, order, AFTER_HEADER);
-    let request_id = cursor.ulong()?;
-    let target = read_target(&mut cursor)?;
-    Ok(Message {
-        version: Version::V12,
-        order,
-        content: Content::LocateRequest(LocateRequest { request_id, target }),
-    })
-}
-
-/// Reads a LocateRequest.
-#[tactic(auto, using(crate::proofs::Shared::locate_11))]
-pub(crate) fn read_locate_request(
-    version: Version,
+/// Finds the parts of a LocateRequest of 1.2.
+#[tactic(auto, unfolding(crate::specs::Messages::message_of, crate::specs::Rows::row, crate::specs::Content::content), using(crate::proofs::Again::object_again))]
+pub(crate) fn find_locate_request_12(
     order: Order,
     octets: &[u8],
-) -> Result<Message<'_>, MessageFault>
-    ensures shows { Shows (λ m. content_of m.content) result (message_of version kind.LocateRequest order octets.now) }
-    ensures same { IfOk result (λ m. (m.version ≡ version) × (m.order ≡ order)) }
+    parts: &mut Parts,
+) -> Result<(), MessageFault>
+    ensures { FindsParts V12 kind.LocateRequest order octets.now result parts.new }
 {
-    match version {
-        Version::V10 | Version::V11 => read_locate_request_10(version, order, octets),
-        Version::V12 => read_locate_request_12(order, octets),
-    }
+    let mut finder = Finder::new(octets, order);
+    let request_id = finder.ulong()?;
+    let target = finder.target()?;
+    *parts = Parts::LocateRequest(request_id, target);
+    Ok(())
 }
 
 /// Appends the fields of a LocateRequest.
@@ -242,49 +220,36 @@ pub fn write_locate_request(
     result
 }
 
-/// Reads a LocateReply of 1.0 or 1.1.
+/// Finds the parts of a LocateReply of 1.0 or 1.1.
 #[tactic(auto, unfolding(crate::specs::Messages::message_of, crate::specs::Rows::row, crate::specs::Content::content))]
-fn read_locate_reply_10(order: Order, octets: &[u8]) -> Result<LocateReply<'_>, MessageFault>
-    ensures { Shows locate_reply_of result (message_of V10 kind.LocateReply order octets.now) }
-{
-    let mut cursor = Cursor::new(octets, order, AFTER_HEADER);
-    let request_id = cursor.ulong()?;
-    let status = cursor.ordinal(STATUSES_10)?;
-    Ok(LocateReply {
-        request_id,
-        status,
-        body: body_at(&cursor, order),
-    })
-}
-
-/// Reads a LocateReply of 1.2.
-#[tactic(auto, unfolding(crate::specs::Messages::message_of, crate::specs::Rows::row, crate::specs::Content::content))]
-fn read_locate_reply_12(order: Order, octets: &[u8]) -> Result<LocateReply<'_>, MessageFault>
-    ensures { Shows locate_reply_of result (message_of V12 kind.LocateReply order octets.now) }
-{
-    let mut cursor = Cursor::new(octets, order, AFTER_HEADER);
-    let request_id = cursor.ulong()?;
-    let status = cursor.ordinal(STATUSES_12)?;
-    Ok(LocateReply {
-        request_id,
-        status,
-        body: body_at(&cursor, order),
-    })
-}
-
-/// Reads a LocateReply.
-#[tactic(auto, using(crate::proofs::Shared::locate_reply_11))]
-pub(crate) fn read_locate_reply(
-    version: Version,
+pub(crate) fn find_locate_reply_10(
     order: Order,
     octets: &[u8],
-) -> Result<LocateReply<'_>, MessageFault>
-    ensures { Shows locate_reply_of result (message_of version kind.LocateReply order octets.now) }
+    parts: &mut Parts,
+) -> Result<(), MessageFault>
+    ensures { FindsParts V10 kind.LocateReply order octets.now result parts.new }
 {
-    match version {
-        Version::V10 | Version::V11 => read_locate_reply_10(order, octets),
-        Version::V12 => read_locate_reply_12(order, octets),
-    }
+    let mut finder = Finder::new(octets, order);
+    let request_id = finder.ulong()?;
+    let status = finder.ordinal(STATUSES_10)?;
+    *parts = Parts::LocateReply(request_id, status, finder.body());
+    Ok(())
+}
+
+/// Finds the parts of a LocateReply of 1.2.
+#[tactic(auto, unfolding(crate::specs::Messages::message_of, crate::specs::Rows::row, crate::specs::Content::content))]
+pub(crate) fn find_locate_reply_12(
+    order: Order,
+    octets: &[u8],
+    parts: &mut Parts,
+) -> Result<(), MessageFault>
+    ensures { FindsParts V12 kind.LocateReply order octets.now result parts.new }
+{
+    let mut finder = Finder::new(octets, order);
+    let request_id = finder.ulong()?;
+    let status = finder.ordinal(STATUSES_12)?;
+    *parts = Parts::LocateReply(request_id, status, finder.body());
+    Ok(())
 }
 
 /// Appends the fields of a LocateReply.

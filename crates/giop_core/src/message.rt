@@ -1,23 +1,30 @@
 //! Messages, lent from their octets: the choice among the kinds.
 
-ghost use Rattle.std.specs.Prelude.{◌≡◌, ◌<◌, ◌^◌, ◌++◌, ℕ, List, IfOk};
+ghost use Rattle.std.specs.Prelude.{◌≡◌, ◌<◌, ◌^◌, ◌++◌, ℕ, List, Ok, Err, IfOk, IsOk, MatchResult};
 ghost use Rattle.cdr_core.specs.Fitting.{AreValid};
 ghost use Rattle.cdr_core.specs.Spelling.{SpellsMembers};
 ghost use Rattle.cdr_core.specs.Value.{Values};
 ghost use Rattle.cdr_core.specs.View.{forms_of};
 ghost use Rattle.giop_core.specs.Bodies.{BodyAnswers, BodyReads};
-ghost use Rattle.giop_core.specs.Lent.{content_of, rest_of, Shows};
+ghost use Rattle.giop_core.specs.Lent.{Shows, cancel_of, content_of, locate_reply_of, locate_request_of, reply_of, request_of, rest_of};
 ghost use Rattle.giop_core.specs.Messages.{message_of, OnBody, StandsNear};
+ghost use Rattle.giop_core.specs.Places.{ArePlacesOf, FindsParts, said_by};
+ghost use Rattle.giop_core.specs.declared.header.MessageKind.TheVariants as kind;
 
-use crate::cancel::{CancelRequest, read_cancel};
+use crate::cancel::{CancelRequest, find_cancel};
 use crate::error::MessageFault;
-use crate::fragment::{Fragment, read_fragment};
+use crate::fragment::{Fragment, find_fragment};
 use crate::header::{Header, MessageKind, Version};
-use crate::locate::{LocateReply, LocateRequest, read_locate_reply, read_locate_request};
-use crate::reply::{Reply, read_reply};
-use crate::request::{Request, read_request, read_request_12};
-use cdr_core::{CdrError, Cursor, Order, Ty, Val};
+use crate::locate::{
+    LocateReply, LocateRequest, find_locate_reply_10, find_locate_reply_12, find_locate_request_10,
+    find_locate_request_12,
+};
+use crate::places::Parts;
+use crate::reply::{Reply, find_reply_10, find_reply_12};
+use crate::request::{Request, find_request_12, find_request_by_key};
+use cdr_core::{CdrError, Order, Ty, Val};
 use std::alloc::Global;
+use std::marker::Model;
 
 /// The place of the first octet after a header.
 pub(crate) const AFTER_HEADER: u64 = Header::LEN as u64;
@@ -48,18 +55,6 @@ impl<'m> Body<'m> {
     }
 }
 
-/// The body that begins where a cursor is.
-#[inline(always)]
-pub(crate) fn body_at<'m>(cursor: &Cursor<'m>, order: Order) -> Body<'m>
-    ensures { rest_of result ≡ record { order = order; place = cursor.now.place; octets = cursor.now.rest } }
-{
-    Body {
-        order,
-        at: cursor.place(),
-        octets: cursor.rest(),
-    }
-}
-
 /// What a message says (GIOP 9.4.2 to GIOP 9.4.9).
 #[derive(Debug, Drop)]
 pub enum Content<'m> {
@@ -83,35 +78,214 @@ pub struct Message<'m> {
     pub content: Content<'m>,
 }
 
-/// What the octets after a header of this kind, version and order say.
+/// Finds the parts of a message of any kind and version. It is no part of its caller, so that the finder of a Request of
+/// 1.2 stays small.
 #[inline(never)]
-#[tactic(auto, using(crate::proofs::Shared::cancel_any, crate::proofs::Shared::close_any, crate::proofs::Shared::error_any))]
-fn message_of_kind(
+#[tactic(auto, using(crate::proofs::Shared::reply_11, crate::proofs::Shared::locate_11, crate::proofs::Shared::locate_reply_11, crate::proofs::Shared::cancel_any, crate::proofs::Shared::close_any, crate::proofs::Shared::error_any))]
+fn find_any(
     kind: MessageKind,
     version: Version,
     order: Order,
     octets: &[u8],
-) -> Result<Message<'_>, MessageFault>
-    ensures shows { Shows (λ m. content_of m.content) result (message_of version kind order octets.now) }
-    ensures same { IfOk result (λ m. (m.version ≡ version) × (m.order ≡ order)) }
+    parts: &mut Parts,
+) -> Result<(), MessageFault>
+    ensures { FindsParts version kind order octets.now result parts.new }
 {
-    let content = match kind {
-        MessageKind::Request => return read_request(version, order, octets),
-        MessageKind::Reply => return read_reply(version, order, octets),
-        MessageKind::CancelRequest => Content::Cancel(read_cancel(order, octets)?),
-        MessageKind::LocateRequest => return read_locate_request(version, order, octets),
-        MessageKind::LocateReply => Content::LocateReply(read_locate_reply(
-            version, order, octets,
-        )?),
-        MessageKind::CloseConnection => Content::Close,
-        MessageKind::MessageError => Content::Error,
-        MessageKind::Fragment => Content::Fragment(read_fragment(version, order, octets)?),
-    };
-    Ok(Message {
-        version,
-        order,
-        content,
-    })
+    match (kind, version) {
+        (MessageKind::Request, Version::V12) => find_request_12(order, octets, parts),
+        (MessageKind::Request, _) => find_request_by_key(version, order, octets, parts),
+        (MessageKind::Reply, Version::V12) => find_reply_12(order, octets, parts),
+        (MessageKind::Reply, _) => find_reply_10(order, octets, parts),
+        (MessageKind::CancelRequest, _) => find_cancel(order, octets, parts),
+        (MessageKind::LocateRequest, Version::V12) => find_locate_request_12(order, octets, parts),
+        (MessageKind::LocateRequest, _) => find_locate_request_10(order, octets, parts),
+        (MessageKind::LocateReply, Version::V12) => find_locate_reply_12(order, octets, parts),
+        (MessageKind::LocateReply, _) => find_locate_reply_10(order, octets, parts),
+        (MessageKind::Fragment, _) => find_fragment(version, order, octets, parts),
+        (MessageKind::CloseConnection, _) => {
+            *parts = Parts::Close;
+            Ok(())
+        }
+        (MessageKind::MessageError, _) => {
+            *parts = Parts::Error;
+            Ok(())
+        }
+    }
+}
+
+/// Where the parts of a message lie: all that one reading finds, so that the message can be lent again without being
+/// read.
+#[derive(Clone, Copy, Debug)]
+pub struct Places {
+    pub(crate) parts: Parts,
+}
+
+impl Places {
+    /// The places of a message that is its header alone, until others are found.
+    pub fn new() -> Places {
+        Places {
+            parts: Parts::Close,
+        }
+    }
+
+    /// Reads the message that the octets after a header are, and finds where its parts lie, or the first fault. It
+    /// takes no memory.
+    ///
+    /// The octets are those of a whole message, as `read_message` takes them. At a fault nothing lies at these places.
+    #[inline(always)]
+    pub fn find(&mut self, header: &Header, octets: &[u8]) -> Result<(), MessageFault>
+        ensures { MatchResult result (λ _. ArePlacesOf header.now octets.now self.new) (λ e. message_of header.now.version header.now.kind header.now.order octets.now ≡ Err e) }
+    {
+        if let (MessageKind::Request, Version::V12) = (header.kind, header.version) {
+            return find_request_12(header.order, octets, &mut self.parts);
+        }
+        find_any(
+            header.kind,
+            header.version,
+            header.order,
+            octets,
+            &mut self.parts,
+        )
+    }
+
+    /// Lends the message from its octets, without reading it.
+    #[inline(always)]
+    pub fn lend<'m>(&self, header: &Header, octets: &'m [u8]) -> Message<'m>
+        requires { ArePlacesOf header.now octets.now self.now }
+        ensures says { message_of header.now.version header.now.kind header.now.order octets.now ≡ Ok (content_of result.content) }
+        ensures same { (result.version ≡ header.now.version) × (result.order ≡ header.now.order) }
+        ensures near { OnBody (StandsNear octets.now) (content_of result.content) }
+    {
+        Message {
+            version: header.version,
+            order: header.order,
+            content: self.parts.lend(header.order, octets),
+        }
+    }
+}
+
+/// A message as its reading left it: its header, its octets, and where its parts lie among them. It lends the message, or
+/// what one kind of message says, without reading it again.
+#[derive(Drop)]
+pub struct Reading<'m> {
+    header: &'m Header,
+    octets: &'m [u8],
+    places: &'m Places,
+}
+
+impl<'m> Model for Reading<'m> {
+    ghost use Rattle.giop_core.specs.Places.{ArePlacesOf, Headed};
+
+    ghost Value = { Headed };
+
+    ghost view = { λ m. record { header = m.header.now; octets = m.octets.now } };
+
+    ghost invariant = { λ m. ArePlacesOf m.header.now m.octets.now m.places.now };
+}
+
+impl<'m> Reading<'m> {
+    /// The octets after a header, whose parts lie at these places.
+    #[inline(always)]
+    pub fn new(header: &'m Header, octets: &'m [u8], places: &'m Places) -> Reading<'m>
+        requires { ArePlacesOf header.now octets.now places.now }
+        ensures { result ≡ record { header = header.now; octets = octets.now } }
+    {
+        Reading {
+            header,
+            octets,
+            places,
+        }
+    }
+
+    /// The header.
+    #[inline(always)]
+    pub fn header(&self) -> Header
+        ensures header { result ≡ self.now.header }
+        // the message has no fault
+        ensures valid { IsOk (said_by self.now) }
+    {
+        *self.header
+    }
+
+    /// The message.
+    #[inline(always)]
+    pub fn message(&self) -> Message<'m>
+        ensures says { said_by self.now ≡ Ok (content_of result.content) }
+        ensures same { (result.version ≡ self.now.header.version) × (result.order ≡ self.now.header.order) }
+        ensures near { OnBody (StandsNear self.now.octets) (content_of result.content) }
+    {
+        self.places.lend(self.header, self.octets)
+    }
+
+    /// What a Request says.
+    #[inline(always)]
+    pub fn request(&self) -> Request<'m>
+        requires { self.now.header.kind ≡ kind.Request }
+        ensures says { said_by self.now ≡ Ok (request_of result) }
+        ensures near { StandsNear self.now.octets (rest_of result.body) }
+    {
+        match &self.places.parts {
+            Parts::Request(it) => it.lend(self.header.order, self.octets),
+            _ => unreachable!(),
+        }
+    }
+
+    /// What a Reply says.
+    #[inline(always)]
+    pub fn reply(&self) -> Reply<'m>
+        requires { self.now.header.kind ≡ kind.Reply }
+        ensures says { said_by self.now ≡ Ok (reply_of result) }
+        ensures near { StandsNear self.now.octets (rest_of result.body) }
+    {
+        match &self.places.parts {
+            Parts::Reply(it) => it.lend(self.header.order, self.octets),
+            _ => unreachable!(),
+        }
+    }
+
+    /// What a CancelRequest says.
+    #[inline(always)]
+    pub fn cancel(&self) -> CancelRequest
+        requires { self.now.header.kind ≡ kind.CancelRequest }
+        ensures { said_by self.now ≡ Ok (cancel_of result) }
+    {
+        match &self.places.parts {
+            Parts::Cancel(id) => CancelRequest { request_id: *id },
+            _ => unreachable!(),
+        }
+    }
+
+    /// What a LocateRequest says.
+    #[inline(always)]
+    pub fn locate_request(&self) -> LocateRequest<'m>
+        requires { self.now.header.kind ≡ kind.LocateRequest }
+        ensures { said_by self.now ≡ Ok (locate_request_of result) }
+    {
+        match &self.places.parts {
+            Parts::LocateRequest(id, target) => LocateRequest {
+                request_id: *id,
+                target: target.lend(self.header.order, self.octets),
+            },
+            _ => unreachable!(),
+        }
+    }
+
+    /// What a LocateReply says.
+    #[inline(always)]
+    pub fn locate_reply(&self) -> LocateReply<'m>
+        requires { self.now.header.kind ≡ kind.LocateReply }
+        ensures says { said_by self.now ≡ Ok (locate_reply_of result) }
+        ensures near { StandsNear self.now.octets (rest_of result.body) }
+    {
+        match &self.places.parts {
+            Parts::LocateReply(id, status, body) => LocateReply {
+                request_id: *id,
+                status: *status,
+                body: body.lend(self.header.order, self.octets),
+            },
+            _ => unreachable!(),
+        }
+    }
 }
 
 /// Reads the message that the octets after a header are, or finds the first fault in them. It takes no
@@ -127,8 +301,7 @@ pub fn read_message<'m>(header: &Header, octets: &'m [u8]) -> Result<Message<'m>
     ensures same { IfOk result (λ m. (m.version ≡ header.now.version) × (m.order ≡ header.now.order)) }
     ensures near { IfOk result (λ m. OnBody (StandsNear octets.now) (content_of m.content)) }
 {
-    if let (MessageKind::Request, Version::V12) = (header.kind, header.version) {
-        return read_request_12(header.order, octets);
-    }
-    message_of_kind(header.kind, header.version, header.order, octets)
+    let mut places = Places::new();
+    places.find(header, octets)?;
+    Ok(places.lend(header, octets))
 }

@@ -7,8 +7,7 @@ ghost use Rattle.cdr_core.specs.Value.{values};
 ghost use Rattle.cdr_core.specs.View.{values_of};
 ghost use Rattle.cdr_core.specs.Writing.{octets_of_all, place_in, AreWritable, PutsAll};
 ghost use Rattle.giop_core.specs.Items.{item_at};
-ghost use Rattle.giop_core.specs.Lent.{content_of, Shows};
-ghost use Rattle.giop_core.specs.Messages.{message_of};
+ghost use Rattle.giop_core.specs.Places.{FindsParts};
 ghost use Rattle.giop_core.specs.Private.{Adds, Begins, PutsFields};
 ghost use Rattle.giop_core.specs.Statuses.{reply_status_number, reply_status_of};
 ghost use Rattle.giop_core.specs.Texts.{reply_status_text};
@@ -18,10 +17,11 @@ ghost use Rattle.giop_core.specs.declared.header.Version.TheVariants.{V10, V12};
 
 use crate::error::{MessageFault, WriteError};
 use crate::header::{MessageKind, Version};
-use crate::message::{AFTER_HEADER, Body, Content, Message, body_at};
-use crate::service_context::{Contexts, check_contexts, put_contexts, read_contexts};
+use crate::message::Body;
+use crate::places::{Finder, Parts, ReplyParts};
+use crate::service_context::{Contexts, check_contexts, put_contexts};
 use crate::writing::{begin, check_text, finish, put_header};
-use cdr_core::{Cursor, Order, Val, Writer};
+use cdr_core::{Order, Val, Writer};
 use std::alloc::AllocError;
 use std::fmt;
 
@@ -118,65 +118,48 @@ impl Version {
     }
 }
 
-/// Reads a Reply of 1.0 or 1.1.
-#[tactic(auto, unfolding(crate::specs::Messages::message_of, crate::specs::Rows::row, crate::specs::Content::content), using(crate::proofs::Again::addressed_again, crate::proofs::Again::items_again))]
-fn read_reply_10(version: Version, order: Order, octets: &[u8]) -> Result<Message<'_>, MessageFault>
-    ensures shows { Shows (λ m. content_of m.content) result (message_of V10 kind.Reply order octets.now) }
-    ensures same { IfOk result (λ m. (m.version ≡ version) × (m.order ≡ order)) }
-{
-    let mut cursor = Cursor::new(octets, order, AFTER_HEADER);
-    let contexts = read_contexts(&mut cursor)?;
-    let request_id = cursor.ulong()?;
-    let status = cursor.ordinal(STATUSES_10)?;
-    Ok(Message {
-        version,
-        order,
-        content: Content::Reply(Reply {
-            request_id,
-            status,
-            contexts,
-            body: body_at(&cursor, order),
-        }),
-    })
-}
-
-/// Reads a Reply of 1.2.
-#[tactic(auto, unfolding(crate::specs::Messages::message_of, crate::specs::Rows::row, crate::specs::Content::content), using(crate::proofs::Again::addressed_again, crate::proofs::Again::items_again))]
-fn read_reply_12(order: Order, octets: &[u8]) -> Result<Message<'_>, MessageFault>
-    ensures shows { Shows (λ m. content_of m.content) result (message_of V12 kind.Reply order octets.now) }
-    ensures same { IfOk result (λ m. (m.version ≡ V12) × (m.order ≡ order)) }
-{
-    let mut cursor = Cursor::new(octets, order, AFTER_HEADER);
-    let request_id = cursor.ulong()?;
-    let status = cursor.ordinal(STATUSES_12)?;
-    let contexts = read_contexts(&mut cursor)?;
-    cursor.align(8);
-    Ok(Message {
-        version: Version::V12,
-        order,
-        content: Content::Reply(Reply {
-            request_id,
-            status,
-            contexts,
-            body: body_at(&cursor, order),
-        }),
-    })
-}
-
-/// Reads a Reply.
-#[tactic(auto, using(crate::proofs::Shared::reply_11))]
-pub(crate) fn read_reply(
-    version: Version,
+/// Finds the parts of a Reply of 1.0 or 1.1.
+#[tactic(auto, unfolding(crate::specs::Messages::message_of, crate::specs::Rows::row, crate::specs::Content::content), using(crate::proofs::Again::list_again))]
+pub(crate) fn find_reply_10(
     order: Order,
     octets: &[u8],
-) -> Result<Message<'_>, MessageFault>
-    ensures shows { Shows (λ m. content_of m.content) result (message_of version kind.Reply order octets.now) }
-    ensures same { IfOk result (λ m. (m.version ≡ version) × (m.order ≡ order)) }
+    parts: &mut Parts,
+) -> Result<(), MessageFault>
+    ensures { FindsParts V10 kind.Reply order octets.now result parts.new }
 {
-    match version {
-        Version::V10 | Version::V11 => read_reply_10(version, order, octets),
-        Version::V12 => read_reply_12(order, octets),
-    }
+    let mut finder = Finder::new(octets, order);
+    let contexts = finder.contexts()?;
+    let request_id = finder.ulong()?;
+    let status = finder.ordinal(STATUSES_10)?;
+    *parts = Parts::Reply(ReplyParts {
+        request_id,
+        status,
+        contexts,
+        body: finder.body(),
+    });
+    Ok(())
+}
+
+/// Finds the parts of a Reply of 1.2.
+#[tactic(auto, unfolding(crate::specs::Messages::message_of, crate::specs::Rows::row, crate::specs::Content::content), using(crate::proofs::Again::list_again))]
+pub(crate) fn find_reply_12(
+    order: Order,
+    octets: &[u8],
+    parts: &mut Parts,
+) -> Result<(), MessageFault>
+    ensures { FindsParts V12 kind.Reply order octets.now result parts.new }
+{
+    let mut finder = Finder::new(octets, order);
+    let request_id = finder.ulong()?;
+    let status = finder.ordinal(STATUSES_12)?;
+    let contexts = finder.contexts()?;
+    *parts = Parts::Reply(ReplyParts {
+        request_id,
+        status,
+        contexts,
+        body: finder.aligned_body(),
+    });
+    Ok(())
 }
 
 /// Appends the fields of a Reply of 1.0 and 1.1. A status is written as the unsigned long that it is.

@@ -9,8 +9,8 @@ ghost use Rattle.cdr_core.specs.View.{values_of};
 ghost use Rattle.cdr_core.specs.Writing.{Appends, AreWritable};
 ghost use Rattle.giop_core.specs.Content.{wish_by, wish_if};
 ghost use Rattle.giop_core.specs.Items.{item_at};
-ghost use Rattle.giop_core.specs.Lent.{addressed_by, content_of, Shows};
-ghost use Rattle.giop_core.specs.Messages.{message_of};
+ghost use Rattle.giop_core.specs.Lent.{addressed_by};
+ghost use Rattle.giop_core.specs.Places.{FindsParts};
 ghost use Rattle.giop_core.specs.Private.{fields_in, Reads, three_value, Adds, PutsFields};
 ghost use Rattle.giop_core.specs.Rows.{reserved};
 ghost use Rattle.giop_core.specs.Texts.{wish_text};
@@ -20,9 +20,10 @@ ghost use Rattle.giop_core.specs.declared.header.Version.TheVariants.{V10, V11, 
 
 use crate::error::{MessageFault, WriteError};
 use crate::header::{MessageKind, Version};
-use crate::message::{AFTER_HEADER, Body, Content, Message, body_at};
-use crate::service_context::{Contexts, check_contexts, put_contexts, read_contexts};
-use crate::target_address::{Target, check_target, put_key, put_target, read_target};
+use crate::message::Body;
+use crate::places::{Finder, Parts, RequestParts, TargetPlace};
+use crate::service_context::{Contexts, check_contexts, put_contexts};
+use crate::target_address::{Target, check_target, put_key, put_target};
 use crate::writing::{begin, check_text, finish};
 use cdr_core::{Cursor, Fault, Order, Val, Writer};
 use std::alloc::AllocError;
@@ -107,7 +108,7 @@ fn wish_if(expected: bool) -> ReplyWish
 /// Reads three reserved octets, which may be any.
 #[inline(always)]
 #[tactic(auto, using(crate::proofs::Steps::three_reads, crate::proofs::Steps::three_stop_1, crate::proofs::Steps::three_stop_2, crate::proofs::Steps::three_stop_3))]
-fn read_reserved(cursor: &mut Cursor) -> Result<[u8; 3], Fault>
+pub(crate) fn read_reserved(cursor: &mut Cursor) -> Result<[u8; 3], Fault>
     ensures { Reads three_value result reserved cursor.old cursor.new }
 {
     let a = cursor.octet()?;
@@ -116,85 +117,65 @@ fn read_reserved(cursor: &mut Cursor) -> Result<[u8; 3], Fault>
     Ok([a, b, c])
 }
 
-/// Reads a Request of 1.0 or 1.1, which has three reserved octets more. Each reader of a Request or a Reply makes the
-/// whole message in its place, since to move one costs as much as to read it.
+/// Finds the parts of a Request of 1.0 or 1.1, which has three reserved octets more.
 #[inline(never)]
-#[tactic(auto, unfolding(crate::specs::Messages::message_of, crate::specs::Rows::row, crate::specs::Content::content), using(crate::proofs::Again::addressed_again, crate::proofs::Again::items_again))]
-fn read_request_by_key(
+#[tactic(auto, unfolding(crate::specs::Messages::message_of, crate::specs::Rows::row, crate::specs::Content::content), using(crate::proofs::Again::object_again, crate::proofs::Again::list_again))]
+pub(crate) fn find_request_by_key(
     version: Version,
     order: Order,
     octets: &[u8],
-) -> Result<Message<'_>, MessageFault>
+    parts: &mut Parts,
+) -> Result<(), MessageFault>
     requires { ¬ (version ≡ V12) }
-    ensures shows { Shows (λ m. content_of m.content) result (message_of version kind.Request order octets.now) }
-    ensures same { IfOk result (λ m. (m.version ≡ version) × (m.order ≡ order)) }
+    ensures { FindsParts version kind.Request order octets.now result parts.new }
 {
-    let mut cursor = Cursor::new(octets, order, AFTER_HEADER);
-    let contexts = read_contexts(&mut cursor)?;
-    let request_id = cursor.ulong()?;
-    let expected = cursor.boolean()?;
+    let mut finder = Finder::new(octets, order);
+    let contexts = finder.contexts()?;
+    let request_id = finder.ulong()?;
+    let expected = finder.boolean()?;
     if matches!(version, Version::V11) {
-        let _reserved = read_reserved(&mut cursor)?;
+        let _reserved = finder.reserved()?;
     }
-    let key = cursor.octets()?;
-    let operation = cursor.string()?;
-    let _principal = cursor.octets()?;
-    Ok(Message {
-        version,
-        order,
-        content: Content::Request(Request {
-            request_id,
-            reply: wish_if(expected),
-            target: Target::Key(key),
-            operation,
-            contexts,
-            body: body_at(&cursor, order),
-        }),
-    })
+    let key = finder.octets()?;
+    let operation = finder.string()?;
+    let _principal = finder.octets()?;
+    *parts = Parts::Request(RequestParts {
+        request_id,
+        reply: wish_if(expected),
+        target: TargetPlace::Key(key),
+        operation,
+        contexts,
+        body: finder.body(),
+    });
+    Ok(())
 }
 
-/// Reads a Request of 1.2.
+/// Finds the parts of a Request of 1.2.
 #[inline(always)]
-#[tactic(auto, unfolding(crate::specs::Messages::message_of, crate::specs::Rows::row, crate::specs::Content::content), using(crate::proofs::Again::addressed_again, crate::proofs::Again::items_again))]
-pub(crate) fn read_request_12(order: Order, octets: &[u8]) -> Result<Message<'_>, MessageFault>
-    ensures shows { Shows (λ m. content_of m.content) result (message_of V12 kind.Request order octets.now) }
-    ensures same { IfOk result (λ m. (m.version ≡ V12) × (m.order ≡ order)) }
-{
-    let mut cursor = Cursor::new(octets, order, AFTER_HEADER);
-    let request_id = cursor.ulong()?;
-    let flags = cursor.octet()?;
-    let _reserved = read_reserved(&mut cursor)?;
-    let target = read_target(&mut cursor)?;
-    let operation = cursor.string()?;
-    let contexts = read_contexts(&mut cursor)?;
-    cursor.align(8);
-    Ok(Message {
-        version: Version::V12,
-        order,
-        content: Content::Request(Request {
-            request_id,
-            reply: wish_by(flags),
-            target,
-            operation,
-            contexts,
-            body: body_at(&cursor, order),
-        }),
-    })
-}
-
-/// Reads a Request.
-pub(crate) fn read_request(
-    version: Version,
+#[tactic(auto, unfolding(crate::specs::Messages::message_of, crate::specs::Rows::row, crate::specs::Content::content), using(crate::proofs::Again::object_again, crate::proofs::Again::list_again))]
+pub(crate) fn find_request_12(
     order: Order,
     octets: &[u8],
-) -> Result<Message<'_>, MessageFault>
-    ensures shows { Shows (λ m. content_of m.content) result (message_of version kind.Request order octets.now) }
-    ensures same { IfOk result (λ m. (m.version ≡ version) × (m.order ≡ order)) }
+    parts: &mut Parts,
+) -> Result<(), MessageFault>
+    ensures { FindsParts V12 kind.Request order octets.now result parts.new }
 {
-    match version {
-        Version::V10 | Version::V11 => read_request_by_key(version, order, octets),
-        Version::V12 => read_request_12(order, octets),
-    }
+    let mut finder = Finder::new(octets, order);
+    let request_id = finder.ulong()?;
+    let flags = finder.octet()?;
+    let _reserved = finder.reserved()?;
+    let target = finder.target()?;
+    let operation = finder.string()?;
+    let contexts = finder.contexts()?;
+    *parts = Parts::Request(RequestParts {
+        request_id,
+        reply: wish_by(flags),
+        target,
+        operation,
+        contexts,
+        body: finder.aligned_body(),
+    });
+    Ok(())
 }
 
 /// The response_expected for a wish, in 1.0 and 1.1.

@@ -8,6 +8,7 @@ ghost use Rattle.cdr_core.specs.Value.{values};
 ghost use Rattle.cdr_core.specs.Writing.{IsWritable, Appends, PutsAll, AreWritable};
 ghost use Rattle.ior_core.specs.Grammar.{tagged};
 ghost use Rattle.giop_core.specs.Items.{contexts_left, item_at, list_value, tagged_value};
+ghost use Rattle.giop_core.specs.Places.{IsOn};
 ghost use Rattle.giop_core.specs.Private.{Reads, Gives, contexts_value, lent_value, Checks};
 ghost use Rattle.giop_core.specs.Rows.{contexts};
 
@@ -41,6 +42,8 @@ fn pass(cursor: &mut Cursor, count: u32) -> Result<(), Fault>
 pub(crate) fn read_contexts<'m>(cursor: &mut Cursor<'m>) -> Result<Contexts<'m>, Fault>
     ensures reads { Reads contexts_value result contexts cursor.old cursor.new }
     ensures all { IfOk result (λ c. length (contexts_left c) ≡ c.left) }
+    // the first of them is behind their count
+    ensures first { IfOk result (λ c. IsOn cursor.old.place cursor.old.rest c.cursor × (c.cursor.order ≡ cursor.old.order)) }
 {
     let left = cursor.count()?;
     let first = cursor.fork();

@@ -60,7 +60,7 @@ fn read_selected<'m>(cursor: &mut Cursor<'m>) -> Result<(u32, IorView<'m>), Faul
 /// key, the usual target, stays small.
 #[inline(never)]
 #[tactic(auto, using(crate::proofs::Choices::choice_short, crate::proofs::Choices::choice_0, crate::proofs::Choices::choice_1, crate::proofs::Choices::choice_2, crate::proofs::Choices::choice_0_stops, crate::proofs::Choices::choice_1_stops, crate::proofs::Choices::choice_2_stops, crate::proofs::Choices::choice_unknown))]
-fn read_any_target<'m>(cursor: &mut Cursor<'m>) -> Result<Target<'m>, MessageFault>
+pub(crate) fn read_any_target<'m>(cursor: &mut Cursor<'m>) -> Result<Target<'m>, MessageFault>
     ensures { Gives target_value result (field_at target cursor.old.order cursor.old.place cursor.old.rest) cursor.old cursor.new }
 {
     let mut ahead = cursor.fork();

@@ -1,6 +1,5 @@
 use Rattle.std.proofs.Common.{[], ◌∷◌, map}
-use Rattle.std.proofs.lemmas.Result.{err_from_is_err_and}
-use Rattle.cdr_core.proofs.Appending.{keeps_as, keeps_as_kept, puts_one, puts_then, stands, then_stands}
+use Rattle.cdr_core.proofs.Appending.{puts_one, puts_then}
 use Rattle.cdr_core.specs.Parts.{ulong_value}
 use Rattle.cdr_core.specs.Value as value
 use Rattle.cdr_core.specs.Value.{Value, values}

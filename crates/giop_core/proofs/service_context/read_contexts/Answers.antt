@@ -1,4 +1,5 @@
 use Rattle.std.proofs.lemmas.Result.{err_from_is_err_and}
+use Rattle.giop_core.proofs.Finding.{counted_on}
 use Rattle.giop_core.proofs.Passing.{contexts_read, contexts_short, contexts_stop, items_all}
 use Rattle.giop_core.proofs.service_context.read_contexts.Goals as goal
 
@@ -30,3 +31,8 @@ returns-clause-all c =
     let mid = c.count.new.self in
     let new = c.pass.new.cursor in
     rw c.fork-first.ensures (items_all mid.order c.in_ok-left.left mid.place mid.rest new.place new.rest c.in_ok-pass.ensures.0)
+
+pub returns-clause-first : goal.returns-clause-first
+returns-clause-first c =
+    let old = c.args.cursor.now in
+    rw c.fork-first.ensures (counted_on old.order old.place old.rest c.in_ok-left.left c.count.new.self c.in_ok-left.ensures.0, c.in_ok-left.ensures.1)

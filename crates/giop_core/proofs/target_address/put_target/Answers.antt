@@ -1,6 +1,5 @@
 use Rattle.std.proofs.Common.{pos}
-use Rattle.std.proofs.lemmas.Result.{err_from_is_err_and}
-use Rattle.cdr_core.proofs.Appending.{keeps_all, keeps_as, stands, then_stands}
+use Rattle.cdr_core.proofs.Appending.{stands, then_stands}
 use Rattle.cdr_core.specs.Parts.{short_value, ulong_value}
 use Rattle.cdr_core.specs.Value as value
 use Rattle.giop_core.specs.Items.{contexts_left, tagged_value}
