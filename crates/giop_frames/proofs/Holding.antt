@@ -3,6 +3,7 @@ use Rattle.std.proofs.Common.{◌≡◌, ℕ, ◌+◌, ◌*◌, ◌≤◌, ◌<�
 use Rattle.std.proofs.Math.Nat.{mul-le-mul_left}
 use Rattle.std.proofs.lemmas.List.{drop_more}
 use Rattle.giop_core.specs.declared.header.Header.{Header}
+use Rattle.giop_core.specs.declared.message.Places.{Places}
 use Rattle.giop_frames.specs.declared.limits.Limits.{Limits}
 use Rattle.giop_frames.specs.declared.partial.Part.{Part}
 use Rattle.giop_frames.specs.Standing.{AreShort, AreWithin, IsBounded, entries, frame_held, message_at, parts_held, pending_at}
@@ -56,10 +57,11 @@ held-fits limits complete b needed ps n m is same needs kept w =
 
 -- an assembler that holds nothing
 
-pub sound-nothing : (limits : Limits) (failed : Bool) (b : List ℕ) (ps : List Entry) → b ≡ [] → ps ≡ [] → IsSound limits failed None b 12 ps
-sound-nothing limits failed b ps e is = record {
+pub sound-nothing : (limits : Limits) (failed : Bool) (b : List ℕ) (places : Places) (ps : List Entry) → b ≡ [] → ps ≡ [] → IsSound limits failed None b places 12 ps
+sound-nothing limits failed b places ps e is = record {
   needs = subst (λ (x : List ℕ). Needs limits x 12) (sym e) (needs-nothing limits);
   kept = tt;
+  placed = tt;
   within = subst (AreWithin limits) (sym is) (record { count = omega arith; each = tt });
   silent = λ f. (refl, e, is);
 }

@@ -2,6 +2,8 @@
 -- them to know what is promised.
 use Rattle.std.specs.Prelude.{◌≡◌, ℕ, ◌<◌, ◌≤◌, ◌++◌, List, [], ◌∷◌, Option, Some, None, is_some, Ok, Err, IsOk, Bool, true, length, drop, if◌then◌else◌}
 use Rattle.giop_core.specs.declared.header.Header.{Header}
+use Rattle.giop_core.specs.declared.message.Places.{Places}
+use Rattle.giop_core.specs.Places.{ArePlacesOf}
 use Rattle.giop_frames.specs.declared.fault.StreamFault.TheVariants.{TwiceStarted}
 use Rattle.giop_frames.specs.declared.deframer.Seen.{Seen}
 use Rattle.giop_frames.specs.declared.deframer.Seen.TheVariants.{Waiting as SeenWaiting, Whole as SeenWhole, Refused as SeenRefused}
@@ -81,6 +83,11 @@ verdict_at SettledQuiet b = Quiet
 verdict_at (SettledDone h) b = Done (framed h b)
 verdict_at (SettledBad e) b = Bad e
 
+-- the parts of a message that it completes lie at these places
+abbrev pub IsPlaced : Settled → List ℕ → Places → Type 0
+IsPlaced (SettledDone h) b places = ArePlacesOf h (drop 12 b) places
+IsPlaced _ b places = Unit {0}
+
 -- the judgement of a whole message that could have been cut
 abbrev pub judged_uncut : List Entry → Frame → Verdict
 judged_uncut ps f = if is_some (part_in ps (key_of f)) then Bad TwiceStarted else judged_whole f
@@ -124,15 +131,21 @@ abbrev pub IsKept : Limits → Option Header → List ℕ → Type 0
 IsKept limits None b = Unit {0}
 IsKept limits (Some h) b = IsWhole limits h b
 
+-- its parts lie at these places
+abbrev pub ArePlaced : Option Header → List ℕ → Places → Type 0
+ArePlaced None b places = Unit {0}
+ArePlaced (Some h) b places = ArePlacesOf h (drop 12 b) places
+
 -- one step of a stream: octets c after s, which complete a message under a header or none
 pub record IsStep (limits : Limits) (s c : List ℕ) (complete : Option Header) (b : List ℕ) (ps : List Entry) : Type 0 where
   pub stands : Stands limits (pending_at complete b) ps (s ++ c)
   pub messages : messages_of limits (s ++ c) ≡ messages_of limits s ++ completed_at (length (s ++ c)) (message_at complete b)
 
 -- what is true of an assembler's fields
-pub record IsSound (limits : Limits) (failed : Bool) (complete : Option Header) (b : List ℕ) (needed : ℕ) (ps : List Entry) : Type 0 where
+pub record IsSound (limits : Limits) (failed : Bool) (complete : Option Header) (b : List ℕ) (places : Places) (needed : ℕ) (ps : List Entry) : Type 0 where
   pub needs : Needs limits (pending_at complete b) needed
   pub kept : IsKept limits complete b
+  pub placed : ArePlaced complete b places
   pub within : AreWithin limits ps
   pub silent : failed ≡ true → (complete ≡ None) × (b ≡ []) × (ps ≡ [])
 

@@ -4,6 +4,7 @@ use Rattle.giop_core.specs.declared.header.Header.{Header}
 use Rattle.giop_core.specs.declared.message.Message.{Message}
 use Rattle.giop_core.specs.Content.{Rest}
 use Rattle.giop_core.specs.Lent as lent
+use Rattle.giop_core.specs.Places.{Headed}
 use Rattle.giop_frames.specs.declared.fault.StreamFault.{StreamFault}
 use Rattle.giop_frames.specs.declared.fault.StreamFault.TheVariants.{Failed, Memory}
 use Rattle.giop_frames.specs.declared.limits.Limits.{Limits}
@@ -24,6 +25,10 @@ pub record Standing : Type 0 where
 -- octets of a header and after it, as a frame under that header
 abbrev pub framed : Header → List ℕ → Frame
 framed h b = record { header = h; octets = drop 12 b }
+
+-- a message that was read, as a frame
+abbrev pub frame_of : Headed → Frame
+frame_of m = record { header = m.header; octets = m.octets }
 
 -- a partial message under its key, without the twelve octets of its header
 abbrev pub entry_of : Part → Entry

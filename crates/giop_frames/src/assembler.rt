@@ -1,11 +1,12 @@
 //! The assembler: octets as they come, and each message that completes.
 
-ghost use Rattle.std.specs.Prelude.{◌≡◌, ◌<◌, ◌≤◌, ◌++◌, List, [], ℕ, length, take, false, None, Ok, Err, IfOk, IfErr, IfSome, IsOk, IsSomeAnd, OnErr, OnOk, MatchResult, MatchOption, IsTrue};
+ghost use Rattle.std.specs.Prelude.{◌≡◌, ◌<◌, ◌≤◌, ◌+◌, ◌++◌, List, [], ℕ, length, take, false, None, Ok, Err, IfOk, IfErr, IfSome, IsOk, IsSomeAnd, OnErr, OnOk, MatchResult, MatchOption, IsTrue};
+ghost use Rattle.std.specs.Option.{option_map};
 ghost use Rattle.giop_core.specs.Lent.{content_of as content_said};
 ghost use Rattle.giop_core.specs.Messages.{OnBody};
-ghost use Rattle.giop_frames.specs.Private.{Needs, IsKept, IsStep};
+ghost use Rattle.giop_frames.specs.Private.{ArePlaced, Needs, IsKept, IsStep};
 ghost use Rattle.giop_frames.specs.Fragments.{content_of, partials_in};
-ghost use Rattle.giop_frames.specs.Standing.{AreWithin, HasPlace, IsBounded, IsFault, IsLent, StandsFor, completed_at, entries, frame_held, octets_held, parts_held, pending_at};
+ghost use Rattle.giop_frames.specs.Standing.{AreWithin, HasPlace, IsBounded, IsFault, IsLent, StandsFor, completed_at, entries, frame_held, frame_of, octets_held, parts_held, pending_at};
 ghost use Rattle.giop_frames.specs.Streams.{Stands, frames_of, messages_of, rest_of};
 
 use crate::deframer::{Gathered, Seen, gather};
@@ -13,7 +14,7 @@ use crate::fault::StreamFault;
 use crate::limits::Limits;
 use crate::partial::Part;
 use crate::reassembly::{Settled, settle};
-use giop_core::{Header, Message, read_message};
+use giop_core::{Header, Message, Places, Reading};
 use std::alloc::Global;
 use std::fmt;
 use std::marker::Model;
@@ -32,6 +33,7 @@ fn advance_once(
     frame: &mut Vec<u8>,
     needed: &mut usize,
     parts: &mut Vec<Part>,
+    places: &mut Places,
     piece: &[u8],
 ) -> Result<Step, StreamFault>
     requires needed { Needs limits.now frame.old.items needed.old }
@@ -42,6 +44,7 @@ fn advance_once(
     ensures taken { IfOk result (λ r. (0 < r.taken) × (r.taken ≤ length piece.now)) }
     ensures needed { IfOk result (λ r. Needs limits.now (pending_at r.complete frame.new.items) needed.new) }
     ensures kept { IfOk result (λ r. IsKept limits.now r.complete frame.new.items) }
+    ensures placed { IfOk result (λ r. ArePlaced r.complete frame.new.items places.new) }
     ensures within { AreWithin limits.now (entries parts.old.items) → IfOk result (λ r. AreWithin limits.now (entries parts.new.items)) }
 {
     let Gathered { taken, seen } = gather(limits, frame, *needed, piece)?;
@@ -56,7 +59,7 @@ fn advance_once(
         Seen::Refused(fault) => Err(fault),
         Seen::Whole(header) => {
             *needed = Header::LEN;
-            match settle(limits, alloc, &header, frame, parts)? {
+            match settle(limits, alloc, &header, frame, parts, places)? {
                 Settled::Quiet => Ok(Step {
                     taken,
                     complete: None,
@@ -78,6 +81,7 @@ fn advance(
     frame: &mut Vec<u8>,
     needed: &mut usize,
     parts: &mut Vec<Part>,
+    places: &mut Places,
     piece: &[u8],
 ) -> Result<Step, StreamFault>
     requires needed { Needs limits.now frame.old.items needed.old }
@@ -90,12 +94,13 @@ fn advance(
     ensures empty { piece.now ≡ [] → OnErr result ⊥ × IfOk result (λ r. (r.taken ≡ 0) × (r.complete ≡ None)) × (frame.new.items ≡ frame.old.items) × (parts.new.items ≡ parts.old.items) }
     ensures needed { IfOk result (λ r. Needs limits.now (pending_at r.complete frame.new.items) needed.new) }
     ensures kept { IfOk result (λ r. IsKept limits.now r.complete frame.new.items) }
+    ensures placed { IfOk result (λ r. ArePlaced r.complete frame.new.items places.new) }
     ensures within { AreWithin limits.now (entries parts.old.items) → IfOk result (λ r. AreWithin limits.now (entries parts.new.items)) }
 {
     let mut taken = 0;
     while taken < piece.len() {
         let (_, left) = piece.split_at(taken);
-        match advance_once(limits, alloc, frame, needed, parts, left) {
+        match advance_once(limits, alloc, frame, needed, parts, places, left) {
             Ok(step) => {
                 taken += step.taken;
                 if step.complete.is_some() {
@@ -148,6 +153,7 @@ pub struct Assembler {
     needed: usize,
     parts: Vec<Part>,
     complete: Option<Header>,
+    places: Places,
     failed: bool,
 }
 
@@ -160,7 +166,7 @@ impl Model for Assembler {
 
     ghost view = { λ a. record { limits = a.limits; failed = a.failed; pending = pending_at a.complete a.frame.items; parts = entries a.parts.items; message = message_at a.complete a.frame.items } };
 
-    ghost invariant = { λ a. IsSound a.limits a.failed a.complete a.frame.items a.needed (entries a.parts.items) };
+    ghost invariant = { λ a. IsSound a.limits a.failed a.complete a.frame.items a.places a.needed (entries a.parts.items) };
 }
 
 impl Assembler {
@@ -178,6 +184,7 @@ impl Assembler {
             needed: Header::LEN,
             parts: Vec::new(alloc),
             complete: None,
+            places: Places::new(),
             failed: false,
         }
     }
@@ -216,6 +223,7 @@ impl Assembler {
             &mut self.frame,
             &mut self.needed,
             &mut self.parts,
+            &mut self.places,
             piece,
         ) {
             Ok(step) => {
@@ -242,6 +250,21 @@ impl Assembler {
         self.complete // set anew by each call of `feed`
     }
 
+    /// The message that the last call of `feed` completed, if it did, as its reading left it.
+    #[inline(always)]
+    pub fn reading(&self) -> Option<Reading<'_>>
+        ensures lent { option_map frame_of result ≡ self.now.message }
+        ensures within { IfSome result (λ m. 12 + length m.octets ≤ self.now.limits.message) }
+    {
+        match &self.complete {
+            Some(header) => {
+                let (_, octets) = self.frame.as_slice().split_at(Header::LEN);
+                Some(Reading::new(header, octets, &self.places))
+            }
+            None => None,
+        }
+    }
+
     /// The message that the last call of `feed` completed, if it did.
     #[inline(always)]
     pub fn message(&self) -> Option<Message<'_>>
@@ -250,12 +273,10 @@ impl Assembler {
         // its body begins where the readers of values take it
         ensures place { IfSome result (λ m. OnBody HasPlace (content_said m.content)) }
     {
-        let header = self.complete?;
-        let (_, octets) = self.frame.as_slice().split_at(Header::LEN);
-        // it is valid, as `feed` found
-        match read_message(&header, octets) {
-            Ok(message) => Some(message),
-            Err(_) => unreachable!(),
+        let _ = &self.limits; // so that its bound is known
+        match self.reading() {
+            Some(reading) => Some(reading.message()),
+            None => None,
         }
     }
 

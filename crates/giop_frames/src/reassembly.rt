@@ -5,7 +5,8 @@ ghost use Rattle.std.specs.Prelude.{◌≡◌, ◌+◌, ◌<◌, ◌≤◌, ◌^
 ghost use Rattle.std.specs.Vec.{vec_len};
 ghost use Rattle.giop_frames.specs.declared.partial.Key.TheVariants.{Of11};
 ghost use Rattle.giop_frames.specs.declared.reassembly.Role.TheVariants as role;
-ghost use Rattle.giop_frames.specs.Private.{IsSettled, IsSettledAs, IsTakenUp, judged_uncut, uncancelled, verdict_at};
+ghost use Rattle.giop_core.specs.declared.message.Places.{Places};
+ghost use Rattle.giop_frames.specs.Private.{IsPlaced, IsSettled, IsSettledAs, IsTakenUp, judged_uncut, uncancelled, verdict_at};
 ghost use Rattle.giop_frames.specs.Standing.{framed, entries};
 ghost use Rattle.giop_frames.specs.Streams.{part_in};
 ghost use Rattle.giop_frames.specs.Fragments.{has_id, id_of, judged_whole, key_of, may_come, role_of};
@@ -17,7 +18,7 @@ use crate::limits::Limits;
 use crate::naming::Named;
 use crate::partial::{Key, Part};
 use cdr_core::{Fault, Kind};
-use giop_core::{Header, MessageFault, MessageKind, Version, read_message};
+use giop_core::{Header, MessageFault, MessageKind, Places, Version};
 use std::alloc::{AllocError, Global};
 use std::mem;
 
@@ -125,13 +126,14 @@ pub enum TakenUp {
 
 /// Judges a whole message by its content.
 #[inline(always)]
-fn whole(header: &Header, frame: &[u8]) -> Settled
+fn whole(header: &Header, frame: &[u8], places: &mut Places) -> Settled
     requires { 12 ≤ length frame.now }
-    ensures { verdict_at result frame.now ≡ judged_whole (framed header.now frame.now) }
+    ensures verdict { verdict_at result frame.now ≡ judged_whole (framed header.now frame.now) }
+    ensures placed { IsPlaced result frame.now places.new }
 {
     let (_, octets) = frame.split_at(Header::LEN);
-    match read_message(header, octets) {
-        Ok(_) => Settled::Done(*header),
+    match places.find(header, octets) {
+        Ok(()) => Settled::Done(*header),
         Err(fault) => Settled::Bad(StreamFault::Body(fault)),
     }
 }
@@ -147,7 +149,8 @@ fn open(
 ) -> Result<Settled, AllocError>
     requires long { 12 + id_length header.now.version ≤ vec_len frame.old }
     requires short { vec_len frame.old < 2 ^ 32 }
-    ensures { IfOk result (λ v. IsSettledAs role.Opens v limits.now header.now frame.old.items frame.new.items (entries parts.old.items) (entries parts.new.items)) }
+    ensures by { IfOk result (λ v. IsSettledAs role.Opens v limits.now header.now frame.old.items frame.new.items (entries parts.old.items) (entries parts.new.items)) }
+    ensures placed { (places : Places) → IfOk result (λ v. IsPlaced v frame.new.items places) }
 {
     let key = key_of(header, frame.as_slice());
     if Part::is_among(parts.as_slice(), key) {
@@ -211,7 +214,8 @@ fn carry(
     parts: &mut Vec<Part>,
 ) -> Result<Settled, AllocError>
     requires { 12 + id_length header.now.version ≤ vec_len frame.old }
-    ensures { IfOk result (λ v. IsSettledAs role.Carries v limits.now header.now frame.old.items frame.new.items (entries parts.old.items) (entries parts.new.items)) }
+    ensures by { IfOk result (λ v. IsSettledAs role.Carries v limits.now header.now frame.old.items frame.new.items (entries parts.old.items) (entries parts.new.items)) }
+    ensures placed { (places : Places) → IfOk result (λ v. IsPlaced v frame.new.items places) }
 {
     match take_up(limits, header, frame.as_slice(), parts)? {
         TakenUp::Refused(fault) => Ok(Settled::Bad(fault)),
@@ -230,9 +234,11 @@ fn end(
     header: &Header,
     frame: &mut Vec<u8>,
     parts: &mut Vec<Part>,
+    places: &mut Places,
 ) -> Result<Settled, AllocError>
     requires { 12 + id_length header.now.version ≤ vec_len frame.old }
-    ensures { IfOk result (λ v. IsSettledAs role.Ends v limits.now header.now frame.old.items frame.new.items (entries parts.old.items) (entries parts.new.items)) }
+    ensures by { IfOk result (λ v. IsSettledAs role.Ends v limits.now header.now frame.old.items frame.new.items (entries parts.old.items) (entries parts.new.items)) }
+    ensures placed { IfOk result (λ v. IsPlaced v frame.new.items places.new) }
 {
     match take_up(limits, header, frame.as_slice(), parts)? {
         TakenUp::Continued(part) => {
@@ -249,7 +255,7 @@ fn end(
                 size,
                 ..first
             };
-            Ok(whole(&header, frame.as_slice()))
+            Ok(whole(&header, frame.as_slice(), places))
         }
         TakenUp::Refused(fault) => Ok(Settled::Bad(fault)),
     }
@@ -257,26 +263,28 @@ fn end(
 
 /// A CancelRequest drops what has come of its message, in any version (own rule).
 #[inline(never)]
-fn cancel(header: &Header, frame: &[u8], parts: &mut Vec<Part>) -> Settled
+fn cancel(header: &Header, frame: &[u8], parts: &mut Vec<Part>, places: &mut Places) -> Settled
     requires { 16 ≤ length frame.now }
     ensures verdict { verdict_at result frame.now ≡ judged_whole (framed header.now frame.now) }
+    ensures placed { IsPlaced result frame.now places.new }
     ensures parts { entries parts.new.items ≡ uncancelled (id_of (framed header.now frame.now)) (entries parts.old.items) }
 {
     let (_, octets) = frame.split_at(Header::LEN);
     Part::cancel_in(parts, header.order.ulong_of(octets));
-    whole(header, frame)
+    whole(header, frame, places)
 }
 
 /// A whole message that could have been cut must not have the request id of a partial one.
 #[inline(always)]
-fn uncut(header: &Header, frame: &[u8], parts: &[Part]) -> Settled
+fn uncut(header: &Header, frame: &[u8], parts: &[Part], places: &mut Places) -> Settled
     requires { 12 + id_length header.now.version ≤ length frame.now }
-    ensures { verdict_at result frame.now ≡ judged_uncut (entries parts.now) (framed header.now frame.now) }
+    ensures placed { IsPlaced result frame.now places.new }
+    ensures verdict { verdict_at result frame.now ≡ judged_uncut (entries parts.now) (framed header.now frame.now) }
 {
     if Part::is_among(parts, key_of(header, frame)) {
         return Settled::Bad(StreamFault::TwiceStarted);
     }
-    whole(header, frame)
+    whole(header, frame, places)
 }
 
 /// Judges a frame by its role, and updates the partial messages.
@@ -287,34 +295,38 @@ fn settle_as(
     header: &Header,
     frame: &mut Vec<u8>,
     parts: &mut Vec<Part>,
+    places: &mut Places,
 ) -> Result<Settled, AllocError>
     requires headed { 12 ≤ vec_len frame.old }
     requires short { vec_len frame.old < 2 ^ 32 }
     requires long { IsTrue (has_id role header.now.version) → 16 ≤ vec_len frame.old }
-    ensures { IfOk result (λ v. IsSettledAs role v limits.now header.now frame.old.items frame.new.items (entries parts.old.items) (entries parts.new.items)) }
+    ensures by { IfOk result (λ v. IsSettledAs role v limits.now header.now frame.old.items frame.new.items (entries parts.old.items) (entries parts.new.items)) }
+    ensures placed { IfOk result (λ v. IsPlaced v frame.new.items places.new) }
 {
     match role {
         Role::Opens => open(limits, alloc, header, frame, parts),
         Role::Carries => carry(limits, header, frame, parts),
-        Role::Ends => end(limits, header, frame, parts),
-        Role::Drops => Ok(cancel(header, frame.as_slice(), parts)),
-        Role::Uncut => Ok(uncut(header, frame.as_slice(), parts.as_slice())),
-        Role::Apart => Ok(whole(header, frame.as_slice())),
+        Role::Ends => end(limits, header, frame, parts, places),
+        Role::Drops => Ok(cancel(header, frame.as_slice(), parts, places)),
+        Role::Uncut => Ok(uncut(header, frame.as_slice(), parts.as_slice(), places)),
+        Role::Apart => Ok(whole(header, frame.as_slice(), places)),
     }
 }
 
 /// Judges a whole frame under a header, and updates the partial messages. In `frame` are left the octets of a
-/// message that it completes.
+/// message that it completes, and in `places` where its parts lie.
 pub(crate) fn settle(
     limits: &Limits,
     alloc: Global,
     header: &Header,
     frame: &mut Vec<u8>,
     parts: &mut Vec<Part>,
+    places: &mut Places,
 ) -> Result<Settled, AllocError>
     requires headed { 12 ≤ vec_len frame.old }
     requires short { vec_len frame.old < 2 ^ 32 }
-    ensures { IfOk result (λ v. IsSettled v limits.now header.now frame.old.items frame.new.items (entries parts.old.items) (entries parts.new.items)) }
+    ensures placed { IfOk result (λ v. IsPlaced v frame.new.items places.new) }
+    ensures by { IfOk result (λ v. IsSettled v limits.now header.now frame.old.items frame.new.items (entries parts.old.items) (entries parts.new.items)) }
 {
     let role = role_of(header);
     if interrupts(role, header.version, parts.as_slice()) {
@@ -327,5 +339,5 @@ pub(crate) fn settle(
         };
         return Ok(Settled::Bad(StreamFault::Body(MessageFault::Cdr(short))));
     }
-    settle_as(limits, alloc, role, header, frame, parts)
+    settle_as(limits, alloc, role, header, frame, parts, places)
 }

@@ -60,34 +60,34 @@ settle-requires-clause-short c =
 pub returns-in-Quiet-clause-stands : goal.returns-in-Quiet-clause-stands
 returns-in-Quiet-clause-stands c = λ s stands.
     let v = seen.Whole c.in-Whole.header in
-    goes-quiet c.args.limits.now c.args.frame.now.items c.gather.new.frame.items c.args.piece.now c.in_ok-taken.field-0.taken c.in_ok-taken.ensures.octets c.in_ok-taken.ensures.taken.1 c.in-Whole.header c.in_ok-taken.ensures.taken.0 (seen-as c.args.limits.now c.gather.new.frame.items c.in_ok-taken.field-0.seen v c.in-Whole.is c.in_ok-taken.ensures.seen) (exact-as c.gather.new.frame.items c.in_ok-taken.field-0.seen v c.in-Whole.is c.in_ok-taken.ensures.exact) c.settle.new.frame.items (entries c.args.parts.now.items) (entries c.settle.new.parts.items) s (settled-as c.in_ok-settle-in-Whole.field-0 settled.Quiet c.args.limits.now c.in-Whole.header c.gather.new.frame.items c.settle.new.frame.items (entries c.args.parts.now.items) (entries c.settle.new.parts.items) c.in-Quiet.is c.in_ok-settle-in-Whole.ensures) stands
+    goes-quiet c.args.limits.now c.args.frame.now.items c.gather.new.frame.items c.args.piece.now c.in_ok-taken.field-0.taken c.in_ok-taken.ensures.octets c.in_ok-taken.ensures.taken.1 c.in-Whole.header c.in_ok-taken.ensures.taken.0 (seen-as c.args.limits.now c.gather.new.frame.items c.in_ok-taken.field-0.seen v c.in-Whole.is c.in_ok-taken.ensures.seen) (exact-as c.gather.new.frame.items c.in_ok-taken.field-0.seen v c.in-Whole.is c.in_ok-taken.ensures.exact) c.settle.new.frame.items (entries c.args.parts.now.items) (entries c.settle.new.parts.items) s (settled-as c.in_ok-settle-in-Whole.field-0 settled.Quiet c.args.limits.now c.in-Whole.header c.gather.new.frame.items c.settle.new.frame.items (entries c.args.parts.now.items) (entries c.settle.new.parts.items) c.in-Quiet.is c.in_ok-settle-in-Whole.ensures.by) stands
 
 pub returns-in-Quiet-clause-needed : goal.returns-in-Quiet-clause-needed
-returns-in-Quiet-clause-needed c = let k = (settled-as c.in_ok-settle-in-Whole.field-0 settled.Quiet c.args.limits.now c.in-Whole.header c.gather.new.frame.items c.settle.new.frame.items (entries c.args.parts.now.items) (entries c.settle.new.parts.items) c.in-Quiet.is c.in_ok-settle-in-Whole.ensures) in subst (λ (x : List ℕ). Needs c.args.limits.now x 12) (sym k.1) (needs-nothing c.args.limits.now)
+returns-in-Quiet-clause-needed c = let k = (settled-as c.in_ok-settle-in-Whole.field-0 settled.Quiet c.args.limits.now c.in-Whole.header c.gather.new.frame.items c.settle.new.frame.items (entries c.args.parts.now.items) (entries c.settle.new.parts.items) c.in-Quiet.is c.in_ok-settle-in-Whole.ensures.by) in subst (λ (x : List ℕ). Needs c.args.limits.now x 12) (sym k.1) (needs-nothing c.args.limits.now)
 
 pub returns-in-Quiet-clause-within : goal.returns-in-Quiet-clause-within
 returns-in-Quiet-clause-within c = λ w.
     let v = seen.Whole c.in-Whole.header in
-    stays-quiet c.args.limits.now c.args.frame.now.items c.gather.new.frame.items c.args.piece.now c.in_ok-taken.field-0.taken c.in_ok-taken.ensures.octets c.in_ok-taken.ensures.taken.1 c.in-Whole.header c.in_ok-taken.ensures.taken.0 (seen-as c.args.limits.now c.gather.new.frame.items c.in_ok-taken.field-0.seen v c.in-Whole.is c.in_ok-taken.ensures.seen) (exact-as c.gather.new.frame.items c.in_ok-taken.field-0.seen v c.in-Whole.is c.in_ok-taken.ensures.exact) c.settle.new.frame.items (entries c.args.parts.now.items) (entries c.settle.new.parts.items) (settled-as c.in_ok-settle-in-Whole.field-0 settled.Quiet c.args.limits.now c.in-Whole.header c.gather.new.frame.items c.settle.new.frame.items (entries c.args.parts.now.items) (entries c.settle.new.parts.items) c.in-Quiet.is c.in_ok-settle-in-Whole.ensures) w
+    stays-quiet c.args.limits.now c.args.frame.now.items c.gather.new.frame.items c.args.piece.now c.in_ok-taken.field-0.taken c.in_ok-taken.ensures.octets c.in_ok-taken.ensures.taken.1 c.in-Whole.header c.in_ok-taken.ensures.taken.0 (seen-as c.args.limits.now c.gather.new.frame.items c.in_ok-taken.field-0.seen v c.in-Whole.is c.in_ok-taken.ensures.seen) (exact-as c.gather.new.frame.items c.in_ok-taken.field-0.seen v c.in-Whole.is c.in_ok-taken.ensures.exact) c.settle.new.frame.items (entries c.args.parts.now.items) (entries c.settle.new.parts.items) (settled-as c.in_ok-settle-in-Whole.field-0 settled.Quiet c.args.limits.now c.in-Whole.header c.gather.new.frame.items c.settle.new.frame.items (entries c.args.parts.now.items) (entries c.settle.new.parts.items) c.in-Quiet.is c.in_ok-settle-in-Whole.ensures.by) w
 
 pub returns-in-Done-clause-stands : goal.returns-in-Done-clause-stands
 returns-in-Done-clause-stands c = λ s stands.
     let v = seen.Whole c.in-Whole.header in
-    goes-done c.args.limits.now c.args.frame.now.items c.gather.new.frame.items c.args.piece.now c.in_ok-taken.field-0.taken c.in_ok-taken.ensures.octets c.in_ok-taken.ensures.taken.1 c.in-Whole.header c.in_ok-taken.ensures.taken.0 (seen-as c.args.limits.now c.gather.new.frame.items c.in_ok-taken.field-0.seen v c.in-Whole.is c.in_ok-taken.ensures.seen) (exact-as c.gather.new.frame.items c.in_ok-taken.field-0.seen v c.in-Whole.is c.in_ok-taken.ensures.exact) c.in-Done.joined c.settle.new.frame.items (entries c.args.parts.now.items) (entries c.settle.new.parts.items) s (settled-as c.in_ok-settle-in-Whole.field-0 (settled.Done c.in-Done.joined) c.args.limits.now c.in-Whole.header c.gather.new.frame.items c.settle.new.frame.items (entries c.args.parts.now.items) (entries c.settle.new.parts.items) c.in-Done.is c.in_ok-settle-in-Whole.ensures) stands
+    goes-done c.args.limits.now c.args.frame.now.items c.gather.new.frame.items c.args.piece.now c.in_ok-taken.field-0.taken c.in_ok-taken.ensures.octets c.in_ok-taken.ensures.taken.1 c.in-Whole.header c.in_ok-taken.ensures.taken.0 (seen-as c.args.limits.now c.gather.new.frame.items c.in_ok-taken.field-0.seen v c.in-Whole.is c.in_ok-taken.ensures.seen) (exact-as c.gather.new.frame.items c.in_ok-taken.field-0.seen v c.in-Whole.is c.in_ok-taken.ensures.exact) c.in-Done.joined c.settle.new.frame.items (entries c.args.parts.now.items) (entries c.settle.new.parts.items) s (settled-as c.in_ok-settle-in-Whole.field-0 (settled.Done c.in-Done.joined) c.args.limits.now c.in-Whole.header c.gather.new.frame.items c.settle.new.frame.items (entries c.args.parts.now.items) (entries c.settle.new.parts.items) c.in-Done.is c.in_ok-settle-in-Whole.ensures.by) stands
 
 pub returns-in-Done-clause-needed : goal.returns-in-Done-clause-needed
 returns-in-Done-clause-needed c = needs-nothing c.args.limits.now
 
 pub returns-in-Done-clause-kept : goal.returns-in-Done-clause-kept
 returns-in-Done-clause-kept c = let v = seen.Whole c.in-Whole.header in
-    keeps-done c.args.limits.now c.args.frame.now.items c.gather.new.frame.items c.args.piece.now c.in_ok-taken.field-0.taken c.in_ok-taken.ensures.octets c.in_ok-taken.ensures.taken.1 c.in-Whole.header c.in_ok-taken.ensures.taken.0 (seen-as c.args.limits.now c.gather.new.frame.items c.in_ok-taken.field-0.seen v c.in-Whole.is c.in_ok-taken.ensures.seen) (exact-as c.gather.new.frame.items c.in_ok-taken.field-0.seen v c.in-Whole.is c.in_ok-taken.ensures.exact) c.in-Done.joined c.settle.new.frame.items (entries c.args.parts.now.items) (entries c.settle.new.parts.items) (settled-as c.in_ok-settle-in-Whole.field-0 (settled.Done c.in-Done.joined) c.args.limits.now c.in-Whole.header c.gather.new.frame.items c.settle.new.frame.items (entries c.args.parts.now.items) (entries c.settle.new.parts.items) c.in-Done.is c.in_ok-settle-in-Whole.ensures)
+    keeps-done c.args.limits.now c.args.frame.now.items c.gather.new.frame.items c.args.piece.now c.in_ok-taken.field-0.taken c.in_ok-taken.ensures.octets c.in_ok-taken.ensures.taken.1 c.in-Whole.header c.in_ok-taken.ensures.taken.0 (seen-as c.args.limits.now c.gather.new.frame.items c.in_ok-taken.field-0.seen v c.in-Whole.is c.in_ok-taken.ensures.seen) (exact-as c.gather.new.frame.items c.in_ok-taken.field-0.seen v c.in-Whole.is c.in_ok-taken.ensures.exact) c.in-Done.joined c.settle.new.frame.items (entries c.args.parts.now.items) (entries c.settle.new.parts.items) (settled-as c.in_ok-settle-in-Whole.field-0 (settled.Done c.in-Done.joined) c.args.limits.now c.in-Whole.header c.gather.new.frame.items c.settle.new.frame.items (entries c.args.parts.now.items) (entries c.settle.new.parts.items) c.in-Done.is c.in_ok-settle-in-Whole.ensures.by)
 
 pub returns-in-Done-clause-within : goal.returns-in-Done-clause-within
 returns-in-Done-clause-within c = λ w.
     let v = seen.Whole c.in-Whole.header in
-    stays-done c.args.limits.now c.args.frame.now.items c.gather.new.frame.items c.args.piece.now c.in_ok-taken.field-0.taken c.in_ok-taken.ensures.octets c.in_ok-taken.ensures.taken.1 c.in-Whole.header c.in_ok-taken.ensures.taken.0 (seen-as c.args.limits.now c.gather.new.frame.items c.in_ok-taken.field-0.seen v c.in-Whole.is c.in_ok-taken.ensures.seen) (exact-as c.gather.new.frame.items c.in_ok-taken.field-0.seen v c.in-Whole.is c.in_ok-taken.ensures.exact) c.in-Done.joined c.settle.new.frame.items (entries c.args.parts.now.items) (entries c.settle.new.parts.items) (settled-as c.in_ok-settle-in-Whole.field-0 (settled.Done c.in-Done.joined) c.args.limits.now c.in-Whole.header c.gather.new.frame.items c.settle.new.frame.items (entries c.args.parts.now.items) (entries c.settle.new.parts.items) c.in-Done.is c.in_ok-settle-in-Whole.ensures) w
+    stays-done c.args.limits.now c.args.frame.now.items c.gather.new.frame.items c.args.piece.now c.in_ok-taken.field-0.taken c.in_ok-taken.ensures.octets c.in_ok-taken.ensures.taken.1 c.in-Whole.header c.in_ok-taken.ensures.taken.0 (seen-as c.args.limits.now c.gather.new.frame.items c.in_ok-taken.field-0.seen v c.in-Whole.is c.in_ok-taken.ensures.seen) (exact-as c.gather.new.frame.items c.in_ok-taken.field-0.seen v c.in-Whole.is c.in_ok-taken.ensures.exact) c.in-Done.joined c.settle.new.frame.items (entries c.args.parts.now.items) (entries c.settle.new.parts.items) (settled-as c.in_ok-settle-in-Whole.field-0 (settled.Done c.in-Done.joined) c.args.limits.now c.in-Whole.header c.gather.new.frame.items c.settle.new.frame.items (entries c.args.parts.now.items) (entries c.settle.new.parts.items) c.in-Done.is c.in_ok-settle-in-Whole.ensures.by) w
 
 pub returns-in-Bad-clause-stands : goal.returns-in-Bad-clause-stands
 returns-in-Bad-clause-stands c = λ s stands.
     let v = seen.Whole c.in-Whole.header in
-    fails-frame c.args.limits.now c.args.frame.now.items c.gather.new.frame.items c.args.piece.now c.in_ok-taken.field-0.taken c.in_ok-taken.ensures.octets c.in_ok-taken.ensures.taken.1 c.in-Whole.header c.in_ok-taken.ensures.taken.0 (seen-as c.args.limits.now c.gather.new.frame.items c.in_ok-taken.field-0.seen v c.in-Whole.is c.in_ok-taken.ensures.seen) (exact-as c.gather.new.frame.items c.in_ok-taken.field-0.seen v c.in-Whole.is c.in_ok-taken.ensures.exact) c.settle.new.frame.items (entries c.args.parts.now.items) (entries c.settle.new.parts.items) s c.in-Bad.fault (settled-as c.in_ok-settle-in-Whole.field-0 (settled.Bad c.in-Bad.fault) c.args.limits.now c.in-Whole.header c.gather.new.frame.items c.settle.new.frame.items (entries c.args.parts.now.items) (entries c.settle.new.parts.items) c.in-Bad.is c.in_ok-settle-in-Whole.ensures) stands
+    fails-frame c.args.limits.now c.args.frame.now.items c.gather.new.frame.items c.args.piece.now c.in_ok-taken.field-0.taken c.in_ok-taken.ensures.octets c.in_ok-taken.ensures.taken.1 c.in-Whole.header c.in_ok-taken.ensures.taken.0 (seen-as c.args.limits.now c.gather.new.frame.items c.in_ok-taken.field-0.seen v c.in-Whole.is c.in_ok-taken.ensures.seen) (exact-as c.gather.new.frame.items c.in_ok-taken.field-0.seen v c.in-Whole.is c.in_ok-taken.ensures.exact) c.settle.new.frame.items (entries c.args.parts.now.items) (entries c.settle.new.parts.items) s c.in-Bad.fault (settled-as c.in_ok-settle-in-Whole.field-0 (settled.Bad c.in-Bad.fault) c.args.limits.now c.in-Whole.header c.gather.new.frame.items c.settle.new.frame.items (entries c.args.parts.now.items) (entries c.settle.new.parts.items) c.in-Bad.is c.in_ok-settle-in-Whole.ensures.by) stands

@@ -4,13 +4,13 @@ use Rattle.giop_frames.specs.Standing.{framed, entries}
 use Rattle.giop_frames.proofs.Judging.{carried_on, carries-bad, carries-quiet, taken}
 use Rattle.giop_frames.proofs.reassembly.carry.Goals as goal
 
-pub returns-in-Refused : goal.returns-in-Refused
-returns-in-Refused c =
+pub returns-in-Refused-clause-by : goal.returns-in-Refused-clause-by
+returns-in-Refused-clause-by c =
     carries-bad c.args.limits.now _ _ (framed c.args.header.now c.args.frame.now.items) c.in-Refused.fault
     (taken _ (Refused c.in-Refused.fault) c.args.limits.now c.args.header.now c.as_slice.result.now c.args.frame.now.items (entries c.args.parts.now.items) _ c.in-Refused.is c.as_slice.ensures.value c.in_ok-fault.ensures)
 
-pub returns-in_ok-push-in-Continued : goal.returns-in_ok-push-in-Continued
-returns-in_ok-push-in-Continued c =
+pub returns-in_ok-push-in-Continued-clause-by : goal.returns-in_ok-push-in-Continued-clause-by
+returns-in_ok-push-in-Continued-clause-by c =
     let f = framed c.args.header.now c.args.frame.now.items in
     let ps = entries c.args.parts.now.items in
     let t : IsContinued c.in-Continued.part c.args.limits.now f ps (entries c.take_up.new.parts.items) =

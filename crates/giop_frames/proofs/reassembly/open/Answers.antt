@@ -5,19 +5,19 @@ use Rattle.giop_frames.proofs.Judging.{keyed, partial-at, count-of, opened, open
 use Rattle.giop_frames.specs.Fragments.{key_of}
 use Rattle.giop_frames.proofs.reassembly.open.Goals as goal
 
-pub returns-then-is_among : goal.returns-then-is_among
-returns-then-is_among c =
+pub returns-then-is_among-clause-by : goal.returns-then-is_among-clause-by
+returns-then-is_among-clause-by c =
     let f = framed c.args.header.now c.args.frame.now.items in
     opens-twice c.args.limits.now _ _ f (partial-at c.key_of-key.result (key_of f) c.args.parts.now.items c.as_slice-2.result.now true c.as_slice-2.ensures.value (keyed c.args.header.now c.args.frame.now.items c.as_slice.result.now c.key_of-key.result c.as_slice.ensures.value c.key_of-key.ensures) c.if-is_among.ensures)
 
-pub returns-then-from-len : goal.returns-then-from-len
-returns-then-from-len c =
+pub returns-then-from-len-clause-by : goal.returns-then-from-len-clause-by
+returns-then-from-len-clause-by c =
     let f = framed c.args.header.now c.args.frame.now.items in
     let full : c.args.limits.now.partials ≤ length (entries c.args.parts.now.items) = omega (arith, c.if-from-len.true, c.len.ensures, c.from.ensures, count-of c.args.parts.now.items) in
     opens-too_many c.args.limits.now _ _ f (partial-at c.key_of-key.result (key_of f) c.args.parts.now.items c.as_slice-2.result.now false c.as_slice-2.ensures.value (keyed c.args.header.now c.args.frame.now.items c.as_slice.result.now c.key_of-key.result c.as_slice.ensures.value c.key_of-key.ensures) c.if-is_among.ensures) full
 
-pub returns : goal.returns
-returns c =
+pub returns-clause-by : goal.returns-clause-by
+returns-clause-by c =
     let f = framed c.args.header.now c.args.frame.now.items in
     let free : length (entries c.args.parts.now.items) < c.args.limits.now.partials = omega (arith, c.if-from-len.false, c.len.ensures, c.from.ensures, count-of c.args.parts.now.items) in (
       opens-quiet c.args.limits.now _ _ f (partial-at c.key_of-key.result (key_of f) c.args.parts.now.items c.as_slice-2.result.now false c.as_slice-2.ensures.value (keyed c.args.header.now c.args.frame.now.items c.as_slice.result.now c.key_of-key.result c.as_slice.ensures.value c.key_of-key.ensures) c.if-is_among.ensures) free,
