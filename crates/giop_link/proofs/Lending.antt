@@ -1,31 +1,39 @@
 -- What a live link lends.
-use Rattle.std.proofs.Common.{◌≡◌, false, List, Option, Some, None, IsSomeAnd, refl, sym, ap, ◌∙◌}
+use Rattle.std.proofs.Common.{◌≡◌, false, List, Option, Some, None, Result, Ok, IsOk, refl, sym, ap, ◌∙◌}
 use Rattle.std.specs.List.{list_any}
 use Rattle.giop_core.specs.declared.header.Version.{Version}
-use Rattle.giop_core.specs.declared.message.Message.{Message}
-use Rattle.giop_core.specs.Lent as lent
+use Rattle.giop_core.specs.Content.{Content}
+use Rattle.giop_core.specs.Places.{Headed, said_by}
 use Rattle.giop_frames.specs.Frames.{Frame}
-use Rattle.giop_frames.specs.Standing.{IsLent}
+use Rattle.giop_frames.specs.Standing.{frame_of}
 use Rattle.giop_link.specs.declared.awaited.Outstanding.{Outstanding}
 use Rattle.giop_link.specs.declared.awaited.Wanted.TheVariants as wanted
-use Rattle.giop_link.specs.Answering.{Answer, answer_in, answer_to, located, replied}
-use Rattle.giop_link.specs.Hearing.{Sound, ends, meaning_in, says, sound_of, sound_read}
+use Rattle.giop_link.specs.declared.error.LinkFault.{LinkFault}
+use Rattle.giop_link.specs.declared.listener.PeerEnd.{PeerEnd}
+use Rattle.giop_link.specs.Answering.{Answer, located, replied}
+use Rattle.giop_link.specs.Hearing.{Ending, Sound, ends, says, sound_of, sound_read}
 use Rattle.giop_link.specs.Ids.{is_of, without}
-use Rattle.giop_link.specs.Listening.{spoken, spoken_by}
+use Rattle.giop_link.specs.Listening.{IsTurn, spoken, spoken_by, turned}
 use Rattle.giop_link.specs.Private.{answered_one, settled_left, settles}
+use Rattle.giop_link.proofs.Turns.{reads-as}
 
--- a lent message is what its octets say
-pub lent-spoken : (m : Option Frame) (x : Message) → IsSomeAnd m (λ f. IsLent x f) → spoken (meaning_in x.version (lent.content_of x.content)) ≡ spoken_by meaning_in m
-unfolding sound_of
-lent-spoken None x is = absurd is
-lent-spoken (Some f) x is =
-    ap (λ (v : Version). spoken (meaning_in v (lent.content_of x.content))) is.version ∙ ap (λ r. spoken (sound_read meaning_in f.header.version r)) (sym is.content)
+-- a message that was read is what its octets say
+pub read-spoken : {H : Type 0} (meaning : Version → Content → Sound H) (m : Option Frame) (x : Headed) → Some (frame_of x) ≡ m → spoken (sound_of meaning (frame_of x)) ≡ spoken_by meaning m
+read-spoken meaning m x is = ap (spoken_by meaning) is
 
--- so is a lent answer
-pub lent-answer : (m : Option Frame) (x : Message) → IsSomeAnd m (λ f. IsLent x f) → spoken_by answer_to m ≡ spoken (answer_in (lent.content_of x.content))
+pub heard-as : {H : Type 0} (meaning : Version → Content → Sound H) (x : Headed) (m : Content) → said_by x ≡ Ok m → sound_of meaning (frame_of x) ≡ meaning x.header.version m
 unfolding sound_of
-lent-answer None x is = absurd is
-lent-answer (Some f) x is = ap (λ r. spoken (sound_read answer_to f.header.version r)) is.content
+heard-as meaning x m is = ap (sound_read meaning x.header.version) is
+
+-- nothing is heard in a message of a kind that is not
+no-sound : {H : Type 0} (μ : Sound H) (r : Result (Option PeerEnd) LinkFault) → turned μ ≡ r → (r ≡ Ok None → ⊥) → (e : Ending) × (μ ≡ ends e)
+no-sound (says m) r is never = absurd (never (sym is))
+no-sound (ends e) r is never = (e, refl)
+
+pub unheard : {H : Type 0} (meaning : Version → Content → Sound H) (x : Headed) (r : Result (Option PeerEnd) LinkFault) → IsOk (said_by x) → IsTurn meaning x.header.kind r → (r ≡ Ok None → ⊥) → (e : Ending) × (sound_of meaning (frame_of x) ≡ ends e)
+unheard meaning x r ok turn never =
+    let y = reads-as meaning (frame_of x) ok in
+    no-sound (sound_of meaning (frame_of x)) r (ap turned y.1 ∙ turn x.header.version y.0 y.2) never
 
 -- and the id that it answers is looked for
 pub settles-by : (μ : Sound Answer) (o : Outstanding) (os : List Outstanding) → answered_one μ ≡ Some o

@@ -8,11 +8,11 @@ ghost use Rattle.cdr_core.specs.View.{values_of};
 ghost use Rattle.cdr_core.specs.Writing.{AreWritable};
 ghost use Rattle.giop_core.specs.declared.header.MessageKind.TheVariants as kind;
 ghost use Rattle.giop_core.specs.Items.{item_at};
-ghost use Rattle.giop_core.specs.Lent.{addressed_by, content_of};
+ghost use Rattle.giop_core.specs.Lent.{addressed_by};
 ghost use Rattle.giop_core.specs.Written.{CanAddress, CanAsk, message_octets};
-ghost use Rattle.giop_frames.specs.Standing.{frame_held, parts_held};
+ghost use Rattle.giop_frames.specs.Standing.{frame_held, frame_of, parts_held};
 ghost use Rattle.giop_link.specs.declared.awaited.Wanted.TheVariants as wanted;
-ghost use Rattle.giop_link.specs.Answering.{Answer, answer_in, answer_to};
+ghost use Rattle.giop_link.specs.Answering.{Answer, answer_of, answer_to};
 ghost use Rattle.giop_link.specs.ClientLinking.{CanBeSent, ClientStands, Exchange, IsClientFaultOf, IsNearBody, IsSendError, TakesIn, Terms, cancel_octets, delivered_at, ended, locate_after, no_exchange, refusal_of, request_after};
 ghost use Rattle.giop_link.specs.Ids.{given_up, is_outstanding, one_more, wanted_by};
 ghost use Rattle.giop_link.specs.Listening.{spoken_by};
@@ -24,7 +24,7 @@ use crate::error::{LinkFault, SendError};
 use crate::listener::{Listener, PeerEnd, Side};
 use cdr_core::{Order, Val};
 use giop_core::{
-    Content, MessageKind, ReplyWish, Target, Version, write_cancel, write_locate_request,
+    MessageKind, Reading, ReplyWish, Target, Version, write_cancel, write_locate_request,
     write_request,
 };
 use giop_frames::Limits;
@@ -54,19 +54,25 @@ impl Side for Client {
 }
 
 /// The id that a message answers and the kind of answer that it is, if it is one.
-fn answered_one(content: &Content) -> Option<Outstanding>
-    ensures { result ≡ answered_one (answer_in (content_of content.now)) }
+#[inline(always)]
+fn answered_one(message: &Reading<'_>) -> Option<Outstanding>
+    ensures { result ≡ answered_one (answer_of (frame_of message.now)) }
 {
-    match content {
-        Content::Reply(reply) => Some(Outstanding {
-            id: reply.request_id,
+    match message.header().kind {
+        MessageKind::Reply => Some(Outstanding {
+            id: message.reply().request_id,
             wanted: Wanted::Reply,
         }),
-        Content::LocateReply(reply) => Some(Outstanding {
-            id: reply.request_id,
+        MessageKind::LocateReply => Some(Outstanding {
+            id: message.locate_reply().request_id,
             wanted: Wanted::Location,
         }),
-        _ => None,
+        MessageKind::Request
+        | MessageKind::CancelRequest
+        | MessageKind::LocateRequest
+        | MessageKind::CloseConnection
+        | MessageKind::MessageError
+        | MessageKind::Fragment => None,
     }
 }
 
@@ -75,10 +81,10 @@ fn settle(waiting: &mut Vec<Outstanding>, listener: &Listener<Client>) -> bool
     ensures by { result ≡ settles (spoken_by answer_to listener.now.message) waiting.old.items }
     ensures left { waiting.new.items ≡ settled_left (spoken_by answer_to listener.now.message) waiting.old.items }
 {
-    let Some(message) = listener.message() else {
+    let Some(message) = listener.reading() else {
         return false;
     };
-    let Some(one) = answered_one(&message.content) else {
+    let Some(one) = answered_one(&message) else {
         return false;
     };
     let Some(place) = place_of(waiting.as_slice(), one.id, Some(one.wanted)) else {
@@ -325,7 +331,7 @@ impl ClientLink {
                 if !self.delivers {
                     return None;
                 }
-                delivered(self.listener.message()?)
+                delivered(&self.listener.reading()?)
             }
         }
     }

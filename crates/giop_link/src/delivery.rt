@@ -1,16 +1,15 @@
 //! What a client's link lends.
 
-ghost use Rattle.std.specs.Prelude.{◌≡◌, Some, IfSome};
+ghost use Rattle.std.specs.Prelude.{◌≡◌, ◌<◌, ◌^◌, Some, IfSome, length};
 ghost use Rattle.std.specs.Option.{option_map};
-ghost use Rattle.giop_core.specs.Lent.{content_of, reply_of, rest_of};
-ghost use Rattle.giop_core.specs.Messages.{OnBody};
-ghost use Rattle.giop_frames.specs.Standing.{HasPlace};
-ghost use Rattle.giop_link.specs.Answering.{answer_in};
+ghost use Rattle.giop_core.specs.Lent.{reply_of, rest_of};
+ghost use Rattle.giop_frames.specs.Standing.{HasPlace, frame_of};
+ghost use Rattle.giop_link.specs.Answering.{answer_in, answer_of};
 ghost use Rattle.giop_link.specs.ClientLinking.{IsNearBody, delivered_at};
 ghost use Rattle.giop_link.specs.Listening.{spoken};
 ghost use Rattle.giop_link.specs.Private.{told_of};
 
-use giop_core::{Body, Content, Message, Reply, ReplyStatus};
+use giop_core::{Body, MessageKind, Reading, Reply, ReplyStatus};
 
 /// What came last for a client, lent from its link.
 #[derive(Debug, Drop)]
@@ -49,18 +48,23 @@ fn replied(reply: Reply<'_>) -> Delivery<'_>
 }
 
 /// What is delivered of a message, if it is an answer.
-pub(crate) fn delivered(message: Message<'_>) -> Option<Delivery<'_>>
-    requires { OnBody HasPlace (content_of message.content) }
-    ensures told { option_map delivered_at result ≡ told_of (spoken (answer_in (content_of message.entry.content))) }
+#[inline(always)]
+pub(crate) fn delivered<'m>(message: &Reading<'m>) -> Option<Delivery<'m>>
+    requires { length message.now.octets < 2 ^ 31 }
+    ensures told { option_map delivered_at result ≡ told_of (spoken (answer_of (frame_of message.now))) }
     ensures near { IfSome result IsNearBody }
 {
-    match message.content {
-        Content::Reply(reply) => Some(replied(reply)),
-        Content::LocateReply(reply) => Some(Delivery::Located(
-            reply.request_id,
-            reply.status,
-            reply.body,
-        )),
-        _ => None,
+    match message.header().kind {
+        MessageKind::Reply => Some(replied(message.reply())),
+        MessageKind::LocateReply => {
+            let reply = message.locate_reply();
+            Some(Delivery::Located(reply.request_id, reply.status, reply.body))
+        }
+        MessageKind::Request
+        | MessageKind::CancelRequest
+        | MessageKind::LocateRequest
+        | MessageKind::CloseConnection
+        | MessageKind::MessageError
+        | MessageKind::Fragment => None,
     }
 }

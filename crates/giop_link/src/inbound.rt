@@ -1,15 +1,13 @@
 //! What a link lends.
 
-ghost use Rattle.std.specs.Prelude.{◌≡◌, IfSome};
+ghost use Rattle.std.specs.Prelude.{◌≡◌, ◌<◌, ◌^◌, IfSome, length};
 ghost use Rattle.std.specs.Option.{option_map};
-ghost use Rattle.giop_core.specs.Lent.{content_of};
-ghost use Rattle.giop_core.specs.Messages.{OnBody};
-ghost use Rattle.giop_frames.specs.Standing.{HasPlace};
-ghost use Rattle.giop_link.specs.Hearing.{meaning_in};
+ghost use Rattle.giop_frames.specs.Standing.{frame_of};
+ghost use Rattle.giop_link.specs.Hearing.{meaning_of};
 ghost use Rattle.giop_link.specs.Linking.{IsNear, meaning_at};
 ghost use Rattle.giop_link.specs.Listening.{spoken};
 
-use giop_core::{Content, Message, Request, Target, Version};
+use giop_core::{MessageKind, Reading, Request, Target, Version};
 
 /// What came last on a connection, lent from its link.
 #[derive(Debug, Drop)]
@@ -28,20 +26,23 @@ pub enum Inbound<'m> {
 
 /// What is heard in a message, if it is one that a client sends.
 #[inline(always)]
-pub(crate) fn spoken(message: Message<'_>) -> Option<Inbound<'_>>
-    requires { OnBody HasPlace (content_of message.content) }
-    ensures told { option_map meaning_at result ≡ spoken (meaning_in message.entry.version (content_of message.entry.content)) }
+pub(crate) fn spoken<'m>(message: &Reading<'m>) -> Option<Inbound<'m>>
+    requires { length message.now.octets < 2 ^ 31 }
+    ensures told { option_map meaning_at result ≡ spoken (meaning_of (frame_of message.now)) }
     ensures near { IfSome result IsNear }
 {
-    let version = message.version;
-    match message.content {
-        Content::Request(request) => Some(Inbound::Request(version, request)),
-        Content::LocateRequest(locate) => Some(Inbound::Locate(
-            version,
-            locate.request_id,
-            locate.target,
-        )),
-        Content::Cancel(cancel) => Some(Inbound::Cancelled(cancel.request_id)),
-        _ => None,
+    let header = message.header();
+    match header.kind {
+        MessageKind::Request => Some(Inbound::Request(header.version, message.request())),
+        MessageKind::LocateRequest => {
+            let locate = message.locate_request();
+            Some(Inbound::Locate(header.version, locate.request_id, locate.target))
+        }
+        MessageKind::CancelRequest => Some(Inbound::Cancelled(message.cancel().request_id)),
+        MessageKind::Reply
+        | MessageKind::LocateReply
+        | MessageKind::CloseConnection
+        | MessageKind::MessageError
+        | MessageKind::Fragment => None,
     }
 }

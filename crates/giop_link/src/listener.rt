@@ -1,11 +1,12 @@
 //! An end of a connection as it hears the stream of its peer, whoever it is.
 
-ghost use Rattle.std.specs.Prelude.{◌≡◌, ◌≢◌, ◌<◌, ◌≤◌, ◌+◌, ◌*◌, ◌++◌, ℕ, List, [], length, take, true, false, Option, Some, None, Result, Ok, Err, IfOk, IfErr, IsSomeAnd, OnErr, OnOk, IfSome, MatchOption};
+ghost use Rattle.std.specs.Prelude.{◌≡◌, ◌≢◌, ◌<◌, ◌≤◌, ◌+◌, ◌*◌, ◌^◌, ◌++◌, ℕ, List, [], length, take, true, false, Option, Some, None, Result, Ok, Err, IfOk, IfErr, IsSomeAnd, OnErr, OnOk, IfSome, MatchOption};
+ghost use Rattle.std.specs.Option.{option_map};
 ghost use Rattle.giop_core.specs.declared.header.Version.{Version};
 ghost use Rattle.giop_core.specs.Content.{Content};
 ghost use Rattle.giop_core.specs.Lent.{content_of};
 ghost use Rattle.giop_core.specs.Messages.{OnBody};
-ghost use Rattle.giop_frames.specs.Standing.{HasPlace, IsLent, StandsFor, frame_held, parts_held};
+ghost use Rattle.giop_frames.specs.Standing.{HasPlace, IsLent, StandsFor, frame_held, frame_of, parts_held};
 ghost use Rattle.giop_frames.specs.declared.limits.Limits.{Limits};
 ghost use Rattle.giop_link.specs.declared.error.LinkFault.TheVariants.{WrongDirection};
 ghost use Rattle.giop_link.specs.Hearing.{Sound, ending_as};
@@ -13,7 +14,7 @@ ghost use Rattle.giop_link.specs.Listening.{Brings, IsFaultTo, IsQuietTo, IsTurn
 ghost use Rattle.giop_link.specs.Private.{IsHeard, LendsHeard};
 
 use crate::error::LinkFault;
-use giop_core::{Message, MessageKind};
+use giop_core::{Message, MessageKind, Reading};
 use giop_frames::{Assembler, Limits};
 use std::alloc::Global;
 use std::marker::{Model, PhantomData};
@@ -130,6 +131,19 @@ impl<S: Side> Listener<S> {
         ensures end { result ≡ false → self.now.end ≡ None }
     {
         !matches!(self.state, State::Live(_))
+    }
+
+    /// The message that the last call of `feed` completed, if it did, and it is heard, as its reading left it.
+    #[inline(always)]
+    pub fn reading(&self) -> Option<Reading<'_>>
+        ensures lent { option_map frame_of result ≡ self.now.message }
+        // the place of a body fits 32 bits, as the readers of values ask
+        ensures short { IfSome result (λ m. length m.octets < 2 ^ 31) }
+    {
+        match &self.state {
+            State::Live(assembler) => assembler.reading(),
+            State::Parting(_) | State::Closed => None,
+        }
     }
 
     /// The message that the last call of `feed` completed, if it did, and it is heard.

@@ -85,7 +85,7 @@ impl ServerLink {
         match self.listener.end() {
             Some(PeerEnd::Closed) => Some(Inbound::PeerClosed),
             Some(PeerEnd::Error) => Some(Inbound::PeerError),
-            None => spoken(self.listener.message()?),
+            None => spoken(&self.listener.reading()?),
         }
     }
 
