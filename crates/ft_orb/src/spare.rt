@@ -2,14 +2,16 @@
 
 ghost use Rattle.std.specs.Prelude.{◌≡◌, IfOk};
 
+use cdr_core::Val;
 use std::alloc::{AllocError, Global};
 use std::mem;
 
-/// The vectors of the call that was finished last: the next one is copied into them.
+/// The vectors of the call that was finished last: the next one is put into them.
 #[derive(Drop)]
 pub(crate) struct Spare {
     pub(crate) object_key: Vec<u8>,
     pub(crate) operation: Vec<u8>,
+    pub(crate) arguments: Vec<Val>,
 }
 
 impl Spare {
@@ -18,6 +20,18 @@ impl Spare {
         Spare {
             object_key: Vec::new(alloc),
             operation: Vec::new(alloc),
+            arguments: Vec::new(alloc),
+        }
+    }
+
+    /// The vectors of a call that is finished, whose arguments are dropped.
+    #[inline]
+    pub(crate) fn of(object_key: Vec<u8>, operation: Vec<u8>, mut arguments: Vec<Val>) -> Spare {
+        arguments.clear();
+        Spare {
+            object_key,
+            operation,
+            arguments,
         }
     }
 }
