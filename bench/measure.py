@@ -87,8 +87,8 @@ def figure(title, value):
     return value
 
 
-def best_of(rounds, programs, words, source=None):
-    """The least time of each program, and the most memory; they take turns."""
+def best_of(rounds, programs, words, source=None, reads=True):
+    """The least time of each program, and the most memory; they take turns. Where they read, they say of how much."""
     time, memory = {}, {}
     for _ in range(rounds):
         printed = set()
@@ -99,14 +99,15 @@ def best_of(rounds, programs, words, source=None):
             printed.add(text)
         if len(printed) != 1:
             sys.exit(f"{words}: the programs print differently, as {[text[:80] for text in printed]}")
-        figure(f"{words}", int(re.search(rb"\d+", printed.pop())[0]))
+        if reads:
+            figure(f"{words}", int(re.search(rb"\d+", printed.pop())[0]))
     return time, memory
 
 
 def net_times(rounds, programs, kind, piece, count):
     """The times of a kind of work, without that of making its stream."""
     whole, _ = best_of(rounds, programs, [str(count), str(piece), kind])
-    made, _ = best_of(rounds, programs, [str(count), "0", kind])
+    made, _ = best_of(rounds, programs, [str(count), "0", kind], reads=False)
     return {name: whole[name] - made[name] for name in programs}
 
 
