@@ -52,6 +52,6 @@ abbrev mutual
 abbrev pub MayRunOut : Form → Order → ℕ → List ℕ → Type 0
 MayRunOut t order o octets = (p : ℕ) × Stores t order o octets p
 
--- the same of values, one of each type, one after another
+-- reading values, one of each type, one after another, may run out of memory
 abbrev pub MayRunOutInMembers : Forms → Order → ℕ → List ℕ → Type 0
 MayRunOutInMembers ts order o octets = (p : ℕ) × StoresMembers ts order o octets p

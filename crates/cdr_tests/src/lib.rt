@@ -12,4 +12,6 @@ mod orders;
 #[cfg(test)]
 mod references;
 #[cfg(test)]
+mod steps;
+#[cfg(test)]
 mod writer;

@@ -36,10 +36,8 @@ pub enum Call {
     Print,
 }
 
-impl Call {
-    /// Makes the call on a sample, and once more where an allocation of it was refused. At `Memory`
-    /// the call was not made, since an allocation for its inputs was refused.
-    pub(crate) fn run(self, alloc: Global, sample: &'static Sample) -> Result<Ending, Miss> {
+impl trials::Call<()> for Call {
+    fn run(self, alloc: Global, _given: (), sample: &'static Sample) -> Result<Ending, Miss> {
         match self {
             Call::Read => ended(alloc, Reading::new(alloc, sample)),
             Call::ReadList => ended(alloc, ListReading::new(alloc, sample)),

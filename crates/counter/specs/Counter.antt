@@ -1,5 +1,6 @@
 -- The counter, whose state is its total.
-use Rattle.std.specs.Prelude.{ℕ, ◌^◌, ℤ, pos, neg_ℤ, ◌+ℤ◌, int_le, int_lt, Bool, ◌&&◌, bytes_eq, List, [], ◌∷◌, codes, Option, Some, None, if◌then◌else◌}
+use Rattle.std.specs.Prelude.{ℕ, ℤ, ◌+ℤ◌, Bool, bytes_eq, List, [], ◌∷◌, codes, Option, Some, None, if◌then◌else◌}
+use Rattle.cdr_core.specs.Form as form
 use Rattle.cdr_core.specs.Parts.{long, longlong, longlong_value}
 use Rattle.cdr_core.specs.Value.{no_values, values}
 use Rattle.cdr_core.specs.View.{forms}
@@ -8,6 +9,7 @@ use Rattle.ft_log.specs.declared.system_exception.Completion.TheVariants.{No}
 use Rattle.ft_log.specs.declared.system_exception.SystemName.TheVariants.{BadOperation}
 use Rattle.ft_orb.specs.Accessors.{long_of, read_at}
 use Rattle.ft_orb.specs.Interfaces.{Types}
+use Rattle.ft_orb.specs.Ranges.{is_in_range}
 use Rattle.ft_orb.specs.Objects.{Object, meaning_of}
 use Rattle.ft_orb.specs.Servants.{Meaning}
 
@@ -17,7 +19,7 @@ is_counter key = bytes_eq key (codes "c")
 
 -- a total is a long long
 abbrev pub is_long_long : ℤ → Bool
-is_long_long z = int_le (neg_ℤ (pos (2 ^ 63))) z && int_lt z (pos (2 ^ 63))
+is_long_long z = is_in_range form.longlong z
 
 abbrev pub overflow_id : List ℕ
 overflow_id = codes "IDL:Counter/Overflow:1.0"

@@ -4,5 +4,5 @@
 pub mod Counter
 -- its object reference
 pub mod Addresses
--- a proof that an `impl` cites
-pub mod CounterFacts
+-- a proof that an `impl` cites, which nobody has to read
+pub mod facts

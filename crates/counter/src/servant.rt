@@ -105,7 +105,7 @@ impl Counter {
 
 impl Servant for Counter {
     ghost use Rattle.counter.specs.Counter.{counter_meaning};
-    ghost use Rattle.counter.specs.CounterFacts.{counter_is_servant};
+    ghost use Rattle.counter.specs.facts.Counter.{counter_is_servant};
 
     ghost meaning = { counter_meaning };
 

@@ -6,7 +6,7 @@
 //! `giop play` prints; with `asks` there is a line before for each request that was asked, and a line says where
 //! memory ran out or the owner gave a request up (`playing`).
 //!
-//! How an engine is fed and answered is in `host`. tests/run_cases.py, tests/engine.py and
+//! How an engine is fed and answered is in `host`. tests/cases.py, tests/engine.py and
 //! tests/refused_allocations.py run the program.
 #![tactic(auto)]
 

@@ -5,8 +5,12 @@
 #[cfg(test)]
 mod cutting;
 #[cfg(test)]
+mod faults;
+#[cfg(test)]
 mod limits;
 #[cfg(test)]
 mod samples;
+#[cfg(test)]
+mod stream_rows;
 #[cfg(test)]
 mod streams;

@@ -12,8 +12,8 @@ pub mod Ends
 pub mod Keeping
 pub mod Lives
 pub mod Standing
--- a proof that a field of `FtClient` cites
-pub mod Facts
 pub mod Laws
+-- a proof that a field of `FtClient` cites, which nobody has to read
+pub mod facts
 -- words of private functions: nothing public rests on them
 pub mod Private

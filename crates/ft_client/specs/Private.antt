@@ -43,7 +43,7 @@ abbrev pub reply_lent : Option (Sound Delivered) → Option (ℕ × Ended)
 reply_lent None = None
 reply_lent (Some d) = reply_in d
 
--- the same in the code's words
+-- a reply of the code, with its outcome as the definitions have it
 abbrev pub reply_as : ℕ × CodeEnded → ℕ × Ended
 reply_as x = (x.0, ended_of x.1)
 

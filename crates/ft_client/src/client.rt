@@ -5,7 +5,7 @@ ghost use Rattle.std.specs.Option.{option_to_list};
 ghost use Rattle.std.specs.VecDeque.{deque_capacity, deque_len};
 ghost use Rattle.cdr_core.specs.Spelling.{IsClean};
 ghost use Rattle.cdr_core.specs.View.{values_of};
-ghost use Rattle.ft_client.specs.Facts.{clean_prop};
+ghost use Rattle.ft_client.specs.facts.Texts.{clean_prop};
 ghost use Rattle.cdr_core.specs.Writing.{AreWritable};
 
 use crate::ended::Ended;

@@ -38,7 +38,7 @@ abbrev pub IsFineSaid : Said → Type 0
 IsFineSaid (Asked t) = IsFine t
 IsFineSaid (Withdrawn version id) = id < 2 ^ 32
 
--- the same of what the server says: a reply's status is at most 3, and its body takes at most 1,048,576 octets in its order
+-- what the server says can be written and read again: a reply's status is at most 3, and its body takes at most 1,048,576 octets in its order
 abbrev pub IsFineTelling : Telling → Type 0
 IsFineTelling (Replied version order id status body) = (id < 2 ^ 32) × (status ≤ 3) × (length (octets_of_all order body 24) ≤ body_limit)
 IsFineTelling (Located version id status) = (id < 2 ^ 32) × (status ≤ 1)

@@ -14,7 +14,7 @@ pub(crate) struct Way {
 
 impl Way {
     /// No octets.
-    pub fn new(alloc: Global) -> Way
+    pub(crate) fn new(alloc: Global) -> Way
         ensures { IsIdle result }
     {
         Way {
@@ -24,7 +24,7 @@ impl Way {
     }
 
     /// The next octets, at most so many.
-    pub fn front(&self, count: u32) -> &[u8]
+    pub(crate) fn front(&self, count: u32) -> &[u8]
         ensures { result.now ≡ take count (drop self.now.delivered self.now.octets.items) }
     {
         let rest = &self.octets[self.delivered.min(self.octets.len())..];
@@ -32,7 +32,7 @@ impl Way {
     }
 
     /// The next octets are delivered, at most so many. Where no others are left, none are kept.
-    pub fn pass(&mut self, count: u32)
+    pub(crate) fn pass(&mut self, count: u32)
         ensures { (all : List ℕ) (went : ℕ) → IsWay self.old all went → IsWay self.new all (went + length (take count (drop went all))) }
     {
         let left = self.octets.len().saturating_sub(self.delivered);
@@ -43,7 +43,7 @@ impl Way {
     }
 
     /// All octets are gone.
-    pub fn clear(&mut self)
+    pub(crate) fn clear(&mut self)
         ensures { IsIdle self.new }
     {
         self.octets.clear();

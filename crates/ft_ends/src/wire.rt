@@ -37,7 +37,7 @@ pub(crate) struct Wire {
 
 impl Wire {
     /// No connection.
-    pub fn new(alloc: Global) -> Wire
+    pub(crate) fn new(alloc: Global) -> Wire
         ensures { IsUnused result }
     {
         Wire {

@@ -32,7 +32,7 @@ module _ (owner : Owner) where
   one-more calls (Err refusal) is = absurd (false≢true is)
 
   -- each performed request is a call more
-  counts : (calls : List Call) (ps : List (Arrival Wanted)) → AreCalls Theirs ps → length (state_after Theirs calls ps) ≡ length calls + length ps
+  pub counts : (calls : List Call) (ps : List (Arrival Wanted)) → AreCalls Theirs ps → length (state_after Theirs calls ps) ≡ length calls + length ps
   counts calls [] h = omega arith
   counts calls (p ∷ ps) h =
       let first = one-more calls (Theirs.asked p.content) h.0 in

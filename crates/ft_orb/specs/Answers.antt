@@ -9,6 +9,7 @@ use Rattle.ft_orb.specs.Catalogues.{IsOffer, Offer}
 use Rattle.ft_orb.specs.ExactlyOnce.{state_of}
 use Rattle.ft_orb.specs.History.{Event, arrivals}
 use Rattle.ft_orb.specs.Interfaces.{IsOutcomeOf}
+use Rattle.ft_orb.specs.Now.{now_says, state_now}
 use Rattle.ft_orb.specs.Outputs.{Noted, Plays, law_says, past_after}
 use Rattle.ft_orb.specs.Owners.{Owner, made_of, meaning_of, rules_with}
 use Rattle.ft_orb.specs.Replies.{IsRenderable}
@@ -55,6 +56,12 @@ owner_of offer limits capacity share answers = record { offer = offer; answers =
 abbrev pub AreOnce : Owner → List Answer → List Event → List Noted → Type 0
 AreOnce owner answers es entries = Plays owner.limits owner.offer.knows (law_says (meaning_of owner) (made_of owner)) [] es entries
     × (calls_of answers ≡ state_of (rules_with owner) [] (arrivals owner.limits (past_after owner.limits [] es entries)))
+
+-- .. and each wrote what the law of each key by itself says, whatever expirations requests carry, and the calls answered are those
+-- of the requests that are performed so.
+abbrev pub AreNow : Owner → List Answer → List Event → List Noted → Type 0
+AreNow owner answers es entries = Plays owner.limits owner.offer.knows (now_says (meaning_of owner) (made_of owner)) [] es entries
+    × (calls_of answers ≡ state_now (meaning_of owner) (made_of owner) (past_after owner.limits [] es entries))
 
 -- Of any answers there is a rule that gives them ..
 abbrev pub AnswersHaveARule : Type 0

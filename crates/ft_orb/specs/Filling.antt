@@ -138,7 +138,7 @@ abbrev pub ids_in : Object → Option (List (List ℕ))
 ids_in object.Raw = None
 ids_in (object.Named o) = option_map texts o.ids
 
--- the same of what is under a key
+-- the interface of a name at what is under a key: there is no object, or the interface that it has
 abbrev pub offered_at : Option Object → List ℕ → Interface
 offered_at None name = no_object
 offered_at (Some o) name = offered_by o name

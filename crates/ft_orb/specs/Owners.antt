@@ -33,7 +33,7 @@ pub record Owner : Type 0 where
 abbrev pub rules_with : Owner → Rules (List Call) Wanted Call Performed
 rules_with o = owner_rules o.offer.interface o.answers o.capacity o.share
 
--- the same as a servant, whose state is the list of the calls answered so far
+-- an owner as a servant, whose state is the list of the calls answered so far
 abbrev pub meaning_of : Owner → Meaning (List Call)
 meaning_of o = record {
   is_state = λ calls. true;

@@ -43,7 +43,7 @@ pub record IsWithin (n : ℕ) (v : Value) : Type 0 where
   pub writable : IsWritable v
   pub short : (order : Order) (o : ℕ) → length (octets_of order v o) ≤ n
 
--- the same of values, one after another
+-- values, one after another, can be written, and take at most n octets together in either order and at any place
 pub record AreWithin (n : ℕ) (vs : Values) : Type 0 where
   pub writable : AreWritable vs
   pub short : (order : Order) (o : ℕ) → length (octets_of_all order vs o) ≤ n

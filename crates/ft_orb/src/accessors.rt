@@ -2,7 +2,7 @@
 //!
 //! Each answers None where there are fewer arguments, or the one at the index is of another type. Where `perform`
 //! is given arguments of its operation's types, that the i-th is there and in its range follows from the i-th type
-//! (`specs/AccessorsFacts.antt`). They take no memory.
+//! (`specs/facts/Accessors.antt`). They take no memory.
 
 ghost use Rattle.std.specs.Prelude.{◌≡◌, option_map};
 ghost use Rattle.cdr_core.specs.View.{value_of, values_of};

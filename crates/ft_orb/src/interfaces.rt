@@ -174,7 +174,7 @@ impl Interfaces {
 
 impl Catalogue for Interfaces {
     ghost use Rattle.ft_orb.specs.Filling.{offer_of};
-    ghost use Rattle.ft_orb.specs.Promises.{offer-is};
+    ghost use Rattle.ft_orb.specs.facts.Promises.{offer-is};
 
     ghost offers = { offer_of };
 

@@ -4,7 +4,7 @@ ghost use Rattle.std.specs.Prelude.{◌≡◌, ◌↔◌, IsTrue, IfNone, IfSome
 ghost use Rattle.std.specs.List.{AllByRecursion};
 ghost use Rattle.ft_orb.specs.Interfaces.{IsValidInterface, operation, raise_of, types_of};
 ghost use Rattle.ft_orb.specs.Sound.{AreSound, IsSound};
-ghost use Rattle.ft_orb.specs.Validity.{valid_interface_prop};
+ghost use Rattle.ft_orb.specs.facts.Validity.{valid_interface_prop};
 
 use crate::signature::Signature;
 use cdr_core::{Ty, are_valid, has_no_nul};

@@ -11,5 +11,5 @@ mod serving;
 mod socket;
 
 pub use clock::{SystemClock, UNIX_EPOCH};
-pub use serving::{serve_connection, serve_listener, serve_on};
+pub use serving::{serve_connection, serve_on};
 pub use socket::Socket;

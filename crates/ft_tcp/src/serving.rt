@@ -44,7 +44,7 @@ pub fn serve_connection<S: Servant + Drop, W: Wire, C: Clock>(
 /// connection ends with a read or a write that takes longer.
 ///
 /// An error is that of accepting a connection. Those before it were served.
-pub fn serve_listener<S: Servant + Drop, C: Clock>(
+pub fn serve_on<S: Servant + Drop, C: Clock>(
     alloc: Global,
     listener: &TcpListener,
     connections: u32,
@@ -65,22 +65,4 @@ pub fn serve_listener<S: Servant + Drop, C: Clock>(
         serve_connection(alloc, u64::from(i) + 1, &mut socket, server, clock);
     }
     Ok(())
-}
-
-/// As `serve_listener` without a timeout.
-pub fn serve_on<S: Servant + Drop, C: Clock>(
-    alloc: Global,
-    listener: &TcpListener,
-    connections: u32,
-    server: &mut Server<S>,
-    clock: &mut C,
-) -> io::Result<()>
-    ensures { (made : Made S) (past : List history.Event) → Stands S.meaning made server.old past → (visits : List Visit)
-        × AreVisits made.limits S.meaning.knows (table_says S.meaning made) past 1 visits
-        × Stands S.meaning made server.new (past_with_visits made.limits past 1 visits)
-        × IfKnown (λ before now. now ≡ before ++ moments_in visits) (C.given clock.old) (C.given clock.new)
-        × (length visits ≤ connections)
-        × IfOk result (λ _. length visits ≡ connections) }
-{
-    serve_listener(alloc, listener, connections, None, server, clock)
 }

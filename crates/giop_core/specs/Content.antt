@@ -70,7 +70,7 @@ parts _ = value.no_values
 abbrev pub tagged_of : Value → ℕ × List ℕ
 tagged_of v = (natural (member 0 (parts v)), content_octets (member 1 (parts v)))
 
--- the same of each of some values
+-- each of some values as an unsigned long and octets
 abbrev pub all_tagged : Values → List (ℕ × List ℕ)
 all_tagged value.no_values = []
 all_tagged (value.value v vs) = tagged_of v ∷ all_tagged vs

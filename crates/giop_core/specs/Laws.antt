@@ -24,7 +24,8 @@ use Rattle.giop_core.specs.Grammar.{IsMessage, StopsField, StopsMessage}
 use Rattle.giop_core.specs.Headers.{header_octets, header_of, is_possible}
 use Rattle.giop_core.specs.Messages.{message_of, IsBack, OnBody}
 use Rattle.giop_core.specs.Rows.{ft_request, target}
-use Rattle.giop_core.specs.Written.{behind_header, cancel_fields, ft_octets, ft_value_of, locate_reply_fields, locate_request_fields, locate_statuses, octets_body, reply_fields, reply_statuses, request_fields, CanAddress, CanAsk}
+use Rattle.giop_core.specs.Statuses.{locate_statuses, reply_statuses}
+use Rattle.giop_core.specs.Written.{behind_header, cancel_fields, ft_octets, ft_value_of, locate_reply_fields, locate_request_fields, octets_body, reply_fields, request_fields, CanAddress, CanAsk}
 
 -- What is read is a message by the grammar ..
 abbrev pub MessagesAreSpelled : Type 0
@@ -72,7 +73,7 @@ written_rest V12 Request order body place = record { order = order; place = plac
 written_rest V12 Reply order body place = record { order = order; place = place + padding place 8; octets = octets_of_all order body (place + padding place 8) }
 written_rest _ _ order body place = record { order = order; place = place; octets = octets_of_all order body place }
 
--- the same, after these fields
+-- the body of a message that is written, after these fields
 abbrev pub rest_after : Version → MessageKind → Order → List Value → Values → Rest
 rest_after version kind order fields body = written_rest version kind order body (12 + length (octets_of_all order (values fields) 12))
 

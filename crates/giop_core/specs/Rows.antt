@@ -9,6 +9,7 @@ use Rattle.giop_core.specs.declared.header.Version.{Version}
 use Rattle.giop_core.specs.declared.header.Version.TheVariants.{V10, V11, V12}
 use Rattle.giop_core.specs.declared.header.MessageKind.{MessageKind}
 use Rattle.giop_core.specs.declared.header.MessageKind.TheVariants.{Request, Reply, CancelRequest, LocateRequest, LocateReply, CloseConnection, MessageError, Fragment}
+use Rattle.giop_core.specs.Statuses.{locate_statuses, reply_statuses}
 
 -- IOP 7.7: typedef sequence<ServiceContext> ServiceContextList; a service context is an unsigned long, its id, and octets
 abbrev pub contexts : Form
@@ -35,13 +36,12 @@ unfoldable pub row : Version → MessageKind → List Form
 row V10 Request = contexts ∷ ulong ∷ form.boolean ∷ raw ∷ text ∷ raw ∷ []
 row V11 Request = contexts ∷ ulong ∷ form.boolean ∷ reserved ∷ raw ∷ text ∷ raw ∷ []
 row V12 Request = ulong ∷ octet ∷ reserved ∷ target ∷ text ∷ contexts ∷ []
-row V12 Reply = ulong ∷ form.enumeration 6 ∷ contexts ∷ []
-row _ Reply = contexts ∷ ulong ∷ form.enumeration 4 ∷ []
+row V12 Reply = ulong ∷ form.enumeration (reply_statuses V12) ∷ contexts ∷ []
+row version Reply = contexts ∷ ulong ∷ form.enumeration (reply_statuses version) ∷ []
 row _ CancelRequest = ulong ∷ []
 row V12 LocateRequest = ulong ∷ target ∷ []
 row _ LocateRequest = ulong ∷ raw ∷ []
-row V12 LocateReply = ulong ∷ form.enumeration 6 ∷ []
-row _ LocateReply = ulong ∷ form.enumeration 3 ∷ []
+row version LocateReply = ulong ∷ form.enumeration (locate_statuses version) ∷ []
 row V12 Fragment = ulong ∷ []
 row _ Fragment = []
 row _ CloseConnection = []
@@ -53,7 +53,7 @@ abbrev pub has_id_first : Version → Bool
 has_id_first V12 = true
 has_id_first _ = false
 
--- the same by the grammar: their fields begin with an unsigned long
+-- that the request id comes first, by the grammar: the fields of a message begin with a type
 abbrev pub BeginsWith : Form → List Form → Type 0
 BeginsWith t [] = ⊥
 BeginsWith t (first ∷ others) = first ≡ t

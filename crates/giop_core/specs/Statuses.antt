@@ -1,5 +1,7 @@
 -- The statuses of replies as numbers, and how many of them each version has.
 use Rattle.std.specs.Prelude.{ℕ, ◌==◌, Option, Some, None, if◌then◌else◌}
+use Rattle.giop_core.specs.declared.header.Version.{Version}
+use Rattle.giop_core.specs.declared.header.Version.TheVariants.{V12}
 use Rattle.giop_core.specs.declared.reply.ReplyStatus.{ReplyStatus}
 use Rattle.giop_core.specs.declared.reply.ReplyStatus.TheVariants as reply
 use Rattle.giop_core.specs.declared.locate.LocateStatus.{LocateStatus}
@@ -33,3 +35,12 @@ abbrev pub locate_status_of : ℕ → Option LocateStatus
 locate_status_of n =
     if n == 0 then Some locate.UnknownObject else (if n == 1 then Some locate.ObjectHere else (if n == 2 then Some locate.ObjectForward else
     (if n == 3 then Some locate.ObjectForwardPerm else (if n == 4 then Some locate.SystemException else (if n == 5 then Some locate.NeedsAddressingMode else None)))))
+
+-- GIOP 9.4.3, GIOP 9.4.6: how many statuses a Reply of the version has, and a LocateReply; they count from 0
+abbrev pub reply_statuses : Version → ℕ
+reply_statuses V12 = 6
+reply_statuses _ = 4
+
+abbrev pub locate_statuses : Version → ℕ
+locate_statuses V12 = 6
+locate_statuses _ = 3

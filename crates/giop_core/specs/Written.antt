@@ -20,6 +20,7 @@ use Rattle.giop_core.specs.Content as content
 use Rattle.giop_core.specs.Content.{Addressed}
 use Rattle.giop_core.specs.Headers.{header_octets}
 use Rattle.giop_core.specs.Items.{list_value, reference_as, tagged_value}
+pub use Rattle.giop_core.specs.Statuses.{locate_statuses, reply_statuses}
 
 -- the values of fields
 
@@ -148,15 +149,6 @@ CanAsk V12 w = ⊤
 CanAsk _ wish.Empty = ⊥
 CanAsk _ w = ⊤
 
--- GIOP 9.4.3, GIOP 9.4.6: how many statuses a Reply of the version has, and a LocateReply; they count from 0
-abbrev pub reply_statuses : Version → ℕ
-reply_statuses V12 = 6
-reply_statuses _ = 4
-
-abbrev pub locate_statuses : Version → ℕ
-locate_statuses V12 = 6
-locate_statuses _ = 3
-
 -- what a writer does
 
 -- A message with these octets after its header is appended; or it is too long for its message size; or memory ran out.
@@ -166,7 +158,8 @@ Wrote version kind order after (Ok x) old new = (length after < 2 ^ 32) × (new 
 Wrote version kind order after (Err TooLong) old new = (2 ^ 32 ≤ length after) × (new ≡ old)
 Wrote version kind order after (Err Memory) old new = new ≡ old
 
--- the same of octets by themselves
+-- Octets by themselves are appended; or they are more than an unsigned long can count; or memory ran out. Where they are not
+-- appended the output is as it was.
 abbrev pub WroteOctets : {A : Type 0} → List ℕ → Result A WriteError → List ℕ → List ℕ → Type 0
 WroteOctets octets (Ok x) old new = (length octets < 2 ^ 32) × (new ≡ old ++ octets)
 WroteOctets octets (Err TooLong) old new = (2 ^ 32 ≤ length octets) × (new ≡ old)

@@ -9,8 +9,10 @@ ghost use Rattle.giop_core.specs.declared.header.MessageKind.TheVariants as kind
 ghost use Rattle.giop_core.specs.declared.header.Version.TheVariants.{V10};
 
 use crate::error::MessageFault;
+use crate::finder::Finder;
 use crate::header::{Header, MessageKind, Version};
-use crate::places::{Finder, Parts};
+use crate::places::Parts;
+use crate::writing::cut_back;
 use cdr_core::{Order, Writer};
 use std::alloc::AllocError;
 
@@ -73,8 +75,5 @@ pub fn write_cancel(
 {
     let start = out.len();
     let result = append_cancel(version, order, request_id, out);
-    if result.is_err() {
-        out.truncate(start);
-    }
-    result
+    cut_back(result, start, out)
 }

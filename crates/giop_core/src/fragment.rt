@@ -4,8 +4,9 @@ ghost use Rattle.giop_core.specs.Places.{FindsParts};
 ghost use Rattle.giop_core.specs.declared.header.MessageKind.TheVariants as kind;
 
 use crate::error::MessageFault;
+use crate::finder::Finder;
 use crate::header::Version;
-use crate::places::{Finder, Parts};
+use crate::places::Parts;
 use cdr_core::Order;
 
 /// A Fragment (GIOP 9.4.9): more octets of a message that was cut.

@@ -13,7 +13,7 @@ ghost use Rattle.giop_core.specs.Written.{ft_octets, WroteOctets};
 
 use crate::error::WriteError;
 use crate::service_context::Contexts;
-use crate::writing::{LONGEST, check_text};
+use crate::writing::{LONGEST, check_text, cut_back};
 use cdr_core::{Cursor, Fault, Order, Writer};
 use ior_core::read_tagged;
 
@@ -98,8 +98,7 @@ fn first_of<'m>(cursor: &mut Cursor<'m>, left: u32, id: u32) -> Option<&'m [u8]>
 }
 
 /// What the first FT_REQUEST among service contexts says: its fields, or that it is not valid, or that
-/// there is none. Contexts of other ids are passed over, and further ones of that id (
-/// own rule).
+/// there is none. Contexts of other ids are passed over, and so are further ones of that id (own rule).
 #[tactic(auto, unfolding(crate::specs::Ft::ft_in))]
 pub fn ft_request<'m>(contexts: &Contexts<'m>) -> FtField<'m>
     ensures { ft_seen result ≡ ft_in (contexts_left contexts.now) }
@@ -150,8 +149,5 @@ pub fn write_ft(
 {
     let start = out.len();
     let result = put_ft(order, client_id, retention_id, expiration, out);
-    if result.is_err() {
-        out.truncate(start);
-    }
-    result
+    cut_back(result, start, out)
 }

@@ -2,7 +2,7 @@
 
 ghost use Rattle.std.specs.Prelude.{◌≡◌, length, option_map, slice_get};
 ghost use Rattle.cdr_core.specs.Writing.{IsWritable};
-ghost use Rattle.giop_core.specs.Facts.{writable_prop};
+ghost use Rattle.giop_core.specs.facts.Writable.{writable_prop};
 ghost use Rattle.giop_core.specs.Items.{contexts_left, item_at, items_in, reference_as};
 
 use crate::service_context::Contexts;

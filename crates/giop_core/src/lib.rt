@@ -8,6 +8,8 @@
 mod cancel;
 mod control;
 mod error;
+mod exception;
+mod finder;
 mod fragment;
 mod ft;
 mod header;
@@ -16,6 +18,7 @@ pub mod laws;
 mod locate;
 mod message;
 mod places;
+mod raw_reply;
 mod reply;
 mod request;
 mod service_context;
@@ -29,11 +32,13 @@ pub use message::{Body, Content, Message, Places, Reading, read_message};
 // each kind of message, and its writer
 pub use cancel::{CancelRequest, write_cancel};
 pub use control::{write_close, write_error};
+pub use exception::write_exception;
 pub use fragment::Fragment;
 pub use locate::{
     LocateReply, LocateRequest, LocateStatus, write_locate_reply, write_locate_request,
 };
-pub use reply::{Reply, ReplyStatus, write_exception, write_raw_reply, write_reply};
+pub use raw_reply::write_raw_reply;
+pub use reply::{Reply, ReplyStatus, write_reply};
 pub use request::{ReplyWish, Request, write_request};
 
 // what messages lend

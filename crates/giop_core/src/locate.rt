@@ -7,18 +7,19 @@ ghost use Rattle.cdr_core.specs.Writing.{AreWritable, IsWritable};
 ghost use Rattle.giop_core.specs.Lent.{addressed_by};
 ghost use Rattle.giop_core.specs.Places.{FindsParts};
 ghost use Rattle.giop_core.specs.Private.{Adds, PutsFields};
-ghost use Rattle.giop_core.specs.Statuses.{locate_status_number, locate_status_of};
+ghost use Rattle.giop_core.specs.Statuses.{locate_status_number, locate_status_of, locate_statuses};
 ghost use Rattle.giop_core.specs.Texts.{locate_status_text};
-ghost use Rattle.giop_core.specs.Written.{behind_header, locate_reply_fields, locate_request_fields, locate_statuses, target_in, CanAddress, Wrote};
+ghost use Rattle.giop_core.specs.Written.{behind_header, locate_reply_fields, locate_request_fields, target_in, CanAddress, Wrote};
 ghost use Rattle.giop_core.specs.declared.header.MessageKind.TheVariants as kind;
 ghost use Rattle.giop_core.specs.declared.header.Version.TheVariants.{V10, V12};
 
 use crate::error::{MessageFault, WriteError};
+use crate::finder::Finder;
 use crate::header::{MessageKind, Version};
 use crate::message::Body;
-use crate::places::{Finder, Parts, TargetPlace};
+use crate::places::{Parts, TargetPlace};
 use crate::target_address::{Target, check_target, put_target_in};
-use crate::writing::{begin, finish};
+use crate::writing::{begin, cut_back, finish};
 use cdr_core::{Order, Val, Writer};
 use std::alloc::AllocError;
 use std::fmt;
@@ -49,7 +50,7 @@ pub enum LocateStatus {
     ObjectHere,
     /// The body holds a reference to ask in place of this one.
     ObjectForward,
-    /// The same for good. Only 1.2 has it.
+    /// The body holds a reference to ask in place of this one for good. Only 1.2 has it.
     ObjectForwardPerm,
     /// The body holds a system exception. Only 1.2 has it.
     SystemException,
@@ -108,7 +109,7 @@ impl fmt::Display for LocateStatus {
 /// How many statuses a LocateReply of 1.0 or 1.1 can have: the numbers below it.
 const STATUSES_10: u32 = 3;
 
-/// The same in 1.2.
+/// How many statuses a LocateReply of 1.2 can have.
 const STATUSES_12: u32 = 6;
 
 impl Version {
@@ -214,10 +215,7 @@ pub fn write_locate_request(
 {
     let start = out.len();
     let result = append_locate_request(version, order, request_id, target, out);
-    if result.is_err() {
-        out.truncate(start);
-    }
-    result
+    cut_back(result, start, out)
 }
 
 /// Finds the parts of a LocateReply of 1.0 or 1.1.
@@ -310,8 +308,5 @@ pub fn write_locate_reply(
 {
     let start = out.len();
     let result = append_locate_reply(version, order, request_id, status, body, out);
-    if result.is_err() {
-        out.truncate(start);
-    }
-    result
+    cut_back(result, start, out)
 }

@@ -292,9 +292,9 @@ impl<'m> Reading<'m> {
 /// memory: the message is lent from the octets.
 ///
 /// The octets are those of a whole message: its header announces no more fragments, and its size is
-/// their number. Octets after the fields of a message that has no body are ignored (
-/// own rule). Places in faults and bodies count from the beginning of the message, its header included;
-/// a body's is at most 7 past the message's end.
+/// their number. Octets after the fields of a message that has no body are ignored (own rule). Places in
+/// faults and bodies count from the beginning of the message, its header included; a body's is at most 7
+/// past the message's end.
 #[inline(always)]
 pub fn read_message<'m>(header: &Header, octets: &'m [u8]) -> Result<Message<'m>, MessageFault>
     ensures shows { Shows (λ m. content_of m.content) result (message_of header.now.version header.now.kind header.now.order octets.now) }

@@ -1,26 +1,25 @@
 //! Reply (GIOP 9.4.3).
 
-ghost use Rattle.std.specs.Prelude.{◌↔◌, Some, IsTrue, ◌≡◌, IfOk, MatchResult, ◌≤◌, ◌<◌, ◌++◌, [], length, map, OnErr, OnOk};
-ghost use Rattle.cdr_core.specs.Private.{Keeps};
-ghost use Rattle.cdr_core.specs.Spelling.{IsClean};
+ghost use Rattle.std.specs.Prelude.{◌↔◌, Some, IsTrue, ◌≡◌, ◌≤◌, ◌<◌, ◌++◌, [], length, map, OnErr, OnOk};
 ghost use Rattle.cdr_core.specs.Value.{values};
 ghost use Rattle.cdr_core.specs.View.{values_of};
-ghost use Rattle.cdr_core.specs.Writing.{octets_of_all, place_in, AreWritable, PutsAll};
+ghost use Rattle.cdr_core.specs.Writing.{octets_of_all, AreWritable};
 ghost use Rattle.giop_core.specs.Items.{item_at};
 ghost use Rattle.giop_core.specs.Places.{FindsParts};
 ghost use Rattle.giop_core.specs.Private.{Adds, Begins, PutsFields};
-ghost use Rattle.giop_core.specs.Statuses.{reply_status_number, reply_status_of};
+ghost use Rattle.giop_core.specs.Statuses.{reply_status_number, reply_status_of, reply_statuses};
 ghost use Rattle.giop_core.specs.Texts.{reply_status_text};
-ghost use Rattle.giop_core.specs.Written.{behind_header, body_octets, exception_body, octets_body, reply_fields, reply_statuses, Wrote};
+ghost use Rattle.giop_core.specs.Written.{behind_header, reply_fields, Wrote};
 ghost use Rattle.giop_core.specs.declared.header.MessageKind.TheVariants as kind;
 ghost use Rattle.giop_core.specs.declared.header.Version.TheVariants.{V10, V12};
 
 use crate::error::{MessageFault, WriteError};
+use crate::finder::Finder;
 use crate::header::{MessageKind, Version};
 use crate::message::Body;
-use crate::places::{Finder, Parts, ReplyParts};
+use crate::places::{Parts, ReplyParts};
 use crate::service_context::{Contexts, check_contexts, put_contexts};
-use crate::writing::{begin, check_text, finish, put_header};
+use crate::writing::{begin, cut_back, finish};
 use cdr_core::{Order, Val, Writer};
 use std::alloc::AllocError;
 use std::fmt;
@@ -46,7 +45,7 @@ pub enum ReplyStatus {
     SystemException,
     /// The body holds a reference to ask in place of this one.
     LocationForward,
-    /// The same for good. Only 1.2 has it.
+    /// The body holds a reference to ask in place of this one for good. Only 1.2 has it.
     LocationForwardPerm,
     /// The body holds the addressing that the server wants. Only 1.2 has it.
     NeedsAddressingMode,
@@ -103,7 +102,7 @@ impl fmt::Display for ReplyStatus {
 /// How many statuses a Reply of 1.0 or 1.1 can have: the numbers below it.
 const STATUSES_10: u32 = 4;
 
-/// The same in 1.2.
+/// How many statuses a Reply of 1.2 can have.
 const STATUSES_12: u32 = 6;
 
 impl Version {
@@ -236,7 +235,7 @@ fn put_bare_reply(
 
 /// Appends a Reply as far as its fields, with zeros in place of its header. Where that fails `out` may
 /// keep a part of it at its end.
-fn begin_reply(
+pub(crate) fn begin_reply(
     version: Version,
     order: Order,
     request_id: u32,
@@ -300,171 +299,5 @@ pub fn write_reply(
 {
     let start = out.len();
     let result = append_reply(version, order, request_id, status, contexts, body, out);
-    if result.is_err() {
-        out.truncate(start);
-    }
-    result
-}
-
-/// Appends the id of an exception and its members.
-fn put_members(
-    writer: &Writer,
-    exception: &[u8],
-    members: &[Val],
-    out: &mut Vec<u8>,
-) -> Result<(), AllocError>
-    requires start { writer.now.start ≤ length out.old.items }
-    requires writable { AreWritable (exception_body exception.now (values_of members.now)) }
-    ensures { MatchResult result
-        (λ _. PutsAll writer.now (exception_body exception.now (values_of members.now)) out.old.items out.new.items)
-        (λ _. Keeps out.old.items out.new.items) }
-{
-    writer.string(exception, out)?;
-    writer.values(members, out)
-}
-
-/// Appends the body of a Reply that carries an exception. In 1.2 padding stands before it.
-fn put_exception(
-    version: Version,
-    writer: &Writer,
-    exception: &[u8],
-    members: &[Val],
-    out: &mut Vec<u8>,
-) -> Result<(), AllocError>
-    requires start { writer.now.start ≤ length out.old.items }
-    requires writable { AreWritable (exception_body exception.now (values_of members.now)) }
-    ensures { MatchResult result
-        (λ _. out.new.items ≡ out.old.items ++ body_octets version kind.Reply writer.now.order (exception_body exception.now (values_of members.now)) (place_in writer.now out.old.items))
-        (λ _. Keeps out.old.items out.new.items) }
-{
-    match version {
-        Version::V10 | Version::V11 => put_members(writer, exception, members, out),
-        Version::V12 => {
-            writer.align(8, out)?;
-            put_members(writer, exception, members, out)
-        }
-    }
-}
-
-/// Appends a Reply that carries an exception. Where that fails `out` may keep a part of it at its end.
-fn append_exception(
-    version: Version,
-    order: Order,
-    request_id: u32,
-    status: u32,
-    contexts: &[(u32, &[u8])],
-    exception: &[u8],
-    members: &[Val],
-    out: &mut Vec<u8>,
-) -> Result<(), WriteError>
-    requires clean { IsClean exception.now }
-    requires writable { AreWritable (values_of members.now) }
-    ensures { Adds version kind.Reply order (behind_header version kind.Reply order (reply_fields version request_id status (map item_at contexts.now)) (exception_body exception.now (values_of members.now))) result out.old.items out.new.items }
-{
-    check_text(exception)?;
-    let start = out.len();
-    let writer = begin_reply(version, order, request_id, status, contexts, out)?;
-    put_exception(version, &writer, exception, members, out)?;
-    put_header(version, MessageKind::Reply, order, start, out)
-}
-
-/// Appends a Reply that carries an exception (GIOP 9.4.3), which nothing has to copy first.
-///
-/// Its body is the exception's repository id, as `IDL:omg.org/CORBA/MARSHAL:1.0`, and then its members:
-/// of a system exception its minor code and its completion status. `exception` is the id's octets,
-/// without a NUL. The status is one that the version has: that of an exception is 1 or 2, which is left
-/// to the caller. On an error `out` is as it was: the message is longer than 4,294,967,295 octets after
-/// its header, or an allocation failed.
-pub fn write_exception(
-    version: Version,
-    order: Order,
-    request_id: u32,
-    status: u32,
-    contexts: &[(u32, &[u8])],
-    exception: &[u8],
-    members: &[Val],
-    out: &mut Vec<u8>,
-) -> Result<(), WriteError>
-    requires status { status < reply_statuses version }
-    requires clean { IsClean exception.now }
-    requires writable { AreWritable (values_of members.now) }
-    ensures { Wrote version kind.Reply order (behind_header version kind.Reply order (reply_fields version request_id status (map item_at contexts.now)) (exception_body exception.now (values_of members.now))) result out.old.items out.new.items }
-{
-    let start = out.len();
-    let result = append_exception(
-        version, order, request_id, status, contexts, exception, members, out,
-    );
-    if result.is_err() {
-        out.truncate(start);
-    }
-    result
-}
-
-/// Appends the body of a Reply that comes as octets. In 1.2 padding stands before it, if it has any.
-fn put_octets(
-    version: Version,
-    writer: &Writer,
-    octets: &[u8],
-    out: &mut Vec<u8>,
-) -> Result<(), AllocError>
-    requires { writer.now.start ≤ length out.old.items }
-    ensures { MatchResult result
-        (λ _. out.new.items ≡ out.old.items ++ body_octets version kind.Reply writer.now.order (octets_body octets.now) (place_in writer.now out.old.items))
-        (λ _. Keeps out.old.items out.new.items) }
-{
-    cdr_core::laws::are_octets(octets);
-    if octets.is_empty() {
-        return Ok(());
-    }
-    let alignment = match version {
-        Version::V10 | Version::V11 => 1,
-        Version::V12 => 8,
-    };
-    writer.align(alignment, out)?;
-    out.extend_from_slice(octets)
-}
-
-/// Appends a Reply whose body comes as octets. Where that fails `out` may keep a part of it at its end.
-fn append_raw_reply(
-    version: Version,
-    order: Order,
-    request_id: u32,
-    status: u32,
-    contexts: &[(u32, &[u8])],
-    body: &[u8],
-    out: &mut Vec<u8>,
-) -> Result<(), WriteError>
-    ensures { Adds version kind.Reply order (behind_header version kind.Reply order (reply_fields version request_id status (map item_at contexts.now)) (octets_body body.now)) result out.old.items out.new.items }
-{
-    let start = out.len();
-    let writer = begin_reply(version, order, request_id, status, contexts, out)?;
-    put_octets(version, &writer, body, out)?;
-    put_header(version, MessageKind::Reply, order, start, out)
-}
-
-/// Appends a Reply whose body comes as octets (GIOP 9.4.3), written for a place divisible by
-/// 8, in the order of the message. They are copied as they stand, and nothing reads them.
-///
-/// In 1.2 padding leads to such a place, and no octets take no padding. In 1.0 and 1.1 the body follows
-/// the fields, which end at the place 24 where there are no contexts. The status is one that the version
-/// has. On an error `out` is as it was: the message is longer than 4,294,967,295 octets after its header,
-/// or an allocation failed.
-pub fn write_raw_reply(
-    version: Version,
-    order: Order,
-    request_id: u32,
-    status: u32,
-    contexts: &[(u32, &[u8])],
-    body: &[u8],
-    out: &mut Vec<u8>,
-) -> Result<(), WriteError>
-    requires status { status < reply_statuses version }
-    ensures { Wrote version kind.Reply order (behind_header version kind.Reply order (reply_fields version request_id status (map item_at contexts.now)) (octets_body body.now)) result out.old.items out.new.items }
-{
-    let start = out.len();
-    let result = append_raw_reply(version, order, request_id, status, contexts, body, out);
-    if result.is_err() {
-        out.truncate(start);
-    }
-    result
+    cut_back(result, start, out)
 }

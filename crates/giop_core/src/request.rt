@@ -19,12 +19,13 @@ ghost use Rattle.giop_core.specs.declared.header.MessageKind.TheVariants as kind
 ghost use Rattle.giop_core.specs.declared.header.Version.TheVariants.{V10, V11, V12};
 
 use crate::error::{MessageFault, WriteError};
+use crate::finder::Finder;
 use crate::header::{MessageKind, Version};
 use crate::message::Body;
-use crate::places::{Finder, Parts, RequestParts, TargetPlace};
+use crate::places::{Parts, RequestParts, TargetPlace};
 use crate::service_context::{Contexts, check_contexts, put_contexts};
 use crate::target_address::{Target, check_target, put_key, put_target};
-use crate::writing::{begin, check_text, finish};
+use crate::writing::{begin, check_text, cut_back, finish};
 use cdr_core::{Cursor, Fault, Order, Val, Writer};
 use std::alloc::AllocError;
 use std::fmt;
@@ -369,8 +370,5 @@ pub fn write_request(
         contexts,
     };
     let result = append_request(version, order, &fields, body, out);
-    if result.is_err() {
-        out.truncate(start);
-    }
-    result
+    cut_back(result, start, out)
 }

@@ -1,6 +1,6 @@
 //! What all writers share: the beginning and the end of a message, and which parts are too long.
 
-ghost use Rattle.std.specs.Prelude.{◌≡◌, ◌≤◌, ◌+◌, ◌++◌, length, drop, take, replicate, MatchResult};
+ghost use Rattle.std.specs.Prelude.{◌≡◌, ◌≤◌, ◌+◌, ◌++◌, length, drop, take, replicate, MatchResult, OnErr, OnOk};
 ghost use Rattle.cdr_core.specs.Private.{Keeps};
 ghost use Rattle.cdr_core.specs.Spelling.{IsClean};
 ghost use Rattle.cdr_core.specs.Value as value;
@@ -52,6 +52,23 @@ pub(crate) fn begin(order: Order, out: &mut Vec<u8>) -> Result<Writer, AllocErro
     out.reserve(SHORT)?;
     out.extend_from_slice(&[0; Header::LEN])?;
     Ok(Writer::new(order, Header::LEN as u64, out))
+}
+
+/// What came of appending octets from `start` on: where that failed they are cut back.
+#[inline(always)]
+pub(crate) fn cut_back<E: Drop>(
+    appended: Result<(), E>,
+    start: usize,
+    out: &mut Vec<u8>,
+) -> Result<(), E>
+    ensures same { result ≡ appended }
+    ensures ok { OnOk result (out.new.items ≡ out.old.items) }
+    ensures err { OnErr result (out.new.items ≡ take start out.old.items) }
+{
+    if appended.is_err() {
+        out.truncate(start);
+    }
+    appended
 }
 
 /// Appends a body of a Request or Reply of 1.2. Padding stands before its octets alone.

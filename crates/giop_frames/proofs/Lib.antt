@@ -7,6 +7,7 @@ pub mod Tables
 pub mod Samples
 pub mod Standing
 pub mod Needs
+pub mod Awaiting
 pub mod Found
 pub mod Ids
 pub mod Judging

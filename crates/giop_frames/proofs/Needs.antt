@@ -46,6 +46,7 @@ needs-head limits b few = record {
   some = omega arith;
   waits = λ c h. sight-short limits (b ++ c) (omega (arith, h, length-append b c));
   exact = λ c e. exact-head limits (b ++ c) (omega (arith, e, length-append b c));
+  ends = inl (omega (arith, few));
 }
 
 pub needs-nothing : (limits : Limits) → Needs limits [] 12
@@ -61,6 +62,10 @@ needs-frame limits b h long j few =
       exact = λ c e.
           let whole : length (b ++ c) ≡ frame_size h = omega (arith, e, few, length-append b c) in
           rw (sight-all limits (b ++ c) h (omega (arith, long, length-append b c)) (same c) (omega (arith, whole))) whole;
+      ends = inr (λ c e w.
+          let whole : length (b ++ c) ≡ frame_size h = omega (arith, e, few, length-append b c) in
+          let all = sight-all limits (b ++ c) h (omega (arith, long, length-append b c)) (same c) (omega (arith, whole)) in
+          let k : Whole (framed h (b ++ c)) ≡ Waiting = sym all ∙ w in cc);
     }
 
 -- some octets later fewer are needed
@@ -69,6 +74,10 @@ needs-less limits b c n need few = record {
   some = omega arith;
   waits = λ d h. rw (append_assoc b c d) (need.waits (c ++ d) (omega (arith, h, few, length-append c d)));
   exact = λ d e. rw (append_assoc b c d) (need.exact (c ++ d) (omega (arith, e, few, length-append c d)));
+  ends = elim need.ends [
+    | inl all ↦ inl (omega (arith, all, few, length-append b c))
+    | inr judged ↦ inr (λ d e w. judged (c ++ d) (omega (arith, e, few, length-append c d)) (ap (sight limits) (sym (append_assoc b c d)) ∙ w))
+  ];
 }
 
 -- what needs octets waits

@@ -41,8 +41,17 @@ module _ (limits : Limits) (b : List ℕ) (ps : List Entry) (s : List ℕ) (stan
   reading_is : (c : List ℕ) (t : Split) (r : Reading) → split_from limits b c ≡ t → reading_from limits (frames_of limits s) t.fault t.frames ≡ r → reading_of limits (s ++ c) ≡ after_messages (messages_of limits s) r
   reading_is c t r e k = reading_without limits s stands.faultless c t (split_is c t e) ∙ ap (after_messages (messages_of limits s)) k
 
-  rest_is : (c : List ℕ) (t : Split) → split_from limits b c ≡ t → rest_of limits (s ++ c) ≡ t.rest
+  pub rest_is : (c : List ℕ) (t : Split) → split_from limits b c ≡ t → rest_of limits (s ++ c) ≡ t.rest
   rest_is c t e = rest-more limits s c stands.faultless ∙ ap (λ (u : Split). u.rest) (split_is c t e)
+
+  -- the fault of the stream with more octets, the frames before it, and the octets after the last whole one
+  pub fault_is : (c : List ℕ) (t : Split) (r : Reading) → split_from limits b c ≡ t → reading_from limits (frames_of limits s) t.fault t.frames ≡ r → fault_of limits (s ++ c) ≡ r.fault
+  unfolding fault_of
+  fault_is c t r e k = ap (λ (x : Reading). x.fault) (reading_is c t r e k)
+
+  pub frames_are : (c : List ℕ) (t : Split) (r : Reading) → split_from limits b c ≡ t → reading_from limits (frames_of limits s) t.fault t.frames ≡ r → frames_of limits (s ++ c) ≡ r.earlier
+  unfolding frames_of
+  frames_are c t r e k = ap (λ (x : Reading). x.earlier) (reading_is c t r e k)
 
   -- the stream with octets that leave no fault
   goes_on : (c : List ℕ) (t : Split) (r : Reading) (qs : List Entry) → split_from limits b c ≡ t → reading_from limits (frames_of limits s) t.fault t.frames ≡ r → r.fault ≡ None → Follows qs r.earlier
@@ -69,16 +78,23 @@ module _ (limits : Limits) (b : List ℕ) (ps : List Entry) (s : List ℕ) (stan
   judged_next : (f : Frame) → judged_by limits (part_in ps Of11) (part_in ps (key_of f)) (length ps) f ≡ judged limits (frames_of limits s) f
   judged_next f = judged-follows limits ps (frames_of limits s) f stands.partial
 
+-- a frame that is not whole
+pub alone-waiting : (limits : Limits) (b c : List ℕ) → sight limits (b ++ c) ≡ Waiting → split_from limits b c ≡ record { frames = []; rest = b ++ c; fault = None }
+alone-waiting limits b c w = ap (split_from limits b) (sym (append-nil c)) ∙ split-waiting limits b c [] w
+
 pub stands-waiting : (limits : Limits) (b : List ℕ) (ps : List Entry) (s c : List ℕ) → Stands limits b ps s → sight limits (b ++ c) ≡ Waiting
     → Stands limits (b ++ c) ps (s ++ c) × (messages_of limits (s ++ c) ≡ messages_of limits s)
 stands-waiting limits b ps s c stands w =
-    let alone : split_from limits b c ≡ split_from limits (b ++ c) [] = ap (split_from limits b) (sym (append-nil c)) ∙ split-waiting limits b c [] w in
-    let r = goes_on limits b ps s stands c (record { frames = []; rest = b ++ c; fault = None }) (record { messages = []; fault = None; earlier = frames_of limits s }) ps alone refl refl stands.partial in
+    let r = goes_on limits b ps s stands c (record { frames = []; rest = b ++ c; fault = None }) (record { messages = []; fault = None; earlier = frames_of limits s }) ps (alone-waiting limits b c w) refl refl stands.partial in
     (r.0, r.1 ∙ append-nil (messages_of limits s))
 
 -- a whole frame at the end
-alone-whole : (limits : Limits) (b c : List ℕ) (f : Frame) → sight limits (b ++ c) ≡ Whole f → length (b ++ c) ≡ frame_size f.header → 0 < length c → split_from limits b c ≡ record { frames = f ∷ []; rest = []; fault = None }
+pub alone-whole : (limits : Limits) (b c : List ℕ) (f : Frame) → sight limits (b ++ c) ≡ Whole f → length (b ++ c) ≡ frame_size f.header → 0 < length c → split_from limits b c ≡ record { frames = f ∷ []; rest = []; fault = None }
 alone-whole limits b c f w exact some = ap (split_from limits b) (sym (append-nil c)) ∙ split-whole limits b c [] f w exact some
+
+-- a header that is refused at the end
+pub alone-refused : (limits : Limits) (b c : List ℕ) (e : StreamFault) → sight limits (b ++ c) ≡ Refused e → length (b ++ c) ≡ 12 → 0 < length c → split_from limits b c ≡ record { frames = []; rest = b ++ c; fault = Some e }
+alone-refused limits b c e w exact some = ap (split_from limits b) (sym (append-nil c)) ∙ split-refused limits b c [] e w exact some
 
 pub stands-quiet : (limits : Limits) (b : List ℕ) (ps : List Entry) (s c : List ℕ) (f : Frame) → Stands limits b ps s → sight limits (b ++ c) ≡ Whole f → length (b ++ c) ≡ frame_size f.header → 0 < length c
     → judged_by limits (part_in ps Of11) (part_in ps (key_of f)) (length ps) f ≡ Quiet → Stands limits [] (parts_after ps f) (s ++ c) × (messages_of limits (s ++ c) ≡ messages_of limits s)

@@ -65,7 +65,7 @@ pub record Split : Type 0 where
   pub rest : List ℕ
   pub fault : Option StreamFault
 
--- the same, with one frame before
+-- a stream as frames, with one frame before
 abbrev pub after_frame : Frame → Split → Split
 after_frame f s = record s { frames = f ∷ s.frames }
 

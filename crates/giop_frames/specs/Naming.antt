@@ -1,4 +1,5 @@
--- Words of private functions: how far a partial message of 1.1 was read for its request id. No public contract cites them.
+-- Words of private functions: how far a partial message of 1.1 was read for its request id. No contract of a public call cites
+-- them.
 use Rattle.std.specs.Prelude.{◌≡◌, ℕ, ◌≤◌, ◌++◌, List, length, drop, Option, Some, None}
 use Rattle.cdr_core.specs.declared.order.Order.{Order}
 use Rattle.cdr_core.specs.Cursor.{Position}
@@ -13,13 +14,13 @@ use Rattle.giop_frames.specs.declared.naming.Named.TheVariants.{Unread, UpTo, Id
 abbrev pub id_in : Order → List ℕ → Option ℕ
 id_in order message = request_id_in order (drop 12 message)
 
--- the same, read from a place on, where so many service contexts come before it
+-- the request id of a message of 1.1, read from a place on, where so many service contexts come before it
 unfoldable pub id_after : Order → List ℕ → ℕ → ℕ → Option ℕ
 id_after order message place left = number_read (do
   x ← each_at (value_at tagged order) left place (drop place message)
   value_at ulong order x.1 x.2)
 
--- the same, read on from where reading stopped
+-- the request id of a message of 1.1, read on from where reading stopped
 abbrev pub id_from : Order → Named → List ℕ → Option ℕ
 id_from order Unread message = id_in order message
 id_from order (UpTo at left) message = id_after order message at left

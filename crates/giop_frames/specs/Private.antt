@@ -1,6 +1,6 @@
--- Words of private functions: what the code's own values stand for. No public contract cites them, and nobody has to read
--- them to know what is promised.
-use Rattle.std.specs.Prelude.{◌≡◌, ℕ, ◌<◌, ◌≤◌, ◌++◌, List, [], ◌∷◌, Option, Some, None, is_some, Ok, Err, IsOk, Bool, true, length, drop, if◌then◌else◌}
+-- Words of private functions, and of what is true of an assembler's fields: what the code's own values stand for. No contract
+-- of a public call cites them, and nobody has to read them to know what is promised.
+use Rattle.std.specs.Prelude.{◌≡◌, ℕ, ◌+◌, ◌<◌, ◌≤◌, ◌++◌, ◌⊎◌, List, [], ◌∷◌, Option, Some, None, is_some, Ok, Err, IsOk, Bool, true, length, drop, if◌then◌else◌}
 use Rattle.giop_core.specs.declared.header.Header.{Header}
 use Rattle.giop_core.specs.declared.message.Places.{Places}
 use Rattle.giop_core.specs.Places.{ArePlacesOf}
@@ -34,11 +34,13 @@ IsExact b Waiting = Unit {0}
 IsExact b (Whole f) = length b ≡ frame_size f.header
 IsExact b (Refused e) = length b ≡ 12
 
--- n more octets are needed: with fewer nothing can be judged, and with n something is judged at their end, or more are needed
+-- n more octets are needed: with fewer nothing can be judged, and with n something is judged at their end, or they are the
+-- last of a header, and more are needed
 pub record Needs (limits : Limits) (b : List ℕ) (n : ℕ) : Type 0 where
   pub some : 0 < n
   pub waits : (c : List ℕ) → length c < n → sight limits (b ++ c) ≡ Waiting
   pub exact : (c : List ℕ) → length c ≡ n → IsExact (b ++ c) (sight limits (b ++ c))
+  pub ends : (length b + n ≡ 12) ⊎ ((c : List ℕ) → length c ≡ n → ¬ (sight limits (b ++ c) ≡ Waiting))
 
 -- what is seen as too few octets needs as many more as it says
 abbrev pub NeedsAsSeen : Seen → Limits → List ℕ → Type 0
@@ -116,7 +118,7 @@ IsLeft (SettledBad e) v b ps after = v ≡ Bad e
 abbrev pub IsSettled : Settled → Limits → Header → List ℕ → List ℕ → List Entry → List Entry → Type 0
 IsSettled s limits h b b' ps ps' = IsLeft s (judged_by limits (part_in ps Of11) (part_in ps (key_of (framed h b))) (length ps) (framed h b)) b' ps' (parts_after ps (framed h b))
 
--- the same, of a frame in a role
+-- from the octets b and the partial messages ps to b' and ps', of a frame under the header h, in a role
 abbrev pub IsSettledAs : Role → Settled → Limits → Header → List ℕ → List ℕ → List Entry → List Entry → Type 0
 IsSettledAs r s limits h b b' ps ps' = IsLeft s (judged_as r limits (part_in ps (key_of (framed h b))) (length ps) (framed h b)) b' ps' (parts_as r ps (framed h b))
 

@@ -92,7 +92,7 @@ pub record IsSendable (limits : Limits) (m : Sent) : Type 0 where
 abbrev pub sent_octets : List Sent → List ℕ
 sent_octets ms = flat_map (λ m. message_octets m.version m.kind m.order m.body) ms
 
--- the same messages as they complete, after n octets
+-- messages as they complete where they are written one after another, after n octets
 abbrev pub sent_from : ℕ → List Sent → List Completed
 sent_from n [] = []
 sent_from n (m ∷ ms) = record { place = n + (12 + length m.body); message = written m.version m.kind m.order m.body } ∷ sent_from (n + (12 + length m.body)) ms

@@ -1,5 +1,5 @@
 -- Whole streams: their messages, each with the place where it completes, and their first fault.
-use Rattle.std.specs.Prelude.{◌≡◌, ℕ, ◌+◌, List, [], ◌∷◌, ◌++◌, length, Option, Some, None, if◌then◌else◌}
+use Rattle.std.specs.Prelude.{◌≡◌, ℕ, ◌+◌, ◌<◌, ◌⊎◌, List, [], ◌∷◌, ◌++◌, length, Option, Some, None, if◌then◌else◌}
 use Rattle.giop_frames.specs.declared.fault.StreamFault.{StreamFault}
 use Rattle.giop_frames.specs.declared.limits.Limits.{Limits}
 use Rattle.giop_frames.specs.declared.partial.Key.{Key}
@@ -22,7 +22,7 @@ abbrev pub place_after : List Frame → ℕ
 place_after [] = 0
 place_after (f ∷ earlier) = place_after earlier + (12 + length f.octets)
 
--- the same, with one message before
+-- frames as messages, with one message before
 abbrev pub after_message : Completed → Reading → Reading
 after_message m r = record r { messages = m ∷ r.messages }
 
@@ -87,3 +87,17 @@ pub record Stands (limits : Limits) (pending : List ℕ) (parts : List Entry) (s
 pub record Faults (limits : Limits) (s c : List ℕ) (e : StreamFault) : Type 0 where
   pub is : fault_of limits (s ++ c) ≡ Some e
   pub same : messages_of limits (s ++ c) ≡ messages_of limits s
+
+-- where the frame begins that has not come whole, or is refused: after the frames before it
+abbrev pub frame_begins : Limits → List ℕ → ℕ
+frame_begins limits s = place_after (frames_of limits s)
+
+-- a stream without a fault waits for n more octets before anything of it can be judged
+pub record Awaits (limits : Limits) (s : List ℕ) (n : ℕ) : Type 0 where
+  pub some : 0 < n
+  -- with fewer there is no fault, no message completes, and no frame ends
+  pub fewer : (c : List ℕ) → length c < n → (fault_of limits (s ++ c) ≡ None) × (messages_of limits (s ++ c) ≡ messages_of limits s) × (frame_begins limits (s ++ c) ≡ frame_begins limits s)
+  -- with them a header of twelve octets ends, or the frame, if that is no fault
+  pub ends : (length (rest_of limits s) + n ≡ 12) ⊎ ((c : List ℕ) → length c ≡ n → (rest_of limits (s ++ c) ≡ []) ⊎ ¬ (fault_of limits (s ++ c) ≡ None))
+  -- and a fault is one of the frame that has begun
+  pub fault : (c : List ℕ) (e : StreamFault) → length c ≡ n → fault_of limits (s ++ c) ≡ Some e → frame_begins limits (s ++ c) ≡ frame_begins limits s

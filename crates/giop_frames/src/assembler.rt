@@ -7,7 +7,7 @@ ghost use Rattle.giop_core.specs.Messages.{OnBody};
 ghost use Rattle.giop_frames.specs.Private.{ArePlaced, Needs, IsKept, IsStep};
 ghost use Rattle.giop_frames.specs.Fragments.{content_of, partials_in};
 ghost use Rattle.giop_frames.specs.Standing.{AreWithin, HasPlace, IsBounded, IsFault, IsLent, StandsFor, completed_at, entries, frame_held, frame_of, octets_held, parts_held, pending_at};
-ghost use Rattle.giop_frames.specs.Streams.{Stands, frames_of, messages_of, rest_of};
+ghost use Rattle.giop_frames.specs.Streams.{Awaits, Stands, frame_begins, frames_of, messages_of, rest_of};
 
 use crate::deframer::{Gathered, Seen, gather};
 use crate::fault::StreamFault;
@@ -293,11 +293,24 @@ impl Assembler {
     pub fn pending(&self) -> usize
         ensures octets { result ≡ length self.now.pending }
         ensures stands { (s : List ℕ) → StandsFor self.now s → result ≡ length (rest_of self.now.limits s) }
+        // the frame begins so many octets before the end of what has come
+        ensures begins { (s : List ℕ) → StandsFor self.now s → frame_begins self.now.limits s + result ≡ length s }
     {
         if self.complete.is_some() {
             return 0;
         }
         self.frame.len()
+    }
+
+    /// How many more octets are needed before anything can be judged: those up to the end of the frame's header, or of the
+    /// frame.
+    ///
+    /// With fewer no frame ends, and there is no fault. A fault that so many bring is one of the frame that has begun,
+    /// `pending` octets before them: who gives no more at a time knows where the frame of a fault begins.
+    pub fn needed(&self) -> usize
+        ensures { (s : List ℕ) → StandsFor self.now s → Awaits self.now.limits s result }
+    {
+        self.needed // set anew by each call of `feed`
     }
 
     /// How many messages are partial: their fragments have not all come.

@@ -74,7 +74,7 @@ pub record Listened : Type 0 where
   pub message : Option Frame
   pub end : Option PeerEnd
 
--- the same, closed: it holds and lends nothing
+-- a listener, closed: it holds and lends nothing
 abbrev pub closed : Listened → Listened
 closed l = record { limits = l.limits; is_closed = true; pending = []; parts = []; message = None; end = None }
 

@@ -1,5 +1,5 @@
--- Words of private functions: what the code's own values stand for. No public contract cites them, and nobody has to read
--- them to know what is promised.
+-- Words of private functions, and how the fields of a listener and of a link are seen (`listened`, `linked`, `client_linked`)
+-- and what is true of them. No contract of a public call cites them, and nobody has to read them to know what is promised.
 use Rattle.std.specs.Prelude.{◌≡◌, ℕ, ◌≤◌, ◌++◌, Bool, true, false, List, [], length, Option, Some, None}
 use Rattle.giop_core.specs.declared.header.Version.{Version}
 use Rattle.giop_core.specs.Content.{Content}

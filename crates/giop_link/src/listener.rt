@@ -1,12 +1,13 @@
 //! An end of a connection as it hears the stream of its peer, whoever it is.
 
-ghost use Rattle.std.specs.Prelude.{◌≡◌, ◌≢◌, ◌<◌, ◌≤◌, ◌+◌, ◌*◌, ◌^◌, ◌++◌, ℕ, List, [], length, take, true, false, Option, Some, None, Result, Ok, Err, IfOk, IfErr, IsSomeAnd, OnErr, OnOk, IfSome, MatchOption};
+ghost use Rattle.std.specs.Prelude.{◌≡◌, ◌≢◌, ◌↔◌, ◌<◌, ◌≤◌, ◌+◌, ◌*◌, ◌^◌, ◌++◌, ℕ, List, [], length, take, true, false, Option, Some, None, Result, Ok, Err, IfOk, IfErr, IsSome, IsSomeAnd, OnErr, OnOk, IfSome, MatchOption};
 ghost use Rattle.std.specs.Option.{option_map};
 ghost use Rattle.giop_core.specs.declared.header.Version.{Version};
 ghost use Rattle.giop_core.specs.Content.{Content};
 ghost use Rattle.giop_core.specs.Lent.{content_of};
 ghost use Rattle.giop_core.specs.Messages.{OnBody};
 ghost use Rattle.giop_frames.specs.Standing.{HasPlace, IsLent, StandsFor, frame_held, frame_of, parts_held};
+ghost use Rattle.giop_frames.specs.Streams.{Awaits, frame_begins};
 ghost use Rattle.giop_frames.specs.declared.limits.Limits.{Limits};
 ghost use Rattle.giop_link.specs.declared.error.LinkFault.TheVariants.{WrongDirection};
 ghost use Rattle.giop_link.specs.Hearing.{Sound, ending_as};
@@ -183,6 +184,33 @@ impl<S: Side> Listener<S> {
         match &self.state {
             State::Live(assembler) => assembler.held(),
             State::Parting(_) | State::Closed => 0,
+        }
+    }
+
+    /// How many octets there are of the frame that is not whole. A closed listener has none.
+    pub fn pending(&self) -> usize
+        ensures octets { result ≡ length self.now.pending }
+        // the frame begins so many octets before the end of what has come
+        ensures begins { (limits : Limits) (s : List ℕ) → ListenerStands S.meaning limits self.now s → self.now.is_closed ≡ false → frame_begins limits s + result ≡ length s }
+    {
+        match &self.state {
+            State::Live(assembler) => assembler.pending(),
+            State::Parting(_) | State::Closed => 0,
+        }
+    }
+
+    /// How many more octets are needed before anything can be judged: those up to the end of the frame's header, or of the
+    /// frame. None, where it is closed.
+    ///
+    /// With fewer no message is heard, no frame ends, and there is no fault. An error that so many bring is of the frame that
+    /// has begun, `pending` octets before them: who gives no more at a time knows where the frame of a fault begins.
+    pub fn needed(&self) -> Option<usize>
+        ensures closed { IsSome result ↔ self.now.is_closed ≡ false }
+        ensures awaits { (limits : Limits) (s : List ℕ) → ListenerStands S.meaning limits self.now s → IfSome result (λ n. Awaits limits s n) }
+    {
+        match &self.state {
+            State::Live(assembler) => Some(assembler.needed()),
+            State::Parting(_) | State::Closed => None,
         }
     }
 

@@ -2,6 +2,7 @@
 use Rattle.std.specs.Prelude.{◌≡◌, ℤ, List, []}
 use Rattle.ft_orb.specs.ExactlyOnce.{OneExpiration, state_of}
 use Rattle.ft_orb.specs.History.{Event, arrivals}
+use Rattle.ft_orb.specs.Now.{now_says, state_now}
 use Rattle.ft_orb.specs.Outputs.{Made, Noted, Plays, law_says, past_after, table_says}
 use Rattle.ft_orb.specs.Requests.{rules_of}
 use Rattle.counter.specs.Counter.{counter_meaning, is_counter}
@@ -21,3 +22,9 @@ abbrev pub AreOfLaw : Terms → List Event → List Noted → ℤ → Type 0
 AreOfLaw t events entries total = OneExpiration (arrivals t.limits (past_after t.limits [] events entries))
     → Plays t.limits is_counter (law_says counter_meaning (made_by t)) [] events entries
     × (total ≡ state_of (rules_of counter_meaning t.capacity t.share) t.start (arrivals t.limits (past_after t.limits [] events entries)))
+
+-- these entries are those of the events where each key is held from the performing of its request until that expires, and the total
+-- is what is performed so makes of the first one: nothing is asked of the keys
+abbrev pub AreOfNow : Terms → List Event → List Noted → ℤ → Type 0
+AreOfNow t events entries total = Plays t.limits is_counter (now_says counter_meaning (made_by t)) [] events entries
+    × (total ≡ state_now counter_meaning (made_by t) (past_after t.limits [] events entries))

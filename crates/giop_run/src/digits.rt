@@ -124,6 +124,23 @@ fn refusal(text: &[u8]) -> DigitError
     DigitError::Bad
 }
 
+/// The line and the place in it, both from 1, of the first octet of a text that is no digit and no blank.
+pub(crate) fn place_of_bad(text: &str) -> (u64, u64) {
+    let mut line = 1u64;
+    let mut place = 0u64;
+    for octet in text.as_bytes() {
+        place = place.saturating_add(1);
+        if !is_blank(*octet) && value_of(*octet) == NO {
+            return (line, place);
+        }
+        if *octet == b'\n' {
+            line = line.saturating_add(1);
+            place = 0;
+        }
+    }
+    (line, place)
+}
+
 /// The octets that the digits of a text give, two digits of either case for each. Blanks may stand
 /// anywhere between them.
 pub fn octets_of(alloc: Global, text: &str) -> Result<Vec<u8>, DigitError>

@@ -14,6 +14,8 @@ pub enum Hint {
     Capture,
     /// The input is no text.
     Binary,
+    /// The input is what tshark prints of both sides of a connection.
+    Follow,
     /// Colons stand between the digits.
     Colons,
 }
@@ -30,6 +32,9 @@ impl fmt::Display for Hint {
             Hint::Binary => f.write_str(
                 "hint: the input is binary; --raw takes octets as they are",
             ),
+            Hint::Follow => f.write_str(
+                "hint: the input is what tshark prints of both sides of a connection; giop trace reads it",
+            ),
             Hint::Colons => f.write_str("hint: the input has colons; tr -d : leaves them out"),
         }
     }
@@ -45,6 +50,9 @@ const CAPTURES: [[u8; 4]; 5] = [
     [0x0a, 0x0d, 0x0d, 0x0a],
 ];
 
+/// What that line begins with.
+const FOLLOW: &[u8] = b"Follow: ";
+
 /// Whether octets are those of a file of captured packets.
 fn is_capture(octets: &[u8]) -> bool {
     CAPTURES.iter().any(|magic| octets.starts_with(magic))
@@ -53,6 +61,14 @@ fn is_capture(octets: &[u8]) -> bool {
 /// Whether an octet stands in a text of digits, right or wrong.
 fn is_text(octet: u8) -> bool {
     octet.is_ascii_graphic() || octet.is_ascii_whitespace()
+}
+
+/// Whether a text has the line that stands at the head of what tshark prints of a connection.
+fn has_head(text: &[u8]) -> bool {
+    text.starts_with(FOLLOW)
+        || text.windows(FOLLOW.len() + 1).any(
+            |octets| matches!(octets, [b'\n', head @ ..] if head == FOLLOW),
+        )
 }
 
 /// What helps with octets that are no stream in this form, if anything is known to.
@@ -65,6 +81,9 @@ pub(crate) fn hint_of(octets: &[u8], form: Form) -> Option<Hint> {
     }
     if octets.starts_with(b"GIOP") || !octets.iter().all(|octet| is_text(*octet)) {
         return Some(Hint::Binary);
+    }
+    if has_head(octets) {
+        return Some(Hint::Follow);
     }
     if octets.contains(&b':') {
         return Some(Hint::Colons);

@@ -3,7 +3,7 @@
 ghost use Rattle.std.specs.Prelude.{IfOk, map};
 ghost use Rattle.ft_orb.specs.History.{event_of};
 ghost use Rattle.ft_orb.specs.Outputs.{noted};
-ghost use Rattle.giop_run.specs.Plays.{AreOfLaw, AreOfTable};
+ghost use Rattle.giop_run.specs.Plays.{AreOfLaw, AreOfNow, AreOfTable};
 
 use crate::stop::Stop;
 use counter::Counter;
@@ -42,6 +42,8 @@ pub(crate) fn play_events(
     ensures table { IfOk result (λ played. AreOfTable terms (map event_of events.now) (map noted played.written.items)) }
     // each distinct admissible request acts once
     ensures once { IfOk result (λ played. AreOfLaw terms (map event_of events.now) (map noted played.written.items) played.total) }
+    // each key by itself: whatever expirations requests carry
+    ensures now { IfOk result (λ played. AreOfNow terms (map event_of events.now) (map noted played.written.items) played.total) }
 {
     let counter = Counter::new(alloc, terms.start)?;
     let mut server = Server::new(

@@ -100,6 +100,30 @@ fn print_reference<W: Write>(alloc: Global, text: &str, out: &mut W) -> Result<(
     Ok(())
 }
 
+/// A text without the line end that it ends in.
+fn without_end(text: &str) -> &str {
+    text.trim_end_matches(['\r', '\n'])
+}
+
+/// Shows the reference that a text is, or the text on standard input.
+fn show_reference<R: Read, W: Write, E: Write>(
+    alloc: Global,
+    text: Option<&str>,
+    streams: &mut Streams<'_, R, W, E>,
+) -> Result<bool, Stop> {
+    match text {
+        Some(text) => print_reference(alloc, without_end(text), streams.out)?,
+        None => {
+            let octets = read_input(alloc, streams.input)?;
+            let Ok(text) = str::from_utf8(&octets) else {
+                return Err(Stop::Unreadable);
+            };
+            print_reference(alloc, without_end(text), streams.out)?
+        }
+    }
+    Ok(true)
+}
+
 /// Shows a stream that was read, under the default limits, and returns whether it ends well.
 fn show<W: Write>(
     alloc: Global,
@@ -193,7 +217,7 @@ fn perform<F: Files, R: Read, W: Write, E: Write>(
 {
     match task {
         Task::Play(numbers) => End::plain(play_input(alloc, *numbers, hasher, streams)),
-        Task::Ior(text) => End::plain(print_reference(alloc, text, streams.out).map(|_| true)),
+        Task::Ior(text) => End::plain(show_reference(alloc, *text, streams)),
         Task::Show(input) => show_input(alloc, rt, input, Detail::Messages, streams),
         Task::Check(input) => show_input(alloc, rt, input, Detail::EndAlone, streams),
     }
@@ -252,6 +276,8 @@ pub fn run<F: Files, R: Read, W: Write, E: Write>(
     let status = match came {
         Ok(true) => DONE,
         Ok(false) => FAILED,
+        // no error of the program
+        Err(stop) if stop.is_reader_gone() => DONE,
         Err(stop) => {
             let _ = writeln!(streams.err, "{stop}");
             status_of(task, &stop)

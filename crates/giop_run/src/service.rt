@@ -2,6 +2,7 @@
 
 ghost use Rattle.std.specs.Prelude.{◌≤◌};
 ghost use Rattle.ft_orb.specs.Standing.{IsNew};
+ghost use Rattle.giop_run.specs.Services.{IsOffered};
 ghost use Rattle.giop_run.specs.Settings.{IsServable};
 
 use crate::play::Terms;
@@ -11,7 +12,8 @@ use crate::stop::Stop;
 use crate::watching::{Watch, Watched};
 use counter::{Counter, reference_text};
 use ft_orb::{Clock, Servant, Server};
-use ft_tcp::{Socket, SystemClock, serve_connection, serve_listener};
+use ft_tcp::{Socket, SystemClock, serve_connection, serve_on};
+use giop_frames::Limits;
 use std::alloc::Global;
 use std::cell::Cell;
 use std::hash::RandomState;
@@ -49,54 +51,46 @@ fn timeout_of(service: &Service) -> Option<Duration> {
         .map(|seconds| Duration::from_secs(u64::from(seconds)))
 }
 
-/// Serves the connections of a listener, and prints a line for each request.
+/// Serves the connections of a listener by a new server, and prints a line for each request.
 fn serve_watched<C: Clock, E: Write>(
     alloc: Global,
     listener: &TcpListener,
     service: &Service,
-    terms: Terms,
-    counter: Counter,
-    hasher: RandomState,
+    limits: Limits,
+    performed: &Cell<u64>,
+    server: &mut Server<Watched<'_>>,
     clock: &mut C,
     err: &mut E,
-) -> Result<(), Stop> {
-    let performed = Cell::new(0);
-    let counter = Watched::new(counter, &performed);
-    let mut server = new_server(alloc, counter, terms, hasher);
+) -> Result<(), Stop>
+    requires { IsOffered service.now.numbers server.old }
+{
     for i in 0..service.connections {
         let Ok((stream, _)) = listener.accept() else {
             return Err(Stop::CannotAccept);
         };
         let connection = u64::from(i) + 1;
         let socket = Socket::new(stream, timeout_of(service));
-        let mut wire = Watch::new(alloc, terms.limits, connection, &performed, socket, err);
-        serve_connection(alloc, connection, &mut wire, &mut server, clock);
+        let mut wire = Watch::new(alloc, limits, connection, performed, socket, err);
+        serve_connection(alloc, connection, &mut wire, server, clock);
         let _ = wire.tell();
     }
     Ok(())
 }
 
-/// Serves the connections of a listener.
+/// Serves the connections of a listener by a new server.
 fn serve_plain<C: Clock>(
     alloc: Global,
     listener: &TcpListener,
     service: &Service,
-    terms: Terms,
-    counter: Counter,
-    hasher: RandomState,
+    server: &mut Server<Counter>,
     clock: &mut C,
-) -> Result<(), Stop> {
-    let mut server = new_server(alloc, counter, terms, hasher);
+) -> Result<(), Stop>
+    requires { IsOffered service.now.numbers server.old }
+{
     let timeout = timeout_of(service);
-    serve_listener(
-        alloc,
-        listener,
-        service.connections,
-        timeout,
-        &mut server,
-        clock,
+    serve_on(alloc, listener, service.connections, timeout, server, clock).map_err(
+        |_| Stop::CannotAccept,
     )
-    .map_err(|_| Stop::CannotAccept)
 }
 
 /// Prints the reference, listens, and serves so many connections.
@@ -118,13 +112,23 @@ fn offer<R: Net<Listener = TcpListener, Stream = TcpStream> + rt::Clock, W: Writ
     };
     let mut clock = SystemClock::new(rt);
     if service.log {
+        let performed = Cell::new(0);
+        let watched = Watched::new(counter, &performed);
+        let mut server = new_server(alloc, watched, terms, hasher);
+        let limits = terms.limits;
         return serve_watched(
-            alloc, &listener, service, terms, counter, hasher, &mut clock, err,
+            alloc,
+            &listener,
+            service,
+            limits,
+            &performed,
+            &mut server,
+            &mut clock,
+            err,
         );
     }
-    serve_plain(
-        alloc, &listener, service, terms, counter, hasher, &mut clock,
-    )
+    let mut server = new_server(alloc, counter, terms, hasher);
+    serve_plain(alloc, &listener, service, &mut server, &mut clock)
 }
 
 /// Serves a counter on 127.0.0.1: prints its reference, listens on the port, serves its connections one after another

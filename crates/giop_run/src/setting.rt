@@ -93,8 +93,8 @@ pub enum Task<'a> {
     Show(Input<'a>),
     /// Tell how a stream ends.
     Check(Input<'a>),
-    /// Show the reference that the text is.
-    Ior(&'a str),
+    /// Show the reference that the text is; without one, the text on standard input.
+    Ior(Option<&'a str>),
 }
 
 impl Task<'_> {
@@ -123,7 +123,7 @@ impl Task<'_> {
         match self {
             Task::Show(input) | Task::Check(input) => input.file.is_none(),
             Task::Play(_) => true,
-            Task::Ior(_) => false,
+            Task::Ior(text) => text.is_none(),
         }
     }
 }

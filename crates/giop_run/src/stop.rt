@@ -1,6 +1,5 @@
 //! Why the program ends before its work is done.
 
-use crate::digits::DigitError;
 use crate::script::ScriptError;
 use ft_orb::PlayError;
 use ior_core::IorError;
@@ -36,9 +35,9 @@ pub enum Stop {
     /// The input has an odd number of digits.
     #[error("input: odd digits")]
     OddDigits,
-    /// The input has something that is no digit.
-    #[error("input: bad digit")]
-    BadDigit,
+    /// The input has something that is no digit, in the line of that number and there in that place, both from 1.
+    #[error("input: bad digit, line {0}, place {1}")]
+    BadDigit(u64, u64),
     /// The output can't be written.
     #[error("output: {0}")]
     Unwritable(io::Error),
@@ -48,6 +47,16 @@ pub enum Stop {
     /// A connection can't be accepted.
     #[error("serve: cannot accept")]
     CannotAccept,
+}
+
+impl Stop {
+    /// Whether the one who reads the output has gone away.
+    pub(crate) fn is_reader_gone(&self) -> bool {
+        match self {
+            Stop::Unwritable(error) => error.kind() == ErrorKind::BrokenPipe,
+            _ => false,
+        }
+    }
 }
 
 impl From<AllocError> for Stop {
@@ -78,16 +87,6 @@ impl From<IorError> for Stop {
         match error {
             IorError::Memory => Stop::Memory,
             error => Stop::BadText(error),
-        }
-    }
-}
-
-impl From<DigitError> for Stop {
-    fn from(error: DigitError) -> Stop {
-        match error {
-            DigitError::Odd => Stop::OddDigits,
-            DigitError::Bad => Stop::BadDigit,
-            DigitError::Memory => Stop::Memory,
         }
     }
 }

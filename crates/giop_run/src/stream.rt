@@ -12,7 +12,7 @@ ghost use Rattle.giop_run.specs.Private.{printed};
 ghost use Rattle.giop_run.specs.StreamEnds.{EndsWell, IsSummary};
 ghost use Rattle.giop_run.specs.StreamLines.{stream_lines};
 
-use crate::digits::octets_of;
+use crate::digits::{DigitError, octets_of, place_of_bad};
 use crate::messages::put_message;
 use crate::stop::Stop;
 use giop_core::Message;
@@ -131,6 +131,18 @@ fn print_summary<W: Write>(summary: Summary, out: &mut W) -> io::Result<()> {
     }
 }
 
+/// Why a text of digits is refused.
+fn stop_in(text: &str, error: DigitError) -> Stop {
+    match error {
+        DigitError::Odd => Stop::OddDigits,
+        DigitError::Bad => {
+            let (line, place) = place_of_bad(text);
+            Stop::BadDigit(line, place)
+        }
+        DigitError::Memory => Stop::Memory,
+    }
+}
+
 /// Prints how a stream ends, and before it the messages, where they are asked for. Returns whether it ends after a
 /// message with nothing left.
 pub fn show_octets<W: Write>(
@@ -159,6 +171,6 @@ pub fn show_stream<W: Write>(
 ) -> Result<bool, Stop>
     ensures { IfOk result (λ ends_well. (s : List ℕ) × (octets_in text.now ≡ Ok s) × (IsTrue ends_well ↔ EndsWell limits s)) }
 {
-    let octets = octets_of(alloc, text)?;
+    let octets = octets_of(alloc, text).map_err(|error| stop_in(text, error))?;
     show_octets(alloc, limits, octets.as_slice(), detail, out)
 }

@@ -42,7 +42,7 @@ impl<'c> Watched<'c> {
 
 impl Servant for Watched<'_> {
     ghost use Rattle.counter.specs.Counter.{counter_meaning};
-    ghost use Rattle.counter.specs.CounterFacts.{counter_is_servant};
+    ghost use Rattle.counter.specs.facts.Counter.{counter_is_servant};
 
     ghost meaning = { counter_meaning };
 

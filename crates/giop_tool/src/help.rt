@@ -54,7 +54,7 @@ pub(crate) const JSON: &str = "Prints an object of JSON a line";
 
 pub(crate) const LOG: &str = "Writes a line for each request on standard error";
 
-pub(crate) const TEXT: &str = "IOR: and hexadecimal digits";
+pub(crate) const TEXT: &str = "IOR: and hexadecimal digits, or - for standard input [default: -]";
 
 /// What the help of `giop play` says after its options.
 pub(crate) const PLAY: &str =
@@ -109,7 +109,7 @@ one, and what it says. At the end what was counted.
 
 Example:
   $ tshark -r retry.pcap -q -z follow,tcp,raw,0 | giop trace
-  connection 1
+  connection 1, stream 0, 127.0.0.1:40000 > 127.0.0.1:2809
   1 > to 52 1.2 little Request id 2: add on key c, 4 octets
   2 < to 32 1.2 little Reply id 2 to add, 1 after request 1: NO_EXCEPTION, 8 octets
   3 > to 64 1.2 little CloseConnection

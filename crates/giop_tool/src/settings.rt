@@ -172,11 +172,10 @@ fn trace_command<'a>(alloc: Global) -> Result<Command<'a>, AllocError> {
         .arg(flag(alloc, "json", help::JSON))
 }
 
-/// `giop ior TEXT`.
+/// `giop ior [TEXT]`.
 fn ior_command<'a>(alloc: Global) -> Result<Command<'a>, AllocError> {
     let text = Arg::new(alloc, "TEXT")
         .help(help::TEXT)
-        .required(true)
         .action(ArgAction::Set);
     Command::new(alloc, "ior")
         .about(help::IORS)
@@ -296,12 +295,17 @@ fn task_of<'a>(matches: &ArgMatches<'a>) -> Task<'a> {
     if let Some(words) = matches.subcommand_matches("play") {
         return Task::Play(numbers_of(words));
     }
-    match matches
-        .subcommand_matches("ior")
-        .and_then(|ior| ior.get_str("TEXT"))
-    {
-        Some(text) => Task::Ior(text),
+    match matches.subcommand_matches("ior") {
+        Some(words) => Task::Ior(text_of(words)),
         None => Task::Play(USUAL),
+    }
+}
+
+/// The text of a reference; without one, or for `-`, it stands on standard input.
+fn text_of<'a>(words: &ArgMatches<'a>) -> Option<&'a str> {
+    match words.get_str("TEXT") {
+        Some("-") | None => None,
+        text => text,
     }
 }
 

@@ -10,11 +10,10 @@ use Rattle.giop_core.specs.declared.request.ReplyWish.TheVariants as wish
 use Rattle.giop_core.specs.Content as content
 use Rattle.giop_core.specs.Content.{Content}
 use Rattle.giop_core.specs.Ft.{Ft, absent, bad, ft_in, present}
-use Rattle.giop_trace.specs.declared.pairing.Part.{Part}
-use Rattle.giop_trace.specs.declared.pairing.Part.TheVariants.{Asks, Answers, Cancels, Apart}
-use Rattle.giop_trace.specs.declared.pairing.Wanted.{Wanted}
-use Rattle.giop_trace.specs.declared.pairing.Wanted.TheVariants as wanted
-use Rattle.giop_trace.specs.declared.pairing.Asked.{Asked}
+use Rattle.giop_trace.specs.declared.part.Part.{Part}
+use Rattle.giop_trace.specs.declared.part.Part.TheVariants.{Asks, Answers, Cancels, Apart}
+use Rattle.giop_trace.specs.declared.place.Wanted.{Wanted}
+use Rattle.giop_trace.specs.declared.place.Wanted.TheVariants as wanted
 use Rattle.giop_trace.specs.declared.pairing.Tie.{Tie}
 use Rattle.giop_trace.specs.declared.sender.Sender.{Sender}
 use Rattle.giop_trace.specs.declared.sender.Sender.TheVariants.{Opener, Acceptor}
@@ -26,6 +25,14 @@ pub record Said : Type 0 where
   pub content : Content
 
 -- answers
+
+-- a request that waits for its answer
+pub record Asked : Type 0 where
+  pub number : ℕ
+  pub connection : ℕ
+  pub sender : Sender
+  pub wanted : Wanted
+  pub id : ℕ
 
 -- GIOP 9.4.2: a request is answered unless its response flags ask for none
 abbrev pub asked_by : ReplyWish → ℕ → Part

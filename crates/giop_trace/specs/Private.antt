@@ -6,12 +6,6 @@ use Rattle.giop_trace.specs.declared.follow.Line.TheVariants as line
 use Rattle.giop_trace.specs.declared.follow.Stretch.{Stretch}
 use Rattle.giop_trace.specs.Following as follow
 use Rattle.giop_trace.specs.Following.{Stretched}
-use Rattle.giop_trace.specs.declared.pairing.Keyed.{Keyed}
-use Rattle.giop_trace.specs.Pairing.{Named}
-
--- a key that is kept
-abbrev pub named_by : Keyed → Named
-named_by k = record { client_id = k.client_id.items; retention_id = k.retention_id; number = k.number }
 
 -- what the code's line is
 abbrev pub line_seen : Line → follow.Line

@@ -5,11 +5,12 @@ use Rattle.giop_core.specs.Content.{Content}
 use Rattle.giop_frames.specs.declared.limits.Limits.{Limits}
 use Rattle.giop_link.specs.Hearing.{Sound, heard_as, says}
 use Rattle.giop_link.specs.Listening.{Listened, ListenerStands}
-use Rattle.giop_trace.specs.declared.pairing.Asked.{Asked}
 use Rattle.giop_trace.specs.declared.pairing.Tie.{Tie}
 use Rattle.giop_trace.specs.declared.sender.Sender.{Sender}
 use Rattle.giop_trace.specs.declared.sender.Sender.TheVariants.{Opener, Acceptor}
-use Rattle.giop_trace.specs.Pairing.{Named, Said, named, ties, waiting}
+use Rattle.giop_trace.specs.Keys.{AreNamed, Keys}
+use Rattle.giop_trace.specs.Pairing.{Said, named, ties, waiting}
+use Rattle.giop_trace.specs.Waiting.{AreWaiting, Waits}
 
 -- each message counts to a reader beside the connection
 abbrev pub counts : Version → Content → Sound Content
@@ -66,14 +67,14 @@ silence = record { connection = 0; opener = []; acceptor = []; earlier = [] }
 -- what is kept of messages: what each had to do with those before it, the requests that wait, and those with keys
 pub record Paired : Type 0 where
   pub ties : List Tie
-  pub waiting : List Asked
-  pub named : List Named
+  pub waiting : Waits
+  pub keyed : Keys
 
 -- it is that of these messages, the latest first
 pub record PairsStand (p : Paired) (earlier : List Said) : Type 0 where
   pub ties_are : p.ties ≡ ties earlier
-  pub waiting_are : p.waiting ≡ waiting earlier
-  pub named_are : p.named ≡ named earlier
+  pub waiting_are : AreWaiting p.waiting (waiting earlier)
+  pub keyed_are : AreNamed p.keyed (named earlier)
 
 -- a trace, and what it stands for
 pub record Traced : Type 0 where

@@ -1,204 +1,382 @@
 //! One side's octets on a connection, as they are given to the trace: frame by frame, so that the place of a fault is
-//! known, and reading can go on after it.
+//! known, and reading can go on after it, or after octets that the capture missed. What is read is not held.
 
+use crate::headers::{HEADER, header_in, is_cut, is_fragment, is_plausible};
+use crate::looks::looks_of;
 use crate::sender::Sender;
+use crate::steps::{Left, Step};
 use crate::stop::Stop;
 use crate::tracer::Trace;
-use giop_core::{Header, MessageKind};
+use giop_core::Header;
 use giop_frames::{Limits, StreamFault};
 use giop_link::LinkFault;
 use std::alloc::{AllocError, Global};
 
 /// What is done with a side's octets.
-#[derive(Clone, Copy, Debug)]
+#[derive(Clone, Copy, Debug, PartialEq, Eq)]
 enum Mode {
-    /// They are read as frames.
-    Reading,
-    /// There was a fault, and the next header of a plausible message is looked for.
+    /// The header of a frame is awaited.
+    Header,
+    /// The octets after a frame's header are read.
+    Body,
+    /// The octets of a frame are passed over.
+    Skipping,
+    /// A frame was passed over, and so is the next if it is a Fragment.
+    Next,
+    /// The next header of a plausible message is looked for.
     Seeking,
-    /// There was a fault, and they are not read.
+    /// There was a fault, and no more is read.
     Ended,
 }
 
 /// A side's octets.
 #[derive(Debug, Drop)]
 pub(crate) struct Direction {
-    octets: Vec<u8>,
-    /// The place where the frame begins, or what is passed over.
-    start: usize,
-    /// The place after what was given to the trace, or looked through.
-    given: usize,
     mode: Mode,
+    /// Those that may be a header, and wait for the rest of it.
+    head: Vec<u8>,
+    /// The place where the frame begins, or what is passed over.
+    start: u64,
+    /// The place after what has come, those that the capture missed among them.
+    taken: u64,
+    /// How many octets of the frame are still to come, its header not counted.
+    left: u64,
+    /// How many octets since `start` were passed over, or how many have come since the direction ended.
+    passed: u64,
+    /// Whether Fragments whose message did not begin are passed over, as some beginnings were.
+    forgives: bool,
 }
 
-/// What came of a step.
-#[derive(Debug, Drop)]
-pub(crate) enum Step {
-    /// More octets are needed.
-    Idle,
-    /// Octets were given to the trace, which may lend a message.
-    Gave,
-    /// A fault in the frame that begins at this place.
-    Fault(u64, LinkFault),
-    /// So many octets from this place on were passed over, and reading goes on.
-    Passed(u64, u64),
-}
-
-/// What is left of a side's octets at the end of its connection.
+/// How the octets of a side are read.
 #[derive(Clone, Copy, Debug)]
-pub(crate) enum Left {
-    Nothing,
-    /// So many octets of a frame that is not whole, and of partial messages.
-    Rest(u64, u64),
-    /// So many octets from this place on were passed over.
-    Passed(u64, u64),
-    /// So many octets were not read.
-    Unread(u64),
-}
-
-/// The header at the beginning of octets, if it is one.
-fn header_at(octets: &[u8]) -> Option<Header> {
-    let head = octets.first_chunk::<{ Header::LEN }>()?;
-    Header::read(head).ok()
-}
-
-/// Whether octets begin with the header of a message that can come by itself: it is no Fragment, it is within the limit,
-/// and a message that is its header alone has no more octets (own rule).
-fn is_plausible(octets: &[u8], limit: u32) -> bool {
-    let Some(header) = header_at(octets) else {
-        return false;
-    };
-    match header.kind {
-        MessageKind::Fragment => false,
-        MessageKind::CloseConnection | MessageKind::MessageError => header.size == 0,
-        _ => header.size <= limit.saturating_sub(Header::LEN as u32),
-    }
+pub(crate) struct Reading {
+    pub limits: Limits,
+    /// After a fault reading goes on at the next header of a plausible message.
+    pub resumes: bool,
 }
 
 impl Direction {
     /// A side of which nothing has come.
     pub fn new(alloc: Global) -> Direction {
         Direction {
-            octets: Vec::new(alloc),
+            mode: Mode::Header,
+            head: Vec::new(alloc),
             start: 0,
-            given: 0,
-            mode: Mode::Reading,
+            taken: 0,
+            left: 0,
+            passed: 0,
+            forgives: false,
         }
     }
 
-    /// Appends octets that have come.
-    pub fn push(&mut self, octets: &[u8]) -> Result<(), AllocError> {
-        self.octets.extend_from_slice(octets)
+    /// The place after what has come.
+    pub fn taken(&self) -> u64 {
+        self.taken
     }
 
-    /// The octets from a place on.
-    fn from(&self, place: usize) -> &[u8] {
-        self.octets.as_slice().get(place..).unwrap_or(&[])
+    /// Counts octets as come.
+    fn count(&mut self, octets: usize) {
+        self.taken = self.taken.saturating_add(octets as u64);
     }
 
-    /// How many octets the frame has, as far as they say it: at least those of its header.
-    fn frame_len(&self) -> usize {
-        match header_at(self.from(self.start)) {
-            Some(header) => Header::LEN + header.size as usize,
-            None => Header::LEN,
-        }
+    /// Counts octets as passed over.
+    fn pass(&mut self, octets: u64) {
+        self.passed = self.passed.saturating_add(octets);
     }
 
-    /// How many octets of the frame were given.
-    fn frame_given(&self) -> usize {
-        self.given.saturating_sub(self.start)
+    /// How many octets of the frame have come, its header among them.
+    fn frame_given(&self) -> u64 {
+        self.taken.saturating_sub(self.start)
     }
 
-    /// How many octets are given next: those up to the end of the frame's header, or of the frame, that have come.
-    fn next_len(&self) -> usize {
-        let wanted = self.frame_len().saturating_sub(self.frame_given());
-        wanted.min(self.from(self.given).len())
+    /// Takes octets up to the end of a header, and returns how many. The header is whole where it has as many as one
+    /// has then.
+    fn fill(&mut self, piece: &[u8]) -> Result<usize, AllocError> {
+        let wanted = Header::LEN.saturating_sub(self.head.len());
+        let octets = piece.get(..wanted).unwrap_or(piece);
+        self.head.extend_from_slice(octets)?;
+        self.count(octets.len());
+        Ok(octets.len())
     }
 
-    /// What a fault does.
-    fn fail(&mut self, taken: usize, resumes: bool, fault: LinkFault) -> Step {
-        let at = self.start as u64;
-        let end = self.given.saturating_add(taken);
-        let is_header = end.saturating_sub(self.start) <= Header::LEN;
-        self.mode = if resumes { Mode::Seeking } else { Mode::Ended };
-        // a frame whose header is good is passed over with all its octets
-        self.given = if is_header && resumes {
-            self.start.saturating_add(1)
+    /// Whether a whole header is held.
+    fn has_header(&self) -> bool {
+        self.head.len() >= Header::LEN
+    }
+
+    /// Whether a step is due before more octets come: a whole header is held that was not read.
+    pub fn is_due(&self) -> bool {
+        self.mode == Mode::Header && self.head.len() >= Header::LEN
+    }
+
+    /// Goes on behind the frame.
+    fn end_frame(&mut self) {
+        self.mode = Mode::Header;
+        self.start = self.taken;
+    }
+
+    /// Passes over the frame whose header is held.
+    fn skip_frame(&mut self) {
+        self.left = header_in(&self.head).map_or(0, |header| u64::from(header.size));
+        self.pass(HEADER);
+        self.head.clear();
+        self.mode = if self.left == 0 {
+            Mode::Next
         } else {
-            end
+            Mode::Skipping
         };
-        Step::Fault(at, fault)
     }
 
-    /// Gives the trace octets up to the end of the frame's header, or of the frame.
-    fn read_on(&mut self, sender: Sender, resumes: bool, trace: &mut Trace) -> Result<Step, Stop> {
-        let len = self.next_len();
-        if len == 0 {
-            return Ok(Step::Idle);
+    /// What a fault of the header that is held does.
+    fn fail_header(
+        &mut self,
+        sender: Sender,
+        reading: Reading,
+        fault: LinkFault,
+        trace: &mut Trace,
+    ) -> Step {
+        let at = self.start;
+        let looks = looks_of(&self.head);
+        self.passed = 0;
+        match fault {
+            LinkFault::Stream(StreamFault::StrayFragment) if self.forgives => {
+                trace.resume(sender);
+                self.skip_frame();
+                return Step::Idle;
+            }
+            LinkFault::Stream(StreamFault::UnalignedFragment) if is_cut(&self.head) => {
+                trace.resume(sender);
+                self.forgives = true;
+                self.skip_frame();
+            }
+            _ if reading.resumes => self.mode = Mode::Seeking,
+            _ => self.mode = Mode::Ended,
         }
-        let piece = self.from(self.given).get(..len).unwrap_or(&[]);
-        match trace.feed(sender, piece) {
-            Ok(taken) => {
-                self.given = self.given.saturating_add(taken);
-                if self.frame_given() >= self.frame_len() {
-                    self.start = self.given;
+        Step::Fault(at, fault, looks)
+    }
+
+    /// What a fault of the frame does whose octets have come.
+    fn fail_frame(
+        &mut self,
+        sender: Sender,
+        reading: Reading,
+        fault: LinkFault,
+        trace: &mut Trace,
+    ) -> Step {
+        let at = self.start;
+        self.passed = 0;
+        match fault {
+            LinkFault::Stream(StreamFault::StrayFragment) if self.forgives => {
+                trace.resume(sender);
+                self.passed = self.frame_given();
+                self.mode = Mode::Next;
+                return Step::Idle;
+            }
+            _ if reading.resumes => {
+                self.passed = self.frame_given();
+                self.mode = Mode::Seeking;
+            }
+            _ => self.mode = Mode::Ended,
+        }
+        Step::Fault(at, fault, None)
+    }
+
+    /// Reads the header of a frame.
+    fn read_header(
+        &mut self,
+        sender: Sender,
+        reading: Reading,
+        piece: &[u8],
+        trace: &mut Trace,
+    ) -> Result<(Step, usize), Stop> {
+        let count = self.fill(piece)?;
+        if !self.has_header() {
+            return Ok((Step::Idle, count));
+        }
+        match trace.feed(sender, &self.head) {
+            Ok(_) => {
+                self.left = header_in(&self.head).map_or(0, |header| u64::from(header.size));
+                self.head.clear();
+                self.mode = Mode::Body;
+                if self.left == 0 {
+                    self.end_frame();
                 }
-                Ok(Step::Gave)
+                Ok((Step::Gave, count))
             }
             Err(LinkFault::Stream(StreamFault::Memory)) => Err(Stop::Memory),
-            Err(fault) => Ok(self.fail(len, resumes, fault)),
+            Err(fault) => Ok((self.fail_header(sender, reading, fault, trace), count)),
         }
+    }
+
+    /// As many of these octets as the frame still has.
+    fn of_frame<'p>(&self, piece: &'p [u8]) -> &'p [u8] {
+        if self.left < piece.len() as u64 {
+            return piece.get(..self.left as usize).unwrap_or(piece);
+        }
+        piece
+    }
+
+    /// Reads octets after the header of a frame.
+    fn read_body(
+        &mut self,
+        sender: Sender,
+        reading: Reading,
+        piece: &[u8],
+        trace: &mut Trace,
+    ) -> Result<(Step, usize), Stop> {
+        let octets = self.of_frame(piece);
+        let count = octets.len();
+        if count == 0 {
+            return Ok((Step::Idle, 0));
+        }
+        self.count(count);
+        self.left = self.left.saturating_sub(count as u64);
+        match trace.feed(sender, octets) {
+            Ok(_) => {
+                if self.left == 0 {
+                    self.end_frame();
+                }
+                Ok((Step::Gave, count))
+            }
+            Err(LinkFault::Stream(StreamFault::Memory)) => Err(Stop::Memory),
+            Err(fault) => Ok((self.fail_frame(sender, reading, fault, trace), count)),
+        }
+    }
+
+    /// Passes over octets of a frame.
+    fn skip(&mut self, piece: &[u8]) -> (Step, usize) {
+        let count = self.of_frame(piece).len();
+        self.count(count);
+        self.pass(count as u64);
+        self.left = self.left.saturating_sub(count as u64);
+        if self.left == 0 {
+            self.mode = Mode::Next;
+        }
+        (Step::Idle, count)
+    }
+
+    /// Reads on behind what was passed over, where the header that is held begins.
+    fn go_on(&mut self) -> Step {
+        let step = match self.passed {
+            0 => Step::Idle,
+            octets => Step::Passed(self.start, octets),
+        };
+        self.mode = Mode::Header;
+        self.start = self.taken.saturating_sub(self.head.len() as u64);
+        self.passed = 0;
+        step
+    }
+
+    /// Looks whether the frame behind one that was passed over is a Fragment, and passes over it too.
+    fn skip_on(&mut self, piece: &[u8]) -> Result<(Step, usize), Stop> {
+        let count = self.fill(piece)?;
+        if !self.has_header() {
+            return Ok((Step::Idle, count));
+        }
+        if is_fragment(&self.head) {
+            self.skip_frame();
+            return Ok((Step::Idle, count));
+        }
+        Ok((self.go_on(), count))
     }
 
     /// Looks for the next header of a plausible message.
-    fn seek_on(&mut self, sender: Sender, limit: u32, trace: &mut Trace) -> Step {
-        let left = self.from(self.given);
-        let found = left
-            .windows(Header::LEN)
-            .position(|octets| is_plausible(octets, limit));
-        let Some(place) = found else {
-            self.given = self
-                .given
-                .saturating_add(left.len().saturating_sub(Header::LEN - 1));
-            return Step::Idle;
-        };
-        let from = self.start;
-        self.given = self.given.saturating_add(place);
-        self.start = self.given;
-        self.mode = Mode::Reading;
-        trace.resume(sender);
-        Step::Passed(from as u64, self.start.saturating_sub(from) as u64)
+    fn seek(
+        &mut self,
+        sender: Sender,
+        limit: u32,
+        piece: &[u8],
+        trace: &mut Trace,
+    ) -> Result<(Step, usize), Stop> {
+        let mut count = 0usize;
+        for octet in piece {
+            if self.head.len() >= Header::LEN {
+                self.head.remove(0);
+                self.pass(1);
+            }
+            self.head.push(*octet)?;
+            self.count(1);
+            count = count.saturating_add(1);
+            if is_plausible(&self.head, limit) {
+                trace.resume(sender);
+                return Ok((self.go_on(), count));
+            }
+        }
+        Ok((Step::Idle, count))
     }
 
-    /// Takes a step with what has come, and returns the place after what was given to the trace.
+    /// Takes a step with octets that have come, and returns how many of them it took.
     pub fn step(
         &mut self,
         sender: Sender,
-        limits: Limits,
-        resumes: bool,
+        reading: Reading,
+        piece: &[u8],
         trace: &mut Trace,
-    ) -> Result<(Step, u64), Stop> {
-        let step = match self.mode {
-            Mode::Reading => self.read_on(sender, resumes, trace)?,
-            Mode::Seeking => self.seek_on(sender, limits.message, trace),
-            Mode::Ended => Step::Idle,
+    ) -> Result<(Step, usize), Stop> {
+        match self.mode {
+            Mode::Header => self.read_header(sender, reading, piece, trace),
+            Mode::Body => self.read_body(sender, reading, piece, trace),
+            Mode::Skipping => Ok(self.skip(piece)),
+            Mode::Next => self.skip_on(piece),
+            Mode::Seeking => self.seek(sender, reading.limits.message, piece, trace),
+            Mode::Ended => {
+                self.count(piece.len());
+                self.pass(piece.len() as u64);
+                Ok((Step::Idle, piece.len()))
+            }
+        }
+    }
+
+    /// Leaves so many octets out, which the capture missed. The message that they fall into ends there; reading goes on
+    /// behind its frame where that is known, and else at the next header of a plausible message.
+    pub fn miss(&mut self, sender: Sender, octets: u64, trace: &mut Trace) {
+        if self.mode == Mode::Ended {
+            self.taken = self.taken.saturating_add(octets);
+            return;
+        }
+        let held = self.head.len() as u64;
+        match self.mode {
+            Mode::Body => self.passed = self.frame_given(),
+            _ => self.pass(held),
+        }
+        self.head.clear();
+        let is_within = matches!(self.mode, Mode::Body | Mode::Skipping) && octets <= self.left;
+        self.left = self.left.saturating_sub(octets);
+        self.mode = match is_within {
+            false => Mode::Seeking,
+            true if self.left == 0 => Mode::Next,
+            true => Mode::Skipping,
         };
-        Ok((step, self.given as u64))
+        self.taken = self.taken.saturating_add(octets);
+        self.forgives = true;
+        trace.resume(sender);
     }
 
     /// What is left at the end of the connection.
     pub fn left(&self, sender: Sender, trace: &mut Trace) -> Left {
         // no message is lent any more, and so none is held
         let _ = trace.feed(sender, &[]);
-        let octets = self.from(self.start).len() as u64;
+        let head = self.head.len() as u64;
         match self.mode {
-            Mode::Seeking => Left::Passed(self.start as u64, octets),
-            Mode::Ended => match self.from(self.given).len() {
-                0 => Left::Nothing,
-                unread => Left::Unread(unread as u64),
-            },
-            Mode::Reading => {
-                let partial = trace.held(sender).saturating_sub(self.frame_given()) as u64;
+            Mode::Ended if self.passed == 0 => Left::Nothing,
+            Mode::Ended => Left::Unread(self.passed),
+            Mode::Skipping | Mode::Next | Mode::Seeking if self.passed == 0 && head == 0 =>
+                Left::Nothing,
+            Mode::Skipping | Mode::Next | Mode::Seeking => {
+                Left::Passed(self.start, self.passed.saturating_add(head))
+            }
+            Mode::Header | Mode::Body => {
+                let octets = if self.mode == Mode::Body {
+                    self.frame_given()
+                } else {
+                    head
+                };
+                let held = trace.held(sender) as u64;
+                let partial = if self.mode == Mode::Body {
+                    held.saturating_sub(octets)
+                } else {
+                    held
+                };
                 if octets == 0 && partial == 0 {
                     return Left::Nothing;
                 }

@@ -33,7 +33,7 @@ pub enum FollowError {
 
 /// Why a line is refused.
 #[derive(Clone, Copy, Debug, PartialEq, Eq)]
-enum LineError {
+pub(crate) enum LineError {
     OddDigits,
     Colons,
     Memory,
@@ -50,7 +50,7 @@ where
 
 /// What a line is.
 #[derive(Drop)]
-enum Line {
+pub(crate) enum Line {
     /// The head of the next connection.
     Head,
     /// Octets of a side.
@@ -137,7 +137,7 @@ fn is_head(line: &[u8]) -> bool
 }
 
 /// What a line is.
-fn line_of(alloc: Global, line: &[u8]) -> Result<Line, LineError>
+pub(crate) fn line_of(alloc: Global, line: &[u8]) -> Result<Line, LineError>
     ensures { IfOk result (λ l. line_seen l ≡ follow.line_of line.now) }
 {
     if is_head(line) {

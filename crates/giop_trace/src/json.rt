@@ -1,20 +1,17 @@
-//! The lines as JSON, an object each.
+//! The lines of messages as JSON, an object each.
 
-use crate::direction::Left;
 use crate::exceptions::{system_exception, user_exception};
 use crate::moments::time_of;
 use crate::names;
-use crate::sender::Sender;
+use crate::reports::{direction_name, put_object};
 use crate::shown::Shown;
 use crate::stop::Stop;
-use crate::summary::Summary;
 use crate::texts::text_of;
 use cdr_core::Order;
 use giop_core::{
     Body, Content, Contexts, FtField, LocateReply, LocateRequest, LocateStatus, Reply, ReplyStatus,
     ReplyWish, Request, Target, Version, ft_request,
 };
-use giop_link::LinkFault;
 use serde::Serialize;
 use std::alloc::{AllocError, Global};
 
@@ -78,58 +75,6 @@ struct MessageObject {
     contexts: Vec<ContextObject>,
     ft: Option<FtObject>,
     repeats: Option<u64>,
-}
-
-/// A fault in the frame that begins at a place.
-#[derive(Drop, Serialize)]
-struct FaultObject {
-    line: &'static str,
-    connection: u64,
-    direction: &'static str,
-    at: u64,
-    fault: String,
-}
-
-/// Octets that were passed over.
-#[derive(Drop, Serialize)]
-struct PassedObject {
-    line: &'static str,
-    connection: u64,
-    direction: &'static str,
-    from: u64,
-    octets: u64,
-}
-
-/// What is left of a side at the end of its connection.
-#[derive(Drop, Serialize)]
-struct RestObject {
-    line: &'static str,
-    connection: u64,
-    direction: &'static str,
-    octets: u64,
-    partial: u64,
-}
-
-/// The end of all connections.
-#[derive(Drop, Serialize)]
-struct EndObject<'a> {
-    line: &'static str,
-    messages: u64,
-    connections: u64,
-    unanswered: &'a [u64],
-    cancelled: &'a [u64],
-    strays: &'a [u64],
-    repeats: &'a [u64],
-    faults: u64,
-    passed: u64,
-}
-
-/// The name of a direction.
-fn direction_name(sender: Sender) -> &'static str {
-    match sender {
-        Sender::Opener => "opener",
-        Sender::Acceptor => "acceptor",
-    }
 }
 
 fn version_name(version: Version) -> &'static str {
@@ -286,10 +231,10 @@ fn bare_object(alloc: Global, shown: &Shown) -> MessageObject {
 /// With the operation of the request that it answers or cancels.
 fn set_operation(
     alloc: Global,
-    operation: &[u8],
+    operation: Option<&[u8]>,
     object: &mut MessageObject,
 ) -> Result<(), AllocError> {
-    if !operation.is_empty() {
+    if let Some(operation) = operation {
         object.operation = Some(text_of(alloc, operation)?);
     }
     Ok(())
@@ -415,101 +360,8 @@ fn message_object(alloc: Global, shown: Shown) -> Result<MessageObject, AllocErr
     Ok(object)
 }
 
-/// Appends an object as a line.
-fn put_object<T: Serialize>(alloc: Global, object: &T, text: &mut String) -> Result<(), Stop> {
-    match serde_json::to_string(alloc, object) {
-        Ok(line) => {
-            text.push_str(&line)?;
-            text.push('\n')?;
-            Ok(())
-        }
-        // the writer of JSON fails for lack of memory alone
-        Err(_) => Err(Stop::Memory),
-    }
-}
-
 /// Appends the line of a message.
 pub(crate) fn put_message(alloc: Global, shown: Shown, text: &mut String) -> Result<(), Stop> {
     let object = message_object(alloc, shown)?;
-    put_object(alloc, &object, text)
-}
-
-/// Appends the line of a fault in the frame that begins at a place.
-pub(crate) fn put_fault(
-    alloc: Global,
-    connection: u64,
-    sender: Sender,
-    at: u64,
-    fault: LinkFault,
-    text: &mut String,
-) -> Result<(), Stop> {
-    let object = FaultObject {
-        line: "fault",
-        connection,
-        direction: direction_name(sender),
-        at,
-        fault: format!(in alloc; "{fault}")?,
-    };
-    put_object(alloc, &object, text)
-}
-
-/// Appends the line of octets that were passed over.
-pub(crate) fn put_passed(
-    alloc: Global,
-    connection: u64,
-    sender: Sender,
-    from: u64,
-    octets: u64,
-    text: &mut String,
-) -> Result<(), Stop> {
-    let object = PassedObject {
-        line: "passed",
-        connection,
-        direction: direction_name(sender),
-        from,
-        octets,
-    };
-    put_object(alloc, &object, text)
-}
-
-/// Appends the line of what is left of a side at the end of its connection, if something is.
-pub(crate) fn put_left(
-    alloc: Global,
-    connection: u64,
-    sender: Sender,
-    left: Left,
-    text: &mut String,
-) -> Result<(), Stop> {
-    let (line, octets, partial) = match left {
-        Left::Nothing => return Ok(()),
-        Left::Passed(from, octets) => {
-            return put_passed(alloc, connection, sender, from, octets, text);
-        }
-        Left::Rest(octets, partial) => ("rest", octets, partial),
-        Left::Unread(octets) => ("unread", octets, 0),
-    };
-    let object = RestObject {
-        line,
-        connection,
-        direction: direction_name(sender),
-        octets,
-        partial,
-    };
-    put_object(alloc, &object, text)
-}
-
-/// Appends the line at the end.
-pub(crate) fn put_summary(alloc: Global, summary: &Summary, text: &mut String) -> Result<(), Stop> {
-    let object = EndObject {
-        line: "end",
-        messages: summary.messages,
-        connections: summary.connections,
-        unanswered: summary.unanswered.as_slice(),
-        cancelled: summary.cancelled.as_slice(),
-        strays: summary.strays.as_slice(),
-        repeats: summary.repeats.as_slice(),
-        faults: summary.faults,
-        passed: summary.passed,
-    };
     put_object(alloc, &object, text)
 }

@@ -5,25 +5,39 @@
 //! octets of an input belong to which side of which connection, and which request each message has to do with.
 #![tactic(auto)]
 
+mod block;
 mod direction;
 mod either;
 mod exceptions;
 mod follow;
+mod headers;
 mod json;
+mod key;
+mod keys;
 mod lines;
+mod looks;
 mod moments;
 mod names;
+mod notes;
+mod opening;
 mod operations;
 mod pairing;
+mod part;
+mod place;
 mod printing;
 mod program;
+mod reports;
 mod sender;
 mod session;
 mod shown;
+mod sink;
+mod steps;
 mod stop;
 mod summary;
+mod text;
 mod texts;
 mod tracer;
+mod waiting;
 
 // the octets of connections, and the side that sent them
 pub use follow::{FollowError, Stretch, read_follow};
@@ -37,4 +51,4 @@ pub use tracer::{Seen, Trace};
 // what `giop trace` does
 pub use printing::Format;
 pub use program::{Options, trace};
-pub use stop::Stop;
+pub use stop::{Failure, Stop};

@@ -1,11 +1,13 @@
 //! The lines that a person reads.
 
-use crate::direction::Left;
 use crate::exceptions::{system_exception, user_exception};
+use crate::looks::Looks;
 use crate::moments::time_of;
 use crate::names;
+use crate::printing::Endpoints;
 use crate::sender::Sender;
 use crate::shown::Shown;
+use crate::steps::Left;
 use crate::summary::Summary;
 use crate::texts::text_of;
 use giop_core::{
@@ -264,7 +266,7 @@ pub(crate) fn put_message(
 ) -> Result<(), AllocError> {
     let earlier = shown.seen.tie.request.map(|number| Earlier {
         number,
-        operation: shown.operation,
+        operation: shown.operation.unwrap_or(&[]),
         later: shown.later(number),
     });
     let number = shown.seen.number;
@@ -287,8 +289,22 @@ pub(crate) fn put_message(
 }
 
 /// Appends the line of a connection.
-pub(crate) fn put_connection(connection: u64, text: &mut String) -> Result<(), AllocError> {
-    write!(text, "connection {connection}\n")
+pub(crate) fn put_connection(
+    alloc: Global,
+    connection: u64,
+    ends: &Endpoints,
+    text: &mut String,
+) -> Result<(), AllocError> {
+    write!(text, "connection {connection}")?;
+    if let Some(stream) = ends.stream {
+        write!(text, ", stream {stream}")?;
+    }
+    if let Some((opener, acceptor)) = ends.addresses() {
+        let opener = text_of(alloc, opener)?;
+        let acceptor = text_of(alloc, acceptor)?;
+        write!(text, ", {opener} > {acceptor}")?;
+    }
+    text.push('\n')
 }
 
 /// Appends the line of a fault in the frame that begins at a place.
@@ -296,9 +312,23 @@ pub(crate) fn put_fault(
     sender: Sender,
     at: u64,
     fault: LinkFault,
+    looks: Option<Looks>,
     text: &mut String,
 ) -> Result<(), AllocError> {
-    write!(text, "fault {sender} at {at}: {fault}\n")
+    write!(text, "fault {sender} at {at}: {fault}")?;
+    if let Some(looks) = looks {
+        write!(text, ", octets of {looks}")?;
+    }
+    text.push('\n')
+}
+
+/// Appends the line of octets that the capture missed.
+pub(crate) fn put_missing(
+    sender: Sender,
+    octets: u64,
+    text: &mut String,
+) -> Result<(), AllocError> {
+    write!(text, "missing {sender} {octets} octets\n")
 }
 
 /// Appends the line of octets that were passed over.
@@ -320,7 +350,10 @@ pub(crate) fn put_left(sender: Sender, left: Left, text: &mut String) -> Result<
             "rest {sender} {octets} octets of a frame, {partial} of partial messages\n"
         ),
         Left::Passed(from, octets) => put_passed(sender, from, octets, text),
-        Left::Unread(octets) => write!(text, "unread {sender} {octets} octets\n"),
+        Left::Unread(octets) => write!(
+            text,
+            "unread {sender} {octets} octets; --resume reads on\n"
+        ),
     }
 }
 
@@ -347,10 +380,12 @@ fn put_counted(what: &str, numbers: &[u64], text: &mut String) -> Result<(), All
 pub(crate) fn put_summary(summary: &Summary, text: &mut String) -> Result<(), AllocError> {
     let messages = summary.messages;
     let connections = summary.connections;
-    write!(
-        text,
-        "end {messages} messages on {connections} connections\n"
-    )?;
+    write!(text, "end {messages} messages on {connections} connections")?;
+    if summary.missing > 0 {
+        let missing = summary.missing;
+        write!(text, ", {missing} octets missing")?;
+    }
+    text.push('\n')?;
     put_counted(
         "requests without a reply",
         summary.unanswered.as_slice(),

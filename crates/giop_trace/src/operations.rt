@@ -8,6 +8,8 @@ pub(crate) struct Operations {
     names: Vec<u8>,
     /// The place in `names` after that of each message.
     ends: Vec<usize>,
+    /// Whether each asked for an operation, be its name empty.
+    are_named: Vec<bool>,
     cancelled: Vec<bool>,
 }
 
@@ -22,13 +24,15 @@ impl Operations {
         Operations {
             names: Vec::new(alloc),
             ends: Vec::new(alloc),
+            are_named: Vec::new(alloc),
             cancelled: Vec::new(alloc),
         }
     }
 
-    /// Appends that of the next message, which is empty where it asks for none.
-    pub fn push(&mut self, name: &[u8]) -> Result<(), AllocError> {
-        self.names.extend_from_slice(name)?;
+    /// Appends that of the next message, if it asks for one.
+    pub fn push(&mut self, name: Option<&[u8]>) -> Result<(), AllocError> {
+        self.names.extend_from_slice(name.unwrap_or(&[]))?;
+        self.are_named.push(name.is_some())?;
         self.ends.push(self.names.len())?;
         self.cancelled.push(false)?;
         Ok(())
@@ -65,10 +69,26 @@ impl Operations {
         }
     }
 
-    /// What the message of a number asked for; empty where it asked for nothing.
-    pub fn of(&self, number: u64) -> &[u8] {
+    /// Whether the message of a number asked for an operation.
+    fn is_named(&self, number: u64) -> bool {
+        match place_of(number) {
+            Some(place) => self
+                .are_named
+                .as_slice()
+                .get(place)
+                .copied()
+                .unwrap_or(false),
+            None => false,
+        }
+    }
+
+    /// What the message of a number asked for, if it asked for an operation.
+    pub fn of(&self, number: u64) -> Option<&[u8]> {
+        if !self.is_named(number) {
+            return None;
+        }
         let start = self.end_of(number.saturating_sub(1));
         let end = self.end_of(number);
-        self.names.as_slice().get(start..end).unwrap_or(&[])
+        Some(self.names.as_slice().get(start..end).unwrap_or(&[]))
     }
 }

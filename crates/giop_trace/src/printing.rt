@@ -1,11 +1,13 @@
-//! The lines of a trace, for a person or as JSON, to a writer.
+//! The lines of a trace, for a person or as JSON.
 
-use crate::direction::Left;
+use crate::looks::Looks;
 use crate::sender::Sender;
 use crate::shown::Shown;
+use crate::sink::Sink;
+use crate::steps::Left;
 use crate::stop::Stop;
 use crate::summary::Summary;
-use crate::{json, lines};
+use crate::{json, lines, reports};
 use giop_link::LinkFault;
 use std::alloc::Global;
 use std::io::Write;
@@ -19,10 +21,31 @@ pub enum Format {
     Json,
 }
 
+/// What is known of a connection beside its octets.
+#[derive(Clone, Copy, Debug)]
+pub(crate) struct Endpoints<'t> {
+    /// The number of its stream in the capture.
+    pub stream: Option<u64>,
+    /// The address of the side that opened it; empty where it is not known.
+    pub opener: &'t [u8],
+    /// That of the other.
+    pub acceptor: &'t [u8],
+}
+
+impl Endpoints<'_> {
+    /// Both addresses, where they are known.
+    pub fn addresses(&self) -> Option<(&[u8], &[u8])> {
+        if self.opener.is_empty() || self.acceptor.is_empty() {
+            return None;
+        }
+        Some((self.opener, self.acceptor))
+    }
+}
+
 /// For so many octets of a message's lines memory is taken at once.
 const USUAL: usize = 256;
 
-/// Prints lines in a form.
+/// The lines in a form.
 #[derive(Clone, Copy)]
 pub(crate) struct Printer {
     pub alloc: Global,
@@ -30,25 +53,29 @@ pub(crate) struct Printer {
 }
 
 impl Printer {
-    /// Prints the line of a connection, which JSON has in each object.
-    pub fn connection<W: Write>(&self, connection: u64, out: &mut W) -> Result<(), Stop> {
+    /// Prints the line of a connection.
+    pub fn connection<W: Write>(
+        &self,
+        connection: u64,
+        ends: &Endpoints,
+        out: &mut Sink<W>,
+    ) -> Result<(), Stop> {
         let mut text = String::new(self.alloc);
-        if let Format::Lines = self.format {
-            lines::put_connection(connection, &mut text)?;
+        match self.format {
+            Format::Lines => lines::put_connection(self.alloc, connection, ends, &mut text)?,
+            Format::Json => reports::put_connection(self.alloc, connection, ends, &mut text)?,
         }
-        out.write_all(text.as_bytes())?;
-        Ok(())
+        out.print(&text)
     }
 
     /// Prints the lines of a message.
-    pub fn message<W: Write>(&self, shown: Shown, out: &mut W) -> Result<(), Stop> {
+    pub fn message<W: Write>(&self, shown: Shown, out: &mut Sink<W>) -> Result<(), Stop> {
         let mut text = String::with_capacity(self.alloc, USUAL)?;
         match self.format {
             Format::Lines => lines::put_message(self.alloc, shown, &mut text)?,
             Format::Json => json::put_message(self.alloc, shown, &mut text)?,
         }
-        out.write_all(text.as_bytes())?;
-        Ok(())
+        out.print(&text)
     }
 
     /// Prints the line of a fault.
@@ -58,15 +85,17 @@ impl Printer {
         sender: Sender,
         at: u64,
         fault: LinkFault,
-        out: &mut W,
+        looks: Option<Looks>,
+        out: &mut Sink<W>,
     ) -> Result<(), Stop> {
         let mut text = String::new(self.alloc);
         match self.format {
-            Format::Lines => lines::put_fault(sender, at, fault, &mut text)?,
-            Format::Json => json::put_fault(self.alloc, connection, sender, at, fault, &mut text)?,
+            Format::Lines => lines::put_fault(sender, at, fault, looks, &mut text)?,
+            Format::Json => {
+                reports::put_fault(self.alloc, connection, sender, at, fault, looks, &mut text)?
+            }
         }
-        out.write_all(text.as_bytes())?;
-        Ok(())
+        out.print(&text)
     }
 
     /// Prints the line of octets that were passed over.
@@ -76,17 +105,34 @@ impl Printer {
         sender: Sender,
         from: u64,
         octets: u64,
-        out: &mut W,
+        out: &mut Sink<W>,
     ) -> Result<(), Stop> {
         let mut text = String::new(self.alloc);
         match self.format {
             Format::Lines => lines::put_passed(sender, from, octets, &mut text)?,
             Format::Json => {
-                json::put_passed(self.alloc, connection, sender, from, octets, &mut text)?
+                reports::put_passed(self.alloc, connection, sender, from, octets, &mut text)?
             }
         }
-        out.write_all(text.as_bytes())?;
-        Ok(())
+        out.print(&text)
+    }
+
+    /// Prints the line of octets that the capture missed.
+    pub fn missing<W: Write>(
+        &self,
+        connection: u64,
+        sender: Sender,
+        octets: u64,
+        out: &mut Sink<W>,
+    ) -> Result<(), Stop> {
+        let mut text = String::new(self.alloc);
+        match self.format {
+            Format::Lines => lines::put_missing(sender, octets, &mut text)?,
+            Format::Json => reports::put_missing(
+                self.alloc, connection, sender, octets, &mut text,
+            )?,
+        }
+        out.print(&text)
     }
 
     /// Prints the line of what is left of a side, if something is.
@@ -95,25 +141,23 @@ impl Printer {
         connection: u64,
         sender: Sender,
         left: Left,
-        out: &mut W,
+        out: &mut Sink<W>,
     ) -> Result<(), Stop> {
         let mut text = String::new(self.alloc);
         match self.format {
             Format::Lines => lines::put_left(sender, left, &mut text)?,
-            Format::Json => json::put_left(self.alloc, connection, sender, left, &mut text)?,
+            Format::Json => reports::put_left(self.alloc, connection, sender, left, &mut text)?,
         }
-        out.write_all(text.as_bytes())?;
-        Ok(())
+        out.print(&text)
     }
 
     /// Prints the lines at the end.
-    pub fn summary<W: Write>(&self, summary: &Summary, out: &mut W) -> Result<(), Stop> {
+    pub fn summary<W: Write>(&self, summary: &Summary, out: &mut Sink<W>) -> Result<(), Stop> {
         let mut text = String::new(self.alloc);
         match self.format {
             Format::Lines => lines::put_summary(summary, &mut text)?,
-            Format::Json => json::put_summary(self.alloc, summary, &mut text)?,
+            Format::Json => reports::put_summary(self.alloc, summary, &mut text)?,
         }
-        out.write_all(text.as_bytes())?;
-        Ok(())
+        out.print(&text)
     }
 }

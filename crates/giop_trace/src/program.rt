@@ -1,13 +1,13 @@
 //! What `giop trace` does with its input.
 
-use crate::follow::{Stretch, read_follow};
-use crate::printing::{Format, Printer};
-use crate::sender::Sender;
+use crate::printing::{Endpoints, Format, Printer};
 use crate::session::Session;
-use crate::stop::Stop;
+use crate::sink::{Sink, Source};
+use crate::stop::{Failure, Stop};
+use crate::text::Text;
 use giop_frames::Limits;
 use std::alloc::Global;
-use std::io::{BufWriter, Write};
+use std::io::{BufWriter, Read, Write};
 
 /// What is asked of a trace.
 #[derive(Clone, Copy, Debug, PartialEq, Eq)]
@@ -38,52 +38,134 @@ fn is_octets(input: &[u8]) -> bool {
     matches!(input, [b'G', b'I', b'O', b'P', ..])
 }
 
-/// The octets of one direction, as they are.
-fn raw(alloc: Global, input: &[u8]) -> Result<Vec<Stretch>, Stop> {
-    let mut stretches = Vec::new(alloc);
-    if !input.is_empty() {
-        stretches.push(Stretch {
-            connection: 1,
-            sender: Sender::Opener,
-            octets: Vec::from_slice(alloc, input)?,
-        })?;
-    }
-    Ok(stretches)
+/// How many octets are read at a time.
+const PIECE: usize = 65_536;
+
+/// What the octets are read into, and what is read of them.
+#[derive(Drop)]
+struct Run<'r, R> {
+    alloc: Global,
+    is_raw: bool,
+    source: Source<'r, R>,
+    session: Session,
 }
 
-/// The octets in an input.
-fn stretches_in(alloc: Global, is_raw: bool, input: &[u8]) -> Result<Vec<Stretch>, Stop> {
-    if is_packets(input) {
+/// The connection that octets without lines are of.
+const ALONE: Endpoints = Endpoints {
+    stream: None,
+    opener: &[],
+    acceptor: &[],
+};
+
+/// Refuses an input by its first octets.
+fn judge(is_raw: bool, first: &[u8]) -> Result<(), Stop> {
+    if is_packets(first) {
         return Err(Stop::Packets);
     }
-    if is_raw {
-        return raw(alloc, input);
-    }
-    if is_octets(input) {
+    if !is_raw && is_octets(first) {
         return Err(Stop::Octets);
     }
-    Ok(read_follow(alloc, input)?)
+    Ok(())
 }
 
-/// Traces the connections in an input under the default limits, and prints a line for each message, and at the end what
-/// was counted. Returns whether each direction ends after a message, with nothing left over.
-pub fn trace<W: Write>(
+impl<R: Read> Run<'_, R> {
+    /// Traces octets as they are.
+    fn run_raw<W: Write>(&mut self, first: &[u8], out: &mut Sink<W>) -> Result<(), Stop> {
+        if first.is_empty() {
+            return Ok(());
+        }
+        self.session.begin(&ALONE, out)?;
+        self.session.take_raw(first, out)?;
+        let mut buffer = vec![in self.alloc; 0u8; PIECE]?;
+        for _ in 0..u64::MAX {
+            let count = self.source.read(&mut buffer)?;
+            if count == 0 {
+                break;
+            }
+            self.session
+                .take_raw(buffer.get(..count).unwrap_or(&[]), out)?;
+        }
+        self.session.end_connection(out)
+    }
+
+    /// Traces the connections in lines.
+    fn run_text<W: Write>(&mut self, first: &[u8], out: &mut Sink<W>) -> Result<(), Stop> {
+        let mut text = Text::new(self.alloc);
+        text.take(first, &mut self.session, out)?;
+        let mut buffer = vec![in self.alloc; 0u8; PIECE]?;
+        for _ in 0..u64::MAX {
+            let count = self.source.read(&mut buffer)?;
+            if count == 0 {
+                break;
+            }
+            text.take(buffer.get(..count).unwrap_or(&[]), &mut self.session, out)?;
+        }
+        text.end(&mut self.session, out)
+    }
+
+    /// The first octets: four, unless there are fewer.
+    fn first(&mut self) -> Result<Vec<u8>, Stop> {
+        let mut first = Vec::new(self.alloc);
+        let mut buffer = [0u8; 4];
+        for _ in 0..4 {
+            let wanted = 4usize.saturating_sub(first.len());
+            if wanted == 0 {
+                break;
+            }
+            let count = self
+                .source
+                .read(buffer.get_mut(..wanted).unwrap_or(&mut []))?;
+            first.extend_from_slice(buffer.get(..count).unwrap_or(&[]))?;
+        }
+        Ok(first)
+    }
+
+    /// Traces the input, and prints at the end what was counted.
+    fn run<W: Write>(&mut self, out: &mut Sink<W>) -> Result<bool, Stop> {
+        let first = self.first()?;
+        judge(self.is_raw, &first)?;
+        match self.is_raw {
+            true => self.run_raw(&first, out)?,
+            false => self.run_text(&first, out)?,
+        }
+        self.session.end(out)?;
+        out.flush()?;
+        Ok(self.session.is_clean)
+    }
+}
+
+/// Traces the connections in an input under the default limits, as it comes, and prints a line for each message, and at
+/// the end what was counted. Returns whether each direction ends after a message, with nothing left over.
+pub fn trace<R: Read, W: Write>(
     alloc: Global,
     options: &Options,
-    input: &[u8],
+    input: &mut R,
     out: &mut W,
-) -> Result<bool, Stop> {
-    let stretches = stretches_in(alloc, options.is_raw, input)?;
+) -> Result<bool, Failure> {
     let printer = Printer {
         alloc,
         format: options.format,
     };
-    let mut out = BufWriter::new(alloc, out)?;
-    let mut session = Session::new(alloc, Limits::default(), options.resumes, printer);
-    for stretch in &stretches {
-        session.take(stretch, &mut out)?;
+    let mut out = match BufWriter::new(alloc, out) {
+        Ok(writer) => Sink::new(writer),
+        Err(_) => return Err(Failure::Stop(Stop::Memory)),
+    };
+    let mut tracing = Run {
+        alloc,
+        is_raw: options.is_raw,
+        source: Source {
+            input,
+            is_ended: false,
+            error: None,
+        },
+        session: Session::new(alloc, Limits::default(), options.resumes, printer),
+    };
+    let came = tracing.run(&mut out);
+    let Err(stop) = came else {
+        return came.map_err(Failure::Stop);
+    };
+    match tracing.source.failure() {
+        Some(failure) if stop == Stop::Unreadable => Err(failure),
+        _ => Err(out.failure(stop)),
     }
-    session.end(&mut out)?;
-    out.flush()?;
-    Ok(session.is_clean)
 }

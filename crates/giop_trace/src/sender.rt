@@ -6,7 +6,7 @@ ghost use Rattle.giop_trace.specs.Pairing.{is_same, peer};
 use std::fmt;
 
 /// A side of a connection, as the one that sends.
-#[derive(Clone, Copy, Debug, PartialEq, Eq)]
+#[derive(Clone, Copy, Debug, PartialEq, Eq, PartialOrd, Ord)]
 pub enum Sender {
     /// The side that opened the connection.
     Opener,

@@ -1,11 +1,13 @@
 //! Connections one after another, as they are traced and printed.
 
-use crate::direction::{Direction, Left, Step};
-use crate::follow::Stretch;
+use crate::block::Piece;
+use crate::direction::{Direction, Reading};
 use crate::operations::Operations;
-use crate::printing::Printer;
+use crate::printing::{Endpoints, Printer};
 use crate::sender::Sender;
 use crate::shown::Shown;
+use crate::sink::Sink;
+use crate::steps::{Left, Step};
 use crate::stop::Stop;
 use crate::summary::Summary;
 use crate::tracer::{Seen, Trace};
@@ -18,8 +20,7 @@ use std::io::Write;
 #[derive(Drop)]
 pub(crate) struct Session {
     alloc: Global,
-    limits: Limits,
-    resumes: bool,
+    reading: Reading,
     printer: Printer,
     trace: Trace,
     operations: Operations,
@@ -31,11 +32,11 @@ pub(crate) struct Session {
     pub is_clean: bool,
 }
 
-/// The operation that a message asks for; empty where it asks for none.
-fn operation_of<'m>(content: &Content<'m>) -> &'m [u8] {
+/// The operation that a message asks for, if it asks for one.
+fn operation_of<'m>(content: &Content<'m>) -> Option<&'m [u8]> {
     match content {
-        Content::Request(request) => request.operation,
-        _ => &[],
+        Content::Request(request) => Some(request.operation),
+        _ => None,
     }
 }
 
@@ -58,8 +59,7 @@ impl Session {
     pub fn new(alloc: Global, limits: Limits, resumes: bool, printer: Printer) -> Session {
         Session {
             alloc,
-            limits,
-            resumes,
+            reading: Reading { limits, resumes },
             printer,
             trace: Trace::new(alloc, limits),
             operations: Operations::new(alloc),
@@ -72,7 +72,7 @@ impl Session {
     }
 
     /// Prints the message that is lent, if one is.
-    fn print_seen<W: Write>(&mut self, end: u64, out: &mut W) -> Result<(), Stop> {
+    fn print_seen<W: Write>(&mut self, end: u64, out: &mut Sink<W>) -> Result<(), Stop> {
         let Some(seen) = self.trace.seen() else {
             return Ok(());
         };
@@ -86,21 +86,22 @@ impl Session {
         self.printer.message(shown, out)
     }
 
-    /// Prints what came of a step. False: more octets are needed.
+    /// Prints what came of a step.
     fn print_step<W: Write>(
         &mut self,
         sender: Sender,
         step: Step,
         end: u64,
-        out: &mut W,
-    ) -> Result<bool, Stop> {
+        out: &mut Sink<W>,
+    ) -> Result<(), Stop> {
         match step {
-            Step::Idle => return Ok(false),
+            Step::Idle => {}
             Step::Gave => self.print_seen(end, out)?,
-            Step::Fault(at, fault) => {
+            Step::Fault(at, fault, looks) => {
                 self.summary.faults = self.summary.faults.saturating_add(1);
                 self.is_clean = false;
-                self.printer.fault(self.connection, sender, at, fault, out)?;
+                self.printer
+                    .fault(self.connection, sender, at, fault, looks, out)?;
             }
             Step::Passed(from, octets) => {
                 self.summary.pass(octets);
@@ -108,28 +109,71 @@ impl Session {
                     .passed(self.connection, sender, from, octets, out)?;
             }
         }
-        Ok(true)
+        Ok(())
     }
 
-    /// Takes a step with what has come of a side. False: more octets are needed.
-    fn step<W: Write>(&mut self, sender: Sender, out: &mut W) -> Result<bool, Stop> {
-        let (limits, resumes) = (self.limits, self.resumes);
-        let (step, end) = match sender {
-            Sender::Opener => self.opener.step(sender, limits, resumes, &mut self.trace)?,
+    /// Takes a step with octets of a side, and returns how many of them it took.
+    fn step<W: Write>(
+        &mut self,
+        sender: Sender,
+        octets: &[u8],
+        out: &mut Sink<W>,
+    ) -> Result<usize, Stop> {
+        let reading = self.reading;
+        let (step, count) = match sender {
+            Sender::Opener => self.opener.step(sender, reading, octets, &mut self.trace)?,
             Sender::Acceptor => self
                 .acceptor
-                .step(sender, limits, resumes, &mut self.trace)?,
+                .step(sender, reading, octets, &mut self.trace)?,
         };
-        self.print_step(sender, step, end, out)
+        let end = match sender {
+            Sender::Opener => self.opener.taken(),
+            Sender::Acceptor => self.acceptor.taken(),
+        };
+        self.print_step(sender, step, end, out)?;
+        Ok(count)
     }
 
-    /// Appends octets of a side.
-    fn push(&mut self, sender: Sender, octets: &[u8]) -> Result<(), Stop> {
+    /// Whether a step of a side is due before more octets come.
+    fn is_due(&self, sender: Sender) -> bool {
         match sender {
-            Sender::Opener => self.opener.push(octets)?,
-            Sender::Acceptor => self.acceptor.push(octets)?,
+            Sender::Opener => self.opener.is_due(),
+            Sender::Acceptor => self.acceptor.is_due(),
+        }
+    }
+
+    /// Traces octets of a side.
+    fn take_octets<W: Write>(
+        &mut self,
+        sender: Sender,
+        octets: &[u8],
+        out: &mut Sink<W>,
+    ) -> Result<(), Stop> {
+        let mut left = octets;
+        for _ in 0..u64::MAX {
+            let count = self.step(sender, left, out)?;
+            left = left.get(count..).unwrap_or(&[]);
+            if left.is_empty() && !self.is_due(sender) {
+                break;
+            }
         }
         Ok(())
+    }
+
+    /// Goes on behind octets of a side that the capture missed.
+    fn miss<W: Write>(
+        &mut self,
+        sender: Sender,
+        octets: u64,
+        out: &mut Sink<W>,
+    ) -> Result<(), Stop> {
+        match sender {
+            Sender::Opener => self.opener.miss(sender, octets, &mut self.trace),
+            Sender::Acceptor => self.acceptor.miss(sender, octets, &mut self.trace),
+        }
+        self.summary.miss(octets);
+        self.is_clean = false;
+        self.printer.missing(self.connection, sender, octets, out)
     }
 
     /// Prints what is left of a side.
@@ -137,7 +181,7 @@ impl Session {
         &mut self,
         sender: Sender,
         left: Left,
-        out: &mut W,
+        out: &mut Sink<W>,
     ) -> Result<(), Stop> {
         match left {
             Left::Nothing => return Ok(()),
@@ -148,46 +192,44 @@ impl Session {
         self.printer.left(self.connection, sender, left, out)
     }
 
-    /// Ends the connection, if there is one.
-    fn end_connection<W: Write>(&mut self, out: &mut W) -> Result<(), Stop> {
-        if self.connection == 0 {
-            return Ok(());
-        }
+    /// Ends the connection.
+    pub fn end_connection<W: Write>(&mut self, out: &mut Sink<W>) -> Result<(), Stop> {
         let left = self.opener.left(Sender::Opener, &mut self.trace);
         self.print_left(Sender::Opener, left, out)?;
         let left = self.acceptor.left(Sender::Acceptor, &mut self.trace);
         self.print_left(Sender::Acceptor, left, out)
     }
 
-    /// Goes to a connection, unless it is the one that is traced.
-    fn connect<W: Write>(&mut self, connection: u64, out: &mut W) -> Result<(), Stop> {
-        if connection == self.connection {
-            return Ok(());
-        }
-        self.end_connection(out)?;
-        self.connection = connection;
-        self.summary.connections = self.summary.connections.saturating_add(1);
-        self.trace.connect(connection);
+    /// Goes to the next connection.
+    pub fn begin<W: Write>(&mut self, ends: &Endpoints, out: &mut Sink<W>) -> Result<(), Stop> {
+        self.connection = self.connection.saturating_add(1);
+        self.summary.connections = self.connection;
+        self.trace.connect(self.connection);
         self.opener = Direction::new(self.alloc);
         self.acceptor = Direction::new(self.alloc);
-        self.printer.connection(connection, out)
+        self.printer.connection(self.connection, ends, out)
     }
 
-    /// Traces a stretch, and prints what comes of it.
-    pub fn take<W: Write>(&mut self, stretch: &Stretch, out: &mut W) -> Result<(), Stop> {
-        self.connect(stretch.connection, out)?;
-        self.push(stretch.sender, stretch.octets.as_slice())?;
-        for _ in 0..u64::MAX {
-            if !self.step(stretch.sender, out)? {
-                break;
-            }
+    /// Traces what a line gives of a side, and prints what comes of it.
+    pub fn take<W: Write>(
+        &mut self,
+        sender: Sender,
+        piece: &Piece,
+        out: &mut Sink<W>,
+    ) -> Result<(), Stop> {
+        match piece {
+            Piece::Octets(octets) => self.take_octets(sender, octets, out),
+            Piece::Missing(octets) => self.miss(sender, *octets, out),
         }
-        Ok(())
     }
 
-    /// Ends the last connection, and prints what was counted.
-    pub fn end<W: Write>(&mut self, out: &mut W) -> Result<(), Stop> {
-        self.end_connection(out)?;
+    /// Traces octets of a side, and prints what comes of them.
+    pub fn take_raw<W: Write>(&mut self, octets: &[u8], out: &mut Sink<W>) -> Result<(), Stop> {
+        self.take_octets(Sender::Opener, octets, out)
+    }
+
+    /// Prints what was counted.
+    pub fn end<W: Write>(&mut self, out: &mut Sink<W>) -> Result<(), Stop> {
         self.summary.end(&self.trace, &self.operations)?;
         self.printer.summary(&self.summary, out)
     }

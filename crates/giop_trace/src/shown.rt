@@ -8,8 +8,8 @@ pub(crate) struct Shown<'t> {
     pub seen: Seen<'t>,
     /// How many octets of its direction have come with its last one.
     pub end: u64,
-    /// The operation of the request that it answers or cancels; empty where there is none, or it is a LocateRequest.
-    pub operation: &'t [u8],
+    /// The operation of the request that it answers or cancels; none where there is none, or it is a LocateRequest.
+    pub operation: Option<&'t [u8]>,
 }
 
 impl Shown<'_> {

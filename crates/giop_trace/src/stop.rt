@@ -7,11 +7,14 @@ use std::io::ErrorKind;
 use thiserror::Error;
 
 /// Why a trace stops before its work is done.
-#[derive(Debug, Drop, Error)]
+#[derive(Clone, Copy, Debug, PartialEq, Eq, Error)]
 pub enum Stop {
     /// An allocation failed.
     #[error("memory")]
     Memory,
+    /// The input can't be read.
+    #[error("input: unreadable")]
+    Unreadable,
     /// The input is a file of packets.
     #[error("input: a file of packets; give what `tshark -r FILE -q -z follow,tcp,raw,N` prints, with N from 0 for each connection")]
     Packets,
@@ -24,9 +27,21 @@ pub enum Stop {
     /// The line of that number has colons between its digits.
     #[error("line {0}: colons between digits; give what `tshark -q -z follow,tcp,raw,N` prints")]
     Colons(u64),
+    /// The line of that number begins a connection whose octets don't stand there as plain digits.
+    #[error("line {0}: octets that are not raw; give what `tshark -r FILE -q -z follow,tcp,raw,N` prints")]
+    Form(u64),
+    /// The connection that ends before the line of that number is not in the capture.
+    #[error("line {0}: the stream before it is not in the capture; `tshark -r FILE -q -z conv,tcp` lists those that are")]
+    NoStream(u64),
+    /// The input is a dump of packets.
+    #[error("input: a dump of packets, as of `tshark -x`; give what `tshark -r FILE -q -z follow,tcp,raw,N` prints")]
+    Dump,
+    /// The input is text, and has no octets.
+    #[error("input: text without a line of digits; give what `tshark -r FILE -q -z follow,tcp,raw,N` prints")]
+    Text,
     /// The output can't be written.
-    #[error("output: {0}")]
-    Unwritable(io::Error),
+    #[error("output: unwritable")]
+    Unwritable,
 }
 
 impl From<AllocError> for Stop {
@@ -54,12 +69,25 @@ impl From<FollowError> for Stop {
     }
 }
 
-/// The error of a writer; its buffer may have failed to grow.
-impl From<io::Error> for Stop {
-    fn from(error: io::Error) -> Stop {
-        match error.kind() {
-            ErrorKind::OutOfMemory => Stop::Memory,
-            _ => Stop::Unwritable(error),
+/// Why nothing is traced any more, with the system's reason where there is one.
+#[derive(Debug, Drop, Error)]
+pub enum Failure {
+    #[error("{0}")]
+    Stop(Stop),
+    /// The input can't be read.
+    #[error("input: {0}")]
+    Input(io::Error),
+    /// The output can't be written.
+    #[error("output: {0}")]
+    Output(io::Error),
+}
+
+impl Failure {
+    /// Whether the one who reads the output has gone away, which is no error of the trace.
+    pub fn is_reader_gone(&self) -> bool {
+        match self {
+            Failure::Output(error) => error.kind() == ErrorKind::BrokenPipe,
+            Failure::Stop(_) | Failure::Input(_) => false,
         }
     }
 }

@@ -19,6 +19,8 @@ pub(crate) struct Summary {
     pub repeats: Vec<u64>,
     pub faults: u64,
     pub passed: u64,
+    /// Octets that the capture missed.
+    pub missing: u64,
 }
 
 impl Summary {
@@ -33,6 +35,7 @@ impl Summary {
             repeats: Vec::new(alloc),
             faults: 0,
             passed: 0,
+            missing: 0,
         }
     }
 
@@ -41,13 +44,18 @@ impl Summary {
         self.passed = self.passed.saturating_add(octets);
     }
 
+    /// Counts octets that the capture missed.
+    pub fn miss(&mut self, octets: u64) {
+        self.missing = self.missing.saturating_add(octets);
+    }
+
     /// Takes the requests that still wait at the end.
     pub fn end(&mut self, trace: &Trace, operations: &Operations) -> Result<(), AllocError> {
         self.messages = trace.ties().len() as u64;
-        for asked in trace.waiting() {
-            self.unanswered.push(asked.number)?;
-            if operations.is_cancelled(asked.number) {
-                self.cancelled.push(asked.number)?;
+        self.unanswered = trace.unanswered()?;
+        for number in &self.unanswered {
+            if operations.is_cancelled(*number) {
+                self.cancelled.push(*number)?;
             }
         }
         Ok(())

@@ -13,7 +13,7 @@ use crate::sender::Sender;
 use giop_core::Message;
 use giop_frames::{Limits, StreamFault};
 use giop_link::{LinkFault, Listener};
-use std::alloc::Global;
+use std::alloc::{AllocError, Global};
 use std::marker::Model;
 
 /// Takes octets of a side up to and with the end of the next message, or all, and that message among the others.
@@ -187,10 +187,8 @@ impl Trace {
         self.pairs.ties()
     }
 
-    /// The numbers of the requests that wait for an answer, in their order.
-    pub(crate) fn waiting(&self) -> &[crate::pairing::Asked]
-        ensures { result.now ≡ self.now.pairs.waiting }
-    {
-        self.pairs.waiting()
+    /// The numbers of the requests that no message has answered, in their order.
+    pub(crate) fn unanswered(&self) -> Result<Vec<u64>, AllocError> {
+        self.pairs.unanswered()
     }
 }

@@ -23,10 +23,8 @@ pub enum Call {
     Cut(Room),
 }
 
-impl Call {
-    /// Makes the call on a sample, and once more where an allocation of it was refused. At `Memory`
-    /// the call was not made, since an allocation for its inputs was refused.
-    pub(crate) fn run(self, alloc: Global, sample: &'static Sample) -> Result<Ending, Miss> {
+impl trials::Call<()> for Call {
+    fn run(self, alloc: Global, _given: (), sample: &'static Sample) -> Result<Ending, Miss> {
         match self {
             Call::WriteMessage(room) => {
                 ended(alloc, MessageWriting::new(alloc, sample, By::Kind, room))

@@ -13,21 +13,15 @@ mod feeding;
 mod message_samples;
 mod messages;
 mod misses;
-mod run;
 mod stream_samples;
 mod suites;
 
 use std::process::ExitCode;
-use std::{env, io};
-
-/// Runs the case that the first word names.
-fn status_of(rt: &HostRuntime) -> io::Result<u8> {
-    let alloc = rt.alloc();
-    let words: Vec<String> = env::args(rt)?.collect(alloc)?;
-    let word = words.get(1).map_or("", |word| word.as_str());
-    Ok(run::run(alloc, word, &mut rt.stdout(), &mut rt.stderr()))
-}
+use suites::SUITES;
 
 fn main(rt: HostRuntime) -> ExitCode {
-    trials::exit_code(&rt, status_of(&rt))
+    let usage = "giop_trials list | giop_trials CASE";
+    let (mut out, mut err) = (rt.stdout(), rt.stderr());
+    let status = trials::run(&rt, (), &SUITES, usage, &mut out, &mut err);
+    trials::exit_code(&rt, status)
 }

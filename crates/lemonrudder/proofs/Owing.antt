@@ -9,6 +9,7 @@ use Rattle.ft_orb.specs.declared.events.Note.{Note}
 use Rattle.ft_orb.specs.declared.events.Note.TheVariants.{Done}
 use Rattle.ft_orb.specs.Catalogues.{Offer}
 use Rattle.ft_orb.specs.Engines.{AsksOnce, Awaited, Ends, EndsOnce, Feeds, FeedsOnce, Resumes, ResumesOnce, Stops}
+use Rattle.ft_orb.specs.EnginesNow.{AsksNow, EndsNow, FeedsNow, ResumesNow}
 use Rattle.ft_orb.specs.History.{Event, Piece}
 use Rattle.ft_orb.specs.Owners.{Owner}
 use Rattle.ft_orb.specs.Requests.{Call}
@@ -61,3 +62,19 @@ module _ {C : Type 0} (offers : C → Offer) (owner : Owner) (calls : List Call)
 
   pub resumes-stays : (c moment : ℕ) (octets written : List ℕ) (note : Note) (engine : Engine C) → Resumes offers owner calls past c moment octets written note engine before out → n ≤ length out
   resumes-stays c moment octets written note engine x = stays n before x.more out few x.appended
+
+-- With each key by itself.
+module _ (owner : Owner) (calls : List Call) (past : List Event) (n : ℕ) (before out : List ℕ) (few : n ≤ length before) where
+  ends-now-owed : (e : Event) (note : Note) → EndsNow owner calls past e note before out → EndsNow owner calls past e note (drop n before) (drop n out)
+  ends-now-owed e note x = (x.0, grows n before x.0 out few x.1, x.2)
+
+  asks-now-owed : (c moment : ℕ) (octets : List ℕ) (waits : Option Awaited) → AsksNow owner calls past c moment octets waits before out → AsksNow owner calls past c moment octets waits (drop n before) (drop n out)
+  asks-now-owed c moment octets waits x = record { written = x.written; appended = grows n before x.written out few x.appended; call = x.call; is_awaited = x.is_awaited; front = x.front; last = x.last; completes = x.completes; asks = x.asks; due = x.due }
+
+  pub feeds-now-owed : (c moment : ℕ) (piece : List ℕ) (f : Result Fed ServeError) (waits : Option Awaited) → FeedsNow owner calls past c moment piece f waits before out → FeedsNow owner calls past c moment piece f waits (drop n before) (drop n out)
+  feeds-now-owed c moment piece (Ok fed.Whole) waits x = ends-now-owed (Piece c moment piece) Done x
+  feeds-now-owed c moment piece (Ok (fed.Asks taken)) waits x = asks-now-owed c moment (take taken piece) waits x
+  feeds-now-owed c moment piece (Err e) waits x = ends-now-owed (Piece c moment piece) (note_of {A = Fed} (Err e)) x
+
+  pub resumes-now-owed : (c moment : ℕ) (octets written : List ℕ) (note : Note) → ResumesNow owner calls past c moment octets written note before out → ResumesNow owner calls past c moment octets written note (drop n before) (drop n out)
+  resumes-now-owed c moment octets written note x = (x.0, grows n before x.0 out few x.1, x.2)

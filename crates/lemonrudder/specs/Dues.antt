@@ -1,4 +1,4 @@
--- What is due on a connection.
+-- What is due on a connection: words of `Serves`, `Outcomes`, `Calls` and `Openings`, and so of what the exports promise.
 use Rattle.std.specs.Prelude.{ℕ, ◌≤◌, List, length, drop}
 use Rattle.lemonrudder.specs.declared.due.Due.{Due}
 

@@ -42,7 +42,7 @@ IsAddressed type_id minor profile (Err e) = ⊥
 
 -- Words of private functions.
 
--- the same of its profile alone
+-- the profile of a reference to an address is made; or there is no such version, or it can't be written, or memory is short
 abbrev pub IsProfiled : (minor : ℕ) → (profile : Value) → Result Tagged Refusal → Type 0
 IsProfiled minor profile (Ok p) = (minor ≤ 2) × IsWritable profile × (p.tag ≡ tag_internet_iop) × (p.octets.items ≡ encapsulation_of profile)
 IsProfiled minor profile (Err refusal.Range) = 2 < minor

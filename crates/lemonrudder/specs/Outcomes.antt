@@ -13,6 +13,7 @@ use Rattle.ft_log.specs.Performed.{Performed, raised, raw, returned, system}
 use Rattle.ft_orb.specs.declared.error.ServeError.{ServeError}
 use Rattle.ft_orb.specs.Accessors.{read_at, string_of}
 use Rattle.ft_orb.specs.Engines.{Asks, Awaited, CanAnswer, Resumes, ResumesOnce, waits_in}
+use Rattle.ft_orb.specs.EnginesNow.{ResumesNow}
 use Rattle.ft_orb.specs.Filling.{ids_of, is_a_name, names_id, non_existent_name, offer_of}
 use Rattle.ft_orb.specs.History.{Event}
 use Rattle.ft_orb.specs.Interfaces.{Interface, operation}
@@ -33,6 +34,7 @@ Answers outcome s t o = (owner : Owner) (calls : List Call) (past : List Event) 
     → owner.answers calls w.call ≡ outcome → IsPlaced s.due
     → IsPlaced t.due × Resumes offer_of owner (calls ++ w.call ∷ []) past w.connection moment octets written (note_of o) t.engine (owed s.due) (owed t.due)
     × ResumesOnce offer_of owner (calls ++ w.call ∷ []) past w.connection moment octets written (note_of o) (owed s.due) (owed t.due)
+    × ResumesNow owner (calls ++ w.call ∷ []) past w.connection moment octets written (note_of o) (owed s.due) (owed t.due)
 
 -- an outcome can answer what waits
 abbrev pub CanBe : Performed → Serving → Type 0
@@ -73,7 +75,7 @@ abbrev pub members_in : List ℕ → List (List ℕ × Forms) → Option Forms
 members_in id [] = None
 members_in id (x ∷ xs) = if bytes_eq x.0 id then Some x.1 else members_in id xs
 
--- the same of an operation
+-- the types of the members of an exception of an operation, if it declares one with this id
 abbrev pub member_types : List ℕ → Interface → Option Forms
 member_types id (operation t) = members_in id t.raises
 member_types id _ = None
@@ -86,7 +88,7 @@ HandsInValues (Some types) order octets outcome s t r =
     ((vs : Values) → SpellsMembers types order vs 0 octets → UnlessShort s t r (HandsIn 0 (outcome vs) s t r))
     × (((vs : Values) → ¬ (SpellsMembers types order vs 0 octets)) → UnlessShort s t r (IsRefused refusal.Outcome s t r))
 
--- the same by the types that the operation of what waits has for it
+-- an outcome is handed in whose values are these octets, by the types that the operation of what waits has for it
 abbrev pub HandsInFound : (Interface → Option Forms) → Order → List ℕ → (Values → Performed) → Serving → Serving → Result ℕ Refusal → Type 0
 HandsInFound types order octets outcome s t r = ByAwaited (waits_in s.engine) s t r (λ w. HandsInValues (types (interface_at s w)) order octets outcome s t r)
 
@@ -140,7 +142,7 @@ AreRead None order octets (Err e) = e ≡ refusal.Outcome
 AreRead (Some types) order octets (Ok v) = SpellsMembers types order (values_of v.items) 0 octets × ((vs : Values) → SpellsMembers types order vs 0 octets → values_of v.items ≡ vs)
 AreRead (Some types) order octets (Err e) = (e ≡ refusal.Memory) ⊎ ((e ≡ refusal.Outcome) × ((vs : Values) → ¬ (SpellsMembers types order vs 0 octets)))
 
--- the same by the types that the operation of what waits has for it
+-- what reading octets as values gave, by the types that the operation of what waits has for them
 abbrev pub AreFound : (Awaited → Option Forms) → Order → List ℕ → Option Awaited → Result (Vec Val Global) Refusal → Type 0
 AreFound types order octets None (Ok v) = ⊥
 AreFound types order octets None (Err e) = e ≡ refusal.Idle

@@ -68,7 +68,7 @@ abbrev pub Writes : Result (Place × List ℕ) Refusal → Place → Place → L
 Writes (Ok x) place after room new result = (result ≡ Ok 0) × (after ≡ x.0) × (new ≡ x.1)
 Writes (Err refusal) place after room new result = (result ≡ Err refusal) × (after ≡ place) × (new ≡ room)
 
--- the same of the number that is answered
+-- the place and the room are what was written, and 0 is answered; or both are as they were, and the number says why
 abbrev pub Puts : Result (Place × List ℕ) Refusal → Place → Place → List ℕ → List ℕ → ℤ → Type 0
 Puts (Ok x) place after room new answer = (answer ≡ pos 0) × (after ≡ x.0) × (new ≡ x.1)
 Puts (Err refusal) place after room new answer = (answer ≡ error_number refusal) × (after ≡ place) × (new ≡ room)

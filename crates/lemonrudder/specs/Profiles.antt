@@ -24,7 +24,7 @@ IsSeen p (Ok (Some q)) = (p.tag ≡ tag_internet_iop) × ReadsProfile (body_of p
 IsSeen p (Ok None) = (p.tag ≢ tag_internet_iop) ⊎ ((e : IorError) × (e ≢ Memory) × ReadsProfile (body_of p.octets.items) (Err e))
 IsSeen p (Err e) = (e ≡ refusal.Memory) × (p.tag ≡ tag_internet_iop) × ProfileMayRunOut p.octets.items
 
--- the same of the profile of an index, if there is one
+-- the profile of an index is read so, if there is one
 abbrev pub IsSeenAt : Option Tagged → Result (Option IiopProfile) Refusal → Type 0
 IsSeenAt None seen = seen ≡ Err refusal.None
 IsSeenAt (Some p) seen = IsSeen p seen

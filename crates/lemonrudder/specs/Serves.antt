@@ -7,6 +7,7 @@ use Rattle.ft_orb.specs.declared.error.ConnectError.{ConnectError}
 use Rattle.ft_orb.specs.declared.error.ServeError.{ServeError}
 use Rattle.ft_orb.specs.declared.events.Note.TheVariants.{Memory}
 use Rattle.ft_orb.specs.Engines.{Asks, Awaited, Feeds, FeedsOnce, IsFit, IsLeftAt, IsThen, Resumes, ResumesOnce, Rests, waits_in}
+use Rattle.ft_orb.specs.EnginesNow.{FeedsNow, ResumesNow}
 use Rattle.ft_orb.specs.Filling.{offer_of}
 use Rattle.ft_orb.specs.History.{Close, Event, Lost, Opened, Piece, completed, line}
 use Rattle.ft_orb.specs.Outputs.{is_going}
@@ -96,7 +97,8 @@ Takes c moment octets s t f =
     IsLeftAt c (length octets) f (waits_in t.engine) × IsFit (offer_of t.engine.catalogue) (waits_in t.engine)
     × ((owner : Owner) (calls : List Call) (past : List Event) → Rests offer_of owner calls s.engine past → IsPlaced s.due
     → IsPlaced t.due × Feeds offer_of owner calls past c moment octets f t.engine (owed s.due) (owed t.due)
-    × FeedsOnce offer_of owner calls past c moment octets f (waits_in t.engine) (owed s.due) (owed t.due))
+    × FeedsOnce offer_of owner calls past c moment octets f (waits_in t.engine) (owed s.due) (owed t.due)
+    × FeedsNow owner calls past c moment octets f (waits_in t.engine) (owed s.due) (owed t.due))
 
 -- octets of a connection are fed: not while a request waits, nor while octets are due on another connection
 abbrev pub OnFeed : (c moment : ℕ) → List ℕ → Serving → Serving → Result ℕ Refusal → Type 0
@@ -107,7 +109,8 @@ abbrev pub Forgets : Serving → Serving → Type 0
 Forgets s t = (n : ℕ) × ((owner : Owner) (calls : List Call) (past : List Event) (moment : ℕ) (octets written : List ℕ) (w : Awaited) → Asks offer_of owner calls s.engine past moment octets written w
     → (n + 1 ≡ length (completed owner.limits past (Piece w.connection moment octets)))
     × Resumes offer_of owner calls past w.connection moment octets written (Memory n n) t.engine [] []
-    × ResumesOnce offer_of owner calls past w.connection moment octets written (Memory n n) [] [])
+    × ResumesOnce offer_of owner calls past w.connection moment octets written (Memory n n) [] []
+    × ResumesNow owner calls past w.connection moment octets written (Memory n n) [] [])
 
 -- a request is given up, if one waits
 abbrev pub OnGiveUp : Serving → Serving → Result ℕ Refusal → Type 0

@@ -23,7 +23,7 @@ use Rattle.lemonrudder.specs.Refusals.{number_in}
 abbrev pub Writing : Type 1
 Writing = (room new : List ℕ) → Result ℕ Refusal → Type 0
 
--- the same of the number that an export answers
+-- what an export makes of its room by a writer, and the number that it answers
 abbrev pub Writes : Writing → (room new : List ℕ) → ℤ → Type 0
 Writes W room new answer = (r : Result ℕ Refusal) × (answer ≡ number_in r) × W room new r
 

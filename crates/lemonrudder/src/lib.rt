@@ -27,5 +27,6 @@ mod seed;
 mod served;
 mod serving;
 mod slot;
+mod terms;
 mod types;
 mod unboxed;

@@ -5,4 +5,8 @@
 #[cfg(test)]
 mod client;
 #[cfg(test)]
+mod client_rows;
+#[cfg(test)]
+mod listener;
+#[cfg(test)]
 mod server;

@@ -12,7 +12,7 @@ use trials::misprinted;
 static SIZES: [usize; 3] = [1, 13, 4096];
 
 /// A Request of 1.2 and of id 5: all of the reply, key `c`, operation `add`, no contexts, the octets 0 0 0 7.
-const REQUEST: &[u8] =
+pub(crate) const REQUEST: &[u8] =
     b"GIOP\x01\x02\x00\x00\x00\x00\x00\x28\x00\x00\x00\x05\x03\x00\x00\x00\x00\x00\x00\x00\x00\x00\x00\x01c\x00\x00\x00\x00\x00\x00\x04add\x00\x00\x00\x00\x00\x00\x00\x00\x00\x00\x00\x00\x07";
 
 /// A LocateRequest of 1.0 and of id 6, in little order: key `cd`.
@@ -28,7 +28,7 @@ const CLOSE: &[u8] = b"GIOP\x01\x02\x00\x05\x00\x00\x00\x00";
 const ERROR: &[u8] = b"GIOP\x01\x00\x00\x06\x00\x00\x00\x00";
 
 /// A Reply of 1.0 and of id 5, without contexts, status or body.
-const REPLY: &[u8] =
+pub(crate) const REPLY: &[u8] =
     b"GIOP\x01\x00\x00\x01\x00\x00\x00\x0c\x00\x00\x00\x00\x00\x00\x00\x05\x00\x00\x00\x00";
 
 /// A LocateReply of 1.2 and of id 6: the object is unknown.

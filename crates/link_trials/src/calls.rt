@@ -26,10 +26,8 @@ pub enum Call {
     Complete(usize),
 }
 
-impl Call {
-    /// Makes the call on a sample, and once more where an allocation of it was refused. At `Memory`
-    /// the call was not made, since an allocation for its inputs was refused.
-    pub(crate) fn run(self, alloc: Global, sample: &'static Sample) -> Result<Ending, Miss> {
+impl trials::Call<()> for Call {
+    fn run(self, alloc: Global, _given: (), sample: &'static Sample) -> Result<Ending, Miss> {
         match self {
             Call::Hear(size) => ended(alloc, Ok(Hearing::new(alloc, sample, size))),
             Call::CloseLink(room) => ended(alloc, Closing::new(alloc, sample, room)),

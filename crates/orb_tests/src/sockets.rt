@@ -38,7 +38,7 @@ fn serve_all(
     server: &mut Server<Counter>,
 ) -> io::Result<()> {
     let mut clock = SystemClock::new(rt);
-    serve_on(rt.alloc(), listener, count, server, &mut clock)
+    serve_on(rt.alloc(), listener, count, None, server, &mut clock)
 }
 
 #[test]

@@ -31,10 +31,8 @@ pub enum Call {
     Idle,
 }
 
-impl Call {
-    /// Makes the call on a sample, and once more where an allocation of it was refused. At `Memory`
-    /// the call was not made, since an allocation for its inputs was refused.
-    pub(crate) fn run(
+impl trials::Call<RandomState> for Call {
+    fn run(
         self,
         alloc: Global,
         hasher: RandomState,

@@ -13,22 +13,21 @@ mod keys;
 mod log_samples;
 mod misses;
 mod outcomes;
-mod run;
 mod server_samples;
 mod servers;
 mod suites;
 
 use std::hash::RandomState;
+use std::io;
 use std::process::ExitCode;
-use std::{env, io};
+use suites::SUITES;
 
 /// Runs the case that the first word names.
 fn status_of(rt: &HostRuntime) -> io::Result<u8> {
-    let alloc = rt.alloc();
-    let words: Vec<String> = env::args(rt)?.collect(alloc)?;
     let hasher = RandomState::new(rt)?;
-    let word = words.get(1).map_or("", |word| word.as_str());
-    Ok(run::run(alloc, hasher, word, &mut rt.stdout(), &mut rt.stderr()))
+    let usage = "orb_trials list | orb_trials CASE";
+    let (mut out, mut err) = (rt.stdout(), rt.stderr());
+    trials::run(rt, hasher, &SUITES, usage, &mut out, &mut err)
 }
 
 fn main(rt: HostRuntime) -> ExitCode {

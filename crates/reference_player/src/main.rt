@@ -1,7 +1,7 @@
 //! The program `reference_player`: makes the calls of `ior_core` and `giop_core` that the lines of its input ask for, on
 //! octets and references that stand there, and prints what each gives.
 //!
-//! tests/run_readings.py runs it on the rows of tests/readings, tests/bounded_allocations.py on hostile octets.
+//! tests/readings.py runs it on the rows of tests/readings, tests/bounded_allocations.py on hostile octets.
 #![tactic(auto)]
 
 mod calls;

@@ -18,10 +18,10 @@ ghost use Rattle.ft_ends.specs.Playing.{IsCallable};
 
 use crate::playing::{play, print_played};
 use crate::schedule::{Schedule, Terms};
-use crate::stop::Stop;
 use std::alloc::Global;
 use std::hash::RandomState;
 use std::io::{BufRead, BufReader, BufWriter, Read, Write};
+use trials::Stop;
 
 /// Plays a schedule that was read, prints what comes of it, and leaves it without lines.
 fn play_out<W: Write>(

@@ -12,7 +12,6 @@ mod playing;
 mod run;
 mod schedule;
 mod steps;
-mod stop;
 mod words;
 
 use std::hash::RandomState;
@@ -32,13 +31,5 @@ fn status_of(rt: &HostRuntime) -> io::Result<u8> {
 }
 
 fn main(rt: HostRuntime) -> ExitCode {
-    match status_of(&rt) {
-        Ok(status) => ExitCode::from(status),
-        Err(error) => {
-            if error.kind() == io::ErrorKind::OutOfMemory {
-                let _ = eprintln!(&rt; "memory");
-            }
-            ExitCode::from(1)
-        }
-    }
+    trials::exit_code(&rt, status_of(&rt))
 }

@@ -1,13 +1,13 @@
 //! A schedule that is read.
 
 use crate::steps::step_in;
-use crate::stop::Stop;
 use crate::words::{limits, longlong, ulong, version, words_of};
 use cdr_core::has_no_nul;
 use ft_client::FtClient;
 use ft_ends::Step;
 use giop_frames::Limits;
 use std::alloc::Global;
+use trials::Stop;
 
 /// What the server of a schedule is made with.
 #[derive(Clone, Copy)]

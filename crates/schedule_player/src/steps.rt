@@ -5,11 +5,11 @@ ghost use Rattle.cdr_core.specs.View.{values_of};
 ghost use Rattle.cdr_core.specs.Writing.{AreWritable};
 ghost use Rattle.ft_ends.specs.Playing.{IsCallable};
 
-use crate::stop::Stop;
 use crate::words::{long, moment, ulong};
 use cdr_core::{Val, has_no_nul};
 use ft_ends::{Call, Step};
 use std::alloc::Global;
+use trials::Stop;
 
 /// The arguments that words are: none, or a long.
 fn arguments_in(alloc: Global, words: &[&str]) -> Result<Vec<Val>, Stop>

@@ -1,9 +1,9 @@
 //! Words of a line.
 
-use crate::stop::Stop;
 use giop_core::Version;
 use giop_frames::Limits;
 use std::alloc::Global;
+use trials::Stop;
 
 /// The words of a line, with one space between them.
 pub(crate) fn words_of(alloc: Global, line: &str) -> Result<Vec<&str>, Stop> {

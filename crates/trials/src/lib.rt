@@ -7,6 +7,7 @@ mod cases;
 mod input;
 mod lines;
 mod output;
+mod program;
 mod rows;
 mod sample;
 mod shapes;
@@ -26,7 +27,7 @@ pub use stack::{boxed, only, top};
 pub use types::{type_in, types_in};
 
 // the calls by their names
-pub use cases::{Case, Samples, Suite, print_names};
+pub use cases::{Samples, Suite};
 
 // the samples
 pub use sample::{CLOSINGS, Gives, Sample, check_printed, ty};
@@ -36,5 +37,6 @@ pub use shapes::Shape;
 pub use output::{Output, Room};
 pub use trial::{Ending, Miss, Trial, Wrong, ended};
 
-// how the program ends
+// a program of trials, and how it ends
+pub use program::{Call, run};
 pub use stop::{Stop, exit_code, status_of};

@@ -12,6 +12,5 @@ pub mod Retrying
 pub mod Cutting
 pub mod Forwarding
 pub mod Relaying
--- proofs that `impl Servant` cites
-pub mod TicketsFacts
-pub mod SavingFacts
+-- proofs that `impl Servant` cites, which nobody has to read
+pub mod facts

@@ -1,5 +1,6 @@
 -- The object of the example of a servant with arguments and an exception: one account, and its state is its balance in cents.
-use Rattle.std.specs.Prelude.{◌^◌, ℤ, pos, neg_ℤ, ◌+ℤ◌, int_le, int_lt, Bool, ◌&&◌, List, ℕ, [], ◌∷◌, codes, Option, Some, None, if◌then◌else◌}
+use Rattle.std.specs.Prelude.{ℤ, pos, ◌+ℤ◌, int_le, Bool, ◌&&◌, List, ℕ, [], ◌∷◌, codes, Option, Some, None, if◌then◌else◌}
+use Rattle.cdr_core.specs.Form as form
 use Rattle.cdr_core.specs.Parts.{longlong, longlong_value}
 use Rattle.cdr_core.specs.Value.{values}
 use Rattle.cdr_core.specs.View.{forms}
@@ -8,12 +9,13 @@ use Rattle.ft_log.specs.declared.system_exception.Completion.TheVariants.{No}
 use Rattle.ft_log.specs.declared.system_exception.SystemName.TheVariants.{BadOperation}
 use Rattle.ft_orb.specs.Accessors.{longlong_of, read_at}
 use Rattle.ft_orb.specs.Interfaces.{Types}
+use Rattle.ft_orb.specs.Ranges.{is_in_range}
 use Rattle.ft_orb.specs.Objects.{Object, meaning_of}
 use Rattle.ft_orb.specs.Servants.{Meaning}
 
 -- a long long
 abbrev pub is_long_long : ℤ → Bool
-is_long_long z = int_le (neg_ℤ (pos (2 ^ 63))) z && int_lt z (pos (2 ^ 63))
+is_long_long z = is_in_range form.longlong z
 
 -- exception Overdrawn { long long balance; }
 abbrev pub overdrawn_id : List ℕ

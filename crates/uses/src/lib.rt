@@ -1,6 +1,6 @@
 //! Sixteen uses of the libraries, as a caller writes them: each is one file with one subject, proved, and
 //! run by a test of `uses_tests` on octets written out by hand from the standard's layouts (CDR 9.3 and GIOP 9.4).
-//! docs/GUIDE.md and the pages of `giop_link` and `ft_log` quote them.
+//! The pages of the repository quote them.
 #![tactic(auto)]
 
 mod arguments;

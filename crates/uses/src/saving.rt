@@ -117,7 +117,7 @@ impl Savings {
 
 impl Servant for Savings {
     ghost use Rattle.uses.specs.Saving.{savings_meaning};
-    ghost use Rattle.uses.specs.SavingFacts.{savings_are_servant};
+    ghost use Rattle.uses.specs.facts.Saving.{savings_are_servant};
 
     ghost meaning = { savings_meaning };
 

@@ -58,7 +58,7 @@ impl Tickets {
 
 impl Servant for Tickets {
     ghost use Rattle.uses.specs.Tickets.{tickets_meaning};
-    ghost use Rattle.uses.specs.TicketsFacts.{tickets_are_servant};
+    ghost use Rattle.uses.specs.facts.Tickets.{tickets_are_servant};
 
     ghost meaning = { tickets_meaning };
 

@@ -1,8 +1,10 @@
 use Rattle.std.proofs.Common.{sym, subst}
 use Rattle.ft_orb.specs.declared.engine.Engine.{Engine}
 use Rattle.ft_orb.specs.Engines.{Rests}
+use Rattle.ft_orb.specs.Owners.{made_of, meaning_of}
 use Rattle.ft_orb.specs.Visits.{calls_with}
 use Rattle.ft_orb.specs.Wires.{past_with}
+use Rattle.ft_orb.proofs.Said.{plays-act-now, servant-now}
 use Rattle.ft_orb.proofs.Visiting.{attended-all, attended-early}
 use Rattle.ft_orb.proofs.attending.serve_engine.Goals as goal
 use Rattle.ft_orb.proofs.attending.serve_engine.Goals.{in-Some, in-None}
@@ -28,4 +30,14 @@ returns-clause-table g c =
                 (λ p h. c.lost.ensures.table o now p (subst (λ (e : Engine g.row.C.Denot). Rests g.C.Catalogue.offers o now e p) (sym w.engine-is) h)) in
                 rw (w.end-is, w.wire-is) (x.0, a.0, a.1, a.2, a.3, a.4, a.5, a.6, a.7, a.8, a.9, a.10)
           ],
+    )
+
+pub returns-clause-now : goal.returns-clause-now
+returns-clause-now g c =
+    let v = returns-clause-table g c in (
+      v.0,
+      v.1,
+      λ o calls past rests going agrees.
+          let x = v.2 o calls past rests going agrees in
+          (x.0, x.1, x.2, plays-act-now (meaning_of o) (made_of o) past _ _ x.3, x.4, x.5, x.6, x.7, x.8, servant-now (meaning_of o) (made_of o) _ _ x.9.stands, x.10, x.11),
     )

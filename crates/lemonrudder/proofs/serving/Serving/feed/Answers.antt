@@ -1,7 +1,7 @@
 use Rattle.std.proofs.Common.{refl}
 use Rattle.ft_orb.specs.Filling.{offer_of}
 use Rattle.lemonrudder.proofs.Idling.{not_both, not_so}
-use Rattle.lemonrudder.proofs.Owing.{feeds-once-owed, feeds-owed, feeds-stays}
+use Rattle.lemonrudder.proofs.Owing.{feeds-now-owed, feeds-once-owed, feeds-owed, feeds-stays}
 use Rattle.lemonrudder.proofs.serving.Serving.feed.Goals as goal
 
 pub returns-then-is_asking : goal.returns-then-is_asking
@@ -33,6 +33,7 @@ returns c = (
                 feeds-stays offer_of owner calls past due.taken due.octets.items c.feed-fed.new.out.items placed c.args.connection c.args.moment c.args.octets.now c.feed-fed.result c.feed-fed.new.self h,
                 feeds-owed offer_of owner calls past due.taken due.octets.items c.feed-fed.new.out.items placed c.args.connection c.args.moment c.args.octets.now c.feed-fed.result c.feed-fed.new.self h,
                 feeds-once-owed offer_of owner calls past due.taken due.octets.items c.feed-fed.new.out.items placed c.args.connection c.args.moment c.args.octets.now c.feed-fed.result _ (c.feed-fed.ensures.once owner calls past rests),
+                feeds-now-owed owner calls past due.taken due.octets.items c.feed-fed.new.out.items placed c.args.connection c.args.moment c.args.octets.now c.feed-fed.result _ (c.feed-fed.ensures.now owner calls past rests),
               ),
         ),
       ),

@@ -13,7 +13,7 @@ returns c = (
     (
       c.give_up.result,
       λ owner calls past moment octets written w asks.
-          (c.give_up.ensures.count owner calls past moment octets written w asks, c.give_up.ensures.table owner calls past moment octets written w asks, c.give_up.ensures.once owner calls past moment octets written w asks),
+          (c.give_up.ensures.count owner calls past moment octets written w asks, c.give_up.ensures.table owner calls past moment octets written w asks, c.give_up.ensures.once owner calls past moment octets written w asks, c.give_up.ensures.now owner calls past moment octets written w asks),
     ),
   ),
 )

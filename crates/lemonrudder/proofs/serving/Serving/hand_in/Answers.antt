@@ -7,7 +7,7 @@ use Rattle.lemonrudder.specs.Refusals.{refusal_of_serving}
 use Rattle.lemonrudder.proofs.Ended.{err-done, ok-done}
 use Rattle.lemonrudder.proofs.Handing.{none_can, none_waits}
 use Rattle.lemonrudder.proofs.Idling.{not_both, not_so}
-use Rattle.lemonrudder.proofs.Owing.{resumes-once-owed, resumes-owed, resumes-stays}
+use Rattle.lemonrudder.proofs.Owing.{resumes-now-owed, resumes-once-owed, resumes-owed, resumes-stays}
 use Rattle.lemonrudder.proofs.serving.Serving.hand_in.Goals as goal
 
 pub returns-then-not-is_asking : goal.returns-then-not-is_asking
@@ -35,6 +35,7 @@ returns-in_err-answer c = (
           resumes-stays offer_of owner _ past due.taken due.octets.items c.answer.new.out.items placed w.connection moment octets written _ c.answer.new.self h,
           resumes-owed offer_of owner _ past due.taken due.octets.items c.answer.new.out.items placed w.connection moment octets written _ c.answer.new.self h,
           resumes-once-owed offer_of owner _ past due.taken due.octets.items c.answer.new.out.items placed w.connection moment octets written _ (c.answer.ensures.once owner calls past moment octets written w asks gave),
+          resumes-now-owed owner _ past due.taken due.octets.items c.answer.new.out.items placed w.connection moment octets written _ (c.answer.ensures.now owner calls past moment octets written w asks gave),
         ),
   ),
 )
@@ -55,6 +56,7 @@ returns c = (
           resumes-stays offer_of owner _ past due.taken due.octets.items c.answer.new.out.items placed w.connection moment octets written _ c.answer.new.self h,
           resumes-owed offer_of owner _ past due.taken due.octets.items c.answer.new.out.items placed w.connection moment octets written _ c.answer.new.self h,
           resumes-once-owed offer_of owner _ past due.taken due.octets.items c.answer.new.out.items placed w.connection moment octets written _ (c.answer.ensures.once owner calls past moment octets written w asks gave),
+          resumes-now-owed owner _ past due.taken due.octets.items c.answer.new.out.items placed w.connection moment octets written _ (c.answer.ensures.now owner calls past moment octets written w asks gave),
         ),
   ),
 )

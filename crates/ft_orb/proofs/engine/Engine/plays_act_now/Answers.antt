@@ -1,0 +1,12 @@
+use Rattle.std.proofs.Common.{[]}
+use Rattle.ft_orb.specs.Answers.{calls_of, owner_of}
+use Rattle.ft_orb.specs.Engines.{as_server}
+use Rattle.ft_orb.specs.Outputs.{past_after}
+use Rattle.ft_orb.specs.Owners.{Owner, made_of, meaning_of}
+use Rattle.ft_orb.proofs.Said.{plays-act-now, servant-now}
+use Rattle.ft_orb.proofs.engine.Engine.plays_act_now.Goals as goal
+
+pub returns : goal.returns
+returns g c limits capacity share answers es entries plays h =
+    let owner : Owner = owner_of (g.C.Catalogue.offers c.args.self.now.catalogue) limits capacity share answers in
+    (plays-act-now (meaning_of owner) (made_of owner) [] es entries plays, servant-now (meaning_of owner) (made_of owner) (as_server c.args.self.now (calls_of answers)) (past_after limits [] es entries) h.stands)

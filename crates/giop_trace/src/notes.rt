@@ -1,0 +1,44 @@
+//! What tshark says of a stream beside its octets.
+
+use std::str;
+
+/// What a line says that has no octets.
+#[derive(Clone, Copy, Debug, PartialEq, Eq)]
+pub(crate) enum Note<'t> {
+    /// The head of a connection whose octets stand in this form.
+    Head(&'t [u8]),
+    /// The number of its stream in the capture.
+    Stream(u64),
+    /// The address of one who speaks on it: false for the one whose lines have no tab.
+    Node(bool, &'t [u8]),
+}
+
+/// The number in decimal digits.
+fn number_in(digits: &[u8]) -> Option<u64> {
+    str::from_utf8(digits).ok()?.parse().ok()
+}
+
+/// What a line says, if it is a note.
+pub(crate) fn note_of(line: &[u8]) -> Option<Note<'_>> {
+    if let Some(form) = line.strip_prefix(b"Follow: ") {
+        return Some(Note::Head(form));
+    }
+    if let Some(digits) = line.strip_prefix(b"Filter: tcp.stream eq ") {
+        return Some(Note::Stream(number_in(digits)?));
+    }
+    if let Some(address) = line.strip_prefix(b"Node 0: ") {
+        return Some(Note::Node(false, address));
+    }
+    Some(Note::Node(true, line.strip_prefix(b"Node 1: ")?))
+}
+
+/// What tshark writes in the place of octets that the capture missed, around their number.
+const BEFORE: &[u8] = b"[";
+
+const AFTER: &[u8] = b" bytes missing in capture file]";
+
+/// How many octets the capture missed, where these are what tshark writes in their place, with a NUL or without.
+pub(crate) fn missing_in(octets: &[u8]) -> Option<u64> {
+    let text = octets.strip_suffix(b"\0").unwrap_or(octets);
+    number_in(text.strip_prefix(BEFORE)?.strip_suffix(AFTER)?)
+}
