@@ -20,6 +20,9 @@ import subprocess
 import sys
 import tempfile
 
+sys.path.insert(0, os.path.dirname(os.path.dirname(os.path.abspath(__file__))))
+from tests.giop_peers import request  # noqa: E402
+
 # what is done, the word for it, octets of a piece, counts that are timed, and counts whose instructions are counted
 ROWS = [
     ("a Request of 84 octets is read", "read", 84, 1_000_000, 10_000),
@@ -35,8 +38,7 @@ ROWS = [
     ("a reference's text is parsed", "reference", 1, 200_000, 5_000),
 ]
 # a Request of 84 octets in digits
-DIGITS = ("47494f50010200000000004800000005030000000000000000000001630000000000000461646400000000010000000d00000018"
-          "00000000000000024100000000000001000000000000006400000000000000" "07")
+DIGITS = request(5, b"c", "add", bytes([0, 0, 0, 7]), number=1, expiration=100).hex()
 # lines of digits whose time is taken, and whose instructions are counted
 LINES = {"time": 595_000, "instructions": 5_950}
 

@@ -3,7 +3,7 @@
 
 usage: measure_server.py OURS PLAIN [--rounds 5] [--count 1000000] [--no-instructions]
 
-OURS is the program of crates/benches, PLAIN that of bench/plain.rs. First both play the streams of compare_server.py.
+OURS is the program of crates/benches, PLAIN that of bench/plain.rs. First both play the streams of tests/compare_server.py.
 
 The streams that are timed have COUNT messages of a kind: `add` is a Request of 52 octets without FT_REQUEST that is
 performed, `repeat` one of 84 octets of which all but the first repeat the first, `locate` a LocateRequest of 25 octets. Each
@@ -25,8 +25,9 @@ import argparse
 import re
 import sys
 
-from compare_server import compare
+# (which finds the package of tests)
 from measure import figure, instructions, peak, run
+from tests.compare_server import compare
 
 # the octets of a message
 MESSAGES = {"add": 52, "repeat": 84, "locate": 25, "rising": 84, "scattered": 84, "clients": 116, "together": 116}

@@ -22,9 +22,8 @@ import subprocess
 import sys
 from collections import defaultdict
 
-ROOT = os.path.dirname(os.path.dirname(os.path.abspath(__file__)))
-sys.path.insert(0, os.path.join(ROOT, "tests"))
-from giop_peers import reference_of  # noqa: E402
+sys.path.insert(0, os.path.dirname(os.path.dirname(os.path.abspath(__file__))))
+from tests.giop import reference_of  # noqa: E402
 
 SETTINGS = [(1, "plain"), (64, "plain"), (1, "keyed"), (64, "keyed")]
 LISTENS = ["-ORBendPoint", "giop:tcp:127.0.0.1:"]

@@ -1,49 +1,37 @@
-#!/usr/bin/env python3
-"""Runs a program on hostile input, and refuses each allocation that is large for that input.
+"""Runs programs on hostile input, and refuses each allocation that is large for that input.
 
-usage: bounded_allocations.py PROGRAM            the program `giop`
-       bounded_allocations.py --calls VALUES REFERENCES    the programs `value_player` and `reference_player`
-
-The inputs of `giop` are the streams of the rows (rows/*.txt), for `giop show`, and the references of the cases
-(cases/ior), for `giop ior`: each as it is, and with ffffffff written over four octets, at each place
-that a number of four octets may have. So each count and each length is once the greatest there is, in
-either byte order. In a stream the size of each frame is also once one that the limit on messages admits,
-so that the frame is waited for: its octets take room as they come. Under a bound of a few times the input's octets the program must print what it prints
+The inputs of `giop` are the streams of the rows (tests/rows), for `giop show`, and the references of the cases
+(tests/cases/ior), for `giop ior`: each as it is, and with ffffffff written over four octets, at each place that a
+number of four octets may have. So each count and each length is once the greatest there is, in either byte order. In a
+stream the size of each frame is also once one that the limit on messages admits, so that the frame is waited for: its
+octets take room as they come. Under a bound of a few times the input's octets the program must print what it prints
 with ample memory: what it takes follows the octets that are there, and no count among them.
 
-The inputs of the players are the octets of spellings.py, each for the program that has its call. They are read by
-types, alone (`read`) and after other octets (`read_list`, `Body::read`), or as references (`read_ior`) and profiles
-(`read_iiop`): each as it is, which must give the value there; with each of three large numbers written over the four
-octets at each place that is a multiple of 4; and each front whose length is a multiple of 4. No line that
-it prints may say `memory`, and under the bound it must print the same lines.
+The inputs of `value_player` and `reference_player` are the octets of tests/spellings.py, each for the program that has
+its call. They are read by types, alone (`read`) and after other octets (`read_list`, `Body::read`), or as references
+(`read_ior`) and profiles (`read_iiop`): each as it is, which must give the value there; with each of three large
+numbers written over the four octets at each place that is a multiple of 4; and each front whose length is a multiple of
+4. No line that it prints may say `memory`, and under the bound it must print the same lines.
 
-That the bound is in force is a case too: where each allocation is refused the program must end with
-`memory`. The last line is 'N passed, M failed', where the variants of one input count as one.
+That the bound is in force is tested too: where each allocation is refused a program must end with `memory`. Of an input
+that fails the first variant is printed, with as few octets as are found with which it still does.
 """
 import itertools
 import os
-import subprocess
-import sys
-import tempfile
+import unittest
 from collections import namedtuple
-from concurrent.futures import ThreadPoolExecutor
 
-import idl
-import run_readings
-import run_rows
-import spellings
+from tests import allocations, base, cases, idl, programs, readings, rows, spellings
+from tests.giop import HEADER, MAGIC
+from tests.smaller import smallest
 
-HERE = os.path.dirname(os.path.abspath(__file__))
 HUGE = b"\xff\xff\xff\xff"
-# how a header begins, how many octets it has, and a size that the program's limit on messages admits
-MAGIC = b"GIOP"
-HEADER = 12
+# a size that the program's limit on messages admits
 ADMITTED = 0x000ffff0
 # the numbers that are written over those of a spelling: the greatest that is unsigned, that is signed, and one
 # that memory may suffice for
 LARGE = (0xffffffff, 0x7fffffff, 0x00ffffff)
 ORDERS = ("big", "little")
-SECONDS = 60
 # the most octets of one allocation: as many as the program's own buffers have, or so many times the input
 LEAST = 1 << 16
 TIMES = 16
@@ -52,24 +40,23 @@ MEMORY_LINE = "memory"
 MEMORY = (1, b"", b"memory\n")
 
 
+# an input: its octets, and the place of its first number
+Input = namedtuple("Input", "octets first")
+
+
 def streams():
-    """The streams of the rows: where each stands, its octets, and the place of its first number."""
-    for name in sorted(os.listdir(run_rows.HERE)):
-        for row in run_rows.rows_of(name):
-            yield row.place, row.octets(), 8
+    """The streams of the rows: where each stands, and it."""
+    for name in rows.files():
+        for row in rows.rows_of(name):
+            yield row.place, Input(row.octets(), 8)
 
 
 def references():
     """The octets of the references of the cases that are printed as one."""
-    folder = os.path.join(HERE, "cases", "ior")
-    for name in sorted(os.listdir(folder)):
-        if not name.endswith(".args"):
-            continue
-        with open(os.path.join(folder, name), encoding="utf-8") as file:
-            words = file.read().splitlines()
-        text = words[-1] if words else ""
+    for name, case in cases.cases_of("ior"):
+        text = case.words[-1] if case.words else ""
         try:
-            yield name, bytes.fromhex(text[4:]), 4
+            yield name, Input(bytes.fromhex(text[4:]), 4)
         except ValueError:
             continue
 
@@ -114,7 +101,7 @@ def calls_by_types(order):
         yield Call(f"body {two} {order} 24", order, both, values)
 
 
-def calls():
+def all_calls():
     """All calls."""
     for order in ORDERS:
         yield from calls_by_types(order)
@@ -123,6 +110,11 @@ def calls():
             yield Call(f"read_ior {order} 0", order, octets, f"({spelling.value}, {len(octets)})")
         for spelling in spellings.PROFILES:
             yield Call("read_iiop", order, octets_of(spelling, order), spelling.value)
+
+
+def calls():
+    """All calls by name."""
+    return [(f"{call.words} {call.octets.hex()}", call) for call in all_calls()]
 
 
 def distorted(octets, order):
@@ -141,103 +133,85 @@ def bound_of(octets):
     return max(LEAST, TIMES * len(octets))
 
 
-def library_in(folder):
-    """The library that refuses large allocations, built in that folder."""
-    library = os.path.join(folder, "refuse_allocation.so")
-    subprocess.run(["cc", "-O2", "-Wall", "-shared", "-fPIC", "-o", library,
-                    os.path.join(HERE, "refuse_allocation.c"), "-ldl"], check=True)
-    return library
+def end_of(path, words, given, most=None):
+    """How a run ends: its status and what it prints; with `most`, where each larger allocation is refused."""
+    env = None if most is None else allocations.within(most)
+    return base.end_of(base.ran(path, *words, given=given, env=env))
 
 
-class Program:
-    """A program under the library that refuses large allocations."""
+class Bounded(unittest.TestCase):
+    """What is common to the programs."""
 
-    def __init__(self, path, library):
-        self.path = os.path.abspath(path)
-        self.library = library
-
-    def run(self, words, given, most=None):
-        """How a run ends: its status and what it prints."""
-        env = dict(os.environ)
-        if most is not None:
-            env.update(LD_PRELOAD=self.library, REFUSE_ABOVE=str(most))
-        run = subprocess.run([self.path] + words, input=given, capture_output=True, env=env, timeout=SECONDS)
-        return run.returncode, run.stdout, run.stderr
-
-    def is_bounded(self, kind, octets):
-        """Whether it prints the same of these octets where each large allocation is refused."""
-        digits = octets.hex()
-        words, given = (["show"], digits.encode()) if kind == "show" else (["ior", "IOR:" + digits], b"")
-        return self.run(words, given) == self.run(words, given, bound_of(octets))
+    def bounds(self, path, *words):
+        """The program runs out of memory where each allocation is refused."""
+        self.assertEqual(end_of(path, words, b"", 0), MEMORY)
 
 
-def fault_of_bound(program, words):
-    """What is wrong with a run in which each allocation is refused, or None."""
-    end = program.run(words, b"", 0)
-    return None if end == MEMORY else f"it ended with {end!r}"
+class Giop(Bounded):
+    """The program `giop`."""
+
+    @classmethod
+    def setUpClass(cls):
+        cls.giop = programs.program("GIOP")
+        allocations.library()
+
+    def test_the_bound(self):
+        """The bound is in force."""
+        self.bounds(self.giop, "show")
+
+    def ends_of(self, octets, words_of):
+        """How it ends on octets with ample memory, and where each large allocation is refused."""
+        words, given = words_of(octets)
+        return end_of(self.giop, words, given), end_of(self.giop, words, given, bound_of(octets))
+
+    def is_bounded(self, input, words_of):
+        """It prints the same of each variant of an input where each large allocation is refused."""
+
+        def differs(octets):
+            ample, bounded = self.ends_of(bytes(octets), words_of)
+            return ample != bounded
+
+        for variant in variants(*input):
+            if differs(variant):
+                fewer = bytes(smallest(list(variant), differs))
+                ample, bounded = self.ends_of(fewer, words_of)
+                self.assertEqual(bounded, ample, f"not within the bound: {fewer.hex()}, of {variant.hex()}")
+
+    @base.each(streams, os.cpu_count())
+    def test_show(self, input):
+        """The streams of the rows."""
+        self.is_bounded(input, lambda octets: (["show"], octets.hex().encode()))
+
+    @base.each(references, os.cpu_count())
+    def test_ior(self, input):
+        """The references of the cases."""
+        self.is_bounded(input, lambda octets: (["ior", "IOR:" + octets.hex()], b""))
 
 
-def fault_of_input(program, kind, octets, first):
-    """The first variant of an input of which something else is printed, or None."""
-    for variant in variants(octets, first):
-        if not program.is_bounded(kind, variant):
-            return f"not within the bound: {variant.hex()}"
-    return None
+class Calls(Bounded):
+    """The calls of the libraries, by the two players."""
 
+    @classmethod
+    def setUpClass(cls):
+        cls.players = {name: programs.program(name) for name in ("VALUE_PLAYER", "REFERENCE_PLAYER")}
+        allocations.library()
 
-def fault_of_call(program, call):
-    """The first variant of a call's octets of which it prints what it may not, or None."""
-    inputs = list(distorted(call.octets, call.order))
-    given = "".join(f"{call.words} {octets.hex()}\n" for octets in inputs).encode()
-    ample = program.run([], given)
-    bounded = program.run([], given, bound_of(call.octets))
-    lines = ample[1].decode().splitlines()
-    if ample[0] != 0 or len(lines) != len(inputs):
-        return f"it ended with {ample!r}"
-    if lines[0] != call.printed:
-        return f"it printed {lines[0]}"
-    for octets, line, other in itertools.zip_longest(inputs, lines, bounded[1].decode().splitlines()):
-        if line == MEMORY_LINE:
-            return f"out of memory where nothing is refused: {octets.hex()}"
-        if line != other:
-            return f"not within the bound, it printed {other} in place of {line}: {octets.hex()}"
-    return None if bounded == ample else f"within the bound it ended with {bounded!r}"
+    def test_the_bound(self):
+        """The bound is in force."""
+        for name, path in self.players.items():
+            with self.subTest(name):
+                self.bounds(path)
 
-
-def cases_of_calls(programs):
-    """The cases of the calls: a name, what judges it, the program that has the call, and what else that is given."""
-    for program in programs:
-        yield "the bound", fault_of_bound, (program, [])
-    for call in calls():
-        yield f"{call.words} {call.octets.hex()}", fault_of_call, (run_readings.program_of(call.words, programs), call)
-
-
-def cases_of(program):
-    """The cases of `giop`: a name, what judges it, and what that is given."""
-    yield "the bound", fault_of_bound, (program, ["show"])
-    for name, octets, first in streams():
-        yield f"show {name}", fault_of_input, (program, "show", octets, first)
-    for name, octets, first in references():
-        yield f"ior {name}", fault_of_input, (program, "ior", octets, first)
-
-
-def main():
-    passed = failed = 0
-    is_of_calls = sys.argv[1] == "--calls"
-    with tempfile.TemporaryDirectory() as folder, ThreadPoolExecutor(os.cpu_count()) as workers:
-        library = library_in(folder)
-        programs = [Program(path, library) for path in sys.argv[1 + is_of_calls:]]
-        cases = list(cases_of_calls(programs) if is_of_calls else cases_of(*programs))
-        faults = workers.map(lambda case: case[1](*case[2]), cases)
-        for (name, _, _), fault in zip(cases, faults):
-            if fault is None:
-                passed += 1
-            else:
-                failed += 1
-                print(f"FAILS {name}: {fault}")
-    print(f"{passed} passed, {failed} failed")
-    return 1 if failed or not passed else 0
-
-
-if __name__ == "__main__":
-    sys.exit(main())
+    @base.each(calls, os.cpu_count())
+    def test_calls(self, call):
+        """What is read by types, as a reference or as a profile."""
+        path, inputs = self.players[readings.program_of(call.words)], list(distorted(call.octets, call.order))
+        given = "".join(f"{call.words} {octets.hex()}\n" for octets in inputs).encode()
+        ample, bounded = end_of(path, [], given), end_of(path, [], given, bound_of(call.octets))
+        lines = ample[1].decode().splitlines()
+        self.assertEqual((ample[0], len(lines)), (0, len(inputs)), ample)
+        self.assertEqual(lines[0], call.printed)
+        for octets, line, other in itertools.zip_longest(inputs, lines, bounded[1].decode().splitlines()):
+            self.assertNotEqual(line, MEMORY_LINE, f"out of memory where nothing is refused: {octets.hex()}")
+            self.assertEqual(other, line, f"not within the bound: {octets and octets.hex()}")
+        self.assertEqual(bounded, ample)

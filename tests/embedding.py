@@ -1,38 +1,36 @@
-#!/usr/bin/env python3
 """Compiles C and C++ against liblemonrudder and runs it: the programs of tests/embed, and the examples over sockets.
 
-usage: embedding.py [FOLDER]
-
-FOLDER, which is out/ where none is given, has lib/liblemonrudder.a, lib/liblemonrudder.so and include/. Each program of
-tests/embed is run with the archive, with the shared library, with the sanitizers for addresses and for undefined
-behaviour, and under valgrind. The two banks are called by a client of tests/giop_peers.py, and the gateway stands
-before a server of it, and before one of omniORB.
-
-What this machine lacks, as g++, valgrind or omniORB, is named as not run. The last line is 'N passed, M failed'; the
-status is 0 only where all passed.
+Each program of tests/embed is run with the archive, with the shared library, with the sanitizers for addresses and for
+undefined behaviour, and under valgrind. The two banks are called by a client of tests/giop_peers.py, and the gateway
+stands before a server of it, and before one of omniORB.
 """
 from __future__ import annotations
 
+import atexit
 import contextlib
+import functools
 import os
 import random
 import re
+import resource
 import shutil
 import signal
 import socket
 import subprocess
-import sys
 import tempfile
+import time
+import unittest
 from collections.abc import Callable, Iterator
 
-from ends_model import BIG, HEADER, LITTLE, Octets
-from giop_peers import (
-    CLOSE_CONNECTION, EMPTY, LOCATE, LOCATED, MAYBE, MESSAGE_ERROR, NO, NONE, SECONDS, USER_EXCEPTION, YES, Behind,
-    Peer, Reference, Wrong, ask, long_octets, message, no_body, number_body, octets_body, reference_of, reply, request,
-    system_exception, until,
+from tests import base, giop, programs
+from tests.cdr import BIG, LITTLE, Octets
+from tests.giop import (
+    CLOSE_CONNECTION, EMPTY, MAYBE, MESSAGE_ERROR, NO, NONE, USER_EXCEPTION, YES, Reference, reference_of, reply,
+    system_exception,
 )
+from tests.giop_peers import SECONDS, Behind, Peer, Wrong, ask, long_octets, number_body, request, until, want
+from tests.programs import ROOT
 
-ROOT = os.path.dirname(os.path.dirname(os.path.abspath(__file__)))
 EMBED = os.path.join(ROOT, "tests", "embed")
 EXAMPLES = os.path.join(ROOT, "examples")
 WARNINGS = ["-Wall", "-Wextra", "-Wpedantic", "-Wshadow", "-Werror"]
@@ -63,16 +61,7 @@ class Kit:
         self.include, self.lib = os.path.join(folder, "include"), os.path.join(folder, "lib")
         self.archive = os.path.join(self.lib, "liblemonrudder.a")
         self.work = work
-        self.lacks: list[str] = []
-        self.has_cpp = self.has("g++")
-        self.has_valgrind = self.has("valgrind")
         self.is_sanitized = self.can_sanitize()
-
-    def has(self, tool: str) -> bool:
-        if shutil.which(tool) is None:
-            self.lacks.append(tool)
-            return False
-        return True
 
     def can_sanitize(self) -> bool:
         """Whether programs are compiled and run with the sanitizers."""
@@ -83,7 +72,6 @@ class Kit:
             run("cc", *SANITIZED, source, "-o", source + ".out")
             run(source + ".out")
         except Wrong:
-            self.lacks.append("the sanitizers")
             return False
         return True
 
@@ -91,8 +79,8 @@ class Kit:
         """Compiles sources in C, or in C++ where the first one is, and answers the program."""
         program = os.path.join(self.work, name)
         is_cpp = not sources[0].endswith(".c")
-        run("g++" if is_cpp else "cc", *(CPP if is_cpp else C), "-O1", "-g", *flags, f"-I{self.include}", *sources,
-            *([self.archive] if libraries is None else libraries), "-o", program)
+        run(programs.tool("g++" if is_cpp else "cc"), *(CPP if is_cpp else C), "-O1", "-g", *flags,
+            f"-I{self.include}", *sources, *([self.archive] if libraries is None else libraries), "-o", program)
         return program
 
     def shared(self) -> list[str]:
@@ -123,7 +111,7 @@ def headers_stand_alone(kit: Kit) -> None:
     for compiler in compilers:
         for standard in ("c99", "c11"):
             compile_text(kit, c_text, compiler, standard)
-    if kit.has_cpp:
+    if shutil.which("g++"):
         for compiler in ["g++", *(["clang++"] if shutil.which("clang++") else [])]:
             compile_text(kit, c_text, compiler, "c++11")
             compile_text(kit, c_text, compiler, "c++17")
@@ -142,6 +130,7 @@ def programs_link(kit: Kit) -> None:
 
 def packages_are_found(kit: Kit) -> None:
     """The words of pkg-config build the bank, as its first lines say."""
+    programs.tool("pkg-config")
     search = {"PKG_CONFIG_PATH": os.path.join(kit.lib, "pkgconfig")}
     words = run("pkg-config", "--cflags", "--libs", "lemonrudder", env=search).split()
     sources = [os.path.join(EXAMPLES, name) for name in ("bank.c", "loop.c")]
@@ -151,6 +140,30 @@ def packages_are_found(kit: Kit) -> None:
         numbers = re.findall(r"#define LR_VERSION_\w+ (\d+)", file.read())
     if version != ".".join(numbers):
         raise Wrong(f"the package is {version}, the header {numbers}")
+
+
+def versions_are_one(kit: Kit) -> None:
+    """The version stands in the header, and all others that say one say that."""
+    with open(os.path.join(kit.include, "lemonrudder.h"), encoding="ascii") as file:
+        numbers = re.findall(r"#define LR_VERSION_\w+ (\d+)", file.read())
+    version = ".".join(numbers)
+    places = [
+        ("scripts/library.py", r'^VERSION = "(.*)"$', version),
+        ("bindings/rust/Cargo.toml", r'^version = "(.*)"$', version),
+        ("bindings/rust/Cargo.lock", r'^name = "lemonrudder"\nversion = "(.*)"$', version),
+        ("bindings/python/lemonrudder.py", r"^VERSION = \((\d+, \d+)\)$", ", ".join(numbers[:2])),
+        ("crates/giop_tool/src/help.rt", r'^pub\(crate\) const VERSION: &str = "(.*)";$', version),
+        ("docs/giop.1", r'^\.TH GIOP 1 "" "giop ([^"]*)"', version),
+        ("CHANGELOG.md", r"^## (\d\S*)$", version),
+        # the number that changes where a program has to be built anew
+        ("scripts/library.py", r'^SONAME = f"lib\{LIBRARY\}\.so\.(\d+)"$', numbers[0]),
+        ("embed/lemonrudder.map", r"^LEMONRUDDER_(\d+) \{$", numbers[0]),
+    ]
+    for path, pattern, wanted in places:
+        with open(os.path.join(ROOT, path), encoding="utf-8") as file:
+            found = re.findall(pattern, file.read(), re.M)
+        if found[:1] != [wanted]:
+            raise Wrong(f"{path} says {found[:1]}, the header {wanted}")
 
 
 def names_are_exported(kit: Kit) -> None:
@@ -182,22 +195,34 @@ def ran_well(words: list[str], seconds: int = PATIENCE) -> None:
         raise Wrong(out.strip())
 
 
-def program_checks(kit: Kit, source: str) -> Iterator[tuple[str, Callable[[], None]]]:
-    """The ways in which a test program is run."""
-    name, path = os.path.splitext(source)[0], [os.path.join(EMBED, source)]
-    flags = [f"-I{EMBED}"]
-    yield f"{source} with the archive", lambda: ran_well([kit.compile(f"{name}_a", path, flags)])
-    yield f"{source} with the shared library", lambda: ran_well(
-        [kit.compile(f"{name}_so", path, flags, kit.shared())])
-    if source.endswith(".cpp"):
-        yield f"{source} without exceptions", lambda: ran_well(
-            [kit.compile(f"{name}_plain", path, [*flags, "-fno-exceptions", "-fno-rtti"])])
-    if kit.is_sanitized:
-        yield f"{source} with the sanitizers", lambda: ran_well(
-            [kit.compile(f"{name}_san", path, [*flags, *SANITIZED])])
-    if kit.has_valgrind:
-        yield f"{source} under valgrind", lambda: ran_well(
-            [*VALGRIND, kit.compile(f"{name}_vg", path, flags)])
+# how a test program is run: the flags with which it is compiled, and the words before it
+WAYS: dict[str, tuple[list[str], list[str]]] = {
+    "with the archive": ([], []),
+    "with the shared library": ([], []),
+    "without exceptions": (["-fno-exceptions", "-fno-rtti"], []),
+    "with the sanitizers": (SANITIZED, []),
+    "under valgrind": ([], VALGRIND),
+}
+
+
+def program_ways() -> Iterator[tuple[str, tuple[str, str]]]:
+    """The test programs, and the ways in which each is run."""
+    for source in PROGRAMS:
+        for way in WAYS:
+            if way != "without exceptions" or source.endswith(".cpp"):
+                yield f"{source} {way}", (source, way)
+
+
+def run_program(kit: Kit, source: str, way: str) -> None:
+    """Runs a test program in a way."""
+    flags, before = WAYS[way]
+    if before:
+        programs.tool(before[0])
+    if flags == SANITIZED and not kit.is_sanitized:
+        raise unittest.SkipTest("this needs the sanitizers")
+    name = f"{source} {way}".replace(".", "_").replace(" ", "_")
+    libraries = kit.shared() if way == "with the shared library" else None
+    ran_well([*before, kit.compile(name, [os.path.join(EMBED, source)], [f"-I{EMBED}", *flags], libraries)])
 
 
 # ---- processes ----
@@ -253,13 +278,13 @@ BANK = b"bank"
 def deposit(request_id: int, account: str, amount: int, number: int | None = None, client: bytes = b"A",
             order: str = BIG, minor: int = 2) -> bytes:
     def put(out: Octets) -> None:
-        out.string(account.encode())
-        out.number(8, "q", amount)
+        out.string(account)
+        out.longlong(amount)
     return request(request_id, BANK, "deposit", put, number=number, client=client, order=order, minor=minor)
 
 
 def balance(request_id: int, account: str) -> bytes:
-    return request(request_id, BANK, "balance", lambda out: out.string(account.encode()))
+    return request(request_id, BANK, "balance", lambda out: out.string(account))
 
 
 def returned(request_id: int, number: int, minor: int = 2) -> bytes:
@@ -269,7 +294,7 @@ def returned(request_id: int, number: int, minor: int = 2) -> bytes:
 def overdrawn(request_id: int, left: int) -> bytes:
     def put(out: Octets) -> None:
         out.string(b"IDL:Bank/Overdrawn:1.0")
-        out.number(8, "q", left)
+        out.longlong(left)
     return reply(request_id, put, status=USER_EXCEPTION)
 
 
@@ -302,10 +327,10 @@ def bank_refusals(bank: str) -> None:
             (deposit(7, "ann", -1 << 63), overdrawn(7, 100)),
             (request(8, BANK, "withdraw"), system_exception(8, "BAD_OPERATION", NO)),
             (request(9, b"money", "balance"), system_exception(9, "OBJECT_NOT_EXIST", NO)),
-            (request(10, BANK, "balance", octets_body(b"\0\0\0\2ab")), system_exception(10, "MARSHAL", NO)),
-            (request(11, BANK, "_is_a", lambda out: out.string(b"IDL:Bank:1.0")), reply(11, octets_body(b"\1"))),
-            (request(12, BANK, "_is_a", lambda out: out.string(b"IDL:Money:1.0")), reply(12, octets_body(b"\0"))),
-            (request(13, BANK, "_non_existent"), reply(13, octets_body(b"\0"))),
+            (request(10, BANK, "balance", b"\0\0\0\2ab"), system_exception(10, "MARSHAL", NO)),
+            (request(11, BANK, "_is_a", lambda out: out.string(b"IDL:Bank:1.0")), reply(11, b"\1")),
+            (request(12, BANK, "_is_a", lambda out: out.string(b"IDL:Money:1.0")), reply(12, b"\0")),
+            (request(13, BANK, "_non_existent"), reply(13, b"\0")),
             (balance(14, "ann"), returned(14, 100)),
         ):
             peer.tell(octets)
@@ -316,14 +341,8 @@ def bank_locates(bank: str) -> None:
     """A LocateRequest finds the bank, and no other object."""
     with Serving(bank, "127.0.0.1", "0") as serving, Peer(serving.port) as peer:
         for key, status in ((BANK, 1), (b"none", 0)):
-            out, wanted = Octets(HEADER), Octets(HEADER)
-            out.ulong(1)
-            out.number(2, "h", 0)
-            out.octets(key)
-            wanted.ulong(1)
-            wanted.ulong(status)
-            peer.tell(message(LOCATE, out), 1)
-            peer.wants(message(LOCATED, wanted))
+            peer.tell(giop.locate(1, key), 1)
+            peer.wants(giop.located(1, status))
 
 
 def bank_serves_a_hundred(bank: str) -> None:
@@ -396,9 +415,138 @@ def bank_wants_words(bank: str) -> None:
             raise Wrong(f"{words}: status {ran.returncode}, printed {ran.stdout!r} {ran.stderr!r}")
 
 
-def want(got: object, wanted: object) -> None:
-    if got != wanted:
-        raise Wrong(f"got {got!r}, not {wanted!r}")
+# ---- the loop of the banks, in C and in C++ ----
+
+def processor_seconds(process: int) -> float:
+    """What a process has used so far."""
+    with open(f"/proc/{process}/stat", encoding="ascii") as file:
+        used = file.read().rpartition(")")[2].split()[11:13]
+    return sum(map(int, used)) / os.sysconf("SC_CLK_TCK")
+
+
+def most_memory(process: int) -> int:
+    """The most octets that a process had in memory at a time."""
+    with open(f"/proc/{process}/status", encoding="ascii") as file:
+        return 1024 * int(re.findall(r"VmHWM:\s+(\d+) kB", file.read())[0])
+
+
+def bank_sends_at_once(bank: str) -> None:
+    """A hundred requests of one piece are answered without a wait for an acknowledgement, which takes 40 ms."""
+    asked = b"".join(balance(index, "ann") for index in range(100))
+    answers, took = b"".join(returned(index, 0) for index in range(100)), []
+    with Serving(bank, "127.0.0.1", "0") as serving, Peer(serving.port) as peer:
+        for _ in range(20):
+            peer.tell(balance(1, "ann"))
+            peer.wants(returned(1, 0))
+            began = time.monotonic()
+            peer.tell(asked)
+            peer.wants(answers)
+            took.append(time.monotonic() - began)
+    if sorted(took)[len(took) // 2] > 0.03:
+        raise Wrong(f"a hundred answers took {sorted(took)}")
+
+
+def bank_bears_want_of_descriptors(bank: str) -> None:
+    """Where there is no descriptor for another peer, it waits for one, and the others are served meanwhile."""
+    limited = ["sh", "-c", 'ulimit -n 20 && exec "$@"', "sh", bank, "127.0.0.1", "0"]
+    with Serving(*limited) as serving, contextlib.ExitStack() as stack:
+        peers = [stack.enter_context(Peer(serving.port)) for _ in range(30)]
+        for peer in peers:
+            peer.tell(balance(1, "ann"))
+        for peer in peers[:10]:
+            peer.wants(returned(1, 0))
+        before = processor_seconds(serving.process.pid)
+        time.sleep(1)
+        used = processor_seconds(serving.process.pid) - before
+        if used > 0.1:
+            raise Wrong(f"it used {used} s of a processor in a second in which nobody asked")
+        for peer in peers[:20]:
+            peer.socket.close()
+        for peer in peers[20:]:
+            peer.wants(returned(1, 0))
+
+
+def bank_serves_beside_streams_that_ended(bank: str) -> None:
+    """A thousand peers whose streams ended, and that stay, keep nobody out."""
+    most = resource.getrlimit(resource.RLIMIT_NOFILE)[1]
+    resource.setrlimit(resource.RLIMIT_NOFILE, (min(most, 4096), most))
+    with Serving(bank, "127.0.0.1", "0") as serving, contextlib.ExitStack() as stack:
+        peers = [stack.enter_context(Peer(serving.port)) for _ in range(1000)]
+        for peer in peers:
+            peer.tell(bytes(12))
+        for peer in peers:
+            peer.wants(MESSAGE_ERROR)
+        with Peer(serving.port) as peer:
+            peer.socket.settimeout(3)
+            peer.tell(balance(1, "ann"))
+            peer.wants(returned(1, 0))
+
+
+def is_refused(peer: Peer) -> bool:
+    """Whether the other end of a connection takes nothing more, since it has closed it."""
+    peer.socket.setblocking(False)
+    try:
+        peer.socket.send(b"octets that mean nothing")
+    except BlockingIOError:
+        return False
+    except OSError:
+        return True
+    return False
+
+
+def bank_drops_streams_that_ended(bank: str) -> None:
+    """A peer whose stream ended, and that goes on to send, is dropped."""
+    with Serving(bank, "127.0.0.1", "0") as serving, Peer(serving.port) as peer:
+        peer.tell(bytes(12))
+        peer.wants(MESSAGE_ERROR)
+        peer.ended()
+        until(lambda: is_refused(peer), "a peer whose stream ended was not dropped")
+
+
+def bank_tells_idle_peers_goodbye(bank: str) -> None:
+    """With an idle time of two seconds: who sends nothing for so long is told goodbye, and who sends is not."""
+    with Serving(bank, "127.0.0.1", "0") as serving, contextlib.ExitStack() as stack:
+        busy, silent, half = (stack.enter_context(Peer(serving.port)) for _ in range(3))
+        half.tell(balance(1, "ann")[:30])
+        for index in range(20):
+            busy.tell(balance(index, "ann"))
+            busy.wants(returned(index, 0))
+            time.sleep(0.2)
+        for peer in (silent, half):
+            peer.socket.settimeout(1)
+            peer.wants(CLOSE_CONNECTION)
+            peer.ended()
+
+
+def bank_drops_peers_that_take_nothing(bank: str) -> None:
+    """With an idle time of two seconds: who takes nothing of what is due for so long is dropped."""
+    asked = b"".join(balance(index, "ann") for index in range(1000))
+    with Serving(bank, "127.0.0.1", "0") as serving, Peer(serving.port) as slow:
+        slow.socket.setsockopt(socket.SOL_SOCKET, socket.SO_RCVBUF, 1 << 16)
+        with contextlib.suppress(OSError):
+            while True:
+                slow.socket.send(asked)
+        until(lambda: is_refused(slow), "a peer that takes nothing was not dropped")
+        ask(serving.port, balance(1, "ann"), returned(1, 0))
+
+
+def long_replies_are_bounded(server: str) -> None:
+    """Ten peers send repeats of a request whose reply has a million octets, and take nothing: each costs little. Then
+    one takes all of them."""
+    body = (1000000).to_bytes(4, "big") + bytes(1000000)
+    asked = [request(index, b"long", "get", number=1) for index in range(60)]
+    with Serving(server, "127.0.0.1", "0") as serving, contextlib.ExitStack() as stack:
+        ask(serving.port, asked[0], reply(0, body))
+        before = most_memory(serving.process.pid)
+        peers = [stack.enter_context(Peer(serving.port)) for _ in range(10)]
+        for peer in peers:
+            peer.tell(b"".join(asked))
+        ask(serving.port, asked[0], reply(0, body))
+        more = most_memory(serving.process.pid) - before
+        if more > 50 << 20:
+            raise Wrong(f"ten peers that take nothing made it keep {more} octets")
+        for index in range(60):
+            peers[0].wants(reply(index, body))
 
 
 # ---- the gateway ----
@@ -425,11 +573,10 @@ def gateway_forwards_as_it_came(gateway: str) -> None:
     """Bodies in both orders and in each version, and none; the reply comes back in the order of the server behind."""
     with gateway_before(gateway) as (behind, serving, key), Peer(serving.port) as peer:
         for index, (order, body) in enumerate(((BIG, bytes(range(200))), (LITTLE, b"\1\2\3"), (LITTLE, b""))):
-            put = octets_body(body) if body else no_body
-            peer.tell(request(70 + index, key, "any", put, order=order, number=index))
+            peer.tell(request(70 + index, key, "any", body, order=order, number=index))
             peer.wants(reply(70 + index, number_body(index + 1), order=order))
             came = behind.performed[-1]
-            want((came.order, came.key, came.operation, came.contexts, came.body), (order, key, b"any", 0, body))
+            want((came.order, came.key, came.operation, came.contexts, came.body), (order, key, b"any", [], body))
             want((came.request_id, came.minor, came.place % 8), (index + 1, 2, 0) if body else (index + 1, 2, 4))
         want(behind.connections, 1)
     # (in 1.0 and 1.1 the body of a request with this key stands at a place divisible by 8, with FT_REQUEST or without)
@@ -437,7 +584,7 @@ def gateway_forwards_as_it_came(gateway: str) -> None:
         for minor in (0, 1):
             text = behind.reference(b"12345", minor).text()
             with Serving(gateway, "127.0.0.1", "0", text) as serving:
-                asked = request(5, b"12345", "any", octets_body(b"abc"), minor=minor)
+                asked = request(5, b"12345", "any", b"abc", minor=minor)
                 ask(serving.port, asked, reply(5, number_body(len(behind.performed) + 1), minor=minor))
                 want((behind.performed[-1].minor, behind.performed[-1].body), (minor, b"abc"))
 
@@ -533,7 +680,7 @@ def gateway_takes_long_replies(gateway: str) -> None:
     with gateway_before(gateway) as (behind, serving, key):
         behind.manners = ["long"]
         for request_id in (1, 2):
-            ask(serving.port, request(request_id, key, "add", number=1), reply(request_id, octets_body(long_octets())))
+            ask(serving.port, request(request_id, key, "add", number=1), reply(request_id, long_octets()))
         want(len(behind.performed), 1)
 
 
@@ -583,15 +730,15 @@ def gateway_wants_a_reference(gateway: str) -> None:
 def omniorb(kit: Kit) -> Iterator[tuple[str, str]]:
     """A server of the counter and a client for it, compiled."""
     idl = os.path.join(EXAMPLES, "counter.idl")
-    run("omniidl", "-bcxx", f"-C{kit.work}", idl)
+    run(programs.tool("omniidl"), "-bcxx", f"-C{kit.work}", idl)
     libraries = ["-lomniORB4", "-lomnithread"]
-    programs = []
+    made = []
     for name, source in (("omni_server", os.path.join(EMBED, "omniorb_server.cc")),
                          ("omni_client", os.path.join(EXAMPLES, "omniorb_client.cc"))):
         program = os.path.join(kit.work, name)
         run("g++", "-w", f"-I{kit.work}", source, os.path.join(kit.work, "counterSK.cc"), *libraries, "-o", program)
-        programs.append(program)
-    yield programs[0], programs[1]
+        made.append(program)
+    yield made[0], made[1]
 
 
 def omniorb_calls(client: str, reference: str, number: int, *more: str) -> str:
@@ -613,62 +760,135 @@ def omniorb_acts_once_through_the_gateway(kit: Kit, gateway: str) -> None:
 # ---- all of it ----
 
 BANKS = [bank_deposits_act_once, bank_refusals, bank_locates, bank_serves_a_hundred,
-         bank_serves_beside_one_that_reads_nothing, bank_ends_streams, bank_says_goodbye, bank_wants_words]
+         bank_serves_beside_one_that_reads_nothing, bank_ends_streams, bank_says_goodbye, bank_wants_words,
+         bank_sends_at_once, bank_bears_want_of_descriptors, bank_serves_beside_streams_that_ended,
+         bank_drops_streams_that_ended]
+# with an idle time of two seconds
+IDLE_BANKS = [bank_tells_idle_peers_goodbye, bank_drops_peers_that_take_nothing]
+LONGS = [long_replies_are_bounded]
 GATEWAYS = [gateway_leads_to_itself, gateway_forwards_as_it_came, gateway_retries_act_once, gateway_keeps_exceptions,
             gateway_says_maybe, gateway_gives_up_what_was_not_begun, gateway_comes_back,
             gateway_refuses_what_it_cannot, gateway_takes_long_replies, gateway_forwards_without_a_reply,
             gateway_forwards_one_at_a_time, gateway_wants_a_reference]
+LIBRARY = [headers_stand_alone, programs_link, names_are_exported, packages_are_found, versions_are_one]
 
 
-def checks_of(kit: Kit) -> Iterator[tuple[str, Callable[[], None]]]:
-    """All checks: their names, and what is called."""
-    yield "the headers stand alone", lambda: headers_stand_alone(kit)
-    yield "programs link", lambda: programs_link(kit)
-    yield "names are exported", lambda: names_are_exported(kit)
-    if kit.has("pkg-config"):
-        yield "packages are found", lambda: packages_are_found(kit)
-    for source in PROGRAMS:
-        if kit.has_cpp or source.endswith(".c"):
-            yield from program_checks(kit, source)
-    for name, sources in (("bank_c", ["bank.c", "loop.c"]), ("bank_cpp", ["bank.cpp"])):
-        if kit.has_cpp or name == "bank_c":
-            yield from of_program(name, lambda name=name, sources=sources: kit.example(name, sources), BANKS)
-    gateway = os.path.join(kit.work, "gateway")
-    yield from of_program("gateway", lambda: kit.example("gateway", ["gateway/gateway.c", "loop.c"]), GATEWAYS)
-    if kit.has_cpp and kit.has("omniidl"):
-        yield "omniORB acts once through the gateway", lambda: omniorb_acts_once_through_the_gateway(kit, gateway)
+@functools.lru_cache(maxsize=None)
+def the_kit() -> Kit:
+    """The library that is there, and a folder for the programs of this run."""
+    prefix = programs.library()
+    programs.tool("cc")
+    work = tempfile.mkdtemp()
+    atexit.register(shutil.rmtree, work, ignore_errors=True)
+    return Kit(prefix, work)
 
 
-def of_program(name: str, build: Callable[[], str], checks: list[Callable[[str], None]]
-               ) -> Iterator[tuple[str, Callable[[], None]]]:
-    """The checks of a program, which is compiled first."""
-    made: list[str] = []
-    yield f"{name} is compiled", lambda: made.append(build())
-    for check in checks:
-        yield f"{name}: {check.__name__}", lambda check=check: check(made[0])
+def of_functions(functions: list[Callable]) -> Callable:
+    """Gives a class a test for each function, which takes the subject of the class."""
+
+    def made(tests: type) -> type:
+        for function in functions:
+            def test(self: unittest.TestCase, function: Callable = function) -> None:
+                function(self.subject)
+            test.__doc__ = function.__doc__
+            setattr(tests, f"test_{function.__name__}", test)
+        return tests
+    return made
 
 
-def main() -> int:
-    folder = os.path.abspath(sys.argv[1] if len(sys.argv) > 1 else os.path.join(ROOT, "out"))
-    passed = failed = 0
-    with tempfile.TemporaryDirectory() as work:
-        kit = Kit(folder, work)
-        if not os.path.exists(kit.archive):
-            print(f"there is no library in {folder}: ./build library makes one")
-            print("0 passed, 1 failed")
-            return 1
-        for name, check in checks_of(kit):
-            try:
-                check()
-                passed += 1
-            except (Wrong, OSError, IndexError, subprocess.SubprocessError) as fault:
-                failed += 1
-                print(f"FAILS {name}: {fault}", flush=True)
-    for tool in kit.lacks:
-        print(f"not run: what needs {tool}")
-    print(f"{passed} passed, {failed} failed")
-    return 1 if failed else 0
+@of_functions(LIBRARY)
+class Library(unittest.TestCase):
+    """The headers and the two libraries."""
+
+    @classmethod
+    def setUpClass(cls) -> None:
+        cls.subject = the_kit()
 
 
-if __name__ == "__main__":
-    sys.exit(main())
+class Programs(unittest.TestCase):
+    """The programs of tests/embed."""
+
+    @base.each(program_ways)
+    def test_programs(self, given: tuple[str, str]) -> None:
+        """Each is run with either library, with the sanitizers, and under valgrind."""
+        run_program(the_kit(), *given)
+
+
+class Example:
+    """The tests of an example, which is compiled first, with the sanitizers if there are any."""
+
+    NAME: str
+    SOURCES: list[str]
+
+    @classmethod
+    def setUpClass(cls) -> None:
+        cls.subject = the_kit().example(cls.NAME, cls.SOURCES)
+
+
+class Plain:
+    """The tests of a server, which is compiled first, without the sanitizers."""
+
+    NAME: str
+    FOLDER, FLAGS = EXAMPLES, ["-DLOOP_IDLE=2"]
+    SOURCES: list[str]
+
+    @classmethod
+    def setUpClass(cls) -> None:
+        paths = [os.path.join(cls.FOLDER, source) for source in cls.SOURCES]
+        cls.subject = the_kit().compile(cls.NAME, paths, cls.FLAGS)
+
+
+@of_functions(BANKS)
+class BankC(Example, unittest.TestCase):
+    """The bank in C."""
+
+    NAME, SOURCES = "bank_c", ["bank.c", "loop.c"]
+
+
+@of_functions(BANKS)
+class BankCpp(Example, unittest.TestCase):
+    """The bank in C++."""
+
+    NAME, SOURCES = "bank_cpp", ["bank.cpp"]
+
+
+@of_functions(IDLE_BANKS)
+class IdleBankC(Plain, unittest.TestCase):
+    """The bank in C, with an idle time of two seconds."""
+
+    NAME, SOURCES = "idle_bank_c", ["bank.c", "loop.c"]
+
+
+@of_functions(IDLE_BANKS)
+class IdleBankCpp(Plain, unittest.TestCase):
+    """The bank in C++, with an idle time of two seconds."""
+
+    NAME, SOURCES = "idle_bank_cpp", ["bank.cpp"]
+
+
+@of_functions(LONGS)
+class LongC(Plain, unittest.TestCase):
+    """A server in C whose replies have a million octets."""
+
+    NAME, SOURCES = "long_c", ["long.c", "../../examples/loop.c"]
+    FOLDER, FLAGS = EMBED, [f"-I{EXAMPLES}"]
+
+
+@of_functions(LONGS)
+class LongCpp(Plain, unittest.TestCase):
+    """A server in C++ whose replies have a million octets."""
+
+    NAME, SOURCES = "long_cpp", ["long.cpp"]
+    FOLDER, FLAGS = EMBED, [f"-I{EXAMPLES}"]
+
+
+@of_functions(GATEWAYS)
+class Gateway(Example, unittest.TestCase):
+    """The gateway."""
+
+    NAME, SOURCES = "gateway", ["gateway/gateway.c", "loop.c"]
+
+    @programs.needs("g++", "omniidl")
+    def test_omniorb_acts_once(self) -> None:
+        """A call that is sent again in another process acts twice on omniORB, and once through the gateway."""
+        omniorb_acts_once_through_the_gateway(the_kit(), self.subject)

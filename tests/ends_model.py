@@ -1,86 +1,33 @@
-"""A plain model of clients that call again, of a server of the counter, and of the octets between them.
+"""A plain model of clients that call again, of a server of the counter, and of what is said between them.
 
 It follows crates/ft_ends/specs/World.antt, and for the two sides the specs of ft_client, ft_orb and giop_link. It
-remembers all that ever arrived, and no log. Of a message it knows how long it is and what it says; only how long it
-is needs the layout of GIOP (CORBA 3.3 Part 2, 9.4), which is written out here a second time.
+remembers all that ever arrived, and no log. Of a message it knows how long it is and what it says; how long it is, and
+the octets of outcomes, come from tests/giop.py.
 """
-import struct
+from tests import giop
+from tests.cdr import Octets
+from tests.giop import HEADER, NO
 
-HEADER = 12
 MOST_PENDING = 64
 LAST_TOTAL = (1 << 63) - 1
 CLOSE, ERROR = "close", "error"
+CANCEL_SIZE = len(giop.cancel(0))
 
 
-BIG, LITTLE = ">", "<"
+def arguments_body(arguments):
+    """The body of these longs, or None without any."""
 
-
-class Octets:
-    """Octets in an order, each value aligned by its place."""
-
-    def __init__(self, place=0, order=BIG):
-        self.begin, self.order = place, order
-        self.all = b""
-
-    def align(self, size):
-        self.all += bytes(-(self.begin + len(self.all)) % size)
-
-    def number(self, size, form, number):
-        self.align(size)
-        self.all += struct.pack(self.order + form, number)
-
-    def ulong(self, number):
-        self.number(4, "I", number)
-
-    def octets(self, octets):
-        self.ulong(len(octets))
-        self.all += octets
-
-    def string(self, octets):
-        self.octets(octets + b"\0")
-
-
-def context_of(client_id, number, expiration, order=BIG):
-    """What the context FT_REQUEST holds."""
-    out = Octets(0, order)
-    out.all += b"\0" if order == BIG else b"\1"
-    out.string(client_id)
-    out.number(4, "i", number)
-    out.number(8, "Q", expiration)
-    return out.all
+    def put(out):
+        for argument in arguments:
+            out.long(argument)
+    return put if arguments else None
 
 
 def request_size(version, client_id, number, call):
     """How many octets a Request has."""
-    out = Octets(HEADER)
-
-    def contexts():
-        out.ulong(1)
-        out.ulong(13)
-        out.octets(context_of(client_id, number, call.expiration))
-
-    if version == "1.2":
-        out.ulong(1)
-        out.all += b"\3\0\0\0"
-        out.number(2, "h", 0)
-        out.octets(call.key)
-        out.string(call.operation)
-        contexts()
-        if call.arguments:
-            out.align(8)
-    else:
-        contexts()
-        out.ulong(1)
-        out.all += b"\1" if version == "1.0" else b"\1\0\0\0"
-        out.octets(call.key)
-        out.string(call.operation)
-        out.octets(b"")
-    for argument in call.arguments:
-        out.number(4, "i", argument)
-    return HEADER + len(out.all)
-
-
-CANCEL_SIZE = HEADER + 4
+    contexts = [giop.ft_request(client_id, number, call.expiration)]
+    return len(giop.request(1, call.key, call.operation, arguments_body(call.arguments), minor=int(version[2]),
+                            contexts=contexts))
 
 
 class Call:
@@ -92,14 +39,14 @@ class Call:
 
 
 class Pending:
-    """A call that has not ended, its number, and the request id under which it was sent on this connection, if it was."""
+    """A call that has not ended, its number, and the request id under which it was sent on this connection, if any."""
 
     def __init__(self, number, call):
         self.number, self.call, self.sent = number, call, None
 
 
 class Wire:
-    """A connection: what was written on it either way, as sizes and what each message says, and how much was delivered."""
+    """A connection: what was written on it either way, as sizes and what messages say, and how much was delivered."""
 
     def __init__(self):
         self.up, self.down = [], []
@@ -186,37 +133,35 @@ class Client:
             self.settle(*said)
 
 
+def body_of(put):
+    """The octets of a body, which begins at a multiple of 8."""
+    out = Octets()
+    put(out)
+    return out.all
+
+
 def returned(total):
     """The outcome that returns a total."""
-    return f"returned big 24 {struct.pack('>q', total).hex()}"
+    return f"returned big 24 {body_of(lambda out: out.longlong(total)).hex()}"
 
 
-NO, MAYBE = 1, 2
-
-
-def refused(name, minor=0, completion=NO):
+def refused(name, minor_code=0, completion=NO):
     """A system exception; of minor code 0 and COMPLETED_NO, if nothing else is said."""
-    out = Octets(24)
-    out.string(f"IDL:omg.org/CORBA/{name}:1.0".encode())
-    out.ulong(minor)
-    out.ulong(completion)
-    return f"system big 24 {out.all.hex()}"
+    return f"system big 24 {body_of(giop.system_body(name, completion, minor_code)).hex()}"
 
 
 def overflow():
     """The exception of an addition whose sum is no long long."""
-    out = Octets(24)
-    out.string(b"IDL:Counter/Overflow:1.0")
-    return f"raised big 24 {out.all.hex()}"
+    return f"raised big 24 {body_of(lambda out: out.string('IDL:Counter/Overflow:1.0')).hex()}"
 
 
 def size_of(outcome):
     """How many octets a Reply with it has."""
-    return 24 + len(outcome.split()[-1]) // 2
+    return len(giop.reply(1, bytes.fromhex(outcome.split()[-1])))
 
 
 class Server:
-    """The server of the counter: the requests that were performed, each with its key, its expiration and its outcome."""
+    """The server of the counter: the requests that it performed, each with its key, its expiration and its outcome."""
 
     def __init__(self, message, capacity, share, total):
         self.message, self.capacity, self.share, self.total = message, capacity, share, total

@@ -1,37 +1,33 @@
-#!/usr/bin/env python3
 """Plays random scripts with the program `engine_trials`, and compares with a model.
 
-usage: engine.py PROGRAM
-
 A script is events on connections, as `giop play` takes them, and lines that say how the owner of the engine answers
-from there on, by a fixed seed. Each is played twice: as it is, and with each piece cut into small ones. All that is
-printed, the requests that were asked, the octets, the requests that were given up and the total, must be what the model
-below says.
+from there on, by a seed. Each is played twice: as it is, and with each piece cut into small ones. All that is printed,
+the requests that were asked, the octets, the requests that were given up and the total, must be what the model below
+says. A script that fails is printed with as few messages and events as are found with which it still does, as the
+program takes it.
 
-The model looks back over all requests that came (`Server` of ends_model.py): each distinct admissible request is asked
-once, in the order in which they came first, and again only where it was given up. It knows of each message what it says
-and where it ends, and reads no octets. The last line is 'N passed, M failed', where each script counts.
+The model looks back over all requests that came (`Server` of tests/ends_model.py): each distinct admissible request is
+asked once, in the order in which they came first, and again only where it was given up. It knows of each message what
+it says and where it ends, and reads no octets.
 """
 import random
-import subprocess
-import sys
+import unittest
 from collections import namedtuple
-from concurrent.futures import ThreadPoolExecutor
 
-from ends_model import BIG, CLOSE, ERROR, HEADER, LITTLE, MAYBE, Call, Octets, Server, context_of, refused
-from schedules import EDGES, LIMIT, NAMES, VERSIONS, parts_of
+from tests import base, giop, programs
+from tests.cdr import BIG, LITTLE
+from tests.ends_model import CLOSE, ERROR, Call, Server, refused
+from tests.giop import CLOSE_CONNECTION, HEADER, MAYBE, MESSAGE_ERROR
+from tests.schedules import EDGES, LIMIT, NAMES, VERSIONS, parts_of
+from tests.smaller import smallest
 
 SEED = 29
 COUNT = 300
 STEPS = 40
-SECONDS = 60
 PLAYERS = 4
-REQUEST, REPLY, CANCEL, LOCATE, LOCATED, CLOSING, FAULT, FRAGMENT = range(8)
-MORE = 2
-STATUSES = {"returned": 0, "raised": 1, "system": 2}
-MESSAGE_ERROR = b"GIOP\1\0\0\6" + bytes(4)
-CLOSE_CONNECTION = b"GIOP\1\0\0\5" + bytes(4)
+STATUSES = {"returned": giop.NO_EXCEPTION, "raised": giop.USER_EXCEPTION, "system": giop.SYSTEM_EXCEPTION}
 FULL, EMPTY, NONE = "full", "empty", "none"
+WISHES = {FULL: giop.FULL, EMPTY: giop.EMPTY, NONE: giop.NONE}
 BAD = "bad"
 
 # the words of a program
@@ -41,34 +37,24 @@ Asked = namedtuple("Asked", "version request_id wish field call")
 Sought = namedtuple("Sought", "version request_id key")
 
 
-def message(version, kind, body, order=BIG, flags=0):
-    """A frame: a header and what stands after it (CORBA 3.3 Part 2, 9.4.1)."""
-    out = Octets(8, order)
-    out.ulong(len(body))
-    flags |= 0 if order == BIG else 1
-    return b"GIOP\1" + bytes([int(version[2]), flags, kind]) + out.all + body
+def minor_of(said):
+    """The minor version of what is said."""
+    return int(said.version[2])
 
 
 def reply_to(asked, outcome):
-    """The Reply that a request gets (9.4.3), or nothing."""
+    """The Reply that a request gets, or nothing."""
     how, *_, body = outcome.split()
-    octets = bytes.fromhex(body)
     if asked.wish == NONE:
         return b""
-    if asked.wish == EMPTY and how == "returned":
-        octets = b""
-    out, status = Octets(HEADER), STATUSES[how]
-    for number in [asked.request_id, status, 0] if asked.version == "1.2" else [0, asked.request_id, status]:
-        out.ulong(number)
-    return message(asked.version, REPLY, out.all + octets)
+    octets = b"" if asked.wish == EMPTY and how == "returned" else bytes.fromhex(body)
+    return giop.reply(asked.request_id, octets, status=STATUSES[how], minor=minor_of(asked))
 
 
 def located(sought):
-    """The LocateReply: OBJECT_HERE 1, or UNKNOWN_OBJECT 0 (9.4.6)."""
-    out = Octets(HEADER)
-    out.ulong(sought.request_id)
-    out.ulong(1 if sought.key == "c" else 0)
-    return message(sought.version, LOCATED, out.all)
+    """The LocateReply to what is looked for."""
+    status = giop.OBJECT_HERE if sought.key == "c" else giop.UNKNOWN_OBJECT
+    return giop.located(sought.request_id, status, minor=minor_of(sought))
 
 
 class GivenUp(Exception):
@@ -180,13 +166,56 @@ def lines_of(terms, streams, events):
     return [*engine.lines, f"total {engine.total}"]
 
 
+def played(steps):
+    """The messages of each connection, and the events, of the steps of a script.
+
+    A step is an event; or ("say", NUMBER, MOMENT, MESSAGES, KEEP): these messages come on a connection, each a list of
+    frames, and what was left before, but for so many octets. What comes before a connection is opened is no part of its
+    stream.
+    """
+    streams, sent, events, greatest = {}, {}, [], -1
+    for step in steps:
+        name, number = step[:2]
+        if name == "say":
+            _, _, moment, messages, keep = step
+            stream, begin = sum(messages, streams.get(number, [])), sent.get(number, 0)
+            octets = b"".join(octets for octets, _ in stream)
+            end = max(begin, len(octets) - keep)
+            if begin < end:
+                events.append(("bytes", number, moment, octets[begin:end]))
+            if number in streams:
+                streams[number], sent[number] = stream, end
+        else:
+            events.append(step)
+        if name == "open" and greatest < number:
+            greatest, streams[number] = number, []
+    return streams, events
+
+
+def finer(steps):
+    """The steps where each message is one by itself."""
+    for step in steps:
+        if step[0] == "say":
+            name, number, moment, messages, keep = step
+            for at, one in enumerate(messages, 1):
+                yield name, number, moment, [one], keep if at == len(messages) else 0
+        else:
+            yield step
+
+
+def smallest_script(steps, fails):
+    """As few messages and events as are found with which a script still fails."""
+    some = list(finer(steps))
+    return smallest(some if fails(some) else steps, fails)
+
+
 class Maker:
-    """Makes a script: what comes on each connection, message by message, and the events."""
+    """Makes a script, step by step."""
 
     def __init__(self, dice):
         self.dice = dice
         self.now = dice.randint(0, 100)
-        self.streams, self.sent, self.events = {}, {}, []
+        self.steps = []
         self.keyed, self.ids, self.last = [], 0, 0
         capacity, share = dice.choice([(1024, 1024)] * 5 + [(2, 2), (3, 1), (1, 1), (0, 0), (5, 2), (8, 4)])
         limit = dice.choice([LIMIT, 1048576])
@@ -233,71 +262,55 @@ class Maker:
         version, wish = dice.choice(VERSIONS), dice.choice([FULL, FULL, NONE])
         return first._replace(version=version, request_id=self.next_id(), wish=wish, call=call)
 
-    def contexts(self, out, asked):
+    def contexts(self, asked):
         """The service contexts of a request; of two FT_REQUEST contexts the first counts."""
         dice = self.dice
         others, order = dice.choice([0, 0, 0, 1, 2]), dice.choice([BIG, LITTLE])
         some = [(dice.choice([1, 6, 99]), dice.randbytes(dice.randint(0, 9))) for _ in range(others)]
         if isinstance(asked.field, tuple):
-            some.append((13, context_of(*asked.field, asked.call.expiration, order)))
+            some.append(giop.ft_request(*asked.field, asked.call.expiration, order))
         if asked.field == BAD:
-            whole = context_of(b"A", 1, 1000, order)
-            some.append((13, whole[:dice.randrange(len(whole))]))
+            number, whole = giop.ft_request(b"A", 1, 1000, order)
+            some.append((number, whole[:dice.randrange(len(whole))]))
         if asked.field is not None and dice.random() < 0.1:
-            some.append((13, context_of(b"other", 1, 1000, order)))
-        out.ulong(len(some))
-        for number, octets in some:
-            out.ulong(number)
-            out.octets(octets)
+            some.append(giop.ft_request(b"other", 1, 1000, order))
+        return some
 
-    def body(self, out, asked):
+    def body(self, asked):
         """The arguments: all, and perhaps more octets; or too few."""
-        dice = self.dice
-        more = dice.randbytes(dice.choice([0] * 6 + [1, 4, 9]) if asked.call.arguments else dice.choice([0, 0, 1, 3]))
-        if asked.version == "1.2" and (asked.call.arguments or more):
-            out.align(8)
-        for argument in asked.call.arguments:
-            out.number(4, "i", argument)
-        out.all += more
+        dice, arguments = self.dice, asked.call.arguments
+        more = dice.randbytes(dice.choice([0] * 6 + [1, 4, 9]) if arguments else dice.choice([0, 0, 1, 3]))
+
+        def put(out):
+            for argument in arguments:
+                out.long(argument)
+            out.all += more
+        return put if arguments or more else None
 
     def request(self, asked):
-        """What a Request is after its header (9.4.2), and its order."""
-        order = self.dice.choice([BIG, LITTLE])
-        out, call = Octets(HEADER, order), asked.call
-        if asked.version == "1.2":
-            out.ulong(asked.request_id)
-            out.all += bytes([{NONE: 0, EMPTY: 1, FULL: 3}[asked.wish], 0, 0, 0])
-            out.number(2, "h", 0)
-        else:
-            self.contexts(out, asked)
-            out.ulong(asked.request_id)
-            out.all += bytes([asked.wish == FULL]) + (b"" if asked.version == "1.0" else bytes(3))
-        out.octets(call.key)
-        out.string(call.operation)
-        if asked.version == "1.2":
-            self.contexts(out, asked)
-        else:
-            out.octets(self.dice.choice([b"", b"me"]))
-        self.body(out, asked)
-        return out.all, order
+        """The octets of a request, in either order."""
+        call = asked.call
+        return giop.request(
+            asked.request_id, call.key, call.operation, self.body(asked), minor=minor_of(asked),
+            order=self.dice.choice([BIG, LITTLE]), wish=WISHES[asked.wish], contexts=self.contexts(asked),
+            principal=self.dice.choice([b"", b"me"]))
 
     def framed(self, asked):
         """The frames of a request, with what they say: one; or in 1.2 two, and at times a CancelRequest between that
         drops it."""
-        dice = self.dice
-        body, order = self.request(asked)
+        dice, octets = self.dice, self.request(asked)
         if asked.version != "1.2" or dice.random() < 0.8:
-            return [(message(asked.version, REQUEST, body, order), asked)]
-        cut = 4 + 8 * dice.randint(1, (len(body) - 5) // 8)
-        first = (message("1.2", REQUEST, body[:cut], order, MORE), None)
-        last = (message("1.2", FRAGMENT, body[:4] + body[cut:], order), asked)
+            return [(octets, asked)]
+        first, last = giop.cut(octets, [4 + 8 * dice.randint(1, (len(octets) - HEADER - 5) // 8)])
         between = dice.choice([[], [self.locate()], [self.cancel(self.next_id())]])
-        return [first, self.cancel(asked.request_id)] if dice.random() < 0.2 else [first, *between, last]
+        if dice.random() < 0.2:
+            return [(first, None), self.cancel(asked.request_id)]
+        return [(first, None), *between, (last, asked)]
 
     def long_request(self):
         """A request of about as many octets as the limit."""
         asked = Asked("1.2", self.next_id(), FULL, None, Call("c", "", 0, []))
-        size = LIMIT - HEADER - len(self.request(asked._replace(call=Call("c", "", 0, [])))[0])
+        size = LIMIT - len(self.request(asked))
         operation = "x" * (size + self.dice.randint(-20, 5))
         return self.framed(asked._replace(version="1.0", call=Call("c", operation, 0, [])))
 
@@ -305,18 +318,10 @@ class Maker:
         dice = self.dice
         sought = Sought(dice.choice(VERSIONS), self.next_id(), dice.choice(["c", "c", "d", ""]))
         order = dice.choice([BIG, LITTLE])
-        out = Octets(HEADER, order)
-        out.ulong(sought.request_id)
-        if sought.version == "1.2":
-            out.number(2, "h", 0)
-        out.octets(sought.key.encode())
-        return message(sought.version, LOCATE, out.all, order), sought
+        return giop.locate(sought.request_id, sought.key.encode(), minor=minor_of(sought), order=order), sought
 
     def cancel(self, request_id):
-        order = self.dice.choice([BIG, LITTLE])
-        out = Octets(HEADER, order)
-        out.ulong(request_id)
-        return message("1.2", CANCEL, out.all, order), None
+        return giop.cancel(request_id, order=self.dice.choice([BIG, LITTLE])), None
 
     def ending(self):
         """A message that ends a stream: it is no client's, or it has a fault."""
@@ -325,9 +330,9 @@ class Maker:
             (MESSAGE_ERROR, CLOSE), (CLOSE_CONNECTION, CLOSE),
             (reply_to(asked, refused("UNKNOWN")), ERROR), (located(Sought("1.1", 5, "c")), ERROR),
             (b"GIOQ\1\0\0\0" + bytes(4), ERROR), (b"GIOP\1\3\0\0" + bytes(4), ERROR),
-            (message("1.2", REQUEST, bytes(3)), ERROR)])
+            (giop.message(giop.REQUEST, bytes(3)), ERROR)])
 
-    def messages(self):
+    def message(self):
         """What a client sends next: frames, with what they say."""
         chance = self.dice.random()
         if chance < 0.42 or (chance < 0.78 and not self.keyed):
@@ -340,17 +345,9 @@ class Maker:
             return [self.cancel(self.dice.randint(0, self.ids + 1))]
         return [self.ending()] if chance < 0.98 else self.long_request()
 
-    def say(self, number, frames, keep=0):
-        """Frames come on a connection, and what was left before, but for so many octets. What comes before it is opened
-        is no part of its stream."""
-        stream, sent = self.streams.get(number, []), self.sent.get(number, 0)
-        stream = stream + frames
-        octets = b"".join(octets for octets, _ in stream)
-        end = max(sent, len(octets) - keep)
-        if sent < end:
-            self.events.append(("bytes", number, self.moment(), octets[sent:end]))
-        if number in self.streams:
-            self.streams[number], self.sent[number] = stream, end
+    def say(self, number, messages, keep=0):
+        """Messages come on a connection, and what was left before, but for so many octets."""
+        self.steps.append(("say", number, self.moment(), messages, keep))
 
     def connection(self):
         """A connection: mostly one of the latest."""
@@ -358,35 +355,34 @@ class Maker:
 
     def open(self):
         self.last += self.dice.choice([1, 1, 1, 2])
-        self.events.append(("open", self.last))
-        self.streams[self.last] = []
+        self.steps.append(("open", self.last))
 
     def owner(self):
         names = ["TRANSIENT", "UNKNOWN", "NO_RESOURCES", "BAD_PARAM"]
         system = f"system {self.dice.choice(names)} {self.dice.choice([0, 7, 0xffffffff])}"
-        self.events.append(("owner", self.dice.choice(["performs"] * 3 + ["gives_up", system, "mistypes"])))
+        self.steps.append(("owner", self.dice.choice(["performs"] * 3 + ["gives_up", system, "mistypes"])))
 
     def step(self):
         dice, number = self.dice, self.connection()
         kinds = {"say": 60, "open": 12, "lost": 3, "close": 2, "owner": 8, "reopen": 1}
         kind = dice.choices(list(kinds), kinds.values())[0]
         if kind == "say":
-            frames = [frame for _ in range(dice.choice([1, 1, 1, 2, 3, 6])) for frame in self.messages()]
-            self.say(number, frames, dice.choice([0, 0, 0, 0, 1, dice.randint(1, 100)]))
+            messages = [self.message() for _ in range(dice.choice([1, 1, 1, 2, 3, 6]))]
+            self.say(number, messages, dice.choice([0, 0, 0, 0, 1, dice.randint(1, 100)]))
         elif kind == "reopen":
-            self.events.append(("open", min(number, self.last)))
+            self.steps.append(("open", min(number, self.last)))
         elif kind in ("lost", "close"):
-            self.events.append((kind, number))
+            self.steps.append((kind, number))
         else:
             getattr(self, kind)()
 
     def audit(self):
         """All requests with keys come once more, to an owner that performs, and then the counter is asked."""
-        self.events.append(("owner", "performs"))
+        self.steps.append(("owner", "performs"))
         self.open()
         get = Asked("1.2", self.next_id(), FULL, None, Call("c", "get", 0, []))
         again = [asked._replace(request_id=self.next_id(), wish=FULL) for asked in self.keyed]
-        self.say(self.last, [frame for asked in [*again, get] for frame in self.framed(asked)])
+        self.say(self.last, [self.framed(asked) for asked in [*again, get]])
 
     def made(self):
         """The terms, the streams and the events."""
@@ -394,7 +390,7 @@ class Maker:
         for _ in range(STEPS):
             self.step()
         self.audit()
-        return self.terms, self.streams, self.events
+        return self.terms, *played(self.steps)
 
 
 def in_pieces(dice, events):
@@ -426,49 +422,38 @@ def answers_in(lines):
     return [line for line in lines if line.startswith("ask")], octets, lines[-1]
 
 
-def fault_of(program, terms, events, wanted):
-    """What is wrong with a run of a script, or None."""
-    given = "".join(line_of(event) + "\n" for event in events)
-    words = [program, *map(str, terms), "asks"]
-    run = subprocess.run(words, input=given, capture_output=True, text=True, timeout=SECONDS)
-    if run.returncode != 0 or run.stderr:
-        return f"it ended with status {run.returncode} {run.stderr.strip()}"
-    got = run.stdout.splitlines()
-    if got != wanted:
-        return "\n".join([f"played with {terms}", given, "wanted", *wanted, "got", *got])
-    return None
+class Scripts(unittest.TestCase):
+    """An engine and its owner, on random scripts."""
 
+    @classmethod
+    def setUpClass(cls):
+        cls.engine = programs.program("ENGINE_TRIALS")
 
-def judged(program, script, pieces):
-    """What is wrong with a script, as it is and in pieces, or None."""
-    terms, streams, events = script
-    whole, cut = lines_of(terms, streams, events), lines_of(terms, streams, pieces)
-    if answers_in(whole) != answers_in(cut):
-        return "the model says another thing of the pieces"
-    return fault_of(program, terms, events, whole) or fault_of(program, terms, pieces, cut)
+    def fault_on(self, terms, events, wanted):
+        """What is wrong with a run, or None: the words, the lines that were given, and those that were printed."""
+        given = "".join(line_of(event) + "\n" for event in events)
+        words = [*map(str, terms), "asks"]
+        run = base.ran(self.engine, *words, given=given.encode())
+        status, got, error = run.returncode, run.stdout.decode().splitlines(), run.stderr.decode()
+        if (status, got, error) == (0, wanted, ""):
+            return None
+        return "\n".join([f"words: {' '.join(words)}", f"{given}wanted:", *wanted, "got:", *got,
+                          f"status {status} {error}"])
 
+    def fault_of(self, seed, terms, steps):
+        """What is wrong with a script, as it is and in pieces, or None."""
+        streams, events = played(steps)
+        pieces = list(in_pieces(random.Random(seed), events))
+        whole, cut = lines_of(terms, streams, events), lines_of(terms, streams, pieces)
+        if answers_in(whole) != answers_in(cut):
+            return "the model says another thing of the pieces"
+        return self.fault_on(terms, events, whole) or self.fault_on(terms, pieces, cut)
 
-def scripts():
-    """All scripts, each with its events in pieces."""
-    dice = random.Random(SEED)
-    for _ in range(COUNT):
-        script = Maker(dice).made()
-        yield script, list(in_pieces(dice, script[2]))
-
-
-def main():
-    passed = failed = 0
-    with ThreadPoolExecutor(PLAYERS) as pool:
-        faults = pool.map(lambda pair: judged(sys.argv[1], *pair), list(scripts()))
-        for number, fault in enumerate(faults):
-            if fault is None:
-                passed += 1
-            else:
-                failed += 1
-                print(f"FAILS script {number}: {fault}")
-    print(f"{passed} passed, {failed} failed")
-    return 1 if failed else 0
-
-
-if __name__ == "__main__":
-    sys.exit(main())
+    @base.each_seed(SEED, COUNT, PLAYERS)
+    def test_scripts(self, seed):
+        """What is asked and written is what the model says, as it is and in pieces."""
+        maker = Maker(random.Random(seed))
+        maker.made()
+        if self.fault_of(seed, maker.terms, maker.steps):
+            fewer = smallest_script(maker.steps, lambda some: self.fault_of(seed, maker.terms, some))
+            self.fail(f"{len(fewer)} of {len(maker.steps)} steps, {self.fault_of(seed, maker.terms, fewer)}")

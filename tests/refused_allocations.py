@@ -1,68 +1,52 @@
-#!/usr/bin/env python3
-"""Runs a program with allocation N refused, for each N from 1 until none is refused.
-
-usage: refused_allocations.py PROGRAM            the program `giop`, on the inputs below
-       refused_allocations.py --calls PROGRAM..    the programs `cdr_trials`, `giop_trials`, `link_trials` and
-                                                   `orb_trials`, one after another, on each call that it lists
-       refused_allocations.py --schedules PROGRAM    the program `schedule_player`, on the schedules below
-       refused_allocations.py --engine PROGRAM    the program `engine_trials`, on the scripts below
+"""Runs programs with allocation N refused, for each N from 1 until none is refused.
 
 An allocation is a call of malloc or realloc. With one refused,
 
-- a run on an input must end as it does with ample memory, or print `memory` on standard error and end
-  with status 1;
-- a run of a call must print `done`; or `refused`, where the refused allocation was the call's own,
-  nothing changed, and the same call then gave what it is to give; or it ends with `memory` as above,
-  where the refused allocation came before the call. At least one run of each call must print `refused`,
-  and of a call whose suite ends in `without_allocation` none may.
-- a run on a schedule must end as it does with ample memory, or with `memory` as above; or, where the refused
-  allocation was one of the play, print `memory after N steps` in place of the total, and before it what it prints for
-  the first N steps alone. At least one run of each schedule must do so.
-- a run on a script of the engine must end as it does with ample memory, or with `memory` as above; or, where the
+- a run of `giop` on an input must end as it does with ample memory, or print `memory` on standard error and end with
+  status 1;
+- a run of a call, by `cdr_trials`, `giop_trials`, `link_trials` or `orb_trials`, must print `done`; or `refused`, where
+  the refused allocation was the call's own, nothing changed, and the same call then gave what it is to give; or it ends
+  with `memory` as above, where the refused allocation came before the call. At least one run of each call must print
+  `refused`, and of a call whose suite ends in `without_allocation` none may.
+- a run of `schedule_player` on a schedule must end as it does with ample memory, or with `memory` as above; or, where
+  the refused allocation was one of the play, print `memory after N steps` in place of the total, and before it what it
+  prints for the first N steps alone. At least one run of each schedule must do so.
+- a run of `engine_trials` on a script must end as it does with ample memory, or with `memory` as above; or, where the
   refused allocation was one of the engine or its owner, print one line `memory` or `given_up` for a connection, write
   whole replies alone there, and on each other connection what it writes with ample memory, with the same total. A
   request is asked again only where it was given up. At least one run of each script must keep an outcome whose reply
   could not be written, and at least one must give a request up.
 
-A pair is the calls X_once/SAMPLE and X_a_hundred_times/SAMPLE. Both must take the same number of
-allocations, since a call that is repeated keeps the memory that it took. A call whose suite has one of
-these endings must have its other.
+A pair is the calls X_once/SAMPLE and X_a_hundred_times/SAMPLE. Both must take the same number of allocations, since a
+call that is repeated keeps the memory that it took. A call whose suite has one of these endings must have its other.
 
-The last run, in which nothing is refused, must end as with ample memory. Each input, each call, each
-pair, each schedule and each script counts as one case. The last line is 'N passed, M failed'.
+The last run, in which nothing is refused, must end as with ample memory.
 """
 import itertools
 import os
 import re
-import struct
-import subprocess
-import sys
-import tempfile
+import unittest
 
-HERE = os.path.dirname(os.path.abspath(__file__))
-REQUEST = (
-    "47494f50 01020000 00000048 00000005 03000000 00000000 00000001 63000000 00000004 61646400"
-    "00000001 0000000d 00000018 00000000 00000002 41000000 00000001 0000000000000064 00000000"
-    "00000007")
-FRAGMENTS = (
-    "47494f50 01020200 00000014 00000005 03000000 00000000 00000001 63000000"
-    "47494f50 01020207 00000014 00000005 00000004 61646400 00000000 00000000"
-    "47494f50 01020007 00000008 00000005 00000007")
-LOCATE = "47494f50010200030000000d00000001000000000000000163"
-KEYED = REQUEST.replace(" ", "")
+from tests import base, cases, giop, programs
+from tests.allocations import Counting
+from tests.giop_peers import request
+
+ADD_SEVEN = dict(key=b"c", operation="add", body=bytes([0, 0, 0, 7]))
+REQUEST = request(5, **ADD_SEVEN, number=1, expiration=100)
+FRAGMENTS = b"".join(giop.cut(giop.request(5, b"c", "add", bytes([0, 0, 0, 7])), [20, 16]))
+LOCATE = giop.locate(1, b"c").hex()
+KEYED = REQUEST.hex()
 RETRY = f"open 1\nbytes 1 50 {KEYED}\nlost 1\nopen 2\nbytes 2 60 {KEYED}\n".encode()
 
 
-def words_of(case):
+def words_of(name):
     """The words of a case of tests/cases."""
-    with open(os.path.join(HERE, "cases", case + ".args"), encoding="utf-8") as f:
-        return f.read().splitlines()
+    return cases.Case(name).words
 
 
 def follow(name):
     """Both directions of a recorded connection."""
-    with open(os.path.join(HERE, "follow", name + ".txt"), "rb") as f:
-        return f.read()
+    return cases.content(os.path.join(programs.HERE, "follow", name + ".txt"))
 
 
 # what is run: a name, the words after the program's name, and the standard input
@@ -77,15 +61,15 @@ INPUTS = [
     ("a bad line", [], b"open 1\nclose\n"),
     ("input that is no text", [], b"open 1\n\xff\n"),
     ("a reference", words_of("ior/counter"), b""),
-    ("a request with its contexts", ["show"], REQUEST.encode()),
-    ("a message in three fragments", ["show"], FRAGMENTS.encode()),
-    ("a stream that ends in a fault", ["check"], (REQUEST + "00" * 12).encode()),
+    ("a request with its contexts", ["show"], KEYED.encode()),
+    ("a message in three fragments", ["show"], FRAGMENTS.hex().encode()),
+    ("a stream that ends in a fault", ["check"], (KEYED + "00" * 12).encode()),
     ("digits that are none", ["check"], b"47 4g"),
     ("a retry over two connections", ["trace"], follow("omni-12-ftkill")),
     ("an exception, as JSON", ["trace", "--json"], follow("omni-12-undeclared")),
     ("a fault after which reading goes on", ["trace", "--resume"], follow("omni-12-overflow") + b"00" * 12 + b"\n"
-     + REQUEST.replace(" ", "").encode() + b"\n"),
-    ("octets of one direction", ["trace", "--raw"], bytes.fromhex(REQUEST)),
+     + KEYED.encode() + b"\n"),
+    ("octets of one direction", ["trace", "--raw"], REQUEST),
     ("a line of odd digits", ["trace"], b"474\n"),
     ("an unknown word", ["swim"], b""),
     ("help", ["--help"], b""),
@@ -115,7 +99,7 @@ SCHEDULES = [
 # scripts of the engine: a name, how many requests are performed, and the lines. Each request is `add(7)` with a key,
 # and comes again on each connection, so one refused allocation changes no total
 ENGINE_WORDS = ["4", "4", "0", "4096", "1", "asks"]
-OTHER = KEYED.replace("0000004800000005", "0000004800000006").replace("000000000100000000", "000000000200000000")
+OTHER = request(6, **ADD_SEVEN, number=2, expiration=100).hex()
 REPLY_DIGITS = 64
 
 
@@ -157,24 +141,13 @@ class Run:
 class Program:
     """A program under the library that refuses an allocation."""
 
-    def __init__(self, path, folder):
-        self.path = os.path.abspath(path)
-        self.library = os.path.join(folder, "refuse_allocation.so")
-        self.count = os.path.join(folder, "count")
-        subprocess.run(["cc", "-O2", "-Wall", "-shared", "-fPIC", "-o", self.library,
-                        os.path.join(HERE, "refuse_allocation.c"), "-ldl"], check=True)
+    def __init__(self, path, counting):
+        self.path, self.counting = path, counting
 
     def run(self, number, words, given=b""):
         """The run with allocation `number` refused, or none at 0."""
-        with open(self.count, "wb") as f:
-            f.write(bytes(8))
-        env = dict(os.environ, LD_PRELOAD=self.library, REFUSE_ALLOCATION=str(number),
-                   REFUSE_COUNT=self.count)
-        run = subprocess.run([self.path] + words, input=given, capture_output=True, env=env,
-                             timeout=60)
-        with open(self.count, "rb") as f:
-            asked = struct.unpack("=Q", f.read())[0]
-        return Run((run.returncode, run.stdout, run.stderr), 0 < number <= asked)
+        run = base.ran(self.path, *words, given=given, env=self.counting.refusing(number))
+        return Run(base.end_of(run), 0 < number <= self.counting.counted())
 
     def runs(self, words, given=b""):
         """Numbers from 1 and the runs with that allocation refused, up to the first run in which none is."""
@@ -185,72 +158,15 @@ class Program:
                 return
 
 
-def fault_of_input(program, words, given):
-    """What is wrong with the runs on one input, or None; and what was seen."""
-    ample = program.run(0, words, given)
-    if ample.is_out_of_memory():
-        return "out of memory where nothing was refused", ""
-    for number, run in program.runs(words, given):
-        if run.end != ample.end and not (run.is_refused and run.is_out_of_memory()):
-            return f"with allocation {number} refused it ended with {run.end!r}", ""
-    if number == 1:
-        return "it asked for no allocation", ""
-    return None, f"{number - 1} allocations refused in turn"
-
-
-def fault_of_call(program, name, taken):
-    """What is wrong with the runs of one call, or None; and what was seen.
-
-    Where nothing is wrong, `taken` gets how many allocations the run takes.
-    """
-    ample = program.run(0, [name])
-    if ample.end != DONE:
-        return f"with nothing refused it ended with {ample.end!r}", ""
-    refused = 0
-    for number, run in program.runs([name]):
-        if run.is_refused and run.end == REFUSED:
-            refused += 1
-        elif run.end != DONE and not (run.is_refused and run.is_out_of_memory()):
-            return f"with allocation {number} refused it ended with {run.end!r}", ""
-    if name.split("/")[0].endswith(WITHOUT):
-        if refused:
-            return f"{refused} allocations of the call were refused", ""
-    elif not refused:
-        return "no allocation of the call was refused", ""
-    taken[name] = number - 1
-    return None, f"{number - 1} allocations refused in turn, {refused} of them in the call"
-
-
 def steps_before(run):
     """How many steps were taken before an allocation of the play failed, or None."""
     found = re.search(rb"^memory after (\d+) steps$", run.end[1], re.M)
     return int(found.group(1)) if found else None
 
 
-def printed_after(program, head, steps, count):
-    """What the program prints where memory runs out after so many steps."""
-    short = program.run(0, [], "\n".join([*head, *steps[:count], "end", ""]).encode())
-    return re.sub(rb"^total .*$", b"memory after %d steps" % count, short.end[1], flags=re.M)
-
-
-def fault_of_schedule(program, head, steps):
-    """What is wrong with the runs of one schedule, or None; and what was seen."""
-    given = "\n".join([*head, *steps, "end", ""]).encode()
-    ample = program.run(0, [], given)
-    if ample.end[0] != 0 or ample.end[2] or steps_before(ample) is not None:
-        return f"with nothing refused it ended with {ample.end!r}", ""
-    cut = 0
-    for number, run in program.runs([], given):
-        count = steps_before(run)
-        if run.is_refused and count is not None and count < len(steps):
-            cut += 1
-            if run.end != (0, printed_after(program, head, steps, count), b""):
-                return f"with allocation {number} refused it ended with {run.end!r}", ""
-        elif run.end != ample.end and not (run.is_refused and run.is_out_of_memory()):
-            return f"with allocation {number} refused it ended with {run.end!r}", ""
-    if not cut:
-        return "no allocation of the play was refused", ""
-    return None, f"{number - 1} allocations refused in turn, {cut} of them in the play"
+def script_of(head, steps):
+    """A schedule as it is given to the program."""
+    return "\n".join([*head, *steps, "end", ""]).encode()
 
 
 class Printed:
@@ -288,36 +204,6 @@ class Printed:
         return is_whole and are_others and count <= len(self.asks) <= count + self.is_given_up()
 
 
-def fault_of_script(program, count, lines):
-    """What is wrong with the runs of one script of the engine, or None; and what was seen."""
-    given = "\n".join([*lines, ""]).encode()
-    ample = program.run(0, ENGINE_WORDS, given)
-    whole = Printed(ample)
-    if ample.end[0] != 0 or ample.end[2] or whole.unserved or len(whole.asks) != count:
-        return f"with nothing refused it ended with {ample.end!r}", ""
-    kept = given_up = 0
-    for number, run in program.runs(ENGINE_WORDS, given):
-        if run.end == ample.end or (run.is_refused and run.is_out_of_memory()):
-            continue
-        printed = Printed(run)
-        kept, given_up = kept + printed.has_kept(), given_up + printed.is_given_up()
-        if not run.is_refused or run.end[0] != 0 or run.end[2] or not printed.follows(whole, count):
-            return f"with allocation {number} refused it ended with {run.end!r}", ""
-    if not kept or not given_up:
-        return f"{kept} outcomes were kept without a reply, and {given_up} requests given up", ""
-    return None, (f"{number - 1} allocations refused in turn, {kept} outcomes kept without a reply, "
-                  f"{given_up} requests given up")
-
-
-def fault_of_pair(_program, once, often, taken):
-    """What is wrong with how many allocations the two calls of a pair take, or None; and what was seen."""
-    if once not in taken or often not in taken:
-        return "one of its two calls is missing or fails", ""
-    if taken[once] != taken[often]:
-        return f"{taken[once]} allocations once, {taken[often]} a hundred times", ""
-    return None, f"{taken[once]} allocations, once and a hundred times"
-
-
 def pairs_of(names):
     """The pairs of which a call is named: what both names begin with, and the two names."""
     pairs = {}
@@ -330,56 +216,156 @@ def pairs_of(names):
     return pairs
 
 
-def calls_of(program):
-    """The names of the calls, or nothing where they can't be listed."""
-    status, out, _ = program.run(0, ["list"]).end
-    return out.decode().split() if status == 0 else []
+def calls_of(name):
+    """The names of the calls of a program."""
+    run = base.ran(programs.program(name), "list")
+    if run.returncode != 0:
+        raise ValueError(f"{name} can't list its calls: {run.stderr.decode()}")
+    return run.stdout.decode().split()
 
 
-def cases_of(kind, program):
-    """The cases of a kind on a program: a name, what judges it, and what that is given."""
-    if kind == "--calls":
-        names, taken = calls_of(program), {}
-        cases = [(name, fault_of_call, (name, taken)) for name in names]
-        cases += [(f"the pair {pair}", fault_of_pair, (once, often, taken))
-                  for pair, (once, often) in pairs_of(names).items()]
-        return cases
-    if kind == "--schedules":
-        return [(name, fault_of_schedule, (head, steps)) for name, head, steps in SCHEDULES]
-    if kind == "--engine":
-        return [(name, fault_of_script, (count, lines)) for name, count, lines in ENGINE_SCRIPTS]
-    return [(name, fault_of_input, (words, given)) for name, words, given in INPUTS]
+def named(some):
+    """The parts of tests: a name, and what follows it."""
+    return [(name, given) for name, *given in some]
 
 
-def counts_of(kind, program):
-    """Runs the cases of a kind on a program, prints what was seen, and answers how many passed and failed."""
-    passed = failed = 0
-    cases = cases_of(kind, program)
-    if not cases:
-        failed += 1
-        print("FAILS the list: it names no call")
-    for name, fault_of, given in cases:
-        fault, seen = fault_of(program, *given)
-        if fault is None:
-            passed += 1
-            print(f"{name}: {seen}")
+class Refusing:
+    """What is common to the programs: each is run with one allocation refused after another."""
+
+    @classmethod
+    def setUpClass(cls):
+        path, cls.counting = programs.program(cls.NAME), Counting()
+        cls.program = Program(path, cls.counting)
+
+    @classmethod
+    def tearDownClass(cls):
+        cls.counting.__exit__()
+
+    def ends_as(self, number, run, wanted):
+        """A run ends as it does with ample memory, or for want of memory."""
+        if run.end != wanted and not (run.is_refused and run.is_out_of_memory()):
+            self.fail(f"with allocation {number} refused it ended with {run.end!r}")
+
+
+class Inputs(Refusing, unittest.TestCase):
+    """The program `giop`."""
+
+    NAME = "GIOP"
+
+    @base.each(lambda: named(INPUTS))
+    def test_inputs(self, given):
+        """It ends as with ample memory, or with `memory`."""
+        ample = self.program.run(0, *given)
+        self.assertFalse(ample.is_out_of_memory(), "out of memory where nothing was refused")
+        for number, run in self.program.runs(*given):
+            self.ends_as(number, run, ample.end)
+        self.assertGreater(number, 1, "it asked for no allocation")
+
+
+class Calls(Refusing):
+    """The calls that a program lists."""
+
+    @classmethod
+    def setUpClass(cls):
+        super().setUpClass()
+        cls.taken = {}
+
+    def judge(self, name):
+        """Judges the runs of a call, and answers how many allocations one takes."""
+        ample, refused = self.program.run(0, [name]), 0
+        self.assertEqual(ample.end, DONE, "with nothing refused")
+        for number, run in self.program.runs([name]):
+            if run.is_refused and run.end == REFUSED:
+                refused += 1
+            else:
+                self.ends_as(number, run, DONE)
+        if name.split("/")[0].endswith(WITHOUT):
+            self.assertEqual(refused, 0, "allocations of the call were refused")
         else:
-            failed += 1
-            print(f"FAILS {name}: {fault}")
-    return passed, failed
+            self.assertGreater(refused, 0, "no allocation of the call was refused")
+        return number - 1
+
+    def taken_by(self, name):
+        """How many allocations a call takes."""
+        if name not in self.taken:
+            self.taken[name] = self.judge(name)
+        return self.taken[name]
 
 
-def main():
-    words = sys.argv[1:]
-    kind = words.pop(0) if words[0].startswith("--") else ""
-    passed = failed = 0
-    with tempfile.TemporaryDirectory() as folder:
-        for path in words:
-            counts = counts_of(kind, Program(path, folder))
-            passed += counts[0]
-            failed += counts[1]
-    print(f"{passed} passed, {failed} failed")
-    return 1 if failed or not passed else 0
+def tests_of_calls(name, what):
+    """The tests of the calls of a program."""
+
+    class Tests(Calls, unittest.TestCase):
+        NAME = name
+
+        @base.each(lambda: [(call, call) for call in calls_of(name)])
+        def test_calls(self, call):
+            """After a refused allocation nothing has changed, and the same call then gives what it is to give."""
+            self.taken_by(call)
+
+        def test_pairs(self):
+            """A call that is repeated a hundred times takes as many allocations as one."""
+            names = calls_of(self.NAME)
+            for pair, (once, often) in pairs_of(names).items():
+                with self.subTest(pair):
+                    self.assertTrue(once in names and often in names, "one of its two calls is missing")
+                    self.assertEqual(self.taken_by(often), self.taken_by(once), "a hundred times, and once")
+
+    Tests.__doc__ = f"The calls of {what}."
+    Tests.__name__ = Tests.__qualname__ = "".join(word.capitalize() for word in name.split("_"))
+    return Tests
 
 
-sys.exit(main())
+CdrTrials = tests_of_calls("CDR_TRIALS", "`cdr_core` and `ior_core`")
+GiopTrials = tests_of_calls("GIOP_TRIALS", "`giop_core` and `giop_frames`")
+LinkTrials = tests_of_calls("LINK_TRIALS", "`giop_link` and `ft_client`")
+OrbTrials = tests_of_calls("ORB_TRIALS", "`ft_log` and `ft_orb`")
+
+
+class Schedules(Refusing, unittest.TestCase):
+    """The program `schedule_player`."""
+
+    NAME = "SCHEDULE_PLAYER"
+
+    def run_of(self, head, steps, number=0):
+        return self.program.run(number, [], script_of(head, steps))
+
+    @base.each(lambda: named(SCHEDULES))
+    def test_schedules(self, given):
+        """What completed before memory ran out is what completes in the steps so far."""
+        head, steps = given
+        ample, cut = self.run_of(head, steps), 0
+        self.assertEqual((ample.end[0], ample.end[2], steps_before(ample)), (0, b"", None), ample.end)
+        for number, run in self.program.runs([], script_of(head, steps)):
+            count = steps_before(run)
+            if run.is_refused and count is not None and count < len(steps):
+                cut += 1
+                wanted = re.sub(rb"^total .*$", b"memory after %d steps" % count,
+                                self.run_of(head, steps[:count]).end[1], flags=re.M)
+                self.assertEqual(run.end, (0, wanted, b""), f"with allocation {number} refused")
+            else:
+                self.ends_as(number, run, ample.end)
+        self.assertGreater(cut, 0, "no allocation of the play was refused")
+
+
+class EngineTrials(Refusing, unittest.TestCase):
+    """The program `engine_trials`."""
+
+    NAME = "ENGINE_TRIALS"
+
+    @base.each(lambda: named(ENGINE_SCRIPTS))
+    def test_scripts(self, script):
+        """An outcome that was taken is kept, and a request is asked again only where it was given up."""
+        count, lines = script
+        given = "\n".join([*lines, ""]).encode()
+        ample = self.program.run(0, ENGINE_WORDS, given)
+        whole, kept, given_up = Printed(ample), 0, 0
+        self.assertEqual((ample.end[0], ample.end[2], whole.unserved, len(whole.asks)), (0, b"", [], count), ample.end)
+        for number, run in self.program.runs(ENGINE_WORDS, given):
+            if run.end == ample.end or (run.is_refused and run.is_out_of_memory()):
+                continue
+            printed = Printed(run)
+            kept, given_up = kept + printed.has_kept(), given_up + printed.is_given_up()
+            is_right = run.is_refused and run.end[0] == 0 and not run.end[2] and printed.follows(whole, count)
+            self.assertTrue(is_right, f"with allocation {number} refused it ended with {run.end!r}")
+        self.assertTrue(kept and given_up, f"{kept} outcomes kept without a reply, {given_up} requests given up")

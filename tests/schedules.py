@@ -1,25 +1,23 @@
-#!/usr/bin/env python3
 """Plays random schedules of clients and a server with the program `schedule_player`, and compares with a model.
 
-usage: schedules.py PROGRAM
-
-A schedule is a server, two clients and sixty steps or more, by a fixed seed; crates/schedule_player/src/lines.rt says
-what its lines are. Each is played twice: as it is, and with what goes up and down cut into small pieces. What
-completes, in order, and the total must be what tests/ends_model.py says, and the same both times.
-
-The program is run once over all schedules. The last line is 'N passed, M failed', where the run counts, and each
-schedule.
+A schedule is a server, two clients and sixty steps or more, by a seed; crates/schedule_player/src/lines.rt says what
+its lines are. Each is played twice: as it is, and with what goes up and down cut into small pieces. What completes, in
+order, and the total must be what tests/ends_model.py says, and the same both times. One that fails is printed with as
+few steps as are found with which it still does, as the program takes it.
 """
 import random
-import subprocess
-import sys
+import unittest
 
-from ends_model import HEADER, Call, Client, Play, Wire, lines_of, request_size
+from tests import base, programs
+from tests.ends_model import Call, Client, Play, Wire, lines_of, request_size
+from tests.giop import HEADER
+from tests.smaller import smallest
 
 SEED = 23
 COUNT = 600
 STEPS = 60
-SECONDS = 100
+# how many lines of a schedule say what the server and the clients are
+HEAD = 3
 FINE = 400
 LIMIT = 4096  # the least that a message may be allowed
 NAMES = ["A", "B", "AB", "client", "x" * 256]
@@ -28,7 +26,7 @@ EDGES = [-(1 << 63), -(1 << 63), 500 - (1 << 63), (1 << 63) - 501, (1 << 63) - 1
 
 
 class Maker:
-    """Makes the lines of a schedule. It plays them with the model, so as to know where messages end and when calls do."""
+    """Makes the lines of a schedule. It plays them with the model, to know where messages end and when calls do."""
 
     def __init__(self, dice):
         self.dice = dice
@@ -131,7 +129,7 @@ class Maker:
         return self.count(wire.up, wire.went)
 
     def recover(self, client):
-        """What comes of what the server heard: all goes down, what can't be heard is cancelled, and all is sent again."""
+        """What comes of what the server heard: all goes down, what can't be heard is cancelled, all is sent again."""
         wire = self.play.clients[client].wire or Wire()
         self.add(f"up {client} {self.to_header(wire)} {self.now}")
         self.add(f"down {client} 5000")
@@ -201,59 +199,44 @@ def in_pieces(dice, lines):
             yield " ".join([name, client, str(int(count) - FINE), *rest])
 
 
-def schedules():
-    """All schedules, each as it is and in pieces."""
-    dice = random.Random(SEED)
-    for number in range(COUNT):
-        lines = crowded(dice) if number % 40 == 0 else Maker(dice).made(STEPS)
-        yield lines, list(in_pieces(dice, lines))
+def made(seed):
+    """The schedule of a seed, as it is and in pieces."""
+    dice = random.Random(seed)
+    lines = crowded(dice) if seed % 40 == 0 else Maker(dice).made(STEPS)
+    return lines, list(in_pieces(dice, lines))
 
 
-def printed_by(program, plays):
-    """What the program prints for each of these schedules, and what is wrong with its run, or None."""
-    given = "".join(line + "\n" for lines in plays for line in lines)
-    run = subprocess.run([program], input=given, capture_output=True, text=True, timeout=SECONDS)
-    blocks, block = [], []
-    for line in run.stdout.splitlines():
-        block.append(line)
-        if line == "end":
-            blocks.append(block)
-            block = []
-    fault = None
-    if run.returncode != 0 or run.stderr:
-        fault = f"it ended with status {run.returncode} {run.stderr.strip()}"
-    elif block or len(blocks) != len(plays):
-        fault = f"it printed {len(blocks)} schedules of {len(plays)}"
-    return blocks + [[]] * (len(plays) - len(blocks)), fault
+class Schedules(unittest.TestCase):
+    """Clients and a server over cut and slow connections."""
 
+    @classmethod
+    def setUpClass(cls):
+        cls.player = programs.program("SCHEDULE_PLAYER")
 
-def fault_of(lines, pieces, whole, cut):
-    """What is wrong with a schedule, or None."""
-    wanted = lines_of(lines)
-    if lines_of(pieces) != wanted:
-        return "the model says another thing of the pieces"
-    for given, got in (("whole", whole), ("in pieces", cut)):
-        if got != wanted:
-            return "\n".join([f"played {given}", *lines, "wanted", *wanted, "got", *got])
-    return None
+    def played(self, *plays):
+        """How the program ends on schedules: its status, and what it prints."""
+        run = base.ran(self.player, given="".join(line + "\n" for lines in plays for line in lines).encode())
+        return run.returncode, run.stderr.decode(), run.stdout.decode().splitlines()
 
+    def is_wrong(self, lines):
+        """Whether the program and the model differ on a schedule."""
+        return self.played(lines) != (0, "", lines_of(lines))
 
-def main():
-    passed = failed = 0
-    pairs = list(schedules())
-    printed, fault = printed_by(sys.argv[1], [lines for pair in pairs for lines in pair])
-    faults = [("the run", fault)]
-    for number, pair in enumerate(pairs):
-        faults.append((f"schedule {number}", fault_of(*pair, *printed[2 * number:2 * number + 2])))
-    for name, fault in faults:
-        if fault is None:
-            passed += 1
-        else:
-            failed += 1
-            print(f"FAILS {name}: {fault}")
-    print(f"{passed} passed, {failed} failed")
-    return 1 if failed else 0
+    def said_of(self, lines):
+        """What is said of a schedule that fails: it with fewer steps, and what is wrong then."""
+        head, steps = lines[:HEAD], lines[HEAD:-1]
+        fewer = [*head, *smallest(steps, lambda some: self.is_wrong([*head, *some, "end"])), "end"]
+        status, error, got = self.played(fewer)
+        return "\n".join([f"{len(fewer)} of {len(lines)} lines:", *fewer, "wanted:", *lines_of(fewer), "got:", *got,
+                          f"status {status} {error}"])
 
-
-if __name__ == "__main__":
-    sys.exit(main())
+    @base.each_seed(SEED, COUNT)
+    def test_schedules(self, seed):
+        """What completes is what the model says, as it is and in pieces."""
+        lines, pieces = made(seed)
+        wanted = lines_of(lines)
+        self.assertEqual(lines_of(pieces), wanted, "the model says another thing of the pieces")
+        ended = self.played(lines, pieces)
+        if ended != (0, "", wanted * 2):
+            wrong = [some for some in (lines, pieces) if self.is_wrong(some)]
+            self.fail(self.said_of(wrong[0]) if wrong else f"both together: {ended}, not {wanted} twice")

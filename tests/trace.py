@@ -1,7 +1,4 @@
-#!/usr/bin/env python3
 """Checks what `giop trace --json` prints, field by field.
-
-usage: trace.py PROGRAM
 
 - Each recorded connection of tests/follow is traced, and each of its messages is compared with what is read of its
   octets here.
@@ -11,19 +8,20 @@ usage: trace.py PROGRAM
   objects.
 - Octets that are no message stand between messages, and with --resume each message is found.
 
-The last line is 'N passed, M failed'; the status is 0 only where all passed.
+A session that fails is printed with as few messages as are found with which it still does, as the program takes it.
 """
 import datetime
 import json
 import os
 import random
 import re
-import struct
-import subprocess
-import sys
+import unittest
 
-HERE = os.path.dirname(os.path.abspath(__file__))
-FOLLOW = os.path.join(HERE, "follow")
+from tests import base, giop, programs
+from tests.cdr import LITTLE, Octets
+from tests.smaller import smallest
+
+FOLLOW = os.path.join(programs.HERE, "follow")
 SESSIONS = 60
 SEED = 20261126
 KINDS = ["Request", "Reply", "CancelRequest", "LocateRequest", "LocateReply", "CloseConnection", "MessageError"]
@@ -35,21 +33,6 @@ NAMES = {1: "CodeSets", 13: "FT_REQUEST"}
 EPOCH = datetime.datetime(1582, 10, 15)
 
 
-def cdr_string(order, text):
-    return struct.pack(order + "I", len(text) + 1) + text + b"\0"
-
-
-def padded(octets, size, at=0):
-    return octets + bytes(-(at + len(octets)) % size)
-
-
-def ft_context(order, client, retention, expiration):
-    body = bytes([1 if order == "<" else 0])
-    body = padded(body, 4) + cdr_string(order, client)
-    body = padded(body, 4) + struct.pack(order + "i", retention)
-    return padded(body, 8) + struct.pack(order + "Q", expiration)
-
-
 class Message:
     """A message to be sent: what it says, and its octets."""
 
@@ -57,69 +40,37 @@ class Message:
         self.kind, self.minor, self.order, self.id, self.says = kind, minor, order, request_id, says
 
     def contexts(self):
-        found = []
-        if self.says.get("codesets"):
-            found.append((1, bytes(12)))
-        if "ft" in self.says:
-            found.append((13, ft_context(self.order, *self.says["ft"])))
-        return found
+        found = [(giop.CODE_SETS, bytes(12))] if self.says.get("codesets") else []
+        return found + ([giop.ft_request(*self.says["ft"], self.order)] if "ft" in self.says else [])
 
-    def put_contexts(self, out):
-        out = padded(out, 4, 12) + struct.pack(self.order + "I", len(self.contexts()))
-        for number, octets in self.contexts():
-            out = padded(out, 4, 12) + struct.pack(self.order + "II", number, len(octets)) + octets
-        return out
-
-    def put_key(self, out):
-        if self.minor == 2:
-            out = padded(out, 2, 12) + struct.pack(self.order + "h", 0)
-        return padded(out, 4, 12) + struct.pack(self.order + "I", 1) + b"k"
-
-    def fields(self):
-        pack = lambda form, *values: struct.pack(self.order + form, *values)
-        wish = self.says.get("wish", 3)
-        if self.kind in (CANCEL,):
-            return pack("I", self.id)
-        if self.kind in (CLOSE, ERROR):
-            return b""
-        if self.kind == LOCATE:
-            return self.put_key(pack("I", self.id))
-        if self.kind == LOCATED:
-            return pack("II", self.id, self.says["status"])
-        if self.kind == REPLY:
-            if self.minor == 2:
-                return padded(self.put_contexts(pack("II", self.id, self.says["status"])), 8, 12)
-            return padded(self.put_contexts(b""), 4, 12) + pack("II", self.id, self.says["status"])
-        if self.minor == 2:
-            out = self.put_key(pack("IB", self.id, wish) + bytes(3))
-            out = padded(out, 4, 12) + cdr_string(self.order, self.says["operation"])
-            return padded(self.put_contexts(out), 8, 12)
-        out = padded(self.put_contexts(b""), 4, 12) + pack("IB", self.id, 1 if wish else 0)
-        if self.minor == 1:
-            out += bytes(3)
-        out = padded(self.put_key(out), 4, 12) + cdr_string(self.order, self.says["operation"])
-        return padded(out, 4, 12) + pack("I", 0)
+    def body(self, out):
+        """Its body, which in 1.2 begins at a multiple of 8 also where it is empty."""
+        out.all += self.says.get("body", b"")
 
     def octets(self):
         """Its octets in one frame."""
-        return self.frame(self.kind, self.fields() + self.says.get("body", b""), False)
-
-    def frame(self, kind, octets, more):
-        flags = (1 if self.order == "<" else 0) | (2 if more else 0)
-        return b"GIOP\1" + bytes([self.minor, flags, kind]) + struct.pack(self.order + "I", len(octets)) + octets
+        how = {"minor": self.minor, "order": self.order}
+        if self.kind == CANCEL:
+            return giop.cancel(self.id, **how)
+        if self.kind == LOCATE:
+            return giop.locate(self.id, b"k", **how)
+        if self.kind == LOCATED:
+            return giop.located(self.id, self.says["status"], **how)
+        if self.kind == REPLY:
+            return giop.reply(self.id, self.body, status=self.says["status"], contexts=self.contexts(), **how)
+        if self.kind == REQUEST:
+            return giop.request(self.id, b"k", self.says["operation"], self.body, wish=self.says.get("wish", 3),
+                                contexts=self.contexts(), **how)
+        return giop.message(self.kind, b"", **how)
 
     def frames(self, rng):
         """Its octets in one frame, or in two where its version lets it be cut."""
-        whole = self.fields() + self.says.get("body", b"")
+        octets = self.octets()
         if self.kind not in (REQUEST, REPLY) or self.minor == 0 or rng.random() < 0.7:
-            return [self.octets()]
+            return [octets]
         # the first frame ends 8 octets further on, with its header: in 1.1 it leaves 4
-        places = [n for n in range(12, len(whole)) if (n + 12) % 8 == (0 if self.minor == 2 else 4)]
-        if not places:
-            return [self.octets()]
-        cut = rng.choice(places)
-        head = struct.pack(self.order + "I", self.id) if self.minor == 2 else b""
-        return [self.frame(self.kind, whole[:cut], True), self.frame(FRAGMENT, head + whole[cut:], False)]
+        places = [n for n in range(12, len(octets) - 12) if (n + 12) % 8 == (0 if self.minor == 2 else 4)]
+        return giop.cut(octets, [rng.choice(places)]) if places else [octets]
 
 
 def expires(moment):
@@ -214,7 +165,7 @@ def object_of(message, number, connection, side, end, request, repeat, earlier):
               "expires": expires(expiration)}
     return {
         "line": "message", "number": number, "connection": connection, "direction": ["opener", "acceptor"][side],
-        "to": end, "version": f"1.{message.minor}", "order": "little" if message.order == "<" else "big",
+        "to": end, "version": f"1.{message.minor}", "order": "little" if message.order == LITTLE else "big",
         "kind": KINDS[kind], "id": None if kind in (CLOSE, ERROR) else message.id,
         "reply": WISHES[says["wish"]] if kind == REQUEST else None,
         "target": {"key": "6b", "text": "k", "tag": None, "profile": None, "index": None}
@@ -231,9 +182,9 @@ def object_of(message, number, connection, side, end, request, repeat, earlier):
 def exception(order, rng):
     """A system exception: its octets, and what is printed of it."""
     name, minor, done = rng.choice(["UNKNOWN", "MARSHAL", "TIMEOUT"]), rng.randrange(1 << 32), rng.randrange(3)
-    text = f"IDL:omg.org/CORBA/{name}:1.0".encode()
-    body = padded(cdr_string(order, text), 4) + struct.pack(order + "II", minor, done)
-    return body, {"id": text.decode(), "name": name, "minor": minor, "completed": ["YES", "NO", "MAYBE"][done]}
+    out = Octets(0, order)
+    giop.system_body(name, done, minor)(out)
+    return out.all, {"id": giop.repository_id(name), "name": name, "minor": minor, "completed": ["YES", "NO", "MAYBE"][done]}
 
 
 def request(rng, minor, order):
@@ -267,28 +218,53 @@ def any_message(rng, minor):
 
 
 def session(rng):
-    made = Session(rng)
+    """The steps of a session: a connection is opened (None), or a side sends a message."""
+    steps = []
     for _ in range(rng.randrange(1, 4)):
-        made.open()
+        steps.append(None)
         minor = rng.choice([0, 1, 2, 2])
         for _ in range(rng.randrange(1, 40)):
-            made.send(rng.randrange(2), any_message(rng, minor))
+            steps.append((rng.randrange(2), any_message(rng, minor)))
         if rng.random() < 0.5:
-            made.send(0, Message(rng.choice([CLOSE, ERROR]), minor, ">", None))
+            steps.append((0, Message(rng.choice([CLOSE, ERROR]), minor, ">", None)))
+    return steps
+
+
+def with_junk(rng):
+    """The steps of a session in which octets that are no message stand between messages."""
+    steps = [None]
+    for n in range(20):
+        steps.append((0, Message(REQUEST, 2, ">", n, wish=3, operation=b"get")))
+        junk = bytes(rng.choice(b"GIOP\0\1\2") for _ in range(rng.randrange(12, 40)))
+        if rng.random() < 0.4 and b"GIOP\1" not in junk and not junk.endswith((b"G", b"GI", b"GIO", b"GIOP")):
+            steps.append((0, junk))
+    return steps
+
+
+def played(steps, rng):
+    """The session of these steps, whose lines are cut at random."""
+    made = Session(rng)
+    for step in steps:
+        if step is None:
+            made.open()
+        elif isinstance(step[1], bytes):
+            made.write(*step)
+        else:
+            made.send(*step)
     return made
 
 
-class Program:
-    def __init__(self, path):
-        self.path = os.path.abspath(path)
+def traced(text, *words):
+    """How `giop trace` ends on a text: its status, and what it prints."""
+    run = base.ran(programs.program("GIOP"), "trace", *words, given=text.encode())
+    return run.returncode, run.stdout.decode(), run.stderr.decode()
 
-    def run(self, text, *words):
-        ran = subprocess.run([self.path, "trace", *words], input=text.encode(), capture_output=True, timeout=60)
-        return ran.returncode, ran.stdout.decode(), ran.stderr.decode()
 
-    def objects(self, text, *words):
-        status, out, err = self.run(text, "--json", *words)
-        return status, [json.loads(line) for line in out.splitlines()], err
+def traced_objects(text, *words):
+    """The same with --json: the objects in place of the lines, but for those of connections."""
+    status, out, err = traced(text, "--json", *words)
+    objects = [json.loads(line) for line in out.splitlines()]
+    return status, [one for one in objects if one["line"] != "connection"], err
 
 
 def differences(wanted, got):
@@ -320,6 +296,7 @@ def ending(made, objects, faults=0, passed=0):
         "cancelled": [n for n in waits if n in cancelled],
         "strays": [o["number"] for o in objects if o["kind"] in ("Reply", "LocateReply") and o["request"] is None],
         "repeats": [o["number"] for o in objects if o["repeats"] is not None], "faults": faults, "passed": passed,
+        "missing": 0,
     }
 
 
@@ -328,11 +305,11 @@ def line_heads(out):
     return re.findall(r"^(\d+) ([<>]) to (\d+) (1\.[012]) (big|little) (\w+)", out, re.M)
 
 
-def check_session(program, seed):
+def check_session(steps, seed):
     """What is wrong with the trace of a session, or None."""
-    made = session(random.Random(seed))
+    made = played(steps, random.Random(seed))
     wanted, text = list(made.objects()), "".join(made.text)
-    status, got, err = program.objects(text)
+    status, got, err = traced_objects(text)
     if err or status != 0:
         return f"status {status}, {err!r}"
     wrong = compared(wanted, got[:-1]) or differences(ending(made, wanted), got[-1])
@@ -340,32 +317,22 @@ def check_session(program, seed):
         return wrong
     heads = [(str(o["number"]), "<" if o["direction"] == "acceptor" else ">", str(o["to"]), o["version"], o["order"],
               o["kind"]) for o in wanted]
-    return None if line_heads(program.run(text)[1]) == heads else "the lines for a person differ"
+    return None if line_heads(traced(text)[1]) == heads else "the lines for a person differ"
 
 
-def check_junk(program, seed):
-    """Octets that are no message between messages: what is wrong with the trace that resumes, or None."""
-    rng = random.Random(seed)
-    made = Session(rng)
-    made.open()
-    faults = passed = 0
-    for n in range(20):
-        made.send(0, Message(REQUEST, 2, ">", n, wish=3, operation=b"get"))
-        if rng.random() < 0.4:
-            junk = bytes(rng.choice(b"GIOP\0\1\2") for _ in range(rng.randrange(12, 40)))
-            if b"GIOP\1" in junk or junk.endswith((b"G", b"GI", b"GIO", b"GIOP")):
-                continue
-            made.write(0, junk)
-            faults, passed = faults + 1, passed + len(junk)
-    wanted = list(made.objects())
-    status, got, err = program.objects("".join(made.text), "--resume")
-    if err or status != (1 if faults else 0):
+def check_junk(steps, seed):
+    """What is wrong with the trace that resumes after octets that are no message, or None."""
+    made = played(steps, random.Random(seed))
+    junk = [step[1] for step in steps if step and isinstance(step[1], bytes)]
+    wanted, passed = list(made.objects()), sum(map(len, junk))
+    status, got, err = traced_objects("".join(made.text), "--resume")
+    if err or status != (1 if junk else 0):
         return f"status {status}, {err!r}"
     lines = [o for o in got[:-1] if o["line"] == "message"]
     counted = sum(o["octets"] for o in got if o["line"] == "passed")
     if counted != passed:
         return f"{counted} octets passed over in place of {passed}"
-    return compared(wanted, lines) or differences(ending(made, wanted, faults, passed), got[-1])
+    return compared(wanted, lines) or differences(ending(made, wanted, len(junk), passed), got[-1])
 
 
 def recorded(name):
@@ -379,11 +346,11 @@ def recorded(name):
     return text, found
 
 
-def check_recorded(program, name):
+def check_recorded(name):
     """What is wrong with the trace of a recorded connection, in which each line is a frame, or None."""
     text, frames = recorded(name)
     whole = [(side, o) for side, o in frames if not o[6] & 2]
-    status, got, err = program.objects(text)
+    status, got, err = traced_objects(text)
     if err or status != 0:
         return f"status {status}, {err!r}"
     if len(got) != len(whole) + 1 or got[-1]["messages"] != len(whole):
@@ -398,22 +365,38 @@ def check_recorded(program, name):
     return None
 
 
-def main(words):
-    if len(words) != 1:
-        sys.exit("usage: trace.py PROGRAM")
-    program = Program(words[0])
-    checks = [(f"recorded {name}", check_recorded, name) for name in sorted(os.listdir(FOLLOW)) if name.endswith(".txt")]
-    checks += [(f"session {n}", check_session, SEED + n) for n in range(SESSIONS)]
-    checks += [(f"octets that are no message {n}", check_junk, SEED + n) for n in range(SESSIONS // 3)]
-    failed = 0
-    for name, check, what in checks:
-        wrong = check(program, what)
+def recordings():
+    """The recorded connections."""
+    return [(name, name) for name in sorted(os.listdir(FOLLOW)) if name.endswith(".txt")]
+
+
+class Trace(unittest.TestCase):
+    """What is said of connections."""
+
+    @classmethod
+    def setUpClass(cls):
+        programs.program("GIOP")
+
+    def judge(self, check, steps, seed):
+        """Where a session fails, it is made smaller; its first step, which opens a connection, stays."""
+        if check(steps, seed):
+            fewer = [None, *smallest(steps[1:], lambda some: check([None, *some], seed))]
+            text = "".join(played(fewer, random.Random(seed)).text)
+            self.fail(f"{len(fewer)} of {len(steps)} steps, {check(fewer, seed)}\n{text}")
+
+    @base.each(recordings)
+    def test_recorded(self, name):
+        """Each message of a recorded connection is said as it is read here."""
+        wrong = check_recorded(name)
         if wrong:
-            failed += 1
-            print(f"{name}: {wrong}")
-    print(f"{len(checks) - failed} passed, {failed} failed")
-    return 1 if failed else 0
+            self.fail(wrong)
 
+    @base.each_seed(SEED, SESSIONS)
+    def test_sessions(self, seed):
+        """The pairs of a session are found, and its lines for a person say what its objects do."""
+        self.judge(check_session, session(random.Random(seed)), seed)
 
-if __name__ == "__main__":
-    sys.exit(main(sys.argv[1:]))
+    @base.each_seed(SEED, SESSIONS // 3)
+    def test_junk(self, seed):
+        """Each message is found after octets that are none."""
+        self.judge(check_junk, with_junk(random.Random(seed)), seed)

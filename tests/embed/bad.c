@@ -932,8 +932,16 @@ static void errors_have_texts(void) {
   CHECK(strcmp(lr_strerror(-1000), lr_strerror(INT64_MIN)) == 0);
 }
 
+static void heaps_are_whole(void) {
+  WANT(lr_set_heap(NULL, NULL, NULL), LR_E_RANGE);
+  WANT(lr_set_heap(NULL, realloc, free), LR_E_RANGE);
+  WANT(lr_set_heap(malloc, NULL, free), LR_E_RANGE);
+  WANT(lr_set_heap(malloc, realloc, NULL), LR_E_RANGE);
+}
+
 int main(void) {
   WANT(lr_version(), LR_VERSION_MAJOR * 65536 + LR_VERSION_MINOR * 256 + LR_VERSION_PATCH);
+  heaps_are_whole();
   slots_are_refused();
   servers_want_a_catalogue();
   limits_are_refused();

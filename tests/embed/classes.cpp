@@ -1,6 +1,7 @@
 // The classes of lemonrudder.hpp: what they own and move, their errors, and a client and a server that talk in memory.
 #include <array>
 #include <cstdio>
+#include <cstdlib>
 #include <lemonrudder.hpp>
 #include <string>
 #include <type_traits>
@@ -29,8 +30,14 @@ void check(bool is_right, const char* text, int line) {
 static_assert(!std::is_copy_constructible_v<lr::Server> && !std::is_copy_assignable_v<lr::Server>);
 static_assert(std::is_nothrow_move_constructible_v<lr::Server> && std::is_nothrow_move_assignable_v<lr::Server>);
 static_assert(!std::is_convertible_v<lr::Result<bool>, bool> && !std::is_constructible_v<bool, lr::Result<bool>>);
-static_assert(!std::is_constructible_v<lr::Reader, std::vector<std::uint8_t>>);
-static_assert(std::is_constructible_v<lr::Reader, std::vector<std::uint8_t>&>);
+template <class Octets>
+constexpr bool is_read = std::is_constructible_v<lr::Reader, Octets, lr::Order>;
+static_assert(!is_read<std::vector<std::uint8_t>> && !is_read<const std::vector<std::uint8_t>>);
+static_assert(!is_read<std::string> && !is_read<const std::string> && !is_read<std::array<std::uint8_t, 4>>);
+static_assert(is_read<std::vector<std::uint8_t>&> && is_read<const std::vector<std::uint8_t>&>);
+static_assert(is_read<std::string&> && is_read<const std::string&> && is_read<std::array<std::uint8_t, 4>&>);
+static_assert(is_read<const char*> && is_read<std::string_view> && is_read<lr::Octets>);
+static_assert(std::is_copy_constructible_v<lr::Reader> && std::is_move_constructible_v<lr::Reader>);
 
 /* A server of the object `c` with add(long) -> long, which raises Wrong { string }, and of `raw`. */
 lr::Result<lr::Server> open_server() {
@@ -117,6 +124,35 @@ void a_call_acts_once() {
   CHECK(none && !*none);
   const auto is_cancelled = client->cancel(1);
   CHECK(is_cancelled.ok() && !*is_cancelled);
+}
+
+/* How often the library took memory. */
+long allocations = 0;
+
+void* allocate(std::size_t size) {
+  allocations++;
+  return std::malloc(size);
+}
+
+void* reallocate(void* at, std::size_t size) {
+  allocations++;
+  return std::realloc(at, size);
+}
+
+/* The body of an operation with types is made of its values, which takes memory each time: it is made once. */
+void a_body_is_made_once() {
+  auto server = open_server();
+  if (!server || !server->connect(1)) return CHECK(false);
+  std::array<std::uint8_t, 256> room;
+  const auto size = lr::write_request(room, {}, lr::Wish::full, "c", "add", lr::Octets("\0\0\0\5", 4));
+  CHECK(size && server->feed(1, now, lr::Octets(room).first(*size)));
+  const long before = allocations;
+  CHECK(server->part(lr::Part::body, room));
+  const long once = allocations - before;
+  CHECK(once > 0);
+  const auto body = server->part(lr::Part::body);
+  CHECK(body && *body == (std::vector<std::uint8_t>{0, 0, 0, 5}));
+  CHECK(allocations - before == 2 * once);
 }
 
 /* Each way to answer. */
@@ -228,8 +264,10 @@ void moments_are_counted() {
 }  // namespace
 
 int main() {
+  CHECK(lr_set_heap(allocate, reallocate, std::free) == LR_OK);
   objects_move();
   a_call_acts_once();
+  a_body_is_made_once();
   requests_are_answered();
   messages_are_read();
   references_are_printed();

@@ -1,28 +1,24 @@
-#!/usr/bin/env python3
 """Compiles and runs the first programs of docs/EMBEDDING.md, in the way that it says.
 
-usage: first_programs.py PREFIX
-
-PREFIX is the folder into which `./build library` has put the library. The programs in C and C++ are linked with the
-shared library, and with the archive. Each program must print the line that docs/EMBEDDING.md shows. The last line is
-'N passed, M failed'.
+The programs in C and C++ are linked with the shared library, and with the archive. Each program must print the line
+that docs/EMBEDDING.md shows.
 """
 import os
 import subprocess
 import sys
 import tempfile
-from functools import partial
+import unittest
 
-HERE = os.path.dirname(os.path.abspath(__file__))
-ROOT = os.path.dirname(os.path.dirname(HERE))
+from tests import programs
+
 PRINTED = "add returned 7, the total is 7\n"
 SECONDS = 300
 STRICT = ["-Wall", "-Wextra", "-Wpedantic", "-Werror"]
-COMPILERS = [(["cc", "-std=c99", *STRICT], "examples/first.c"), (["c++", "-std=c++17", *STRICT], "examples/first.cpp")]
 
 
 def path(name):
-    return os.path.join(ROOT, name)
+    """The path of a file of the repository."""
+    return os.path.join(programs.ROOT, name)
 
 
 def run(words, **options):
@@ -34,53 +30,59 @@ def run(words, **options):
     return ran.stdout
 
 
-def linked(words, program, environment):
-    """What a program prints that is compiled and linked by these words."""
-    run([*words, "-o", program])
-    return run([program], env=environment)
+class FirstPrograms(unittest.TestCase):
+    """The first program of each language."""
 
+    @classmethod
+    def setUpClass(cls):
+        cls.prefix = programs.library()
+        cls.lib = os.path.join(cls.prefix, "lib")
 
-def compiled(prefix, folder):
-    """The programs in C and C++, linked in either way, each with how it is run."""
-    found = dict(os.environ, PKG_CONFIG_PATH=os.path.join(prefix, "lib", "pkgconfig"))
-    flags = run(["pkg-config", "--cflags", "--libs", "lemonrudder"], env=found).split()
-    archive = [f"-I{prefix}/include", os.path.join(prefix, "lib", "liblemonrudder.a")]
-    shared = dict(os.environ, LD_LIBRARY_PATH=os.path.join(prefix, "lib"))
-    alone = {name: value for name, value in os.environ.items() if name != "LD_LIBRARY_PATH"}
-    for compiler, source in COMPILERS:
-        for how, libraries, environment in (("shared", flags, shared), ("static", archive, alone)):
-            program = os.path.join(folder, f"{how}_{os.path.basename(source)}.out")
-            yield source, how, partial(linked, [*compiler, path(source), *libraries], program, environment)
+    def setUp(self):
+        folder = tempfile.TemporaryDirectory()
+        self.addCleanup(folder.cleanup)
+        self.folder = folder.name
 
+    def prints(self, words, **options):
+        """What is run prints the line."""
+        self.assertEqual(run(words, **options), PRINTED)
 
-def others(prefix, folder):
-    """The programs in Python and Rust."""
-    found = dict(os.environ, PYTHONPATH=path("bindings/python"),
-                 LEMONRUDDER_LIBRARY=os.path.join(prefix, "lib", "liblemonrudder.so.0"))
-    source = "examples/first.py"
-    yield source, "shared", partial(run, [sys.executable, "-W", "error", path(source)], env=found)
-    built = dict(os.environ, LEMONRUDDER_LIB_DIR=os.path.join(prefix, "lib"), CARGO_TARGET_DIR=folder)
-    words = ["cargo", "run", "--quiet", "--offline", "--locked", "--example", "first"]
-    source = "bindings/rust/examples/first.rs"
-    yield source, "static", partial(run, words, cwd=path("bindings/rust"), env=built)
+    def links(self, how, words, **environment):
+        """The program that is compiled and linked by these words prints the line."""
+        program = os.path.join(self.folder, how)
+        run([*words, "-o", program])
+        self.prints([program], env={name: value for name, value in {**os.environ, **environment}.items() if value})
 
+    def compiles(self, compiler, standard, source):
+        """A program prints the line with either library."""
+        programs.tool(compiler)
+        words = [compiler, f"-std={standard}", *STRICT, path(source)]
+        with self.subTest("static"):
+            archive = os.path.join(self.lib, "liblemonrudder.a")
+            self.links("static", [*words, f"-I{self.prefix}/include", archive], LD_LIBRARY_PATH="")
+        with self.subTest("shared"):
+            programs.tool("pkg-config")
+            found = dict(os.environ, PKG_CONFIG_PATH=os.path.join(self.lib, "pkgconfig"))
+            flags = run(["pkg-config", "--cflags", "--libs", "lemonrudder"], env=found).split()
+            self.links("shared", [*words, *flags], LD_LIBRARY_PATH=self.lib)
 
-def main():
-    if len(sys.argv) != 2:
-        sys.exit(__doc__)
-    prefix, passed, failed = os.path.abspath(sys.argv[1]), 0, 0
-    with tempfile.TemporaryDirectory() as folder:
-        for source, how, program in (*compiled(prefix, folder), *others(prefix, folder)):
-            try:
-                printed = program()
-                if printed != PRINTED:
-                    raise AssertionError(f"it printed {printed!r}")
-                passed += 1
-            except (AssertionError, OSError, subprocess.TimeoutExpired) as fault:
-                print(f"{source}, {how}: {fault}")
-                failed += 1
-    print(f"{passed} passed, {failed} failed")
-    return 1 if failed else 0
+    def test_c(self):
+        """In C."""
+        self.compiles("cc", "c99", "examples/first.c")
 
+    def test_cpp(self):
+        """In C++."""
+        self.compiles("c++", "c++17", "examples/first.cpp")
 
-sys.exit(main())
+    def test_python(self):
+        """In Python."""
+        found = dict(os.environ, PYTHONPATH=path("bindings/python"),
+                     LEMONRUDDER_LIBRARY=os.path.join(self.lib, "liblemonrudder.so.0"))
+        self.prints([sys.executable, "-W", "error", path("examples/first.py")], env=found)
+
+    @programs.needs("cargo")
+    def test_rust(self):
+        """In Rust."""
+        built = dict(os.environ, LEMONRUDDER_LIB_DIR=self.lib, CARGO_TARGET_DIR=self.folder)
+        self.prints(["cargo", "run", "--quiet", "--offline", "--locked", "--example", "first"],
+                    cwd=path("bindings/rust"), env=built)

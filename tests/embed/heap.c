@@ -444,7 +444,7 @@ static const struct {
                {"values_take_none", values_take_none}};
 
 int main(void) {
-  lr_set_heap(allocate, reallocate, release);
+  WANT(lr_set_heap(allocate, reallocate, release), LR_OK);
   for (size_t index = 0; index < sizeof scripts / sizeof *scripts; index++) {
     refused_at = 0;
     do {

@@ -1,36 +1,33 @@
-#!/usr/bin/env python3
 """Tests bindings/python/lemonrudder.py and its examples.
 
-usage: python_test.py LIBRARY [NAME..]
-
-LIBRARY is the shared library. With names only those tests run, as `Formats` or `Formats.test_faults`. What is read is
-compared with the rows and cases of `giop show`, with octets that are written here a second time, and with the models of
-tests/engine.py. The last line is 'N passed, M failed', where each script, stream and row counts.
+What is read is compared with the rows and cases of `giop show`, with octets of tests/giop.py, and with the models of
+tests/engine.py. The library is that of LEMONRUDDER_LIBRARY, or the one that tests/programs.py finds.
 """
 import asyncio
 import ctypes
 import gc
+import logging
 import os
 import random
 import re
+import socket
 import struct
 import subprocess
 import sys
 import tempfile
+import time
 import unittest
 
-HERE = os.path.dirname(os.path.abspath(__file__))
-ROOT = os.path.dirname(os.path.dirname(HERE))
-if __name__ == "__main__":
-    if len(sys.argv) < 2:
-        sys.exit("usage: python_test.py LIBRARY [NAME..]")
-    os.environ["LEMONRUDDER_LIBRARY"] = os.path.abspath(sys.argv[1])
-sys.path[:0] = [os.path.join(ROOT, "bindings", "python"), os.path.join(ROOT, "tests")]
+from tests import base, cases, giop, rows
+from tests import engine as model
+from tests.cdr import Octets
+from tests.programs import ROOT, library
 
-import engine as model  # noqa: E402
+if "LEMONRUDDER_LIBRARY" not in os.environ:
+    os.environ["LEMONRUDDER_LIBRARY"] = os.path.join(library(), "lib", "liblemonrudder.so.0")
+sys.path.insert(0, os.path.join(ROOT, "bindings", "python"))
+
 import lemonrudder as lr  # noqa: E402
-import run_rows  # noqa: E402
-from ends_model import Octets  # noqa: E402
 from lemonrudder import BIG, LITTLE, Error, Signature  # noqa: E402
 
 SEED = 31
@@ -345,16 +342,9 @@ def like(lines, wanted):
 
 def shown_cases():
     """The cases of `giop show`: a name, the octets, and the lines."""
-    folder = os.path.join(ROOT, "tests", "cases", "show")
-    for name in sorted(os.listdir(folder)):
-        if not name.endswith(".stdout"):
-            continue
-        with open(os.path.join(folder, name)) as file:
-            lines = file.read().splitlines()
-        with open(os.path.join(folder, name.replace(".stdout", ".stdin")), encoding="latin-1") as file:
-            digits = file.read()
-        if lines:
-            yield name, bytes.fromhex("".join(digits.split())), lines
+    for name, case in cases.cases_of("show"):
+        if case.out:
+            yield name, bytes.fromhex("".join(case.given.decode().split())), case.out.decode().splitlines()
 
 
 class Messages(Case):
@@ -366,12 +356,11 @@ class Messages(Case):
             self.assertEqual(like(lines_of_stream(pieces), wanted), wanted)
 
     def test_rows(self):
-        for name in sorted(os.listdir(run_rows.HERE)):
-            for row in run_rows.rows_of(name):
-                for place, octets, wanted in run_rows.streams_of(row):
-                    if wanted:
-                        with self.subTest(place):
-                            self.compare(octets, wanted)
+        for name in rows.files():
+            for place, (octets, wanted) in rows.streams_in(name):
+                if wanted:
+                    with self.subTest(place):
+                        self.compare(octets, wanted)
 
     def test_cases(self):
         for name, octets, lines in shown_cases():
@@ -518,22 +507,6 @@ class Messages(Case):
         self.fails(Error.EMPTY, assembler.feed, b"GIOP")
 
 
-def cut_up(octets, sizes):
-    """A message of 1.2 in fragments: so many octets of its body in each frame before the last."""
-    order, kind, request_id = ">" if octets[6] == 0 else "<", octets[7], octets[12:16]
-    frames, at, more = [], 12, 2
-    for size in [*sizes, len(octets)]:
-        part = octets[at:at + size]
-        at += size
-        more = 2 if at < len(octets) else 0
-        head = b"" if not frames else request_id
-        flags = bytes([octets[6] | more, kind if not frames else 7])
-        frames.append(b"GIOP\1\2" + flags + struct.pack(order + "I", len(head + part)) + head + part)
-        if not more:
-            return frames
-    return frames
-
-
 class Fragments(Case):
     """Messages that are cut, and the faults of streams by name."""
 
@@ -546,7 +519,7 @@ class Fragments(Case):
             order = dice.choice([BIG, LITTLE])
             octets = self.request(number, 256 * dice.randint(1, 8), order)
             sizes = [4 + 8 * dice.randint(1, 20)]
-            frames = cut_up(octets, sizes + [8 * dice.randint(0, 20) for _ in range(9)])
+            frames = giop.cut(octets, sizes + [8 * dice.randint(0, 20) for _ in range(9)])
             with self.subTest(number=number):
                 self.assertEqual(list(lr.messages(b"".join(frames))), list(lr.messages(octets)))
 
@@ -555,7 +528,7 @@ class Fragments(Case):
         for number in range(60):
             count = dice.randint(2, 8)
             whole = [self.request(one, 1024) for one in range(count)]
-            left = [cut_up(octets, [12] + [8 * dice.randint(1, 20) for _ in range(9)]) for octets in whole]
+            left = [giop.cut(octets, [12] + [8 * dice.randint(1, 20) for _ in range(9)]) for octets in whole]
             stream, order = b"", []
             while any(left):
                 one = dice.choice([one for one in range(count) if left[one]])
@@ -569,16 +542,14 @@ class Fragments(Case):
 
     def test_of_1_1(self):
         octets = lr.write_request(3, b"key", "operation_of_16", bytes(range(64)), version=1)
-        at = 12 + 8 * 5
-        first = octets[:6] + b"\2\0" + struct.pack(">I", at - 12) + octets[12:at]
-        last = b"GIOP\1\1\0\7" + struct.pack(">I", len(octets) - at) + octets[at:]
+        first, last = giop.cut(octets, [8 * 5])
         self.assertEqual(len(first) % 8, 4)
         self.assertEqual(list(lr.messages(first + last)), list(lr.messages(octets)))
 
     def test_faults_by_name(self):
         close, request = lr.write_close(), self.request(1, 256)
-        first, second, *_ = cut_up(request, [12, 64])
-        other = cut_up(self.request(2, 256), [12])[0]
+        first, second, *_ = giop.cut(request, [12, 64])
+        other = giop.cut(self.request(2, 256), [12])[0]
         mixed = second[:6] + bytes([second[6] | 1]) + second[7:8] + second[11:7:-1] + second[15:11:-1] + second[16:]
         cases = {
             "MAGIC": b"GIOQ" + close[4:],
@@ -587,7 +558,7 @@ class Fragments(Case):
             "TYPE": close[:7] + b"\x08" + close[8:],
             "CUT": b"GIOP\1\2\2\5" + bytes(4),
             "TOO_LARGE": close[:8] + b"\0\x20\0\0",
-            "UNALIGNED_FRAGMENT": cut_up(request, [13])[0],
+            "UNALIGNED_FRAGMENT": giop.cut(request, [13])[0],
             "STRAY_FRAGMENT": second,
             "TWICE_STARTED": first + request,
             "TOO_MANY_PARTIAL": first + other,
@@ -996,16 +967,24 @@ class Player:
 class Scripts(Case):
     """Random events on an engine, against the model of tests/engine.py."""
 
-    def test_scripts(self):
-        dice = Dice(SEED)
-        for number in range(SCRIPTS):
-            terms, streams, events = model.Maker(dice).made()
-            for kind, some in (("whole", events), ("in pieces", list(model.in_pieces(dice, events)))):
-                with self.subTest(number=number, kind=kind):
-                    # how many requests came before one that was given up is not told here
-                    wanted = [re.sub(r"^(given_up \d+) \d+$", r"\1", line)
-                              for line in model.lines_of(terms, streams, some)]
-                    self.assertEqual(Player(terms, dice).play(some), wanted)
+    def fault_of(self, seed, terms, steps):
+        """How the lines of a script, as it is and in pieces, differ from those of the model, or None."""
+        streams, events = model.played(steps)
+        for some in (events, list(model.in_pieces(Dice(seed), events))):
+            # how many requests came before one that was given up is not told here
+            wanted = [re.sub(r"^(given_up \d+) \d+$", r"\1", line) for line in model.lines_of(terms, streams, some)]
+            got = Player(terms, Dice(seed)).play(some)
+            if got != wanted:
+                return "\n".join([str(terms), *map(model.line_of, some), "wanted:", *wanted, "got:", *got])
+        return None
+
+    @base.each_seed(SEED, SCRIPTS)
+    def test_scripts(self, seed):
+        maker = model.Maker(Dice(seed))
+        maker.made()
+        if self.fault_of(seed, maker.terms, maker.steps):
+            fewer = model.smallest_script(maker.steps, lambda some: self.fault_of(seed, maker.terms, some))
+            self.fail(f"{len(fewer)} of {len(maker.steps)} steps, {self.fault_of(seed, maker.terms, fewer)}")
 
 
 # ---- both ends over asyncio ----
@@ -1378,6 +1357,146 @@ class Ends(Case):
         self.run_async(main())
 
 
+class Records(logging.Handler):
+    """What is logged, by a logger that says nothing otherwise."""
+
+    def __init__(self, name):
+        super().__init__()
+        self.logger, self.records = logging.getLogger(name), []
+
+    def emit(self, record):
+        self.records.append(record.getMessage())
+
+    def __enter__(self):
+        self.was_propagated, self.logger.propagate = self.logger.propagate, False
+        self.logger.addHandler(self)
+        return self.records
+
+    def __exit__(self, *error):
+        self.logger.removeHandler(self)
+        self.logger.propagate = self.was_propagated
+
+
+class Turns(Case):
+    """Connections that send much at a time, beside others: each has its turn, and what is due to each is bounded."""
+
+    run_async, pair = Ends.run_async, Ends.pair
+
+    def connected(self, port):
+        """A socket of a peer, in whose buffers there is room for what is sent here."""
+        made = socket.create_connection(("127.0.0.1", port), timeout=SECONDS)
+        self.addCleanup(made.close)
+        return made
+
+    async def drained(self, server, left):
+        """Waits until so many connections are left."""
+        while server.connections != left:
+            await asyncio.sleep(0.01)
+
+    def test_each_connection_has_its_turn(self):
+        async def main():
+            asked = []
+
+            def note(number):
+                asked.append(number)
+                time.sleep(0.0005)
+
+            server, client = await self.pair({"note": ("l", "", note), "get": ("", "l", lambda: len(asked))})
+            async with server, client:
+                await client.call("k", "get", results="l")
+                requests = b"".join(lr.write_request(number, "k", "note", lr.pack("l", number))
+                                    for number in range(900))
+                peers = [self.connected(client.port) for _ in range(3)]
+                for peer in peers:
+                    peer.sendall(requests)
+                for _ in range(5):
+                    before = len(asked)
+                    self.assertLess(await client.call("k", "get", results="l") - before, 100)
+                while len(asked) < 2700:
+                    await asyncio.sleep(0.01)
+                self.assertEqual(sorted(asked), sorted(3 * list(range(900))))
+        self.run_async(main())
+
+    def test_all_is_answered_after_the_end_of_a_stream(self):
+        async def main():
+            server, client = await self.pair({"echo": ("s", "s", lambda text: text)})
+            texts = ["GIOP" * (number % 7) + str(number) for number in range(2000)]
+            requests = b"".join(lr.write_request(number, "k", "echo", lr.pack("s", text))
+                                for number, text in enumerate(texts))
+            async with server, client:
+                reader, writer = await asyncio.open_connection(client.host, client.port)
+                dice, at = Dice(SEED), 0
+                while at < len(requests):
+                    size = dice.choice([1, 3, 100, 50000])
+                    writer.write(requests[at:at + size])
+                    at += size
+                    if dice.random() < 0.1:
+                        await asyncio.sleep(0)
+                writer.write_eof()
+                answers = await reader.read()
+                writer.close()
+            found = [(message.request_id, *message.body.unpack("s")) for message in lr.messages(answers)]
+            self.assertEqual(found, list(enumerate(texts)))
+        self.run_async(main())
+
+    def test_what_is_due_is_bounded(self):
+        async def main():
+            big = bytes(1000000)
+            operations = {"big": ("", "o", lambda: big), "get": ("", "l", lambda: 1)}
+            server, client = await self.pair(operations, write_timeout=0.5)
+            context = (lr.FT_REQUEST, lr.write_ft("A", 1, FAR))
+            repeats = b"".join(lr.write_request(number, "k", "big", context=context) for number in range(100))
+            async with server, client:
+                await client.call("k", "get", results="l")
+                peer = self.connected(client.port)
+                peer.sendall(repeats)
+                await self.drained(server, 2)
+                connection = server._connections[2]
+                while not connection.transport.get_write_buffer_size():
+                    await client.call("k", "get", results="l")
+                for _ in range(20):
+                    self.assertEqual(await client.call("k", "get", results="l"), 1)
+                    self.assertLess(connection.transport.get_write_buffer_size(), 3 * len(big))
+                await self.drained(server, 1)  # (it took nothing for half a second)
+                self.assertEqual(await client.call("k", "get", results="l"), 1)
+        with Records("asyncio") as records:
+            self.run_async(main())
+        self.assertEqual(records, [])
+
+    def test_a_peer_that_is_slow_gets_all(self):
+        async def main():
+            big = bytes(1000000)
+            server, client = await self.pair({"big": ("", "o", lambda: big)}, write_timeout=1)
+            async with server:
+                reader, writer = await asyncio.open_connection(client.host, client.port)
+                writer.write(b"".join(lr.write_request(number, "k", "big") for number in range(10)))
+                answers = bytearray()
+                while len(answers) < 10 * (28 + len(big)):
+                    answers += await reader.read(100000)
+                    await asyncio.sleep(0.02)
+                writer.close()
+            found = [(message.request_id, *message.body.unpack("o")) for message in lr.messages(answers)]
+            self.assertEqual(found, [(number, big) for number in range(10)])
+        self.run_async(main())
+
+    def test_a_peer_that_goes_leaves_no_lines(self):
+        async def main():
+            server, client = await self.pair({"get": ("", "l", lambda: 1)})
+            async with server, client:
+                await client.call("k", "get", results="l")
+                peer = self.connected(client.port)
+                peer.sendall(b"".join(lr.write_request(number, "k", "get") for number in range(1000)))
+                peer.setsockopt(socket.SOL_SOCKET, socket.SO_LINGER, struct.pack("ii", 1, 0))
+                await asyncio.sleep(0)
+                peer.close()
+                await asyncio.sleep(0.1)
+                await self.drained(server, 1)
+                self.assertEqual(await client.call("k", "get", results="l"), 1)
+        with Records("asyncio") as records:
+            self.run_async(main())
+        self.assertEqual(records, [])
+
+
 class Bank(Case):
     """The bank of the examples, whose clients lose their connections."""
 
@@ -1540,6 +1659,16 @@ class Header(Case):
 class Library(Case):
     """How the library is found, and what it says."""
 
+    def test_errors_have_the_texts_of_the_header(self):
+        """The header says what each number means; the library answers that text, and proves that number."""
+        with open(HEADER, encoding="ascii") as file:
+            said = re.findall(r"LR_E_(\w+) = (-\d+),? +/\* (.*) \*/", file.read())
+        with open(os.path.join(ROOT, "crates", "lemonrudder", "src", "refusal.rt"), encoding="utf-8") as file:
+            proved = re.findall(r"Refusal::(\w+) => (-\d+),", file.read())
+        self.assertEqual([(name.upper(), number) for name, number in proved], [found[:2] for found in said])
+        self.assertEqual({Error[name]: text for name, _, text in said},
+                         {number: lr.LemonrudderError(number).text for number in Error})
+
     def test_errors_have_texts(self):
         texts = {lr.LemonrudderError(number).text for number in Error}
         self.assertEqual(len(texts), len(Error))
@@ -1574,39 +1703,3 @@ class Library(Case):
             given = {name: value for name, value in os.environ.items() if name != "LEMONRUDDER_LIBRARY"}
             run = subprocess.run(words, env={**given, "PYTHONPATH": folder}, capture_output=True, text=True)
             self.assertEqual((run.stdout, run.stderr), ("b'\\x06'\n", ""))
-
-
-class Counted(unittest.TextTestResult):
-    """Counts what passed, subtests among it."""
-
-    passed = failed = 0
-
-    def addSuccess(self, test):
-        super().addSuccess(test)
-        self.passed += 1
-
-    def addError(self, test, err):
-        super().addError(test, err)
-        self.failed += 1
-
-    def addFailure(self, test, err):
-        super().addFailure(test, err)
-        self.failed += 1
-
-    def addSubTest(self, test, subtest, err):
-        super().addSubTest(test, subtest, err)
-        self.passed += err is None
-        self.failed += err is not None
-
-
-def main():
-    loader = unittest.TestLoader()
-    this = sys.modules[__name__]
-    tests = loader.loadTestsFromNames(sys.argv[2:], this) if sys.argv[2:] else loader.loadTestsFromModule(this)
-    result = unittest.TextTestRunner(sys.stdout, resultclass=Counted, verbosity=0).run(tests)
-    print(f"{result.passed} passed, {result.failed} failed")
-    return 1 if result.failed or not result.passed else 0
-
-
-if __name__ == "__main__":
-    sys.exit(main())

@@ -1,9 +1,7 @@
-#!/usr/bin/env python3
-"""Makes the calls that the rows of readings/ ask for, and compares what they give.
+"""Makes the calls that the rows of tests/readings ask for, and compares what they give.
 
-usage: run_readings.py VALUES REFERENCES [FILE..]
-
-The programs are `value_player`, which has the calls of OF_VALUES, and `reference_player`, which has the others.
+The programs are `value_player`, which has the calls of OF_VALUES, and `reference_player`, which has the others. Each is
+run once, on all rows.
 
 A row is a call, what it takes, and after ' = ' the line that its program prints for it; or what is said of a value,
 a reference or a profile, for which several calls are made. It stands below what it is about, up to an empty
@@ -22,9 +20,9 @@ line:
 
 A line that begins with a space goes on with the one before it.
 
-Types and values are written as idl.py says. OCTETS are "TEXT" or hexadecimal digits. DIGITS are hexadecimal digits
-with spaces anywhere, which may be none. ORDER is `big` or `little`, and AT the place of the first octet. TEXT is the
-text of a reference, as it is or in quotes; spaces in it are left out.
+Types and values are written as tests/idl.py says. OCTETS are "TEXT" or hexadecimal digits. DIGITS are hexadecimal
+digits with spaces anywhere, which may be none. ORDER is `big` or `little`, and AT the place of the first octet. TEXT is
+the text of a reference, as it is or in quotes; spaces in it are left out.
 
     spells ORDER AT DIGITS      the octets are read as the value, which fits the type, and are written for it and for
                                 its copy
@@ -40,20 +38,17 @@ text of a reference, as it is or in quotes; spaces in it are left out.
     refuses DIGITS = LINE       they are no profile, for that reason, and no key is found in them
 
 The calls are in CALLS, with what each takes. In a LINE, "TEXT" and x"DIGITS" stand for the list of the octets.
-
-The last line is 'N passed, M failed', where each call counts.
 """
 import ast
 import os
 import re
-import subprocess
-import sys
+import unittest
+from collections import namedtuple
 
-import idl
-from idl import digits_of
+from tests import base, idl, programs
+from tests.idl import digits_of
 
-HERE = os.path.join(os.path.dirname(os.path.abspath(__file__)), "readings")
-SECONDS = 60
+READINGS = os.path.join(programs.HERE, "readings")
 # the calls of `value_player`
 OF_VALUES = {
     "read", "read_list", "write", "write_copy", "write_list", "is_valid", "are_valid", "fits", "writable",
@@ -291,7 +286,7 @@ def take_about(block, word, rest):
 def lines_of(name):
     """The lines of a file, each with those that go on with it: where it stands, and its text."""
     place = text = None
-    with open(os.path.join(HERE, name), encoding="ascii") as lines:
+    with open(os.path.join(READINGS, name), encoding="ascii") as lines:
         for number, line in enumerate(lines, 1):
             if line.startswith(" ") and text is not None:
                 text += " " + line.strip()
@@ -306,11 +301,11 @@ def lines_of(name):
 def calls_of(place, block, word, rest):
     """The calls of a row, and the lines that are printed for them."""
     if word not in SAID and word not in CALLS:
-        sys.exit(f"{place}: no line begins with {word!r}")
+        raise ValueError(f"{place}: no line begins with {word!r}")
     try:
         return list(SAID[word](block, rest) if word in SAID else called(block, word, rest))
     except (AttributeError, TypeError, ValueError) as error:
-        sys.exit(f"{place}: not a row, or what it is about does not stand above it: {error}")
+        raise ValueError(f"{place}: not a row, or what it is about does not stand above it: {error}") from error
 
 
 def rows_of(name):
@@ -327,44 +322,62 @@ def rows_of(name):
             yield from ((place, given, wanted) for given, wanted in calls_of(place, block, word, rest))
 
 
-def program_of(call, programs):
-    """Of the programs of values and of references, the one that has a call."""
-    of_values, of_references = programs
-    return of_values if call.split(" ")[0] in OF_VALUES else of_references
+def program_of(call):
+    """The program that has a call: that of values, or that of references."""
+    return "VALUE_PLAYER" if call.split(" ")[0] in OF_VALUES else "REFERENCE_PLAYER"
 
 
-def compare(program, rows):
-    """Runs a program on rows, and answers how many of them passed and failed."""
-    given = "".join(line + "\n" for _, line, _ in rows)
-    run = subprocess.run([program], input=given.encode(), capture_output=True, timeout=SECONDS)
-    lines = run.stdout.decode().split("\n")[:-1]
-    passed = 0
-    for (place, line, wanted), found in zip(rows, lines):
-        if found == wanted:
-            passed += 1
-        else:
-            print(f"FAILS {place}: {line}\n  gives {found}\n  not   {wanted}")
-    if run.returncode != 0 or len(lines) != len(rows):
-        place = rows[len(lines)][0] if len(lines) < len(rows) else "the end"
-        print(f"FAILS {place}: it ended with status {run.returncode}, {run.stderr!r}")
-    return passed, max(len(rows) - passed, 1 if run.returncode != 0 else 0)
+def files():
+    """The files of rows."""
+    return sorted(os.listdir(READINGS))
 
 
-def main():
-    programs = [os.path.abspath(program) for program in sys.argv[1:3]]
-    names = sys.argv[3:] or sorted(os.listdir(HERE))
-    rows = {program: [] for program in programs}
-    for name in names:
-        of_file = list(rows_of(name))
-        if not of_file:
-            sys.exit(f"{name}: no row")
-        for row in of_file:
-            rows[program_of(row[1], programs)].append(row)
-    counts = [compare(program, asked) for program, asked in rows.items() if asked]
-    passed, failed = map(sum, zip(*counts))
-    print(f"{passed} passed, {failed} failed")
-    return 1 if failed or not passed else 0
+# a call: the line that asks for it, and the line that is printed for it
+Call = namedtuple("Call", "line wanted")
 
 
-if __name__ == "__main__":
-    sys.exit(main())
+def calls_in(name):
+    """The calls of a file: where each stands, with its name, and it."""
+    return [(f"{place} {line.split(' ')[0]}", Call(line, wanted)) for place, line, wanted in rows_of(name)]
+
+
+class Readings(unittest.TestCase):
+    """The rows of each file."""
+
+    @classmethod
+    def setUpClass(cls):
+        asked = {"VALUE_PLAYER": [], "REFERENCE_PLAYER": []}
+        for name in files():
+            for _, call in calls_in(name):
+                asked[program_of(call.line)].append(call.line)
+        cls.asked, cls.printed, cls.runs = asked, {}, {}
+        for program, lines in asked.items():
+            run = base.ran(programs.program(program), given="".join(line + "\n" for line in lines).encode())
+            cls.runs[program] = run
+            cls.printed.update(zip(lines, run.stdout.decode().split("\n")[:-1]))
+
+    def gives(self, call):
+        """The program prints for a call what is wanted."""
+        self.assertIn(call.line, self.printed, "nothing was printed for it")
+        self.assertEqual(self.printed[call.line], call.wanted, call.line)
+
+    def test_the_runs(self):
+        """Each program ends well, and prints a line for each row."""
+        for program, run in self.runs.items():
+            with self.subTest(program):
+                self.assertEqual((run.returncode, run.stderr), (0, b""))
+                self.assertEqual(run.stdout.count(b"\n"), len(self.asked[program]))
+
+
+def of_file(file):
+    """The test of the rows of a file."""
+
+    @base.each(lambda: calls_in(file))
+    def test(self, call):
+        self.gives(call)
+    test.__doc__ = f"The rows of tests/readings/{file}."
+    return test
+
+
+for file_name in files():
+    setattr(Readings, f"test_{os.path.splitext(file_name)[0]}", of_file(file_name))

@@ -1,0 +1,149 @@
+"""Runs `giop` on the cases of tests/cases, and compares what it prints to the octet.
+
+A case NAME is the files NAME.args (the words after the program's name, one a line), NAME.stdin, NAME.status,
+NAME.stdout and NAME.stderr. Where NAME.stderr is missing, nothing may be printed there; where NAME.stdout is missing
+too, any text may be. The folders are the program's subcommands, and `words` for help, the version and words that are
+refused.
+
+A case of `play` that ends well runs once more with each piece cut into pieces of one octet, at the same moment on the
+same connection: what is printed must be the same, where lines of one connection that follow one another count as one.
+
+The program `engine_trials` plays the cases of `play` that end well on an engine whose owner keeps the counter, and must
+print the same. Its words are the numbers that a case's words set, and `giop`'s own where they set none.
+"""
+from __future__ import annotations
+
+import os
+import unittest
+from collections.abc import Callable
+
+from tests import base, programs
+
+CASES = os.path.join(programs.HERE, "cases")
+
+
+def content(path: str) -> bytes | None:
+    """The octets of a file, or None where there is no such file."""
+    try:
+        with open(path, "rb") as file:
+            return file.read()
+    except FileNotFoundError:
+        return None
+
+
+class Case:
+    """A case: its words, its standard input, and what is wanted."""
+
+    def __init__(self, name: str) -> None:
+        path = os.path.join(CASES, name)
+        self.name = name
+        self.words = content(path + ".args").decode().splitlines()
+        self.given = content(path + ".stdin") or b""
+        self.status = int(content(path + ".status"))
+        self.out, self.error = content(path + ".stdout"), content(path + ".stderr") or b""
+
+
+def cases_of(folder: str) -> list[tuple[str, Case]]:
+    """The cases of a folder by name, in order."""
+    files = sorted(os.listdir(os.path.join(CASES, folder)))
+    names = [f"{folder}/{file[:-len('.args')]}" for file in files if file.endswith(".args")]
+    return [(name, Case(name)) for name in names]
+
+
+def played_well() -> list[tuple[str, Case]]:
+    """The cases of `play` that end well."""
+    return [(name, case) for name, case in cases_of("play") if case.status == 0]
+
+
+def engine_words(words: list[str]) -> list[str]:
+    """The words of `engine_trials` for the words of a case of `play`: CAPACITY SHARE START LIMIT PARTIALS."""
+    given = dict(zip(words[1::2], words[2::2]))
+    capacity = given.get("--capacity", "1024")
+    return [capacity, given.get("--share", capacity), given.get("--start", "0"), given.get("--limit", "1048576"),
+            given.get("--partials", "8")]
+
+
+def in_octets(script: bytes) -> bytes:
+    """A script with each piece cut into pieces of one octet."""
+    lines = []
+    for line in script.split(b"\n"):
+        words = line.rstrip(b"\r").split(b" ")
+        if words[0] == b"bytes":
+            digits = words[3]
+            lines += [b" ".join(words[:3] + [digits[i:i + 2]]) for i in range(0, len(digits), 2)]
+        else:
+            lines.append(line)
+    return b"\n".join(lines)
+
+
+def joined(printed: bytes) -> list[list[bytes]]:
+    """The lines with those of one connection that follow one another as one."""
+    lines: list[list[bytes]] = []
+    for line in printed.splitlines():
+        connection, _, digits = line.partition(b" ")
+        if lines and lines[-1][0] == connection:
+            lines[-1][1] += digits
+        else:
+            lines.append([connection, digits])
+    return lines
+
+
+class Program(unittest.TestCase):
+    """What compares the runs of a program."""
+
+    def wants(self, case: Case, *words: str) -> None:
+        """Runs the program on a case with these words."""
+        run = base.ran(*words, given=case.given)
+        self.assertEqual(run.returncode, case.status, run.stderr)
+        if case.out is not None:
+            self.assertEqual((run.stdout, run.stderr), (case.out, case.error))
+
+    def wants_in_octets(self, case: Case, *words: str) -> None:
+        """Runs the program on a case whose pieces come in single octets."""
+        run = base.ran(*words, given=in_octets(case.given))
+        self.assertEqual((run.returncode, joined(run.stdout)), (0, joined(case.out)), run.stderr)
+
+
+class Cases(Program):
+    """The cases of each folder, by `giop`."""
+
+    @classmethod
+    def setUpClass(cls) -> None:
+        cls.giop = programs.program("GIOP")
+
+    @base.each(played_well)
+    def test_play_in_octets(self, case: Case) -> None:
+        """Each piece of what is played comes in single octets."""
+        self.wants_in_octets(case, self.giop, *case.words)
+
+
+class Engine(Program):
+    """The cases of `play` that end well, by `engine_trials`."""
+
+    @classmethod
+    def setUpClass(cls) -> None:
+        cls.engine = programs.program("ENGINE_TRIALS")
+
+    @base.each(played_well)
+    def test_play(self, case: Case) -> None:
+        """An owner that performs what the engine asks prints what `giop` does."""
+        self.wants(case, self.engine, *engine_words(case.words))
+
+    @base.each(played_well)
+    def test_play_in_octets(self, case: Case) -> None:
+        """So does one whose pieces come in single octets."""
+        self.wants_in_octets(case, self.engine, *engine_words(case.words))
+
+
+def of_folder(folder: str) -> Callable:
+    """The test of the cases of a folder."""
+
+    @base.each(lambda: cases_of(folder))
+    def test(self: Cases, case: Case) -> None:
+        self.wants(case, self.giop, *case.words)
+    test.__doc__ = f"The cases of `{folder}`."
+    return test
+
+
+for name in sorted(os.listdir(CASES)):
+    setattr(Cases, f"test_{name}", of_folder(name))

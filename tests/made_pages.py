@@ -1,0 +1,118 @@
+"""Compares what scripts/made_pages.py makes, and the table of docs/TESTING.md, with what there is."""
+import re
+import unittest
+
+from scripts import made_pages, quoted
+from tests import programs, runner
+
+TESTING = "docs/TESTING.md"
+
+
+class Pages(unittest.TestCase):
+    """What is committed is what is made."""
+
+    def compare(self, made: dict[str, str]) -> None:
+        """Each page, where it differs."""
+        for name, text in made.items():
+            with self.subTest(name):
+                self.assertEqual(made_pages.differing({name: text}), [])
+
+    def test_rooms(self) -> None:
+        """The page of the floors and the rooms."""
+        self.compare({made_pages.ROOMS: made_pages.rooms_page()})
+
+    def test_quotes(self) -> None:
+        """What pages quote of the sources."""
+        made = made_pages.pages_with_quotes()
+        self.assertGreater(len(made), 10)
+        self.compare(made)
+
+    def test_help(self) -> None:
+        """The manual page, the completions, and the tables of options."""
+        self.compare(made_pages.pages_of_help(programs.program("GIOP")))
+
+
+SOURCE = """//! A source.
+
+/// A pair.
+#[derive(Drop)]
+pub struct Pair {
+    first: u8,
+}
+
+impl Model for Pair {
+    ghost view = { λ p. p.first };
+
+    ghost invariant = { λ p.
+        p.first ≡ 0
+    };
+}
+
+/// Its first.
+pub fn first(
+    pair: &Pair,
+) -> u8
+    ensures { result ≡ 0 }
+{
+    pair.first
+}
+fn last() {}
+"""
+DEFINITIONS = """-- adds
+abbrev pub add : ℕ → ℕ
+add n = n
+
+added : ℕ
+added = add 1
+"""
+# the words of a mark, and what they name: a front and an end of it, and how many lines it has
+PARTS = [
+    (SOURCE, "Pair", "/// A pair.\n#[derive(Drop)]\n", "    first: u8,\n}\n", 5),
+    (SOURCE, "impl Model for Pair", "impl Model", "    };\n}\n", 7),
+    (SOURCE, "view", "    ghost view = {", "};\n", 1),
+    (SOURCE, "view to invariant", "    ghost view", "    };\n", 5),
+    (SOURCE, "first", "/// Its first.\npub fn", "    pair.first\n}\n", 8),
+    (SOURCE, "last", "fn last() {}\n", "fn last() {}\n", 1),
+    (DEFINITIONS, "add", "-- adds\n", "add n = n\n", 3),
+    (DEFINITIONS, "added", "added : ", "= add 1\n", 2),
+    (DEFINITIONS, "add to added", "-- adds\n", "= add 1\n", 6),
+    (DEFINITIONS, None, "-- adds\n", "= add 1\n", 6),
+]
+PAGE = "A\n<!-- made of: a.rt last -->\n<!-- end -->\nB\n"
+
+
+class Quotes(unittest.TestCase):
+    """What a mark names of a source."""
+
+    def test_parts(self) -> None:
+        """Each form of a mark."""
+        for text, words, front, end, count in PARTS:
+            with self.subTest(words):
+                part = quoted.part_of(text, words)
+                self.assertTrue(part in text and part.startswith(front) and part.endswith(end), part)
+                self.assertEqual(part.count("\n"), count)
+
+    def test_names_that_are_not_one(self) -> None:
+        """A name that nothing declares, and one that two lines declare."""
+        for text, name in ((SOURCE, "second"), (SOURCE + "fn last() {}\n", "last")):
+            with self.subTest(name), self.assertRaises(quoted.Missing):
+                quoted.part_of(text, name)
+
+    def test_pages(self) -> None:
+        """A block is written between its marks, and again; a mark without an end is refused, and eats nothing."""
+        made = quoted.with_quotes(PAGE, lambda path: SOURCE)
+        self.assertEqual(made, PAGE.replace("<!-- end", "```rust\nfn last() {}\n```\n<!-- end"))
+        self.assertEqual(quoted.with_quotes(made, lambda path: SOURCE), made)
+        with self.assertRaises(quoted.Missing):
+            quoted.with_quotes("<!-- made of: a.rt last -->\nA\n" + PAGE, lambda path: SOURCE)
+
+
+class Table(unittest.TestCase):
+    """Each module of tests has a row that says what goes there."""
+
+    def test_modules(self) -> None:
+        """The table names each module, and no other."""
+        table = made_pages.text_of(TESTING).split("## Which test goes where")[1].split("\n## ")[0]
+        named = set(re.findall(r"`(tests(?:\.\w+)+)`", table))
+        # (wrong_bodies makes its tests of the edits)
+        self.assertEqual(named, {*runner.modules_of_tests(), "tests.wrong_bodies"})

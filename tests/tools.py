@@ -1,0 +1,106 @@
+"""Tests what the other tests stand on: parts and their choice, counts, and how a script is made smaller."""
+import io
+import os
+import unittest
+
+from tests import base, programs, runner
+from tests.smaller import smallest
+
+
+def run_of(*names, word=None):
+    """How tests end of which one has a good part and a bad one, where -k chose a word."""
+
+    class Parts(unittest.TestCase):
+        @base.each(lambda: [("good", 1), ("bad", 2)], 2)
+        def test_parts(self, number):
+            self.assertEqual(number, 1)
+
+        @base.each(lambda: [])
+        def test_none(self, _number):
+            pass
+
+        def test_skipped(self):
+            self.skipTest("a reason")
+
+        def test_without_a_tool(self):
+            programs.tool("no-such-tool")
+
+    before, base.WORD = base.WORD, word
+    try:
+        result = runner.Counted(unittest.runner._WritelnDecorator(io.StringIO()), False, 0)
+        unittest.TestSuite(Parts(name) for name in names).run(result)
+        return result
+    finally:
+        base.WORD = before
+
+
+class Runs(unittest.TestCase):
+    """What is counted, chosen and skipped."""
+
+    def test_count(self):
+        """Each part counts, and a method all of whose parts passed."""
+        result = run_of("test_parts")
+        self.assertEqual((result.passed, result.failed), (1, 1))
+
+    def test_choice(self):
+        """Of a test without the word in its name the parts that have it are run."""
+        for word, counts in (("good", (2, 0)), ("bad", (0, 1)), ("test_parts", (1, 1))):
+            with self.subTest(word):
+                result = run_of("test_parts", word=word)
+                self.assertEqual((result.passed, result.failed), counts)
+
+    def test_no_parts(self):
+        """A test without parts fails."""
+        result = run_of("test_none")
+        self.assertEqual((result.passed, result.failed), (0, 1))
+
+    def test_skips(self):
+        """What is skipped is named with the reason."""
+        result = run_of("test_skipped")
+        self.assertEqual((result.passed, result.failed), (0, 0))
+        self.assertEqual(result.skips(), ["not run: tests.tools.run_of.<locals>.Parts.test_skipped: a reason"])
+
+    def test_what_is_enough(self):
+        """It is a failure that nothing ran, unless tools are missing for all of it."""
+        for names, is_enough in ((["test_skipped"], False), (["test_without_a_tool"], True), (["test_parts"], True),
+                                 (["test_skipped", "test_without_a_tool"], False), ([], False)):
+            with self.subTest(names=names):
+                self.assertEqual(run_of(*names).has_run(), is_enough)
+
+    def test_what_is_missing(self):
+        """Where all programs were made, one that is missing is no reason to skip a test."""
+        before = dict(os.environ)
+        try:
+            os.environ.update(GIOP="/nowhere/giop", ALL_MADE="")
+            self.assertRaises(unittest.SkipTest, programs.program, "GIOP")
+            os.environ["ALL_MADE"] = "1"
+            self.assertRaises(FileNotFoundError, programs.program, "GIOP")
+        finally:
+            os.environ.clear()
+            os.environ.update(before)
+
+    def test_modules(self):
+        """Each module that is to be run has tests, and none is run twice."""
+        self.assertEqual(sorted(runner.modules_of_tests()), sorted(runner.MODULES))
+        self.assertIn("tests.tools", runner.FIRST)
+
+
+class Smaller(unittest.TestCase):
+    """How a script is made smaller."""
+
+    def test_smallest(self):
+        """What is left is what is needed, in its order."""
+        for needed in (set(), {0}, {99}, {3, 50, 99}, set(range(0, 100, 7))):
+            with self.subTest(needed=needed):
+                self.assertEqual(smallest(list(range(100)), lambda some: needed <= set(some)), sorted(needed))
+
+    def test_pairs(self):
+        """Where steps are needed in pairs, pairs are left."""
+        self.assertEqual(smallest([1, 2, 3, 4, 1], lambda some: some.count(1) == 2), [1, 1])
+
+    def test_sentences(self):
+        """The first sentence of a docstring."""
+        for text, sentence in (("One. Two.", "One"), ("One\n    and: two. Three", "One and: two"), (None, ""),
+                               ("`a.b` c", "`a.b` c")):
+            with self.subTest(text):
+                self.assertEqual(base.first_sentence(text), sentence)
