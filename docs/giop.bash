@@ -1,4 +1,4 @@
-# Made by tests/manual.py of what `giop help` prints. In a shell: . docs/giop.bash
+# Made by scripts/made_pages.py of what `giop help` prints. In a shell: . docs/giop.bash
 _giop() {
     local word=${COMP_WORDS[COMP_CWORD]} words files=
     case $COMP_CWORD:${COMP_WORDS[1]} in

@@ -16,10 +16,12 @@ static void *(*allocate_octets)(size_t) = malloc;
 static void *(*reallocate_octets)(void *, size_t) = realloc;
 static void (*release_octets)(void *) = free;
 
-void lr_set_heap(void *(*allocate)(size_t), void *(*reallocate)(void *, size_t), void (*release)(void *)) {
+int64_t lr_set_heap(void *(*allocate)(size_t), void *(*reallocate)(void *, size_t), void (*release)(void *)) {
+  if (allocate == NULL || reallocate == NULL || release == NULL) return LR_E_RANGE;
   allocate_octets = allocate;
   reallocate_octets = reallocate;
   release_octets = release;
+  return LR_OK;
 }
 
 /* Whether there is memory, and where. Where there is none, `at` is a pointer all the same, which nobody follows. */
@@ -58,7 +60,7 @@ const char *lr_strerror(int64_t error) {
       [-LR_E_OPEN] = "the slot holds an object already",
       [-LR_E_MEMORY] = "an allocation failed, and nothing has changed",
       [-LR_E_RANGE] = "a number is none of those that are allowed",
-      [-LR_E_CONNECTION] = "there is no such connection, or its number is not greater than each before",
+      [-LR_E_CONNECTION] = "there is no such connection, or the number of a new one is not greater than each before",
       [-LR_E_ASKING] = "a request waits for its outcome",
       [-LR_E_IDLE] = "no request waits",
       [-LR_E_DUE] = "octets are due that were not taken",
@@ -75,7 +77,7 @@ const char *lr_strerror(int64_t error) {
       [-LR_E_STREAM] = "the stream has a fault, and is at its end",
       [-LR_E_NONE] = "there is no such part",
       [-LR_E_EXPIRED] = "the moment is past the expiration",
-      [-LR_E_CALLS] = "too many calls are pending, or the client has given all its numbers",
+      [-LR_E_CALLS] = "as many calls are pending as a client keeps, or it has given all its numbers",
       [-LR_E_LONG] = "the message would be longer than its size can say",
       [-LR_E_LOST] = "an allocation failed, and the connection is gone",
       [-LR_E_PLACE] = "the body would stand at a place that is not divisible by 8",

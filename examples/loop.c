@@ -1,6 +1,7 @@
 /*
- * The loop of loop.h, by poll(). Sockets don't block. Output is kept for each connection, and while there is any, none
- * of its input is read.
+ * The loop of loop.h, by poll(). Sockets don't block. Of each connection is kept what came and is not fed yet, and what
+ * is due and not sent yet. While anything is due nothing is read, and once DUE octets are, nothing is fed: so a peer
+ * that takes nothing costs a piece, DUE octets and the replies to one step.
  */
 #define _DEFAULT_SOURCE
 #include "loop.h"
@@ -8,6 +9,7 @@
 #include <arpa/inet.h>
 #include <errno.h>
 #include <fcntl.h>
+#include <netinet/tcp.h>
 #include <poll.h>
 #include <signal.h>
 #include <stdbool.h>
@@ -18,18 +20,26 @@
 #include <time.h>
 #include <unistd.h>
 
-enum { PIECE = 4096, PEERS = 1000, STOP = 0, LISTENER = 1, FIRST = 2 };
+/* What is fed at a time, a step, ends one request that may be sent again at most: each has 72 octets or more. (In
+ * fragments, four: the last of each has 16 or more.) */
+enum { PIECE = 4096, STEP = 64, DUE = 65536, PEERS = 1000, STOP = 0, LISTENER = 1, FIRST = 2 };
+/* Seconds: what a peer has to close once its stream has ended, and a pause where nobody can be accepted. */
+enum { LINGER = 5, PAUSE = 1 };
 
 struct peer {
   uint64_t connection;
-  unsigned char *due; /* what is to be sent, of which the first `sent` octets are */
+  unsigned char came[PIECE]; /* `got` octets, of which the first `fed` ones are fed */
+  size_t got, fed;
+  unsigned char *due; /* `size` octets, of which the first `sent` ones are sent */
   size_t size, sent;
-  bool is_shut; /* all is sent, and what comes means nothing */
+  int64_t until; /* the second at which it is parted from */
+  bool is_shut;  /* all is sent, and what comes means nothing */
 };
 
 static struct peer peers[FIRST + PEERS];
 static struct pollfd polls[FIRST + PEERS];
 static nfds_t used = FIRST;
+static int64_t listens_from; /* the second from which on peers are accepted */
 static lr_server *served;
 static void (*performs)(lr_server *server, const lr_request *asked);
 static int stop_pipe[2];
@@ -38,6 +48,15 @@ static void on_stop(int number) {
   (void)number;
   if (write(stop_pipe[1], "", 1) != 1) _exit(1);
 }
+
+static struct timespec time_by(clockid_t clock) {
+  struct timespec time;
+  clock_gettime(clock, &time);
+  return time;
+}
+
+/* The present second, by a clock that nobody sets. */
+static int64_t seconds(void) { return time_by(CLOCK_MONOTONIC).tv_sec; }
 
 /* Takes what is due to a peer. False where there is no memory. */
 static bool collect(struct peer *peer) {
@@ -53,42 +72,67 @@ static bool collect(struct peer *peer) {
   return true;
 }
 
-/* Takes octets that came, and what is due then. False where there is no memory for that. */
-static bool feed(struct peer *peer, const unsigned char *octets, size_t size) {
-  struct timespec time;
-  lr_request asked;
-  clock_gettime(CLOCK_REALTIME, &time);
+/* Feeds what came, until enough is due. False where there is no memory for what is due. */
+static bool feed(struct peer *peer) {
+  struct timespec time = time_by(CLOCK_REALTIME);
   uint64_t moment = lr_moment((uint64_t)time.tv_sec, (uint32_t)time.tv_nsec);
-  while (size > 0) {
-    int64_t taken = lr_server_feed(served, peer->connection, moment, octets, size);
+  lr_request asked;
+  while (peer->fed < peer->got && peer->size < DUE) {
+    size_t left = peer->got - peer->fed;
+    int64_t taken = lr_server_feed(served, peer->connection, moment, peer->came + peer->fed, left < STEP ? left : STEP);
     if (lr_server_asked(served, &asked) == 1) performs(served, &asked);
     lr_server_give_up(served); /* (if it waits still) */
     if (!collect(peer)) return false;
-    if (taken < 0) break; /* the connection is gone; what was answered is sent all the same */
-    octets += taken;
-    size -= (size_t)taken;
+    peer->fed = taken < 0 ? peer->got : peer->fed + (size_t)taken; /* (where it is gone, what was answered is sent) */
   }
   return true;
 }
 
-/* Reads or writes what a peer's socket is ready for. False where the connection is over. */
+/* Sends what is due, as much as the socket takes, and answers how much that was; -1 where the connection is over. */
+static ssize_t send_due(int fd, struct peer *peer) {
+  ssize_t sent = send(fd, peer->due + peer->sent, peer->size - peer->sent, MSG_NOSIGNAL);
+  if (sent < 0) return errno == EAGAIN || errno == EINTR ? 0 : -1;
+  peer->sent += (size_t)sent;
+  if (peer->sent < peer->size) return sent;
+  free(peer->due);
+  peer->due = NULL;
+  peer->sent = peer->size = 0;
+  return sent;
+}
+
+/* Reads, feeds and sends what a peer's socket is ready for. False where the connection is over. */
 static bool attend(struct pollfd *at, struct peer *peer) {
-  unsigned char piece[PIECE];
-  if (peer->size == 0) {
-    ssize_t got = recv(at->fd, piece, sizeof piece, 0);
+  ssize_t got = 0, sent = 0;
+  if (peer->size == 0 && peer->fed == peer->got) {
+    got = recv(at->fd, peer->came, sizeof peer->came, 0);
     if (got == 0 || (got < 0 && errno != EAGAIN && errno != EINTR)) return false;
-    if (got > 0 && !peer->is_shut && !feed(peer, piece, (size_t)got)) return false;
+    peer->fed = 0;
+    peer->got = got > 0 && !peer->is_shut ? (size_t)got : 0;
   }
-  if (peer->size > 0) {
-    ssize_t sent = send(at->fd, peer->due + peer->sent, peer->size - peer->sent, MSG_NOSIGNAL);
-    if (sent < 0 && errno != EAGAIN && errno != EINTR) return false;
-    if (sent > 0) peer->sent += (size_t)sent;
-    if (peer->sent == peer->size) peer->sent = peer->size = 0;
-  }
-  at->events = peer->size > 0 ? POLLOUT : POLLIN;
-  if (peer->size > 0 || peer->is_shut || lr_server_is_closed(served, peer->connection) == 0) return true;
+  if (!feed(peer)) return false;
+  if (peer->size > 0 && (sent = send_due(at->fd, peer)) < 0) return false;
+  at->events = peer->size > 0 || peer->fed < peer->got ? POLLOUT : POLLIN;
+  bool is_closed = lr_server_is_closed(served, peer->connection) != 0;
+  int64_t until = seconds() + (is_closed ? LINGER : LOOP_IDLE);
+  if (is_closed ? until < peer->until : got > 0 || sent > 0) peer->until = until;
+  if (!is_closed || peer->is_shut || peer->size > 0) return true;
   peer->is_shut = true;
   return shutdown(at->fd, SHUT_WR) == 0;
+}
+
+/* Says goodbye to a peer. False where the connection is over. */
+static bool part_from(nfds_t index) {
+  lr_server_farewell(served, peers[index].connection);
+  return collect(&peers[index]) && attend(&polls[index], &peers[index]);
+}
+
+/* Attends to a peer whose socket is ready, and parts from one whose time was over at a second, at once where it takes
+ * nothing or its stream has ended. False where the connection is over. */
+static bool keep(nfds_t index, int64_t second) {
+  if (polls[index].revents != 0 && !attend(&polls[index], &peers[index])) return false;
+  if (second < peers[index].until) return true;
+  bool is_closed = lr_server_is_closed(served, peers[index].connection) != 0;
+  return peers[index].size == 0 && !is_closed && part_from(index);
 }
 
 static void drop_peer(nfds_t index) {
@@ -97,14 +141,31 @@ static void drop_peer(nfds_t index) {
   free(peers[index].due);
   polls[index] = polls[--used];
   peers[index] = peers[used];
+  listens_from = 0;
+}
+
+/* Drops the peer that stays longest after the end of its stream. False where there is none. */
+static bool drop_ended(void) {
+  nfds_t first = used;
+  for (nfds_t index = FIRST; index < used; index++)
+    if (peers[index].is_shut && (first == used || peers[index].until < peers[first].until)) first = index;
+  if (first == used) return false;
+  drop_peer(first);
+  return true;
 }
 
 static void accept_peer(void) {
   static uint64_t last = 0;
-  int fd = accept(polls[LISTENER].fd, NULL, NULL);
-  if (fd < 0) return;
+  bool is_full = used == FIRST + PEERS;
+  int fd = is_full ? -1 : accept(polls[LISTENER].fd, NULL, NULL);
+  if (fd < 0) { /* (without room or descriptors the socket stays ready, and asking again would be in vain) */
+    is_full = is_full || errno == EMFILE || errno == ENFILE || errno == ENOBUFS || errno == ENOMEM;
+    if (is_full && !drop_ended()) listens_from = seconds() + PAUSE;
+    return;
+  }
   polls[used] = (struct pollfd){fd, POLLIN, 0};
-  peers[used++] = (struct peer){.connection = ++last};
+  peers[used++] = (struct peer){.connection = ++last, .until = seconds() + LOOP_IDLE};
+  setsockopt(fd, IPPROTO_TCP, TCP_NODELAY, &(int){1}, sizeof(int)); /* (a reply waits for no acknowledgement) */
   if (fcntl(fd, F_SETFL, O_NONBLOCK) != 0 || lr_server_connect(served, last) != LR_OK) drop_peer(used - 1);
 }
 
@@ -141,20 +202,19 @@ int loop_serve(lr_server *server, int listener, void (*perform)(lr_server *serve
   polls[STOP] = (struct pollfd){stop_pipe[0], POLLIN, 0};
   polls[LISTENER] = (struct pollfd){listener, POLLIN, 0};
   while (!is_stopping || used > FIRST) {
-    polls[LISTENER].events = used < FIRST + PEERS ? POLLIN : 0;
-    int ready = poll(polls, used, is_stopping ? 1000 : -1);
+    polls[LISTENER].events = seconds() < listens_from ? 0 : POLLIN;
+    int ready = poll(polls, used, used > FIRST || polls[LISTENER].events == 0 ? 1000 : -1);
     if (ready < 0 && errno == EINTR) continue;
-    if (ready <= 0) break; /* a second has passed since the goodbye */
+    if (ready < 0) break;
+    int64_t second = seconds(); /* (perform may take long, and what comes meanwhile is read by the next turn) */
     for (nfds_t index = used; index-- > FIRST;)
-      if (polls[index].revents != 0 && !attend(&polls[index], &peers[index])) drop_peer(index);
+      if (!keep(index, second)) drop_peer(index);
     if (polls[LISTENER].revents != 0) accept_peer();
     if (polls[STOP].revents == 0) continue;
     is_stopping = true;
     polls[STOP].fd = polls[LISTENER].fd = -1;
-    for (nfds_t index = used; index-- > FIRST;) {
-      lr_server_farewell(served, peers[index].connection);
-      if (!collect(&peers[index]) || !attend(&polls[index], &peers[index])) drop_peer(index);
-    }
+    for (nfds_t index = used; index-- > FIRST;)
+      if (!part_from(index)) drop_peer(index);
   }
   while (used > FIRST) drop_peer(used - 1);
   return is_stopping ? 0 : -1;

@@ -1368,10 +1368,13 @@ class Engine(_Held):
         octets = _octets(octets)
         if not 0 <= start <= len(octets):
             raise ValueError(f"no index of {len(octets)} octets: {start}")
-        at = now() if moment is None else moment
+        return self._feed(connection, octets, now() if moment is None else moment, start, len(octets))
+
+    def _feed(self, connection: int, octets: bytes, moment: int, start: int, end: int) -> int:
+        """Takes the octets between two indices."""
         self._asked = None
-        return start + _call(_library.lr_server_feed, self._slot, connection, at, _address(octets) + start,
-                             len(octets) - start)
+        return start + _call(_library.lr_server_feed, self._slot, connection, moment, _address(octets) + start,
+                             end - start)
 
     def signature(self, key: bytes, operation: str) -> Signature:
         """The types of an operation. Raises KeyError: there is none, or it is raw."""
@@ -1389,7 +1392,8 @@ class Engine(_Held):
     def _read(self, request: _Request) -> Asked:
         """The request that waits, with its parts."""
         key, operation = self._part(_Part.KEY), self._part(_Part.OPERATION).decode("latin-1")
-        body, ft = Body(self._part(_Part.BODY), Order(request.body_order), request.body_at), None
+        octets = self._part(_Part.BODY, request.body_size)
+        body, ft = Body(octets, Order(request.body_order), request.body_at), None
         if request.has_client:
             ft = FtRequest(self._part(_Part.CLIENT), request.retention_id, request.expiration)
         arguments = None
@@ -1452,8 +1456,10 @@ class Engine(_Held):
                 return b"".join(parts)
             parts.append(ctypes.string_at(room, size))
 
-    def _part(self, part: int) -> bytes:
-        return _copied(self._room, _library.lr_server_part, self._slot, part)
+    def _part(self, part: int, size: int = 0) -> bytes:
+        """A part, which has about so many octets. (A body is made of its values each time that it is asked for.)"""
+        room = self._room if size <= len(self._room) else ctypes.create_string_buffer(size)
+        return _copied(room, _library.lr_server_part, self._slot, part)
 
     def _waiting(self) -> Signature:
         """The types of the operation that waits."""
@@ -1499,12 +1505,17 @@ class Server:
     and a repeat never comes while its first is under way. A function that awaited would keep all connections waiting,
     and gain nothing. So it has to be short: what takes long belongs elsewhere, as behind a queue that it fills.
 
+    Connections take turns of about a millisecond, or of one request that takes longer. Of a peer that takes nothing of
+    what is due, nothing is performed or read once 65,536 octets are due, and it is dropped after a time.
+
     limit, partials, capacity and share: as of Engine. While as many outcomes are kept as may be, requests that are new
-    and may be sent again are answered NO_RESOURCES.
+    and may be sent again are answered NO_RESOURCES. write_timeout: the seconds that a peer may take nothing.
     """
 
-    def __init__(self, limit: int = LIMIT, partials: int = PARTIALS, capacity: int = 65536, share: int = 4096) -> None:
+    def __init__(self, limit: int = LIMIT, partials: int = PARTIALS, capacity: int = 65536, share: int = 4096, *,
+                 write_timeout: float = 60.0) -> None:
         self.is_closed = False
+        self.write_timeout = write_timeout
         self._terms = (limit, partials, capacity, share)
         self._catalogue = Catalogue()
         self._functions: Dict[Tuple[bytes, str], Callable[..., Any]] = {}
@@ -1701,12 +1712,26 @@ def _described(name: str, operation: Operation, raises: Mapping[str, str],
     return signature, function
 
 
+# how long the turn of a connection lasts, in seconds: after that no further message is taken
+_TURN = 0.001
+
+
 class _Connection(asyncio.Protocol):
-    """A connection of a Server. While what was written is not taken, nothing is read."""
+    """A connection of a Server.
+
+    What came is taken message by message, in turns between which other connections have theirs. Nothing is taken while
+    what was written is not, and nothing is read while some of what came is left.
+    """
 
     def __init__(self, server: Server) -> None:
         self.server, self.number = server, 0
         self.transport: Any = None
+        self._loop = asyncio.get_running_loop()
+        # what came, and the index of what was not taken yet
+        self._came, self._at = b"", 0
+        # whether a turn is to come, and whether what was written is not taken
+        self._has_turn = self._is_full = False
+        self._watch: Optional[asyncio.TimerHandle] = None
 
     def connection_made(self, transport: Any) -> None:
         self.transport = transport
@@ -1717,22 +1742,58 @@ class _Connection(asyncio.Protocol):
             transport.abort()
 
     def data_received(self, data: bytes) -> None:
-        if self.server.is_closed:
+        self._came, self._at = self._came[self._at:] + data, 0
+        if not self._has_turn and not self._is_full:
+            self._turn()
+
+    def _turn(self) -> None:
+        """Takes messages for a turn, and sees to it that the rest has another."""
+        self._has_turn = False
+        if self.server.is_closed or self.transport.is_closing():
+            self._came = b""
             return
-        engine, octets, moment, at = self.server._engine, bytes(data), now(), 0
         try:
-            while at < len(octets) and not engine.is_closed(self.number):
-                at = engine.feed(self.number, octets, moment, at)
-                self.server._perform(self)
-                self.flush()
+            self._take(time.monotonic() + _TURN)
         except LemonrudderError as error:
             _LOG.error("a connection is given up: %s", error)
+            self._came = b""
+        except BaseException:
+            self.transport.abort()
+            raise
         finally:
             self.end()
+        self._go_on()
+
+    def _take(self, until: float) -> None:
+        """Takes what came, one message after another, up to a time at which no further one is begun."""
+        engine, moment = self.server._engine, now()
+        while self._at < len(self._came) and not engine.is_closed(self.number):
+            # (each message begins by these octets: of those up to them one ends at most)
+            end = self._came.find(b"GIOP", self._at + 1)
+            self._at = engine._feed(self.number, self._came, moment, self._at, end if end > 0 else len(self._came))
+            self.server._perform(self)
+            self.flush()
+            if self._is_full or self.transport.is_closing() or time.monotonic() >= until:
+                return
+
+    def _go_on(self) -> None:
+        """Goes on with what is left, or reads."""
+        if self.transport.is_closing():
+            self._came = b""
+        elif self._at < len(self._came):
+            self.transport.pause_reading()
+            if not self._has_turn and not self._is_full:
+                self._has_turn = True
+                self._loop.call_soon(self._turn)
+        elif not self._is_full:
+            self._came, self._at = b"", 0
+            self.transport.resume_reading()
 
     def flush(self) -> None:
         """Sends what is due."""
-        self.transport.write(self.server._engine.output())
+        octets = self.server._engine.output()
+        if not self.transport.is_closing():
+            self.transport.write(octets)
 
     def end(self) -> None:
         """Sends what is due, and closes the connection where it has ended."""
@@ -1740,6 +1801,7 @@ class _Connection(asyncio.Protocol):
             self.flush()
             if self.server._engine.is_closed(self.number):
                 self.transport.close()
+                self._drop_if_stuck()
 
     def farewell(self) -> None:
         """Says goodbye, and closes the connection."""
@@ -1748,14 +1810,33 @@ class _Connection(asyncio.Protocol):
         self.end()
 
     def pause_writing(self) -> None:
+        self._is_full = True
         if not self.transport.is_closing():
             self.transport.pause_reading()
+        self._drop_if_stuck()
 
     def resume_writing(self) -> None:
-        if not self.transport.is_closing():
-            self.transport.resume_reading()
+        self._is_full = False
+        self._go_on()
+
+    def _drop_if_stuck(self, before: Optional[int] = None) -> None:
+        """Drops the connection once its peer has taken nothing for as long as the server waits, of so much before."""
+        if self._watch is not None:
+            self._watch.cancel()
+            self._watch = None
+        left = self.transport.get_write_buffer_size()
+        if not left or not (self._is_full or self.transport.is_closing()):
+            return
+        if left == before:
+            _LOG.info("a connection is dropped: its peer takes nothing")
+            self.transport.abort()
+        else:
+            self._watch = self._loop.call_later(self.server.write_timeout, self._drop_if_stuck, left)
 
     def connection_lost(self, error: Optional[Exception]) -> None:
+        self._came = b""
+        if self._watch is not None:
+            self._watch.cancel()
         self.server._leave(self.number)
 
 

@@ -65,7 +65,7 @@ enum {
   LR_E_OPEN = -2,       /* the slot holds an object already */
   LR_E_MEMORY = -3,     /* an allocation failed, and nothing has changed */
   LR_E_RANGE = -4,      /* a number is none of those that are allowed */
-  LR_E_CONNECTION = -5, /* there is no such connection; of lr_server_connect: its number is not a greater one */
+  LR_E_CONNECTION = -5, /* there is no such connection, or the number of a new one is not greater than each before */
   LR_E_ASKING = -6,     /* a request waits for its outcome */
   LR_E_IDLE = -7,       /* no request waits */
   LR_E_DUE = -8,        /* octets are due that were not taken */
@@ -595,9 +595,9 @@ int64_t lr_put_octets(void *room, size_t size, lr_place *place, const void *data
 /* ---- memory ---- */
 
 /* All memory comes from malloc, realloc and free, unless you give others: allocate and reallocate answer NULL where
- * there is no memory. Call it before any other function, or not at all, and with no NULL. Memory is aligned to 16. It
- * is the one thing that all slots share. */
-void lr_set_heap(void *(*allocate)(size_t), void *(*reallocate)(void *, size_t), void (*release)(void *));
+ * there is no memory. Call it before any other function, or not at all. Memory is aligned to 16. It is the one thing
+ * that all slots share. LR_E_RANGE, where one of them is NULL: the heap is as it was. */
+int64_t lr_set_heap(void *(*allocate)(size_t), void *(*reallocate)(void *, size_t), void (*release)(void *));
 
 #ifdef __cplusplus
 }

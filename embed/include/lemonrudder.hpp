@@ -175,15 +175,15 @@ bool resize(Container& octets, std::size_t size) noexcept {
   return true;
 }
 
-/* All octets of what `copy(room, size)` copies and answers the size of. */
+/* All octets of what `copy(room, size)` copies and answers the size of. There are probably so many. */
 template <class Copy>
-Result<std::vector<std::uint8_t>> copied(Copy copy) noexcept {
+Result<std::vector<std::uint8_t>> copied(Copy copy, std::uint64_t probably = 0) noexcept {
   std::vector<std::uint8_t> octets;
+  if (!resize(octets, static_cast<std::size_t>(probably))) return Error(LR_E_MEMORY);
   std::int64_t size = copy(octets.data(), octets.size());
-  if (size > 0) {
-    if (!resize(octets, static_cast<std::size_t>(size))) return Error(LR_E_MEMORY);
-    size = copy(octets.data(), octets.size());
-  }
+  const auto is_more = size > 0 && static_cast<std::size_t>(size) > octets.size();
+  if (size >= 0 && !resize(octets, static_cast<std::size_t>(size))) return Error(LR_E_MEMORY);
+  if (is_more) size = copy(octets.data(), octets.size());
   if (size < 0) return Error(size);
   return octets;
 }
@@ -355,10 +355,14 @@ class Server : public Slot<lr_server> {
   Count part(Part part, Room room) noexcept {
     return detail::count(lr_server_part(slot(), static_cast<std::uint32_t>(part), room.data(), room.size()));
   }
+  /* A part of the request that waits. The library makes the body of its values, so it is asked for once. */
   Result<std::vector<std::uint8_t>> part(Part part) noexcept {
-    return detail::copied([&](std::uint8_t* room, std::size_t size) {
+    lr_request request{};
+    lr_server_asked(slot(), &request);
+    const auto copy = [&](std::uint8_t* room, std::size_t size) {
       return lr_server_part(slot(), static_cast<std::uint32_t>(part), room, size);
-    });
+    };
+    return detail::copied(copy, part == Part::body ? request.body_size : 0);
   }
 
   Done answer(Order order, Octets results) noexcept {
@@ -544,12 +548,26 @@ class Ior : public Slot<lr_ior> {
 
 /* Reads values one after another. At an error it stands where it stood. It owns nothing, and may be copied. */
 class Reader {
+  /* Whether a type, as a forwarding reference has it, is an object that owns octets and is gone before they are read.
+   * (It is no reference then.) */
+  template <class T>
+  struct IsGone : std::false_type {};
+  template <class T>
+  struct IsGone<const T> : IsGone<T> {};
+  template <class T, class Heap>
+  struct IsGone<std::vector<T, Heap>> : std::true_type {};
+  template <class T, class Traits, class Heap>
+  struct IsGone<std::basic_string<T, Traits, Heap>> : std::true_type {};
+  template <class T, std::size_t N>
+  struct IsGone<std::array<T, N>> : std::true_type {};
+
  public:
   /* Numbers are aligned from `at`, the place of the first octet: 0 for an encapsulation, body_at for a body. */
   explicit Reader(Octets octets, Order order = Order::big, std::uint64_t at = 0) noexcept
       : octets_(octets), place_{at, 0, static_cast<std::uint32_t>(order), 0} {}
-  /* A vector that is gone before it is read. */
-  explicit Reader(std::vector<std::uint8_t>&& octets, Order order = Order::big, std::uint64_t at = 0) = delete;
+  /* A vector, string or array that is gone before it is read. */
+  template <class Owner, std::enable_if_t<IsGone<Owner>::value, int> = 0>
+  explicit Reader(Owner&& octets, Order order = Order::big, std::uint64_t at = 0) = delete;
 
   Result<std::uint8_t> get_octet() noexcept { return get<std::uint8_t>(lr_get_octet); }
   Result<std::uint8_t> get_char() noexcept { return get<std::uint8_t>(lr_get_char); }

@@ -1,6 +1,19 @@
 /*
- * A process that stands before a CORBA server, which knows nothing of it, and makes requests act once that a client
- * sends again: gateway ADDRESS PORT [REFERENCE]
+ * A demonstration: a process that stands before a CORBA server, which knows nothing of it, and makes requests act once
+ * that a client sends again: gateway ADDRESS PORT [REFERENCE]
+ *
+ * It is no product. What it can't do:
+ *
+ *   - Service contexts are dropped, the code sets of a connection among them: a wstring fails, and so does a string
+ *     that is not in the server's own code set, as UTF-8.
+ *   - It keeps 1,024 outcomes, and 256 of a client, each until its request expires. A new request beyond that is refused
+ *     by NO_RESOURCES, and nothing is printed: a client whose requests never expire is refused from its 257th on, for
+ *     good.
+ *   - A reply of more than 1 MiB is answered by UNKNOWN, COMPLETED_MAYBE, though its request was performed; a request
+ *     that long ends its connection, by MessageError.
+ *   - References in replies stay as they are, and lead past the gateway.
+ *   - It waits for the server behind without a time limit. One that hangs takes it along: all clients wait, and SIGTERM
+ *     ends nothing.
  *
  *     cc -I.. -o gateway gateway.c ../loop.c $(pkg-config --cflags --libs lemonrudder)
  *     ./gateway 127.0.0.1 2810 IOR:0000..

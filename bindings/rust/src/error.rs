@@ -36,16 +36,19 @@ macro_rules! errors {
 }
 
 errors! {
-    /// The object was closed, or has become another one.
+    /// The slot is empty, or holds an object of another kind.
+    ///
+    /// So the object was closed, or has become another one.
     Empty = -1,
-    /// The object is open already.
+    /// The slot holds an object already.
+    ///
+    /// So the object is open.
     Open = -2,
     /// An allocation failed, and nothing has changed.
     Memory = -3,
     /// A number is none of those that are allowed.
     Range = -4,
-    /// There is no such connection; of `Server::connect`: its number is not greater than each
-    /// before.
+    /// There is no such connection, or the number of a new one is not greater than each before.
     Connection = -5,
     /// A request waits for its outcome.
     Asking = -6,
@@ -61,7 +64,7 @@ errors! {
     Short = -11,
     /// The octets are no value of the type.
     Value = -12,
-    /// The types are not valid.
+    /// The codes spell no valid types.
     Types = -13,
     /// A NUL where none may be, or a name of a length that is not allowed.
     Text = -14,

@@ -62,7 +62,8 @@ pub unsafe fn set_heap(
     release: unsafe extern "C" fn(*mut c_void),
 ) {
     // SAFETY: as the caller says.
-    unsafe { sys::lr_set_heap(Some(allocate), Some(reallocate), Some(release)) }
+    let answer = unsafe { sys::lr_set_heap(Some(allocate), Some(reallocate), Some(release)) };
+    debug_assert_eq!(answer, 0, "none of them is NULL");
 }
 
 /// All octets that calls move into their room, which answer how many: 0 where none are left.

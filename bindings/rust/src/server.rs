@@ -36,8 +36,8 @@ impl Default for Settings {
     }
 }
 
-/// A server of requests that may be sent again: each distinct request is asked once, and its
-/// repeats get the outcome that it was answered.
+/// A server of requests that may be sent again: each distinct request is answered once, and its
+/// repeats get that outcome. It is asked again only where it was given up.
 ///
 /// Octets that come on connections go in by [`serve`](Server::serve), which has each request
 /// performed; and what is due goes out by [`output`](Server::output) after each call. `serve` is a

@@ -484,5 +484,5 @@ unsafe extern "C" {
         allocate: Option<unsafe extern "C" fn(usize) -> *mut c_void>,
         reallocate: Option<unsafe extern "C" fn(*mut c_void, usize) -> *mut c_void>,
         release: Option<unsafe extern "C" fn(*mut c_void)>,
-    );
+    ) -> i64;
 }

@@ -8,12 +8,17 @@ use std::collections::BTreeMap;
 use std::fmt::Debug;
 use std::{env, fs};
 
-/// The header without comments and lines of the preprocessor.
-fn header() -> String {
+/// The header as it is.
+fn whole_header() -> String {
     let folder = env::var("LEMONRUDDER_INCLUDE_DIR");
     let folder =
         folder.unwrap_or(concat!(env!("CARGO_MANIFEST_DIR"), "/../../embed/include").into());
-    let mut text = fs::read_to_string(folder + "/lemonrudder.h").unwrap();
+    fs::read_to_string(folder + "/lemonrudder.h").unwrap()
+}
+
+/// The header without comments and lines of the preprocessor.
+fn header() -> String {
+    let mut text = whole_header();
     while let Some((before, after)) = text.split_once("/*") {
         text = format!("{before} {}", after.split_once("*/").unwrap().1);
     }
@@ -147,6 +152,42 @@ fn numbers(header: &str) -> BTreeMap<String, i64> {
     let enums = between(header, "enum {", "}").flat_map(|text| text.split(','));
     let pairs = enums.filter_map(|each| each.split_once('='));
     pairs.map(|(name, number)| (name.trim().to_string(), number.trim().parse().unwrap())).collect()
+}
+
+/// What is said of each error in the header, as the first paragraph of a document here.
+fn texts_in_c(header: &str) -> BTreeMap<i64, String> {
+    let lines = header.lines().filter(|line| line.trim().starts_with("LR_E_"));
+    let of = |line: &str| {
+        let (number, text) = line.split_once(" = ").unwrap().1.split_once("/* ").unwrap();
+        let (first, rest) = text.strip_suffix(" */").unwrap().split_at(1);
+        let number = number.trim().trim_end_matches(',').parse().unwrap();
+        (number, format!("{}{rest}.", first.to_uppercase()))
+    };
+    lines.map(of).collect()
+}
+
+/// The first paragraph of the document of each error here.
+fn texts_here() -> BTreeMap<i64, String> {
+    let block = between(include_str!("../error.rs"), "errors! {\n", "}\n").next().unwrap();
+    let of = |text: &str| {
+        let (document, named) = text.rsplit_once('\n').unwrap();
+        let lines = document.lines().map(|line| line.trim().trim_start_matches("///").trim());
+        let first: Vec<_> =
+            lines.skip_while(|line| line.is_empty()).take_while(|line| !line.is_empty()).collect();
+        (named.split_once(" = ").unwrap().1.parse().unwrap(), first.join(" "))
+    };
+    block.split(",\n").filter(|text| text.contains(" = ")).map(of).collect()
+}
+
+#[test]
+fn each_error_is_said_as_in_the_header() {
+    let wanted = texts_in_c(&whole_header());
+    assert!(wanted.len() > 20);
+    assert_eq!(texts_here(), wanted);
+    for (code, text) in wanted {
+        let printed = Error::of(code).to_string();
+        assert_eq!(printed[..1].to_uppercase() + &printed[1..] + ".", text);
+    }
 }
 
 /// `SomeName` as `SOME_NAME`.
