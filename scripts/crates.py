@@ -12,6 +12,26 @@ PROGRAM = os.path.join(ROOT, "crates", TOOL, "out", TOOL)
 BUILT = PROGRAM + ".built"
 # the same of one crate, in its folder out/
 NOTED = "built"
+# what the proof of each crate takes from nothing, in seconds of processor time
+SECONDS = {
+    "cdr_core": 666,
+    "ior_core": 158,
+    "giop_core": 419,
+    "giop_frames": 189,
+    "giop_link": 166,
+    "ft_log": 186,
+    "ft_client": 164,
+    "ft_orb": 534,
+    "ft_ends": 200,
+    "ft_tcp": 30,
+    "lemonrudder": 635,
+    "counter": 60,
+    "giop_run": 330,
+    "giop_trace": 260,
+    "giop_tool": 280,
+    "uses": 250,
+    "orb_tests": 150,
+}
 # the parts of a crate that its proof and its code are made from
 PARTS = ("src", "specs", "proofs")
 

@@ -47,6 +47,7 @@ from concurrent.futures import FIRST_COMPLETED, ThreadPoolExecutor, wait
 
 ROOT = os.path.dirname(os.path.dirname(os.path.abspath(__file__)))
 sys.path.insert(0, ROOT)
+from scripts.crates import SECONDS
 from scripts.kit import are_of_run, load_kit
 from tests import edits as bodies
 from tests import verdicts
@@ -71,25 +72,11 @@ MEMORY = 3 << 30
 # the most edits of a round: beyond, each further one saves little
 MOST = 24
 
-# what a check of a crate from nothing took, and what each edit of it beyond, in seconds of processor time
-COSTS = {
-    "cdr_core": (520, 8),
-    "ior_core": (110, 5),
-    "giop_core": (380, 12),
-    "giop_frames": (150, 14),
-    "giop_link": (130, 8),
-    "ft_log": (100, 12),
-    "ft_client": (120, 12),
-    "ft_orb": (420, 17),
-    "ft_ends": (150, 14),
-    "ft_tcp": (25, 8),
-    "counter": (50, 8),
-    "giop_run": (260, 18),
-    "giop_trace": (200, 12),
-    "uses": (200, 20),
-    "orb_tests": (120, 20),
-    "lemonrudder": (600, 14),
-}
+# what each edit takes beyond a check of its crate from nothing, in seconds of processor time
+EACH = {"cdr_core": 8, "ior_core": 5, "giop_link": 8, "ft_tcp": 8, "counter": 8, "giop_frames": 14, "ft_ends": 14,
+        "lemonrudder": 14, "ft_orb": 17, "giop_run": 18, "uses": 20, "orb_tests": 20}
+ELSE = 12
+
 
 class Refusals:
     """What earlier runs on this machine refused: a file for each edit, by the sum of all that its check reads."""
@@ -360,8 +347,7 @@ def changed_since_base():
 
 
 def cost_of(crate, count):
-    first, each = COSTS.get(crate, (200, 15))
-    return first + each * count
+    return SECONDS[crate] + EACH.get(crate, ELSE) * count
 
 
 def groups(edits):
@@ -369,8 +355,7 @@ def groups(edits):
     most = sum(cost_of(crate, len(names)) for crate, names in edits.items()) / GROUPS
     parts = []
     for crate, names in edits.items():
-        first, each = COSTS.get(crate, (200, 15))
-        size = max(8, int((most - first) / each))
+        size = max(8, int((most - SECONDS[crate]) / EACH.get(crate, ELSE)))
         count = -(-len(names) // size)
         parts += [(crate, names[at::count]) for at in range(count)]
     made = [[] for _ in range(GROUPS)]
@@ -401,8 +386,7 @@ def due(edits, crates):
     wanted += [(name, some) for name, some in groups(edits)[turn % GROUPS] if name not in changed | above]
     taken, left = [], BUDGET
     for name, some in wanted:
-        first, each = COSTS.get(name, (200, 15))
-        count = min(len(some), int((left - first) / each))
+        count = min(len(some), int((left - SECONDS[name]) / EACH.get(name, ELSE)))
         # (a crate's first check is dear, so it is not made for a few)
         if count >= min(8, len(some)):
             taken.append((name, turned(some, turn * count)[:count]))

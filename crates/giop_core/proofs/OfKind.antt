@@ -1,5 +1,5 @@
--- The parts of a message of a kind are of that kind.
-use Rattle.std.proofs.Common.{◌≡◌, ℕ, ◌+◌, List, length, refl}
+-- What the parts of a message say is of the kind of its header.
+use Rattle.std.proofs.Common.{◌≡◌, ℕ, ◌+◌, List, length, Ok, refl, sym, ap, ◌∙◌}
 use Rattle.cdr_core.specs.declared.order.Order.{Order}
 use Rattle.cdr_core.proofs.Found.{found}
 use Rattle.cdr_core.specs.Value.{Value}
@@ -7,20 +7,16 @@ use Rattle.giop_core.specs.declared.header.MessageKind.{MessageKind}
 use Rattle.giop_core.specs.declared.header.MessageKind.TheVariants as kind
 use Rattle.giop_core.specs.declared.header.Version.{Version}
 use Rattle.giop_core.specs.declared.header.Version.TheVariants.{V10, V11, V12}
-use Rattle.giop_core.specs.declared.places.BodyPlace.{BodyPlace}
 use Rattle.giop_core.specs.declared.places.Parts.{Parts}
-use Rattle.giop_core.specs.declared.places.Parts.TheVariants as parts
-use Rattle.giop_core.specs.declared.places.ReplyParts.{ReplyParts}
-use Rattle.giop_core.specs.declared.places.RequestParts.{RequestParts}
-use Rattle.giop_core.specs.declared.places.TargetPlace.{TargetPlace}
 use Rattle.giop_core.specs.Content as content
 use Rattle.giop_core.specs.Content.{Content, Rest}
-use Rattle.giop_core.specs.Messages.{OnBody, StandsNear, rest_at}
+use Rattle.giop_core.specs.Messages.{OnBody, StandsNear, message_of, rest_at}
 use Rattle.giop_core.specs.Places.{ArePartsOf, content_in}
 use Rattle.giop_core.proofs.Near.{said_near}
 use Rattle.giop_core.proofs.Spelled.{message_found}
 
-abbrev kind_of : Content → MessageKind
+-- the kind of what a message says
+abbrev pub kind_of : Content → MessageKind
 kind_of (content.request id wish to operation contexts r) = kind.Request
 kind_of (content.reply id status contexts r) = kind.Reply
 kind_of (content.cancel id) = kind.CancelRequest
@@ -39,30 +35,15 @@ said V11 k fields r = refl
 said V12 kind.Request fields r = refl
 said V12 k fields r = refl
 
--- no part of a kind
-abbrev IsNone : MessageKind → Parts → Type 0
-IsNone kind.Request p = (r : RequestParts) → p ≡ parts.Request r → ⊥
-IsNone kind.Reply p = (r : ReplyParts) → p ≡ parts.Reply r → ⊥
-IsNone kind.CancelRequest p = (id : ℕ) → p ≡ parts.Cancel id → ⊥
-IsNone kind.LocateRequest p = (id : ℕ) (to : TargetPlace) → p ≡ parts.LocateRequest id to → ⊥
-IsNone kind.LocateReply p = (id status : ℕ) (body : BodyPlace) → p ≡ parts.LocateReply id status body → ⊥
-IsNone _ p = ⊥
-
-some : (p : Parts) (order : Order) (octets : List ℕ) → IsNone (kind_of (content_in p order octets)) p → ⊥
-some (parts.Request r) order octets none = none r refl
-some (parts.Reply r) order octets none = none r refl
-some (parts.Cancel id) order octets none = none id refl
-some (parts.LocateRequest id to) order octets none = none id to refl
-some (parts.LocateReply id status body) order octets none = none id status body refl
-some parts.Close order octets none = none
-some parts.Error order octets none = none
-some (parts.Fragment id start) order octets none = none
-
 module _ (version : Version) (k : MessageKind) (order : Order) (octets : List ℕ) (p : Parts) (are : ArePartsOf version k order octets p) where
-  pub some_of : (of : MessageKind) → k ≡ of → IsNone of p → ⊥
-  some_of of is none =
+  -- by the parts that they are
+  pub kind_by : (q : Parts) → p ≡ q → k ≡ kind_of (content_in q order octets)
+  kind_by q is =
       let s = message_found found version k order octets (content_in p order octets) are.0 in
-      some p order octets (rw (s.says, said version k s.fields (rest_at version k order (12 + length s.front) s.rest), is) none)
+      sym (ap kind_of s.says ∙ said version k s.fields (rest_at version k order (12 + length s.front) s.rest)) ∙ ap (λ (x : Parts). kind_of (content_in x order octets)) is
+
+  pub says_by : (q : Parts) → p ≡ q → message_of version k order octets ≡ Ok (content_in q order octets)
+  says_by q is = are.0 ∙ ap (λ (x : Parts). Ok (content_in x order octets)) is
 
   pub near_of : (m : Content) → m ≡ content_in p order octets → OnBody (StandsNear octets) m
   near_of m is = rw is (said_near version k order octets (content_in p order octets) are.0)

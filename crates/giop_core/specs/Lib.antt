@@ -4,7 +4,8 @@
 -- Content: what they say. Messages: reading them from left to right, or the first fault, and where a body stands. Begun: the
 -- request id of a message of which not all octets are there. Places: where the parts of a message lie, and what they say there.
 -- Grammar: messages as relations, which octets are which message, and which have which fault. Items, Keys, Ft, Bodies: the parts
--- that are lent: service contexts and profiles, object keys, FT_REQUEST, the values of a body. Lent: what the code's types say.
+-- that are lent: service contexts and profiles, object keys, FT_REQUEST, the values of a body. Lent: what the code's types say. Said: the
+-- kind of a message that was read.
 -- Written: how messages are written. Texts: names. Laws: what holds of these definitions. Private is for private functions alone;
 -- facts has proofs, which fields cite.
 pub mod Headers
@@ -20,6 +21,7 @@ pub mod Keys
 pub mod Ft
 pub mod Bodies
 pub mod Lent
+pub mod Said
 pub mod Written
 pub mod Texts
 pub mod Laws

@@ -19,6 +19,7 @@ mod locate;
 mod message;
 mod places;
 mod raw_reply;
+mod reading;
 mod reply;
 mod request;
 mod service_context;
@@ -27,7 +28,10 @@ mod writing;
 
 // a message: its header, and what follows
 pub use header::{Header, HeaderFault, MessageKind, Version};
-pub use message::{Body, Content, Message, Places, Reading, read_message};
+pub use message::{Body, Content, Message, Places, read_message};
+pub use reading::{
+    LocateReplyReading, LocateRequestReading, Reading, ReplyReading, RequestReading, Said,
+};
 
 // each kind of message, and its writer
 pub use cancel::{CancelRequest, write_cancel};

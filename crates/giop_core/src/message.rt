@@ -1,15 +1,14 @@
 //! Messages, lent from their octets: the choice among the kinds.
 
-ghost use Rattle.std.specs.Prelude.{◌≡◌, ◌<◌, ◌^◌, ◌++◌, ℕ, List, Ok, Err, IfOk, IsOk, MatchResult};
+ghost use Rattle.std.specs.Prelude.{◌≡◌, ◌<◌, ◌^◌, ◌++◌, ℕ, List, Ok, Err, IfOk, MatchResult};
 ghost use Rattle.cdr_core.specs.Fitting.{AreValid};
 ghost use Rattle.cdr_core.specs.Spelling.{SpellsMembers};
 ghost use Rattle.cdr_core.specs.Value.{Values};
 ghost use Rattle.cdr_core.specs.View.{forms_of};
 ghost use Rattle.giop_core.specs.Bodies.{BodyAnswers, BodyReads};
-ghost use Rattle.giop_core.specs.Lent.{Shows, cancel_of, content_of, locate_reply_of, locate_request_of, reply_of, request_of, rest_of};
+ghost use Rattle.giop_core.specs.Lent.{Shows, content_of, rest_of};
 ghost use Rattle.giop_core.specs.Messages.{message_of, OnBody, StandsNear};
-ghost use Rattle.giop_core.specs.Places.{ArePlacesOf, FindsParts, said_by};
-ghost use Rattle.giop_core.specs.declared.header.MessageKind.TheVariants as kind;
+ghost use Rattle.giop_core.specs.Places.{ArePlacesOf, FindsParts};
 
 use crate::cancel::{CancelRequest, find_cancel};
 use crate::error::MessageFault;
@@ -24,7 +23,6 @@ use crate::reply::{Reply, find_reply_10, find_reply_12};
 use crate::request::{Request, find_request_12, find_request_by_key};
 use cdr_core::{CdrError, Order, Ty, Val};
 use std::alloc::Global;
-use std::marker::Model;
 
 /// The place of the first octet after a header.
 pub(crate) const AFTER_HEADER: u64 = Header::LEN as u64;
@@ -160,130 +158,6 @@ impl Places {
             version: header.version,
             order: header.order,
             content: self.parts.lend(header.order, octets),
-        }
-    }
-}
-
-/// A message as its reading left it: its header, its octets, and where its parts lie among them. It lends the message, or
-/// what one kind of message says, without reading it again.
-#[derive(Drop)]
-pub struct Reading<'m> {
-    header: &'m Header,
-    octets: &'m [u8],
-    places: &'m Places,
-}
-
-impl<'m> Model for Reading<'m> {
-    ghost use Rattle.giop_core.specs.Places.{ArePlacesOf, Headed};
-
-    ghost Value = { Headed };
-
-    ghost view = { λ m. record { header = m.header.now; octets = m.octets.now } };
-
-    ghost invariant = { λ m. ArePlacesOf m.header.now m.octets.now m.places.now };
-}
-
-impl<'m> Reading<'m> {
-    /// The octets after a header, whose parts lie at these places.
-    #[inline(always)]
-    pub fn new(header: &'m Header, octets: &'m [u8], places: &'m Places) -> Reading<'m>
-        requires { ArePlacesOf header.now octets.now places.now }
-        ensures { result ≡ record { header = header.now; octets = octets.now } }
-    {
-        Reading {
-            header,
-            octets,
-            places,
-        }
-    }
-
-    /// The header.
-    #[inline(always)]
-    pub fn header(&self) -> Header
-        ensures header { result ≡ self.now.header }
-        // the message has no fault
-        ensures valid { IsOk (said_by self.now) }
-    {
-        *self.header
-    }
-
-    /// The message.
-    #[inline(always)]
-    pub fn message(&self) -> Message<'m>
-        ensures says { said_by self.now ≡ Ok (content_of result.content) }
-        ensures same { (result.version ≡ self.now.header.version) × (result.order ≡ self.now.header.order) }
-        ensures near { OnBody (StandsNear self.now.octets) (content_of result.content) }
-    {
-        self.places.lend(self.header, self.octets)
-    }
-
-    /// What a Request says.
-    #[inline(always)]
-    pub fn request(&self) -> Request<'m>
-        requires { self.now.header.kind ≡ kind.Request }
-        ensures says { said_by self.now ≡ Ok (request_of result) }
-        ensures near { StandsNear self.now.octets (rest_of result.body) }
-    {
-        match &self.places.parts {
-            Parts::Request(it) => it.lend(self.header.order, self.octets),
-            _ => unreachable!(),
-        }
-    }
-
-    /// What a Reply says.
-    #[inline(always)]
-    pub fn reply(&self) -> Reply<'m>
-        requires { self.now.header.kind ≡ kind.Reply }
-        ensures says { said_by self.now ≡ Ok (reply_of result) }
-        ensures near { StandsNear self.now.octets (rest_of result.body) }
-    {
-        match &self.places.parts {
-            Parts::Reply(it) => it.lend(self.header.order, self.octets),
-            _ => unreachable!(),
-        }
-    }
-
-    /// What a CancelRequest says.
-    #[inline(always)]
-    pub fn cancel(&self) -> CancelRequest
-        requires { self.now.header.kind ≡ kind.CancelRequest }
-        ensures { said_by self.now ≡ Ok (cancel_of result) }
-    {
-        match &self.places.parts {
-            Parts::Cancel(id) => CancelRequest { request_id: *id },
-            _ => unreachable!(),
-        }
-    }
-
-    /// What a LocateRequest says.
-    #[inline(always)]
-    pub fn locate_request(&self) -> LocateRequest<'m>
-        requires { self.now.header.kind ≡ kind.LocateRequest }
-        ensures { said_by self.now ≡ Ok (locate_request_of result) }
-    {
-        match &self.places.parts {
-            Parts::LocateRequest(id, target) => LocateRequest {
-                request_id: *id,
-                target: target.lend(self.header.order, self.octets),
-            },
-            _ => unreachable!(),
-        }
-    }
-
-    /// What a LocateReply says.
-    #[inline(always)]
-    pub fn locate_reply(&self) -> LocateReply<'m>
-        requires { self.now.header.kind ≡ kind.LocateReply }
-        ensures says { said_by self.now ≡ Ok (locate_reply_of result) }
-        ensures near { StandsNear self.now.octets (rest_of result.body) }
-    {
-        match &self.places.parts {
-            Parts::LocateReply(id, status, body) => LocateReply {
-                request_id: *id,
-                status: *status,
-                body: body.lend(self.header.order, self.octets),
-            },
-            _ => unreachable!(),
         }
     }
 }

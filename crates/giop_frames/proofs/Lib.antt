@@ -24,3 +24,4 @@ pub mod CutFrames
 pub mod Rejoins
 pub mod Whole
 pub mod Lists
+pub mod Counted

@@ -4,6 +4,7 @@ ghost use Rattle.std.specs.Prelude.{◌≡◌, ◌<◌, ◌≤◌, ◌+◌, ◌+
 ghost use Rattle.std.specs.Option.{option_map};
 ghost use Rattle.giop_core.specs.Lent.{content_of as content_said};
 ghost use Rattle.giop_core.specs.Messages.{OnBody};
+ghost use Rattle.giop_core.specs.Places.{said_by};
 ghost use Rattle.giop_frames.specs.Private.{ArePlaced, Needs, IsKept, IsStep};
 ghost use Rattle.giop_frames.specs.Fragments.{content_of, partials_in};
 ghost use Rattle.giop_frames.specs.Standing.{AreWithin, HasPlace, IsBounded, IsFault, IsLent, StandsFor, completed_at, entries, frame_held, frame_of, octets_held, parts_held, pending_at};
@@ -254,6 +255,8 @@ impl Assembler {
     #[inline(always)]
     pub fn reading(&self) -> Option<Reading<'_>>
         ensures lent { option_map frame_of result ≡ self.now.message }
+        // it has no fault
+        ensures valid { IfSome result (λ m. IsOk (said_by m)) }
         ensures within { IfSome result (λ m. 12 + length m.octets ≤ self.now.limits.message) }
     {
         match &self.complete {
@@ -308,7 +311,8 @@ impl Assembler {
     /// With fewer no frame ends, and there is no fault. A fault that so many bring is one of the frame that has begun,
     /// `pending` octets before them: who gives no more at a time knows where the frame of a fault begins.
     pub fn needed(&self) -> usize
-        ensures { (s : List ℕ) → StandsFor self.now s → Awaits self.now.limits s result }
+        ensures some { 0 < result }
+        ensures awaits { (s : List ℕ) → StandsFor self.now s → Awaits self.now.limits s result }
     {
         self.needed // set anew by each call of `feed`
     }

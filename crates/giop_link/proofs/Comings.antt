@@ -4,6 +4,7 @@ use Rattle.std.proofs.lemmas.List.{append-nil, append_assoc, append_cancel_left,
 use Rattle.giop_core.specs.declared.header.Header.{Header}
 use Rattle.giop_core.specs.declared.header.Version.{Version}
 use Rattle.giop_core.specs.Content.{Content}
+use Rattle.giop_core.specs.Places.{Headed, said_by}
 use Rattle.giop_frames.specs.declared.fault.StreamFault.{StreamFault}
 use Rattle.giop_frames.specs.declared.fault.StreamFault.TheVariants as fault
 use Rattle.giop_frames.specs.declared.limits.Limits.{Limits}
@@ -11,7 +12,7 @@ use Rattle.giop_frames.specs.Completing.{AreRising}
 use Rattle.giop_frames.specs.Fragments.{content_of}
 use Rattle.giop_frames.specs.Frames.{Frame}
 use Rattle.giop_frames.specs.Laws.{FaultsEnd, FaultsStay, MessagesGrow, PlacesRise}
-use Rattle.giop_frames.specs.Standing.{IsFault, OnFault, Standing, StandsFor, completed_at}
+use Rattle.giop_frames.specs.Standing.{IsFault, OnFault, Standing, StandsFor, completed_at, frame_of}
 use Rattle.giop_frames.specs.Streams.{Completed, Faults, fault_of, messages_of}
 use Rattle.giop_link.specs.declared.error.LinkFault.{LinkFault}
 use Rattle.giop_link.specs.declared.error.LinkFault.TheVariants.{Stream, WrongDirection}
@@ -115,6 +116,10 @@ module _ {H : Type 0} where
 -- the header of a valid message
 abbrev pub IsHeader : Option Frame → Header → Type 0
 IsHeader m h = IsSomeAnd m (λ f. (f.header ≡ h) × IsOk (content_of f.header f.octets))
+
+-- of one as its reading left it
+pub header-read : (m : Option Frame) (x : Headed) → Some (frame_of x) ≡ m → IsOk (said_by x) → IsHeader m x.header
+header-read m x is ok = rw (← is) (refl, ok)
 
 module _ {H : Type 0} (meaning : Version → Content → Sound H) where
   -- octets t after a stream s that goes on bring no fault, and this message, if it is one

@@ -1,9 +1,12 @@
 -- What a live link lends.
-use Rattle.std.proofs.Common.{◌≡◌, false, List, Option, Some, None, Result, Ok, IsOk, refl, sym, ap, ◌∙◌}
+use Rattle.std.proofs.Common.{◌≡◌, false, List, Option, Some, None, Result, Ok, IsOk, refl, sym, ap, subst, ◌∙◌}
 use Rattle.std.specs.List.{list_any}
 use Rattle.giop_core.specs.declared.header.Version.{Version}
 use Rattle.giop_core.specs.Content.{Content}
 use Rattle.giop_core.specs.Places.{Headed, said_by}
+use Rattle.giop_core.specs.Said.{IsSaid}
+use Rattle.giop_core.specs.declared.reading.Said.{Said}
+use Rattle.giop_core.specs.declared.reading.Said.TheVariants as said
 use Rattle.giop_frames.specs.Frames.{Frame}
 use Rattle.giop_frames.specs.Standing.{frame_of}
 use Rattle.giop_link.specs.declared.awaited.Outstanding.{Outstanding}
@@ -24,6 +27,20 @@ read-spoken meaning m x is = ap (spoken_by meaning) is
 pub heard-as : {H : Type 0} (meaning : Version → Content → Sound H) (x : Headed) (m : Content) → said_by x ≡ Ok m → sound_of meaning (frame_of x) ≡ meaning x.header.version m
 unfolding sound_of
 heard-as meaning x m is = ap (sound_read meaning x.header.version) is
+
+-- what it says by its kind is lent of the same message
+module _ (x r : Headed) (s : Said) (k : IsSaid x s) where
+  pub said-request : s ≡ said.Request r → r ≡ x
+  said-request is = (subst (IsSaid x) is k).1
+
+  pub said-reply : s ≡ said.Reply r → r ≡ x
+  said-reply is = (subst (IsSaid x) is k).1
+
+  pub said-locate-request : s ≡ said.LocateRequest r → r ≡ x
+  said-locate-request is = (subst (IsSaid x) is k).1
+
+  pub said-locate-reply : s ≡ said.LocateReply r → r ≡ x
+  said-locate-reply is = (subst (IsSaid x) is k).1
 
 -- nothing is heard in a message of a kind that is not
 no-sound : {H : Type 0} (μ : Sound H) (r : Result (Option PeerEnd) LinkFault) → turned μ ≡ r → (r ≡ Ok None → ⊥) → (e : Ending) × (μ ≡ ends e)

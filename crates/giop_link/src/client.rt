@@ -1,6 +1,6 @@
 //! The client's end of a connection.
 
-ghost use Rattle.std.specs.Prelude.{◌≡◌, ◌≢◌, ◌<◌, ◌≤◌, ◌+◌, ◌*◌, ◌++◌, List, [], ℕ, suc, length, take, true, false, Some, None, Ok, Err, map, IfOk, IfErr, IfSome, IsTrue, OnErr, OnOk, if◌then◌else◌};
+ghost use Rattle.std.specs.Prelude.{◌≡◌, ◌≢◌, ◌<◌, ◌≤◌, ◌+◌, ◌*◌, ◌++◌, List, [], ℕ, suc, length, take, true, false, Some, None, Ok, Err, map, IfOk, IfErr, IfSome, IsOk, IsTrue, OnErr, OnOk, if◌then◌else◌};
 ghost use Rattle.std.specs.Option.{option_map};
 ghost use Rattle.cdr_core.specs.declared.order.Order.TheVariants.{Big};
 ghost use Rattle.cdr_core.specs.Spelling.{IsClean};
@@ -9,6 +9,7 @@ ghost use Rattle.cdr_core.specs.Writing.{AreWritable};
 ghost use Rattle.giop_core.specs.declared.header.MessageKind.TheVariants as kind;
 ghost use Rattle.giop_core.specs.Items.{item_at};
 ghost use Rattle.giop_core.specs.Lent.{addressed_by};
+ghost use Rattle.giop_core.specs.Places.{said_by};
 ghost use Rattle.giop_core.specs.Written.{CanAddress, CanAsk, message_octets};
 ghost use Rattle.giop_frames.specs.Standing.{frame_held, frame_of, parts_held};
 ghost use Rattle.giop_link.specs.declared.awaited.Wanted.TheVariants as wanted;
@@ -24,8 +25,7 @@ use crate::error::{LinkFault, SendError};
 use crate::listener::{Listener, PeerEnd, Side};
 use cdr_core::{Order, Val};
 use giop_core::{
-    MessageKind, Reading, ReplyWish, Target, Version, write_cancel, write_locate_request,
-    write_request,
+    Reading, ReplyWish, Said, Target, Version, write_cancel, write_locate_request, write_request,
 };
 use giop_frames::Limits;
 use std::alloc::{AllocError, Global};
@@ -40,15 +40,14 @@ impl Side for Client {
 
     ghost meaning = { answer_to };
 
-    fn turn_of(kind: MessageKind) -> Result<Option<PeerEnd>, LinkFault> {
-        match kind {
-            MessageKind::Reply | MessageKind::LocateReply => Ok(None),
-            MessageKind::CloseConnection => Ok(Some(PeerEnd::Closed)),
-            MessageKind::MessageError => Ok(Some(PeerEnd::Error)),
-            MessageKind::Request
-            | MessageKind::LocateRequest
-            | MessageKind::CancelRequest
-            | MessageKind::Fragment => Err(LinkFault::WrongDirection),
+    fn turn_of(message: &Reading<'_>) -> Result<Option<PeerEnd>, LinkFault> {
+        match message.said() {
+            Said::Reply(_) | Said::LocateReply(_) => Ok(None),
+            Said::Close => Ok(Some(PeerEnd::Closed)),
+            Said::Error => Ok(Some(PeerEnd::Error)),
+            Said::Request(_) | Said::LocateRequest(_) | Said::Cancel(_) | Said::Fragment(_) => {
+                Err(LinkFault::WrongDirection)
+            }
         }
     }
 }
@@ -56,23 +55,24 @@ impl Side for Client {
 /// The id that a message answers and the kind of answer that it is, if it is one.
 #[inline(always)]
 fn answered_one(message: &Reading<'_>) -> Option<Outstanding>
+    requires { IsOk (said_by message.now) }
     ensures { result ≡ answered_one (answer_of (frame_of message.now)) }
 {
-    match message.header().kind {
-        MessageKind::Reply => Some(Outstanding {
-            id: message.reply().request_id,
+    match message.said() {
+        Said::Reply(reply) => Some(Outstanding {
+            id: reply.lend().request_id,
             wanted: Wanted::Reply,
         }),
-        MessageKind::LocateReply => Some(Outstanding {
-            id: message.locate_reply().request_id,
+        Said::LocateReply(reply) => Some(Outstanding {
+            id: reply.lend().request_id,
             wanted: Wanted::Location,
         }),
-        MessageKind::Request
-        | MessageKind::CancelRequest
-        | MessageKind::LocateRequest
-        | MessageKind::CloseConnection
-        | MessageKind::MessageError
-        | MessageKind::Fragment => None,
+        Said::Request(_)
+        | Said::Cancel(_)
+        | Said::LocateRequest(_)
+        | Said::Close
+        | Said::Error
+        | Said::Fragment(_) => None,
     }
 }
 

@@ -1,15 +1,16 @@
 //! What a client's link lends.
 
-ghost use Rattle.std.specs.Prelude.{◌≡◌, ◌<◌, ◌^◌, Some, IfSome, length};
+ghost use Rattle.std.specs.Prelude.{◌≡◌, ◌<◌, ◌^◌, Some, IfSome, IsOk, length};
 ghost use Rattle.std.specs.Option.{option_map};
 ghost use Rattle.giop_core.specs.Lent.{reply_of, rest_of};
+ghost use Rattle.giop_core.specs.Places.{said_by};
 ghost use Rattle.giop_frames.specs.Standing.{HasPlace, frame_of};
 ghost use Rattle.giop_link.specs.Answering.{answer_in, answer_of};
 ghost use Rattle.giop_link.specs.ClientLinking.{IsNearBody, delivered_at};
 ghost use Rattle.giop_link.specs.Listening.{spoken};
 ghost use Rattle.giop_link.specs.Private.{told_of};
 
-use giop_core::{Body, MessageKind, Reading, Reply, ReplyStatus};
+use giop_core::{Body, Reading, Reply, ReplyStatus, Said};
 
 /// What came last for a client, lent from its link.
 #[derive(Debug, Drop)]
@@ -50,21 +51,22 @@ fn replied(reply: Reply<'_>) -> Delivery<'_>
 /// What is delivered of a message, if it is an answer.
 #[inline(always)]
 pub(crate) fn delivered<'m>(message: &Reading<'m>) -> Option<Delivery<'m>>
-    requires { length message.now.octets < 2 ^ 31 }
+    requires valid { IsOk (said_by message.now) }
+    requires short { length message.now.octets < 2 ^ 31 }
     ensures told { option_map delivered_at result ≡ told_of (spoken (answer_of (frame_of message.now))) }
     ensures near { IfSome result IsNearBody }
 {
-    match message.header().kind {
-        MessageKind::Reply => Some(replied(message.reply())),
-        MessageKind::LocateReply => {
-            let reply = message.locate_reply();
+    match message.said() {
+        Said::Reply(reply) => Some(replied(reply.lend())),
+        Said::LocateReply(reply) => {
+            let reply = reply.lend();
             Some(Delivery::Located(reply.request_id, reply.status, reply.body))
         }
-        MessageKind::Request
-        | MessageKind::CancelRequest
-        | MessageKind::LocateRequest
-        | MessageKind::CloseConnection
-        | MessageKind::MessageError
-        | MessageKind::Fragment => None,
+        Said::Request(_)
+        | Said::Cancel(_)
+        | Said::LocateRequest(_)
+        | Said::Close
+        | Said::Error
+        | Said::Fragment(_) => None,
     }
 }

@@ -7,7 +7,7 @@ ghost use Rattle.giop_link.specs.Hearing.{meaning_of};
 ghost use Rattle.giop_link.specs.Linking.{IsNear, meaning_at};
 ghost use Rattle.giop_link.specs.Listening.{spoken};
 
-use giop_core::{MessageKind, Reading, Request, Target, Version};
+use giop_core::{Reading, Request, Said, Target, Version};
 
 /// What came last on a connection, lent from its link.
 #[derive(Debug, Drop)]
@@ -31,18 +31,16 @@ pub(crate) fn spoken<'m>(message: &Reading<'m>) -> Option<Inbound<'m>>
     ensures told { option_map meaning_at result ≡ spoken (meaning_of (frame_of message.now)) }
     ensures near { IfSome result IsNear }
 {
-    let header = message.header();
-    match header.kind {
-        MessageKind::Request => Some(Inbound::Request(header.version, message.request())),
-        MessageKind::LocateRequest => {
-            let locate = message.locate_request();
-            Some(Inbound::Locate(header.version, locate.request_id, locate.target))
+    let version = message.header().version;
+    match message.said() {
+        Said::Request(request) => Some(Inbound::Request(version, request.lend())),
+        Said::LocateRequest(locate) => {
+            let locate = locate.lend();
+            Some(Inbound::Locate(version, locate.request_id, locate.target))
         }
-        MessageKind::CancelRequest => Some(Inbound::Cancelled(message.cancel().request_id)),
-        MessageKind::Reply
-        | MessageKind::LocateReply
-        | MessageKind::CloseConnection
-        | MessageKind::MessageError
-        | MessageKind::Fragment => None,
+        Said::Cancel(cancel) => Some(Inbound::Cancelled(cancel.request_id)),
+        Said::Reply(_) | Said::LocateReply(_) | Said::Close | Said::Error | Said::Fragment(_) => {
+            None
+        }
     }
 }

@@ -1,11 +1,12 @@
 //! An end of a connection as it hears the stream of its peer, whoever it is.
 
-ghost use Rattle.std.specs.Prelude.{◌≡◌, ◌≢◌, ◌↔◌, ◌<◌, ◌≤◌, ◌+◌, ◌*◌, ◌^◌, ◌++◌, ℕ, List, [], length, take, true, false, Option, Some, None, Result, Ok, Err, IfOk, IfErr, IsSome, IsSomeAnd, OnErr, OnOk, IfSome, MatchOption};
+ghost use Rattle.std.specs.Prelude.{◌≡◌, ◌≢◌, ◌↔◌, ◌<◌, ◌≤◌, ◌+◌, ◌*◌, ◌^◌, ◌++◌, ℕ, List, [], length, take, true, false, Option, Some, None, Result, Ok, Err, IfOk, IfErr, IsOk, IsSome, IsSomeAnd, OnErr, OnOk, IfSome, MatchOption};
 ghost use Rattle.std.specs.Option.{option_map};
 ghost use Rattle.giop_core.specs.declared.header.Version.{Version};
 ghost use Rattle.giop_core.specs.Content.{Content};
 ghost use Rattle.giop_core.specs.Lent.{content_of};
 ghost use Rattle.giop_core.specs.Messages.{OnBody};
+ghost use Rattle.giop_core.specs.Places.{said_by};
 ghost use Rattle.giop_frames.specs.Standing.{HasPlace, IsLent, StandsFor, frame_held, frame_of, parts_held};
 ghost use Rattle.giop_frames.specs.Streams.{Awaits, frame_begins};
 ghost use Rattle.giop_frames.specs.declared.limits.Limits.{Limits};
@@ -15,7 +16,7 @@ ghost use Rattle.giop_link.specs.Listening.{Brings, IsFaultTo, IsQuietTo, IsTurn
 ghost use Rattle.giop_link.specs.Private.{IsHeard, LendsHeard};
 
 use crate::error::LinkFault;
-use giop_core::{Message, MessageKind, Reading};
+use giop_core::{Message, Reading};
 use giop_frames::{Assembler, Limits};
 use std::alloc::Global;
 use std::marker::{Model, PhantomData};
@@ -35,10 +36,10 @@ pub trait Side {
     /// What a message is to it, by its version and what it says: one that it hears, or the end of the stream.
     ghost meaning: { Version → Content → Sound Heard };
 
-    /// What a message of a kind is: one that is heard, or the end that the peer made. An error is that it has the
-    /// wrong direction.
-    fn turn_of(kind: MessageKind) -> Result<Option<PeerEnd>, LinkFault>
-        ensures by { IsTurn meaning kind result }
+    /// What a message is: one that is heard, or the end that the peer made. An error is that it has the wrong
+    /// direction.
+    fn turn_of(message: &Reading<'_>) -> Result<Option<PeerEnd>, LinkFault>
+        ensures by { IsTurn meaning message.now.header.kind result }
         ensures strays { IfErr result (λ e. e ≡ WrongDirection) };
 }
 
@@ -69,8 +70,8 @@ fn hear<S: Side>(assembler: &mut Assembler, piece: &[u8]) -> Result<Taken, LinkF
     giop_frames::laws::streams_grow();
     giop_frames::laws::messages_are_whole();
     let taken = assembler.feed(piece)?;
-    let end = match assembler.header() {
-        Some(header) => S::turn_of(header.kind)?,
+    let end = match assembler.reading() {
+        Some(message) => S::turn_of(&message)?,
         None => None,
     };
     Ok(Taken { taken, end })
@@ -138,6 +139,8 @@ impl<S: Side> Listener<S> {
     #[inline(always)]
     pub fn reading(&self) -> Option<Reading<'_>>
         ensures lent { option_map frame_of result ≡ self.now.message }
+        // it has no fault
+        ensures valid { IfSome result (λ m. IsOk (said_by m)) }
         // the place of a body fits 32 bits, as the readers of values ask
         ensures short { IfSome result (λ m. length m.octets < 2 ^ 31) }
     {
@@ -190,6 +193,7 @@ impl<S: Side> Listener<S> {
     /// How many octets there are of the frame that is not whole. A closed listener has none.
     pub fn pending(&self) -> usize
         ensures octets { result ≡ length self.now.pending }
+        ensures closed { self.now.is_closed ≡ true → result ≡ 0 }
         // the frame begins so many octets before the end of what has come
         ensures begins { (limits : Limits) (s : List ℕ) → ListenerStands S.meaning limits self.now s → self.now.is_closed ≡ false → frame_begins limits s + result ≡ length s }
     {
@@ -206,6 +210,7 @@ impl<S: Side> Listener<S> {
     /// has begun, `pending` octets before them: who gives no more at a time knows where the frame of a fault begins.
     pub fn needed(&self) -> Option<usize>
         ensures closed { IsSome result ↔ self.now.is_closed ≡ false }
+        ensures some { IfSome result (λ n. 0 < n) }
         ensures awaits { (limits : Limits) (s : List ℕ) → ListenerStands S.meaning limits self.now s → IfSome result (λ n. Awaits limits s n) }
     {
         match &self.state {

@@ -11,7 +11,7 @@ ghost use Rattle.giop_link.specs.Linking.{IsFaultOf, IsNear, IsQuiet, LinkStands
 use crate::error::LinkFault;
 use crate::inbound::{Inbound, spoken};
 use crate::listener::{Listener, PeerEnd, Side};
-use giop_core::{MessageKind, write_close};
+use giop_core::{Reading, Said, write_close};
 use giop_frames::Limits;
 use std::alloc::{AllocError, Global};
 use std::marker::Model;
@@ -25,14 +25,12 @@ impl Side for Server {
 
     ghost meaning = { meaning_in };
 
-    fn turn_of(kind: MessageKind) -> Result<Option<PeerEnd>, LinkFault> {
-        match kind {
-            MessageKind::Request | MessageKind::LocateRequest | MessageKind::CancelRequest => {
-                Ok(None)
-            }
-            MessageKind::CloseConnection => Ok(Some(PeerEnd::Closed)),
-            MessageKind::MessageError => Ok(Some(PeerEnd::Error)),
-            MessageKind::Reply | MessageKind::LocateReply | MessageKind::Fragment => {
+    fn turn_of(message: &Reading<'_>) -> Result<Option<PeerEnd>, LinkFault> {
+        match message.said() {
+            Said::Request(_) | Said::LocateRequest(_) | Said::Cancel(_) => Ok(None),
+            Said::Close => Ok(Some(PeerEnd::Closed)),
+            Said::Error => Ok(Some(PeerEnd::Error)),
+            Said::Reply(_) | Said::LocateReply(_) | Said::Fragment(_) => {
                 Err(LinkFault::WrongDirection)
             }
         }

@@ -2,7 +2,7 @@
 
 ghost use Rattle.std.specs.Prelude.{◌≡◌, IfErr};
 
-use giop_core::MessageKind;
+use giop_core::Reading;
 use giop_link::{LinkFault, PeerEnd, Side};
 
 /// A reader beside the connection, to whom each message counts, whoever sends it. CloseConnection and MessageError are
@@ -18,7 +18,7 @@ impl Side for Either {
 
     ghost meaning = { counts };
 
-    fn turn_of(_kind: MessageKind) -> Result<Option<PeerEnd>, LinkFault> {
+    fn turn_of(_message: &Reading<'_>) -> Result<Option<PeerEnd>, LinkFault> {
         Ok(None)
     }
 }

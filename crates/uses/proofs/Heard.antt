@@ -8,7 +8,7 @@ use Rattle.giop_link.specs.Hearing.{Incoming, heard, heard_as}
 use Rattle.giop_link.specs.Linking.{Linked, LinkStands}
 use Rattle.giop_link.specs.Listening.{heard_in}
 use Rattle.uses.specs.Hearing.{is_request}
-use Rattle.uses.proofs.Counted.{taken_more}
+use Rattle.giop_frames.proofs.Counted.{taken_more}
 
 -- where nothing has come there is no request
 pub none_asked : (limits : Limits) → count_by is_request (heard limits []) ≡ 0

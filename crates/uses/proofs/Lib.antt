@@ -1,4 +1,3 @@
-pub mod Counted
 pub mod Fed
 pub mod FirstTicket
 pub mod Heard

@@ -12,7 +12,7 @@ use Rattle.giop_frames.specs.Laws.{MessagesGrow}
 use Rattle.giop_frames.specs.Standing.{IsFault, IsLent, completed_at}
 use Rattle.giop_frames.specs.Streams.{Completed, messages_of}
 use Rattle.uses.specs.Forwarding.{first_of, first_said, said_in}
-use Rattle.uses.proofs.Counted.{one_lent}
+use Rattle.giop_frames.proofs.Counted.{one_lent}
 
 -- no octets have no message
 none_said : (limits : Limits) → messages_of limits [] ≡ []

@@ -1,6 +1,6 @@
 use Rattle.std.proofs.Common.{◌+◌, take, sym, ap, ◌∙◌, arith}
 use Rattle.std.proofs.lemmas.List.{length-drop, take_rest}
-use Rattle.uses.proofs.Counted.{no_more, none_told, one_lent, one_more, stands_on}
+use Rattle.giop_frames.proofs.Counted.{no_more, none_told, one_lent, one_more, stands_on}
 use Rattle.uses.proofs.capture.read_capture.Goals as goal
 
 pub loop-taken-init : goal.loop-taken-init
