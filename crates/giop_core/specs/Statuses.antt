@@ -1,5 +1,5 @@
 -- The statuses of replies as numbers, and how many of them each version has.
-use Rattle.std.specs.Prelude.{ℕ, ◌==◌, Option, Some, None, if◌then◌else◌}
+use Rattle.std.specs.Prelude.{ℕ, ◌==◌, List, [], ◌∷◌, Option, Some, None, if◌then◌else◌}
 use Rattle.giop_core.specs.declared.header.Version.{Version}
 use Rattle.giop_core.specs.declared.header.Version.TheVariants.{V12}
 use Rattle.giop_core.specs.declared.reply.ReplyStatus.{ReplyStatus}
@@ -25,16 +25,16 @@ locate_status_number locate.ObjectForwardPerm = 3
 locate_status_number locate.SystemException = 4
 locate_status_number locate.NeedsAddressingMode = 5
 
--- the status that a number names
+-- the one of these that a number names
+abbrev pub named : {Status : Type 0} → (Status → ℕ) → ℕ → List Status → Option Status
+named number n [] = None
+named number n (s ∷ ss) = if n == number s then Some s else named number n ss
+
 abbrev pub reply_status_of : ℕ → Option ReplyStatus
-reply_status_of n =
-    if n == 0 then Some reply.NoException else (if n == 1 then Some reply.UserException else (if n == 2 then Some reply.SystemException else
-    (if n == 3 then Some reply.LocationForward else (if n == 4 then Some reply.LocationForwardPerm else (if n == 5 then Some reply.NeedsAddressingMode else None)))))
+reply_status_of n = named reply_status_number n (reply.NoException ∷ reply.UserException ∷ reply.SystemException ∷ reply.LocationForward ∷ reply.LocationForwardPerm ∷ reply.NeedsAddressingMode ∷ [])
 
 abbrev pub locate_status_of : ℕ → Option LocateStatus
-locate_status_of n =
-    if n == 0 then Some locate.UnknownObject else (if n == 1 then Some locate.ObjectHere else (if n == 2 then Some locate.ObjectForward else
-    (if n == 3 then Some locate.ObjectForwardPerm else (if n == 4 then Some locate.SystemException else (if n == 5 then Some locate.NeedsAddressingMode else None)))))
+locate_status_of n = named locate_status_number n (locate.UnknownObject ∷ locate.ObjectHere ∷ locate.ObjectForward ∷ locate.ObjectForwardPerm ∷ locate.SystemException ∷ locate.NeedsAddressingMode ∷ [])
 
 -- GIOP 9.4.3, GIOP 9.4.6: how many statuses a Reply of the version has, and a LocateReply; they count from 0
 abbrev pub reply_statuses : Version → ℕ
