@@ -58,9 +58,16 @@ LISTS = [
             ("ft_orb", "Server::feed", ("now",)),
             ("ft_orb", "key_acts_later", ("later", "held")),
             ("ft_orb", "key_acts_once", ("once", "repeats", "first")),
+            ("ft_orb", "keyless_act_now", None),
+            ("ft_orb", "refused_change_nothing_now", None),
         ),
-        ("ft_orb/Now",),
-        (("ft_orb", "tables_act_now"), ("ft_orb", "now_is_ever")),
+        ("ft_orb/Now", "ft_orb/NowFirsts"),
+        (
+            ("ft_orb", "tables_act_now"),
+            ("ft_orb", "now_is_ever"),
+            ("ft_orb", "repeats_answer_now"),
+            ("ft_orb", "room_for_live_clients"),
+        ),
     ),
     Listing(
         "Premises",

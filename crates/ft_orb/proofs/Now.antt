@@ -10,19 +10,19 @@ use Rattle.ft_log.specs.Keys.{RequestKey, same_key}
 use Rattle.ft_log.specs.Kept.{KeptOutcome, kept_for, keys_of, unexpired}
 use Rattle.ft_log.specs.declared.system_exception.SystemName.{SystemName}
 use Rattle.ft_log.specs.declared.system_exception.SystemName.TheVariants.{BadContext}
-use Rattle.ft_orb.specs.ExactlyOnce.{Absent, Arrival, Bad, ClocksGrow, Field, OneExpiration, Present, Rules, acts, clock_after, has_key, is_bad, is_over, live_keys, new_answer, outcome_of, performed_after, state_after, state_after_call}
+use Rattle.ft_orb.specs.ExactlyOnce.{Absent, Arrival, Bad, ClocksGrow, Field, Present, Rules, acts, clock_after, has_key, is_bad, is_over, live_keys, new_answer, outcome_of, state_after, state_after_call}
 use Rattle.ft_orb.specs.Table.{Table, entry_of, forgotten, keyed_step, remembered, step_by_field, table_after, table_answers, table_step}
-use Rattle.ft_orb.specs.Now.{IsIdleNow, IsTableNow, KeyActsLater, KeyActsOnce, KeyIsAnswered, KeyIsFirst, KeyIsHeld, KeysAnswer, NowIsEver, OneExpirationOf, TablesAnswerNow, TablesGoOnNow, acts_now, answer_now, answer_now_by_field, answers_now_after, has_live_key, is_held, is_let_in_now, outcome_held, performed_now, performed_now_after}
+use Rattle.ft_orb.specs.Now.{IsIdleNow, IsTableNow, KeyActsLater, KeyActsOnce, KeyIsAnswered, KeyIsFirst, KeyIsHeld, OneExpirationOf, TablesAnswerNow, TablesGoOnNow, acts_now, answer_now, answer_now_by_field, answers_now_after, has_live_key, is_held, is_let_in_now, outcome_held, performed_now, performed_now_after}
 use Rattle.ft_orb.proofs.Folded.{same_key-self}
-use Rattle.ft_orb.proofs.Law.{Agrees, AreCalls, AreCalls-push, Fits, Fits-along, acts_by, agrees_if, enters, entries_if, keyed_fits, keyed_with, keyed_with-is, live_keys-is, remembered-push, same_is, state_after-push, state_if, unexpired_later}
+use Rattle.ft_orb.proofs.Law.{Agrees, AreCalls, AreCalls-push, Fits, Fits-along, agrees_if, enters, entries_if, keyed_fits, keyed_with, keyed_with-is, live_keys-is, remembered-push, same_is, state_after-push, state_if, unexpired_later}
 use Rattle.ft_orb.proofs.Once.{any-here, own-key}
 
 module _ {X : Type 0} where
-  all_in : (P : X → Type 0) (xs : List X) → ((x : X) → Contains xs x → P x) → AllByRecursion P xs
+  pub all_in : (P : X → Type 0) (xs : List X) → ((x : X) → Contains xs x → P x) → AllByRecursion P xs
   all_in P [] h = tt
   all_in P (x ∷ xs) h = (h x (Contains-append_left (x ∷ []) xs x (Contains-push [] x)), all_in P xs (λ y in_y. h y (Contains-append_right (x ∷ []) xs y in_y)))
 
-  all_map : (P Q : X → Type 0) (xs : List X) → ((x : X) → P x → Q x) → AllByRecursion P xs → AllByRecursion Q xs
+  pub all_map : (P Q : X → Type 0) (xs : List X) → ((x : X) → P x → Q x) → AllByRecursion P xs → AllByRecursion Q xs
   all_map P Q [] f h = tt
   all_map P Q (x ∷ xs) f h = (f x h.0, all_map P Q xs f h.1)
 
@@ -30,12 +30,12 @@ module _ {X : Type 0} where
   all_push P [] x h is = (is, tt)
   all_push P (y ∷ ys) x h is = (h.0, all_push P ys x h.1 is)
 
-  all_middle : (P : X → Type 0) (front rest : List X) (x : X) → AllByRecursion P (front ++ x ∷ rest) → P x
+  pub all_middle : (P : X → Type 0) (front rest : List X) (x : X) → AllByRecursion P (front ++ x ∷ rest) → P x
   all_middle P [] rest x h = h.0
   all_middle P (y ∷ front) rest x h = all_middle P front rest x h.1
 
 -- the arrivals agree with this expiration where they have this key
-abbrev AllAgree : {C : Type 0} → RequestKey → ℕ → List (Arrival C) → Type 0
+abbrev pub AllAgree : {C : Type 0} → RequestKey → ℕ → List (Arrival C) → Type 0
 AllAgree key expiration ps = AllByRecursion (λ p. Agrees key expiration p.field) ps
 
 -- where none has the key, none holds it ..
@@ -45,7 +45,7 @@ live_lacks clock key Bad h = refl
 live_lacks clock key (Present other late) h = ap (λ b. b && nat_le clock late) h
 
 -- .. and where all agree, having it in time is holding it
-live_is : (key : RequestKey) (expiration clock : ℕ) (f : Field) → clock ≤ expiration → Agrees key expiration f → has_live_key clock key f ≡ has_key key f
+pub live_is : (key : RequestKey) (expiration clock : ℕ) (f : Field) → clock ≤ expiration → Agrees key expiration f → has_live_key clock key f ≡ has_key key f
 live_is key expiration clock Absent in_time h = refl
 live_is key expiration clock Bad in_time h = refl
 live_is key expiration clock (Present other late) in_time h =
@@ -80,7 +80,7 @@ OnceOf key [] = Unit {0}
 OnceOf key (p ∷ ps) = (has_key key p.field ≡ true → list_any (λ q. has_key key q.field) ps ≡ false) × OnceOf key ps
 
 module _ {C : Type 0} where
-  held_is : (key : RequestKey) (expiration clock : ℕ) (ps : List (Arrival C)) → clock ≤ expiration → AllAgree key expiration ps → is_held ps clock key ≡ list_any (λ q. has_key key q.field) ps
+  pub held_is : (key : RequestKey) (expiration clock : ℕ) (ps : List (Arrival C)) → clock ≤ expiration → AllAgree key expiration ps → is_held ps clock key ≡ list_any (λ q. has_key key q.field) ps
   held_is key expiration clock [] in_time h = refl
   held_is key expiration clock (p ∷ ps) in_time h = λ i. live_is key expiration clock p.field in_time h.0 i || held_is key expiration clock ps in_time h.1 i
 
@@ -160,16 +160,16 @@ module _ {S C K O : Type 0} (rules : Rules S C K O) where
   performed_now-push performed (b ∷ later) a = performed_now-push (grown_now performed b) later a
 
   -- whether a request acts, by its field and by what it spells
-  abbrev acts_now_by : List (Arrival C) → ℕ → Field → Bool → Bool
+  abbrev pub acts_now_by : List (Arrival C) → ℕ → Field → Bool → Bool
   acts_now_by performed clock f spells = (not (is_bad f) && (not (is_over clock f) && spells)) && is_let_in_now rules performed clock f
 
   -- what holds of the performed and of all arrivals holds of the performed ones among them
-  grown_now-all : (P : Arrival C → Type 0) (performed : List (Arrival C)) (a : Arrival C) → AllByRecursion P performed → P a → AllByRecursion P (grown_now performed a)
+  pub grown_now-all : (P : Arrival C → Type 0) (performed : List (Arrival C)) (a : Arrival C) → AllByRecursion P performed → P a → AllByRecursion P (grown_now performed a)
   grown_now-all P performed a h is =
       elim (acts_now rules performed a) as (λ b. AllByRecursion P (cond b (performed ++ a ∷ []) performed))
       [ true ↦ all_push P performed a h is | false ↦ h ]
 
-  performed_now-all : (P : Arrival C → Type 0) (performed arrivals : List (Arrival C)) → AllByRecursion P performed → AllByRecursion P arrivals → AllByRecursion P (performed_now_after rules performed arrivals)
+  pub performed_now-all : (P : Arrival C → Type 0) (performed arrivals : List (Arrival C)) → AllByRecursion P performed → AllByRecursion P arrivals → AllByRecursion P (performed_now_after rules performed arrivals)
   performed_now-all P performed [] h later = h
   performed_now-all P performed (a ∷ rest) h later = performed_now-all P (grown_now performed a) rest (grown_now-all P performed a h later.0) later.1
 
@@ -373,7 +373,7 @@ module _ {S C K O : Type 0} (rules : Rules S C K O) where
   tables-answer-now opening arrivals grow = run_now opening 0 [] arrivals (record { state = opening; entries = [] }) grow (record { state = refl; entries = refl })
 
   -- what does not act leaves the performed requests as they were, and what acts comes after them
-  grows : (arrivals : List (Arrival C)) (a : Arrival C) (f : Field) (r : Result K SystemName) (b : Bool) → a.field ≡ f → rules.asked a.content ≡ r → acts_now_by (performed_now rules arrivals) a.clock f (is_ok r) ≡ b
+  pub grows : (arrivals : List (Arrival C)) (a : Arrival C) (f : Field) (r : Result K SystemName) (b : Bool) → a.field ≡ f → rules.asked a.content ≡ r → acts_now_by (performed_now rules arrivals) a.clock f (is_ok r) ≡ b
       → performed_now rules (arrivals ++ a ∷ []) ≡ cond b (performed_now rules arrivals ++ a ∷ []) (performed_now rules arrivals)
   grows arrivals a f r b is asks h =
       let performed = performed_now rules arrivals in
@@ -381,7 +381,7 @@ module _ {S C K O : Type 0} (rules : Rules S C K O) where
       ∙ ap (λ t. cond t (performed ++ a ∷ []) performed) ((λ i. acts_now_by performed a.clock (is i) (is_ok (asks i))) ∙ h)
 
   -- the answer by the field, and by what it asks
-  answer_at : (opening : S) (arrivals : List (Arrival C)) (a : Arrival C) (f : Field) (r : Result K SystemName) → a.field ≡ f → rules.asked a.content ≡ r
+  pub answer_at : (opening : S) (arrivals : List (Arrival C)) (a : Arrival C) (f : Field) (r : Result K SystemName) → a.field ≡ f → rules.asked a.content ≡ r
       → answer_now rules opening arrivals a ≡ answer_now_by_field rules opening (performed_now rules arrivals) a.clock r f
   answer_at opening arrivals a f r is asks = λ i. answer_now_by_field rules opening (performed_now rules arrivals) a.clock (asks i) (is i)
 
@@ -431,7 +431,7 @@ module _ {S C K O : Type 0} (rules : Rules S C K O) where
       (own-live key early a.clock p is_p (omega (arith, in_time, same)))
 
   -- where the key is not held, no outcome is
-  held-none : (state : S) (clock : ℕ) (key : RequestKey) (ps : List (Arrival C)) → is_held ps clock key ≡ false → outcome_held rules state clock key ps ≡ None
+  pub held-none : (state : S) (clock : ℕ) (key : RequestKey) (ps : List (Arrival C)) → is_held ps clock key ≡ false → outcome_held rules state clock key ps ≡ None
   held-none state clock key [] none = refl
   held-none state clock key (p ∷ ps) none =
       let parts = or_parts (has_live_key clock key p.field) (is_held ps clock key) none in
@@ -458,38 +458,3 @@ module _ {S C K O : Type 0} (rules : Rules S C K O) where
     λ room. new_at opening arrivals a key expiration call true is in_time asks free room,
     λ room. new_at opening arrivals a key expiration call false is in_time asks free room,
   )
-
-  -- where the requests that were performed agree with one that comes, it acts by its own key where it acts by all
-  acts_same : (performed : List (Arrival C)) (clock : ℕ) (f : Field) (spells : Bool) → ((key : RequestKey) (expiration : ℕ) → f ≡ Present key expiration → AllAgree key expiration performed)
-      → acts_now_by performed clock f spells ≡ acts_by rules performed clock f spells
-  acts_same performed clock Absent spells agree = refl
-  acts_same performed clock Bad spells agree = refl
-  acts_same performed clock (Present key expiration) spells agree =
-      let room = rules.has_room key (live_keys clock performed) in
-      elim (nat_lt expiration clock) as (λ b. nat_lt expiration clock ≡ b
-      → ((true && (not b && spells)) && (not (is_held performed clock key) && room)) ≡ ((true && (not b && spells)) && (not (list_any (λ p. has_key key p.field) performed) && room))) [
-        | true ↦ λ over. refl
-        | false ↦ λ over. ap (λ held. (true && (true && spells)) && (not held && room)) (held_is key expiration clock performed (ltb-false expiration clock over) (agree key expiration refl))
-      ] refl
-
-  now_same : (performed before later : List (Arrival C)) → OneExpiration (before ++ later) → AllByRecursion (Contains before) performed → performed_now_after rules performed later ≡ performed_after rules performed later
-  now_same performed before [] one arrived = refl
-  now_same performed before (a ∷ later) one arrived =
-      let split : (before ++ a ∷ []) ++ later ≡ before ++ a ∷ later = append_assoc before (a ∷ []) later in
-      let one_too : OneExpiration ((before ++ a ∷ []) ++ later) = subst OneExpiration (sym split) one in
-      let here : Contains ((before ++ a ∷ []) ++ later) a = Contains-append_left (before ++ a ∷ []) later a (Contains-push before a) in
-      let agree : (key : RequestKey) (expiration : ℕ) → a.field ≡ Present key expiration → AllAgree key expiration performed =
-      λ key expiration is_a.
-      all_map (Contains before) (λ p. Agrees key expiration p.field) performed
-      (λ p in_p. agrees_if key expiration p.field (λ e is_p. one_too p a key e expiration (Contains-append_left (before ++ a ∷ []) later p (Contains-append_left before (a ∷ []) p in_p)) here is_p is_a)) arrived in
-      let same : acts_now rules performed a ≡ acts rules performed a = acts_same performed a.clock a.field (is_ok (rules.asked a.content)) agree in
-      let more : AllByRecursion (Contains (before ++ a ∷ [])) (grown_now performed a) =
-      grown_now-all (Contains (before ++ a ∷ [])) performed a (all_map (Contains before) (Contains (before ++ a ∷ [])) performed (λ p in_p. Contains-append_left before (a ∷ []) p in_p) arrived) (Contains-push before a) in
-      now_same (grown_now performed a) (before ++ a ∷ []) later one_too more
-      ∙ ap (λ b. performed_after rules (cond b (performed ++ a ∷ []) performed) later) same
-
-  pub now-is-ever : NowIsEver rules
-  now-is-ever arrivals one = now_same [] [] arrivals one tt
-
-  pub keys-answer : KeysAnswer rules
-  keys-answer = record { table = tables-answer-now; next = tables-go-on-now; later = key-acts-later; once = key-acts-once; held = key-is-held; repeats = key-is-answered; first = key-is-first; ever = now-is-ever }

@@ -19,7 +19,7 @@ use Rattle.ft_orb.proofs.Asking.{asked-never}
 use Rattle.ft_orb.proofs.Folded.{ClocksGrow-front}
 use Rattle.ft_orb.proofs.Law.{AllFields, AllFields-push}
 use Rattle.ft_orb.proofs.Now.{grown_now, outcome_held-is, performed_now-calls}
-use Rattle.ft_orb.proofs.Shares.{AllFields-front, AllFields-last, ClocksGrow-last, HasClient, Within, clients_of-all, held_of-later, length-total, live_keys-among, refused, total-below, within-push}
+use Rattle.ft_orb.proofs.Shares.{AllAmong, AllFields-front, AllFields-last, ClocksGrow-last, HasClient, IsAmong, Within, clients_of-all, held_of-later, length-total, live_keys-among, refused, total-below, within-push}
 
 module _ {S C K O : Type 0} (rules : Rules S C K O) where
   grown_now-fields : (Q : Field → Type 0) (performed : List (Arrival C)) (a : Arrival C) → AllFields Q performed → Q a.field → AllFields Q (grown_now rules performed a)
@@ -60,18 +60,13 @@ module _ {S C K O : Type 0} (asked : C → Result K SystemName) (apply : S → K
   performed_now-within clock performed [] grow all = all
   performed_now-within clock performed (a ∷ later) grow all = performed_now-within a.clock (grown_now rules performed a) later grow.1 (grown_now-within clock performed a grow.0 all)
 
-  -- only a client that has used up its share is refused because there is no room
-  pub fair-now : (opening : S) (arrivals : List (Arrival C)) (a : Arrival C) (key : RequestKey) (expiration : ℕ) → ((content : C) (refusal : SystemName) → asked content ≡ Err refusal → refusal ≡ NoResources → ⊥)
-      → ClocksGrow 0 (arrivals ++ a ∷ []) → share * length (clients_of (arrivals ++ a ∷ [])) ≤ capacity → a.field ≡ Present key expiration → answer_now rules opening arrivals a ≡ Err NoResources
-      → share ≤ held_of key.client_id (live_keys a.clock (performed_now rules arrivals))
-  fair-now opening arrivals a key expiration never grow enough is answer =
+  -- only a client that has used up its share is refused because there is no room, where there is enough for the clients of live keys
+  pub fair-among : (opening : S) (arrivals : List (Arrival C)) (a : Arrival C) (key : RequestKey) (expiration : ℕ) (clients : List (List ℕ)) → ((content : C) (refusal : SystemName) → asked content ≡ Err refusal → refusal ≡ NoResources → ⊥)
+      → ClocksGrow 0 (arrivals ++ a ∷ []) → share * length clients ≤ capacity → AllAmong clients (live_keys a.clock (performed_now rules arrivals)) → IsAmong clients key.client_id
+      → a.field ≡ Present key expiration → answer_now rules opening arrivals a ≡ Err NoResources → share ≤ held_of key.client_id (live_keys a.clock (performed_now rules arrivals))
+  fair-among opening arrivals a key expiration clients never grow enough among own_in is answer =
       let performed = performed_now rules arrivals in
       let live = live_keys a.clock performed in
-      let clients = clients_of (arrivals ++ a ∷ []) in
-      let all_in = clients_of-all (arrivals ++ a ∷ []) in
-      let front_in = AllFields-front (HasClient clients) arrivals (a ∷ []) all_in in
-      let among = live_keys-among clients a.clock performed (performed_now-fields rules (HasClient clients) [] arrivals tt front_in) in
-      let own_in : HasClient clients (Present key expiration) = subst (HasClient clients) is (AllFields-last (HasClient clients) arrivals a all_in) in
       let within : Within share live = λ client. omega (arith, performed_now-within 0 [] arrivals (ClocksGrow-front 0 arrivals (a ∷ []) grow) (λ c. omega arith) client, held_of-later client (clock_after 0 arrivals) a.clock performed (ClocksGrow-last 0 arrivals a grow)) in
       let state = state_after rules opening performed in
       let answer_is : answer_now_by_field rules opening performed a.clock (asked a.content) (Present key expiration) ≡ Err NoResources = ap (answer_now_by_field rules opening performed a.clock (asked a.content)) (sym is) ∙ answer in
@@ -84,6 +79,18 @@ module _ {S C K O : Type 0} (asked : C → Result K SystemName) (apply : S → K
             (lt-ltb (length live) capacity (omega (arith, length-total clients live among, total-below clients live share key.client_id within own_in (ltb-true _ _ own), enough))) own) ∙ no_room))
         | false ↦ λ own. ltb-false _ _ own
       ] refl
+
+  -- and so for the clients of all arrivals
+  pub fair-now : (opening : S) (arrivals : List (Arrival C)) (a : Arrival C) (key : RequestKey) (expiration : ℕ) → ((content : C) (refusal : SystemName) → asked content ≡ Err refusal → refusal ≡ NoResources → ⊥)
+      → ClocksGrow 0 (arrivals ++ a ∷ []) → share * length (clients_of (arrivals ++ a ∷ [])) ≤ capacity → a.field ≡ Present key expiration → answer_now rules opening arrivals a ≡ Err NoResources
+      → share ≤ held_of key.client_id (live_keys a.clock (performed_now rules arrivals))
+  fair-now opening arrivals a key expiration never grow enough is answer =
+      let clients = clients_of (arrivals ++ a ∷ []) in
+      let all_in = clients_of-all (arrivals ++ a ∷ []) in
+      let front_in = AllFields-front (HasClient clients) arrivals (a ∷ []) all_in in
+      let among = live_keys-among clients a.clock (performed_now rules arrivals) (performed_now-fields rules (HasClient clients) [] arrivals tt front_in) in
+      let own_in : HasClient clients (Present key expiration) = subst (HasClient clients) is (AllFields-last (HasClient clients) arrivals a all_in) in
+      fair-among opening arrivals a key expiration clients never grow enough among own_in is answer
 
 pub room-for-each-client-now : {State : Type 0} (meaning : Meaning State) → RoomForEachClientNow meaning
 room-for-each-client-now {State} meaning capacity share opening arrivals a key expiration grow enough is answer =

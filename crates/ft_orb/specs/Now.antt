@@ -7,7 +7,7 @@ use Rattle.ft_log.specs.Keys.{RequestKey, held_of, same_key}
 use Rattle.ft_log.specs.Kept.{unexpired}
 use Rattle.ft_log.specs.declared.system_exception.SystemName.{SystemName}
 use Rattle.ft_log.specs.declared.system_exception.SystemName.TheVariants.{BadContext, Marshal, NoResources}
-use Rattle.ft_orb.specs.ExactlyOnce.{Absent, Arrival, Bad, ClocksGrow, Field, OneExpiration, Present, Rules, clock_after, is_admissible, live_keys, new_answer, outcome_of, performed_of, state_after, state_after_call}
+use Rattle.ft_orb.specs.ExactlyOnce.{Absent, Arrival, Bad, ClocksGrow, Field, OneExpiration, Present, Rules, answers_after, clock_after, is_admissible, live_keys, new_answer, outcome_of, performed_of, state_after, state_after_call}
 use Rattle.ft_orb.specs.Table.{Table, remembered, table_after, table_answers, table_step}
 use Rattle.ft_log.specs.Performed.{Performed}
 use Rattle.ft_orb.specs.declared.events.Note.{Note}
@@ -135,9 +135,11 @@ module _ {State Content Call Outcome : Type 0} (rules : Rules State Content Call
       → (answer_now opening arrivals a ≡ Ok (rules.apply (state_after rules opening (performed_now arrivals)) call).1) × (performed_now (arrivals ++ a ∷ []) ≡ performed_now arrivals ++ a ∷ []))
       × (IsFalse (rules.has_room key (live_keys a.clock (performed_now arrivals))) → (answer_now opening arrivals a ≡ Err NoResources) × IsIdleNow arrivals a)
 
-  -- Where the arrivals with one key carry one expiration, each key by itself performs what looking back over all does.
+  -- Where the arrivals with one key carry one expiration, each key by itself performs what looking back over all does, and answers
+  -- what comes later as that does.
   abbrev pub NowIsEver : Type 0
-  NowIsEver = (arrivals : List (Arrival Content)) → OneExpiration arrivals → performed_now arrivals ≡ performed_of rules arrivals
+  NowIsEver = (opening : State) (before later : List (Arrival Content)) → OneExpiration (before ++ later)
+      → (performed_now (before ++ later) ≡ performed_of rules (before ++ later)) × (answers_now_after opening before later ≡ answers_after rules opening before later)
 
   -- all that is said of each key by itself
   pub record KeysAnswer : Type 0 where

@@ -245,15 +245,18 @@ pub fn serve_engine<C: Catalogue + Drop, O: Performer, W: Wire, K: Clock>(
         × Rests C.offers o (calls ++ calls_of (handed_in log)) engine.new (history.Lost connection ∷ past_with o.limits past connection turns)
         × WireSays turns last (W.traffic wire.old) (W.traffic wire.new)
         × ClockSays turns (K.given clock.old) (K.given clock.new)) }
-    // each key by itself, whatever expirations requests carry: what is written in these turns, and the calls answered up to them
+    // each key by itself, whatever expirations requests carry: the same turns, what is written in them, and the calls answered up to
+    // them
     ensures now { (log : List Handover) × OwnerSays log (O.answered owner.old) (O.answered owner.new) × ((o : Owner) (calls : List Call) (past : List history.Event) → Rests C.offers o calls engine.old past
         → is_going o.limits (line past connection) ≡ true → Agrees o.answers calls (handed_in log) → AreHandedIn o.offer log × (turns : List Turn) × (last : List Act)
+        × Plays o.limits o.offer.knows (table_says (meaning_of o) (made_of o)) past (events_in connection turns) (entries_of turns)
         × Plays o.limits o.offer.knows (now_says (meaning_of o) (made_of o)) past (events_in connection turns) (entries_of turns)
         × AreNoted result (entries_of turns)
         × HasEnded o.limits past connection max_reads turns result last
         × AreReadInTime o.limits past connection turns
         × AreSmall turns
         × (length turns ≤ max_reads)
+        × Rests C.offers o (calls ++ calls_of (handed_in log)) engine.new (history.Lost connection ∷ past_with o.limits past connection turns)
         × (calls ++ calls_of (handed_in log) ≡ state_now (meaning_of o) (made_of o) (history.Lost connection ∷ past_with o.limits past connection turns))
         × WireSays turns last (W.traffic wire.old) (W.traffic wire.new)
         × ClockSays turns (K.given clock.old) (K.given clock.new)) }

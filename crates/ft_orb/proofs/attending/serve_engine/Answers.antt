@@ -39,5 +39,5 @@ returns-clause-now g c =
       v.1,
       λ o calls past rests going agrees.
           let x = v.2 o calls past rests going agrees in
-          (x.0, x.1, x.2, plays-act-now (meaning_of o) (made_of o) past _ _ x.3, x.4, x.5, x.6, x.7, x.8, servant-now (meaning_of o) (made_of o) _ _ x.9.stands, x.10, x.11),
+          (x.0, x.1, x.2, x.3, plays-act-now (meaning_of o) (made_of o) past _ _ x.3, x.4, x.5, x.6, x.7, x.8, x.9, servant-now (meaning_of o) (made_of o) _ _ x.9.stands, x.10, x.11),
     )
