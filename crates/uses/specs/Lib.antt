@@ -6,6 +6,7 @@ pub mod Invocation
 pub mod Keeping
 pub mod Tickets
 pub mod Saving
+pub mod Ledger
 pub mod Serving
 pub mod Pieces
 pub mod Retrying
