@@ -2,7 +2,7 @@
 
 ghost use Rattle.std.specs.Prelude.{◌≤◌};
 ghost use Rattle.ft_orb.specs.Standing.{IsNew};
-ghost use Rattle.giop_run.specs.Services.{IsOffered};
+ghost use Rattle.giop_run.specs.Services.{AreLimitsOf, IsOffered};
 ghost use Rattle.giop_run.specs.Settings.{IsServable};
 
 use crate::play::Terms;
@@ -51,7 +51,7 @@ fn timeout_of(service: &Service) -> Option<Duration> {
         .map(|seconds| Duration::from_secs(u64::from(seconds)))
 }
 
-/// Serves the connections of a listener by a new server, and prints a line for each request.
+/// Serves the connections of a listener by a new server with these limits, and prints a line for each request.
 fn serve_watched<C: Clock, E: Write>(
     alloc: Global,
     listener: &TcpListener,
@@ -62,7 +62,8 @@ fn serve_watched<C: Clock, E: Write>(
     clock: &mut C,
     err: &mut E,
 ) -> Result<(), Stop>
-    requires { IsOffered service.now.numbers server.old }
+    requires offered { IsOffered service.now.numbers server.old }
+    requires limits { AreLimitsOf service.now.numbers limits }
 {
     for i in 0..service.connections {
         let Ok((stream, _)) = listener.accept() else {
