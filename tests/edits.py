@@ -33,7 +33,7 @@ ROOT = os.path.dirname(os.path.dirname(os.path.abspath(__file__)))
 MOST = 70
 # the libraries: each of their public calls has a wrong body, or a word why not
 LIBRARIES = ("cdr_core", "ior_core", "giop_core", "giop_frames", "giop_link", "ft_log", "ft_client", "ft_orb",
-             "ft_ends", "ft_tcp", "counter", "giop_run", "giop_trace", "lemonrudder", "uses")
+             "ft_ends", "ft_tcp", "counter", "giop_text", "giop_run", "giop_trace", "lemonrudder", "uses")
 
 
 class Pair(NamedTuple):

@@ -4,8 +4,8 @@
   octets here.
 - Sessions are made at random, whose pairs of requests and answers are known: several connections, on which both sides
   ask, ids that are used again, requests that want no reply, cancels, replies that nobody asked for, fragments, keys
-  that come again; and each message in lines that are cut anywhere. The lines for a person are compared with the
-  objects.
+  that come again; and each message in lines that are cut anywhere. The lines for a person are those of `giop
+  show`, with what the objects say beside them.
 - Octets that are no message stand between messages, and with --resume each message is found.
 
 A session that fails is printed with as few messages as are found with which it still does, as the program takes it.
@@ -300,9 +300,54 @@ def ending(made, objects, faults=0, passed=0):
     }
 
 
-def line_heads(out):
-    """The number, the direction, the place and the kind of each line of a message for a person."""
-    return re.findall(r"^(\d+) ([<>]) to (\d+) (1\.[012]) (big|little) (\w+)", out, re.M)
+def earlier_words(one):
+    """What the line of an answer or a cancel says of its request, by its object."""
+    if one["request"] is None:
+        return " without a request"
+    to = f" to {one['operation']}" if one["operation"] else ""
+    return f"{to}, {one['later']} after request {one['request']}"
+
+
+def outcome_words(one):
+    """What the line of an answer says of its status, by its object."""
+    raised = one["exception"]
+    words = f" {raised['name']} minor {raised['minor']:#010x} completed {raised['completed']}" if raised else ""
+    return f": status {one['status']}{words}"
+
+
+def ft_line(one):
+    """The line of an FT_REQUEST, by the object of its message."""
+    ft = one["ft"]
+    expires = ft["expires"] or "after the year 9999"
+    repeat = f", repeat of {one['repeats']}" if one["repeats"] else ""
+    return (f"  ft client {ft['client']} retention {ft['retention']} expiration {ft['expiration']} expires {expires}"
+            f"{repeat}")
+
+
+def lines_of(message, one):
+    """The lines of a message for a person: those of `giop show`, with what its object says beside them."""
+    body = message.says.get("body", b"")
+    ending = f" body {body.hex() or '-'}, {len(body)} octets"
+    line = (f"{one['number']} {'<' if one['direction'] == 'acceptor' else '>'} to {one['to']} {one['version']}"
+            f" {one['order']} {one['kind']}" + ("" if one["id"] is None else f" id {one['id']}"))
+    if message.kind == REQUEST:
+        line += f" reply {one['reply']} key 6b operation {one['operation']}{ending}"
+    elif message.kind == LOCATE:
+        line += " key 6b"
+    elif message.kind == CANCEL:
+        line += earlier_words(one)
+    elif message.kind in (REPLY, LOCATED):
+        line += earlier_words(one) + outcome_words(one) + ending
+    yield line
+    for it in one["contexts"]:
+        yield f"  context {it['id']} {it['octets']} {it['name']}, {len(it['octets']) // 2} octets"
+    if one["ft"]:
+        yield ft_line(one)
+
+
+def message_lines(out):
+    """The lines of messages in what is printed for a person."""
+    return [line for line in out.splitlines() if line[0] in " 123456789"]
 
 
 def check_session(steps, seed):
@@ -315,9 +360,8 @@ def check_session(steps, seed):
     wrong = compared(wanted, got[:-1]) or differences(ending(made, wanted), got[-1])
     if wrong:
         return wrong
-    heads = [(str(o["number"]), "<" if o["direction"] == "acceptor" else ">", str(o["to"]), o["version"], o["order"],
-              o["kind"]) for o in wanted]
-    return None if line_heads(traced(text)[1]) == heads else "the lines for a person differ"
+    lines = [line for sent, one in zip(made.sent, wanted) for line in lines_of(sent[2], one)]
+    return None if message_lines(traced(text)[1]) == lines else "the lines for a person differ"
 
 
 def check_junk(steps, seed):

@@ -16,7 +16,7 @@ use Rattle.giop_run.specs.declared.stream.Detail.{Detail}
 use Rattle.giop_run.specs.declared.stream.Detail.TheVariants.{Messages, EndAlone}
 use Rattle.giop_run.specs.declared.stream.Ending.TheVariants.{Fault}
 use Rattle.giop_run.specs.declared.stream.Summary.{Summary}
-use Rattle.giop_run.specs.MessageLines.{message_lines}
+use Rattle.giop_text.specs.MessageLines.{message_lines}
 use Rattle.giop_run.specs.Private.{printed}
 use Rattle.giop_run.specs.StreamLines.{stream_lines, completed_lines}
 use Rattle.giop_run.proofs.Endings.{reported_fault}

@@ -1,9 +1,7 @@
 -- What the program promises, in the order in which to read it.
 
--- `giop show` and `giop check`: the octets of the input, the lines of messages, and how a stream ends
+-- `giop show` and `giop check`: the octets of the input, the lines of its messages, and how a stream ends
 pub mod Digits
-pub mod Text
-pub mod MessageLines
 pub mod StreamLines
 pub mod StreamEnds
 -- `giop ior`

@@ -7,7 +7,7 @@ use Rattle.cdr_core.specs.Value.{Value, Values}
 use Rattle.ior_core.specs.declared.reference.Ior.{Ior}
 use Rattle.ior_core.specs.declared.tagged.Tagged.{Tagged}
 use Rattle.ior_core.specs.Profiles.{body_of, has_major_1, member}
-use Rattle.giop_run.specs.Text.{digits_of, text_of}
+use Rattle.giop_text.specs.Text.{digits_of, text_of}
 
 -- the octets of a string or of a sequence of octets
 abbrev pub octets_in : Value → List ℕ

@@ -6,7 +6,7 @@ use Rattle.giop_core.specs.Content.{Content}
 use Rattle.giop_frames.specs.declared.limits.Limits.{Limits}
 use Rattle.giop_frames.specs.Fragments.{content_of}
 use Rattle.giop_frames.specs.Streams.{messages_of, Completed}
-use Rattle.giop_run.specs.MessageLines.{message_lines}
+use Rattle.giop_text.specs.MessageLines.{message_lines}
 
 abbrev pub lines_by : {E : Type 0} → Version → Order → Result Content E → List ℕ
 lines_by version order (Ok content) = message_lines version order content

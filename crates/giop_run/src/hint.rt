@@ -3,6 +3,7 @@
 ghost use Rattle.std.specs.Prelude.{◌≡◌};
 
 use crate::setting::Form;
+use giop_text::is_capture;
 use std::fmt;
 
 /// What helps where a stream was refused or doesn't end well.
@@ -40,30 +41,15 @@ impl fmt::Display for Hint {
     }
 }
 
-/// What files of captured packets begin with: those of pcap in either order, with moments in microseconds or
-/// nanoseconds, and those of pcapng.
-const CAPTURES: [[u8; 4]; 5] = [
-    [0xa1, 0xb2, 0xc3, 0xd4],
-    [0xd4, 0xc3, 0xb2, 0xa1],
-    [0xa1, 0xb2, 0x3c, 0x4d],
-    [0x4d, 0x3c, 0xb2, 0xa1],
-    [0x0a, 0x0d, 0x0d, 0x0a],
-];
-
-/// What that line begins with.
+/// What the line begins with that stands at the head of what tshark prints of a connection.
 const FOLLOW: &[u8] = b"Follow: ";
-
-/// Whether octets are those of a file of captured packets.
-fn is_capture(octets: &[u8]) -> bool {
-    CAPTURES.iter().any(|magic| octets.starts_with(magic))
-}
 
 /// Whether an octet stands in a text of digits, right or wrong.
 fn is_text(octet: u8) -> bool {
     octet.is_ascii_graphic() || octet.is_ascii_whitespace()
 }
 
-/// Whether a text has the line that stands at the head of what tshark prints of a connection.
+/// Whether a text has that line.
 fn has_head(text: &[u8]) -> bool {
     text.starts_with(FOLLOW)
         || text.windows(FOLLOW.len() + 1).any(

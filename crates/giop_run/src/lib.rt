@@ -7,7 +7,6 @@
 mod digits;
 mod hint;
 mod input;
-mod messages;
 mod play;
 mod program;
 mod reference;
@@ -16,7 +15,6 @@ mod service;
 mod setting;
 mod stop;
 mod stream;
-mod text;
 mod watching;
 
 // what the program is asked for, and all of it over a reader and writers

@@ -5,7 +5,7 @@ ghost use Rattle.ior_core.specs.Profiles.{body_of, iiop_body};
 ghost use Rattle.ior_core.specs.View.{tagged_value, tagged_values};
 ghost use Rattle.giop_run.specs.ReferenceLines as lines;
 
-use crate::text::{digits_of, text_of};
+use giop_text::{digits_of, text_of};
 use ior_core::{Component, IiopProfile, Ior, IorError, Profile, TAG_INTERNET_IOP, read_iiop};
 use std::alloc::{AllocError, Global};
 

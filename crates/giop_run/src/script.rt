@@ -18,59 +18,59 @@ pub enum ScriptError {
 
 /// Why a line gave no event: it is none, or an allocation failed.
 #[derive(Clone, Copy, Debug, PartialEq, Eq)]
-enum LineError {
+enum EventError {
     Bad,
     Memory,
 }
 
 /// A number in decimal digits alone.
-fn decimal(word: &str) -> Result<u64, LineError> {
+fn decimal(word: &str) -> Result<u64, EventError> {
     if !word.bytes().all(|b| b.is_ascii_digit()) {
-        return Err(LineError::Bad);
+        return Err(EventError::Bad);
     }
-    word.parse().map_err(|_| LineError::Bad)
+    word.parse().map_err(|_| EventError::Bad)
 }
 
 /// Octets in hexadecimal digits of either case, at least one octet.
-fn octets_in(alloc: Global, word: &str) -> Result<Vec<u8>, LineError> {
+fn octets_in(alloc: Global, word: &str) -> Result<Vec<u8>, EventError> {
     if word.is_empty() {
-        return Err(LineError::Bad);
+        return Err(EventError::Bad);
     }
     match hex::decode(alloc, word) {
         Ok(octets) => Ok(octets),
-        Err(FromHexError::OutOfMemory) => Err(LineError::Memory),
-        Err(_) => Err(LineError::Bad),
+        Err(FromHexError::OutOfMemory) => Err(EventError::Memory),
+        Err(_) => Err(EventError::Bad),
     }
 }
 
 /// The piece in the words `C M HEX`.
-fn piece_in(alloc: Global, words: &str) -> Result<Event, LineError> {
-    let (connection, words) = words.split_once(' ').ok_or(LineError::Bad)?;
-    let (moment, digits) = words.split_once(' ').ok_or(LineError::Bad)?;
+fn piece_in(alloc: Global, words: &str) -> Result<Event, EventError> {
+    let (connection, words) = words.split_once(' ').ok_or(EventError::Bad)?;
+    let (moment, digits) = words.split_once(' ').ok_or(EventError::Bad)?;
     let connection = decimal(connection)?;
     let moment = decimal(moment)?;
     Ok(Event::Piece(connection, moment, octets_in(alloc, digits)?))
 }
 
 /// The event in a line.
-fn event_in(alloc: Global, line: &str) -> Result<Event, LineError> {
-    let (word, words) = line.split_once(' ').ok_or(LineError::Bad)?;
+fn event_in(alloc: Global, line: &str) -> Result<Event, EventError> {
+    let (word, words) = line.split_once(' ').ok_or(EventError::Bad)?;
     match word {
         "open" => Ok(Event::Opened(decimal(words)?)),
         "bytes" => piece_in(alloc, words),
         "close" => Ok(Event::Close(decimal(words)?)),
         "lost" => Ok(Event::Lost(decimal(words)?)),
-        _ => Err(LineError::Bad),
+        _ => Err(EventError::Bad),
     }
 }
 
 /// Appends the event in a line, unless the line is passed over.
-fn put_event(alloc: Global, line: &str, events: &mut Vec<Event>) -> Result<(), LineError> {
+fn put_event(alloc: Global, line: &str, events: &mut Vec<Event>) -> Result<(), EventError> {
     if line.is_empty() || line.starts_with('#') {
         return Ok(());
     }
     let event = event_in(alloc, line)?;
-    events.push(event).map_err(|_| LineError::Memory)
+    events.push(event).map_err(|_| EventError::Memory)
 }
 
 /// The events of a script, in order.
@@ -85,8 +85,8 @@ pub fn read_script(alloc: Global, script: &str) -> Result<Vec<Event>, ScriptErro
     for (i, line) in script.lines().enumerate() {
         match put_event(alloc, line, &mut events) {
             Ok(()) => {}
-            Err(LineError::Bad) => return Err(ScriptError::BadLine(i as u64 + 1)),
-            Err(LineError::Memory) => return Err(ScriptError::Memory),
+            Err(EventError::Bad) => return Err(ScriptError::BadLine(i as u64 + 1)),
+            Err(EventError::Memory) => return Err(ScriptError::Memory),
         }
     }
     Ok(events)

@@ -2,15 +2,14 @@
 
 ghost use Rattle.std.specs.Prelude.{◌≡◌, ◌<◌, ◌≤◌, IfOk, length};
 
-use crate::messages::put_target;
-use crate::text::text_of;
-use cdr_core::{Cursor, Val};
+use cdr_core::Val;
 use counter::Counter;
 use ft_log::Outcome;
 use ft_orb::{Lookup, Servant, Wire, WireError};
 use ft_tcp::Socket;
-use giop_core::{Content, FtField, Reply, ReplyStatus, Request, ft_request};
+use giop_core::{Content, Reply, ReplyStatus, Request, ft_request};
 use giop_frames::{Assembler, Limits};
+use giop_text::{exception_id, put_ft, put_target, text_of};
 use std::alloc::{AllocError, Global};
 use std::cell::Cell;
 use std::io::Write;
@@ -96,14 +95,10 @@ enum Verdict {
 
 /// The repository id of the system exception that a reply is.
 fn exception_in<'m>(reply: &Reply<'m>) -> Option<&'m [u8]> {
-    if ReplyStatus::from_number(reply.status) != Some(ReplyStatus::SystemException) {
-        return None;
+    match ReplyStatus::from_number(reply.status) {
+        Some(ReplyStatus::SystemException) => exception_id(&reply.body),
+        _ => None,
     }
-    let body = &reply.body;
-    let place = u32::try_from(body.at).ok()?;
-    Cursor::new(body.octets, body.order, u64::from(place))
-        .string()
-        .ok()
 }
 
 /// What the octets of an answer say of a request that was not performed now.
@@ -124,25 +119,6 @@ fn verdict_of(alloc: Global, limits: Limits, answer: &[u8]) -> Result<Verdict, A
     }
 }
 
-/// Appends the key of a request, if it has one.
-fn put_key(alloc: Global, request: &Request, line: &mut String) -> Result<(), AllocError> {
-    match ft_request(&request.contexts) {
-        FtField::Absent => Ok(()),
-        FtField::Bad => line.push_str(" ft bad"),
-        FtField::Present {
-            client_id,
-            retention_id,
-            expiration,
-        } => {
-            let client = text_of(alloc, client_id)?;
-            write!(
-                line,
-                " ft client {client} retention {retention_id} expiration {expiration}"
-            )
-        }
-    }
-}
-
 /// Appends which request it is.
 fn put_asked(
     alloc: Global,
@@ -155,7 +131,7 @@ fn put_asked(
     put_target(alloc, &request.target, line)?;
     let operation = text_of(alloc, request.operation)?;
     write!(line, " operation {operation}")?;
-    put_key(alloc, request, line)
+    put_ft(alloc, &ft_request(&request.contexts), line)
 }
 
 /// A socket that prints a line for each request that comes on it.

@@ -105,13 +105,13 @@ Other lines are passed over. With --raw octets of one direction. A message has a
 
 Lines: one for each message of either side, in order: its number, its direction, `>` from the side that opened
 the connection and `<` from the one that accepted it, how many octets of that direction have come with its last
-one, and what it says. At the end what was counted.
+one, and what it says, as `giop show` prints it. At the end what was counted.
 
 Example:
   $ tshark -r retry.pcap -q -z follow,tcp,raw,0 | giop trace
   connection 1, stream 0, 127.0.0.1:40000 > 127.0.0.1:2809
-  1 > to 52 1.2 little Request id 2: add on key c, 4 octets
-  2 < to 32 1.2 little Reply id 2 to add, 1 after request 1: NO_EXCEPTION, 8 octets
+  1 > to 52 1.2 little Request id 2 reply full key 63 operation add body 07000000, 4 octets
+  2 < to 32 1.2 little Reply id 2 to add, 1 after request 1: status NO_EXCEPTION body 0700000000000000, 8 octets
   3 > to 64 1.2 little CloseConnection
   end 3 messages on 1 connections
   requests without a reply 0

@@ -5,7 +5,7 @@ use crate::sender::Sender;
 use std::alloc::{AllocError, Global};
 
 /// What a line gives of a side.
-#[derive(Debug, Drop)]
+#[derive(Drop)]
 pub(crate) enum Piece {
     /// These octets.
     Octets(Vec<u8>),
@@ -14,7 +14,7 @@ pub(crate) enum Piece {
 }
 
 /// A connection as the input tells of it.
-#[derive(Debug, Drop)]
+#[derive(Drop)]
 pub(crate) struct Block {
     alloc: Global,
     /// The number of its stream in the capture.

@@ -13,7 +13,7 @@ use giop_link::LinkFault;
 use std::alloc::{AllocError, Global};
 
 /// What is done with a side's octets.
-#[derive(Clone, Copy, Debug, PartialEq, Eq)]
+#[derive(Clone, Copy, PartialEq, Eq)]
 enum Mode {
     /// The header of a frame is awaited.
     Header,
@@ -30,7 +30,7 @@ enum Mode {
 }
 
 /// A side's octets.
-#[derive(Debug, Drop)]
+#[derive(Drop)]
 pub(crate) struct Direction {
     mode: Mode,
     /// Those that may be a header, and wait for the rest of it.
@@ -48,7 +48,7 @@ pub(crate) struct Direction {
 }
 
 /// How the octets of a side are read.
-#[derive(Clone, Copy, Debug)]
+#[derive(Clone, Copy)]
 pub(crate) struct Reading {
     pub limits: Limits,
     /// After a fault reading goes on at the next header of a plausible message.
@@ -195,7 +195,7 @@ impl Direction {
         }
         match trace.feed(sender, &self.head) {
             Ok(_) => {
-                self.left = header_in(&self.head).map_or(0, |header| u64::from(header.size));
+                self.left = trace.left(sender);
                 self.head.clear();
                 self.mode = Mode::Body;
                 if self.left == 0 {

@@ -32,7 +32,7 @@ pub enum FollowError {
 }
 
 /// Why a line is refused.
-#[derive(Clone, Copy, Debug, PartialEq, Eq)]
+#[derive(Clone, Copy)]
 pub(crate) enum LineError {
     OddDigits,
     Colons,

@@ -1,16 +1,16 @@
 //! The lines of messages as JSON, an object each.
 
-use crate::exceptions::{system_exception, user_exception};
 use crate::moments::time_of;
-use crate::names;
 use crate::reports::{direction_name, put_object};
 use crate::shown::Shown;
 use crate::stop::Stop;
-use crate::texts::text_of;
 use cdr_core::Order;
 use giop_core::{
     Body, Content, Contexts, FtField, LocateReply, LocateRequest, LocateStatus, Reply, ReplyStatus,
     ReplyWish, Request, Target, Version, ft_request,
+};
+use giop_text::{
+    completion_name, context_name, exception_id, exception_name, system_exception, text_of,
 };
 use serde::Serialize;
 use std::alloc::{AllocError, Global};
@@ -104,7 +104,7 @@ fn wish_name(wish: ReplyWish) -> &'static str {
 fn context_object(alloc: Global, id: u32, octets: &[u8]) -> Result<ContextObject, AllocError> {
     Ok(ContextObject {
         id,
-        name: names::context(id),
+        name: context_name(id),
         octets: hex::encode(alloc, octets)?,
     })
 }
@@ -182,15 +182,15 @@ fn system_object(alloc: Global, body: &Body) -> Result<Option<ExceptionObject>, 
     };
     Ok(Some(ExceptionObject {
         id: text_of(alloc, raised.id)?,
-        name: names::system_exception(raised.id),
+        name: exception_name(raised.id),
         minor: Some(raised.minor),
-        completed: Some(names::completion(raised.completed)),
+        completed: Some(completion_name(raised.completed)),
     }))
 }
 
 /// The object of a user exception, if the body begins with one.
 fn user_object(alloc: Global, body: &Body) -> Result<Option<ExceptionObject>, AllocError> {
-    let Some(id) = user_exception(body) else {
+    let Some(id) = exception_id(body) else {
         return Ok(None);
     };
     Ok(Some(ExceptionObject {

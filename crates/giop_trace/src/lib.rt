@@ -6,9 +6,9 @@
 #![tactic(auto)]
 
 mod block;
+mod counts;
 mod direction;
 mod either;
-mod exceptions;
 mod follow;
 mod headers;
 mod json;
@@ -17,7 +17,6 @@ mod keys;
 mod lines;
 mod looks;
 mod moments;
-mod names;
 mod notes;
 mod opening;
 mod operations;
@@ -33,9 +32,7 @@ mod shown;
 mod sink;
 mod steps;
 mod stop;
-mod summary;
 mod text;
-mod texts;
 mod tracer;
 mod waiting;
 

@@ -1,48 +1,49 @@
 //! The lines that a person reads.
 
-use crate::exceptions::{system_exception, user_exception};
+use crate::counts::Counts;
 use crate::looks::Looks;
 use crate::moments::time_of;
-use crate::names;
 use crate::printing::Endpoints;
 use crate::sender::Sender;
 use crate::shown::Shown;
 use crate::steps::Left;
-use crate::summary::Summary;
-use crate::texts::text_of;
 use giop_core::{
     Body, Content, Contexts, FtField, LocateReply, LocateRequest, LocateStatus, Reply, ReplyStatus,
-    ReplyWish, Request, Target, ft_request,
+    Request, ft_request,
 };
 use giop_link::LinkFault;
+use giop_text::{
+    completion_name, context_name, exception_id, exception_name, put_body, put_context, put_ft,
+    put_locate_request, put_locate_status, put_reply_status, put_request, system_exception,
+    text_of,
+};
 use std::alloc::{AllocError, Global};
 
-/// Appends what a target is.
-fn put_target(alloc: Global, target: &Target, text: &mut String) -> Result<(), AllocError> {
-    match target {
-        Target::Key(key) => {
-            let key = text_of(alloc, key)?;
-            write!(text, "key {key}")
-        }
-        Target::Profile(tag, octets) => {
-            let count = octets.len();
-            write!(text, "profile {tag} of {count} octets")
-        }
-        Target::Reference(index, _) => write!(text, "profile {index} of a reference"),
-    }
+/// Appends how many octets the digits are that stand before.
+fn put_count(octets: &[u8], text: &mut String) -> Result<(), AllocError> {
+    let count = octets.len();
+    write!(text, ", {count} octets")
 }
 
 /// Appends the line of a service context.
-fn put_context(id: u32, octets: &[u8], text: &mut String) -> Result<(), AllocError> {
-    let name = names::context(id).unwrap_or("unknown");
-    let count = octets.len();
-    write!(text, "  context {id} {name}, {count} octets\n")
+fn put_context_line(
+    alloc: Global,
+    id: u32,
+    octets: &[u8],
+    text: &mut String,
+) -> Result<(), AllocError> {
+    text.push_str("  ")?;
+    put_context(alloc, id, octets, text)?;
+    text.push(' ')?;
+    text.push_str(context_name(id).unwrap_or("unknown"))?;
+    put_count(octets, text)?;
+    text.push('\n')
 }
 
 /// Appends a line for each service context.
-fn put_contexts(contexts: Contexts, text: &mut String) -> Result<(), AllocError> {
+fn put_contexts(alloc: Global, contexts: Contexts, text: &mut String) -> Result<(), AllocError> {
     for (id, octets) in contexts {
-        put_context(id, octets, text)?;
+        put_context_line(alloc, id, octets, text)?;
     }
     Ok(())
 }
@@ -51,7 +52,7 @@ fn put_contexts(contexts: Contexts, text: &mut String) -> Result<(), AllocError>
 fn put_expiration(moment: u64, text: &mut String) -> Result<(), AllocError> {
     match time_of(moment) {
         Some(time) => write!(text, " expires {time}"),
-        None => write!(text, " expires after the year 9999 ({moment})"),
+        None => text.push_str(" expires after the year 9999"),
     }
 }
 
@@ -64,73 +65,37 @@ fn put_repeat(repeats: Option<u64>, text: &mut String) -> Result<(), AllocError>
 }
 
 /// Appends the line of an FT_REQUEST context, if there is one.
-fn put_ft(
+fn put_ft_line(
     alloc: Global,
     field: FtField,
     repeats: Option<u64>,
     text: &mut String,
 ) -> Result<(), AllocError> {
-    match field {
-        FtField::Absent => Ok(()),
-        FtField::Bad => text.push_str("  ft bad\n"),
-        FtField::Present {
-            client_id,
-            retention_id,
-            expiration,
-        } => {
-            let client = text_of(alloc, client_id)?;
-            write!(text, "  ft client {client} retention {retention_id}")?;
-            put_expiration(expiration, text)?;
-            put_repeat(repeats, text)?;
-            text.push('\n')
-        }
+    if let FtField::Absent = field {
+        return Ok(());
     }
-}
-
-/// What is said of a wish.
-fn wish_words(wish: ReplyWish) -> &'static str {
-    match wish {
-        ReplyWish::None => ", no reply wanted",
-        ReplyWish::Empty => ", an empty reply wanted",
-        ReplyWish::Full => "",
+    text.push(' ')?;
+    put_ft(alloc, &field, text)?;
+    if let FtField::Present { expiration, .. } = field {
+        put_expiration(expiration, text)?;
+        put_repeat(repeats, text)?;
     }
-}
-
-/// Appends how many octets a body has.
-fn put_body(body: &Body, text: &mut String) -> Result<(), AllocError> {
-    let count = body.octets.len();
-    write!(text, ", {count} octets")
+    text.push('\n')
 }
 
 /// Appends the lines of a Request.
-fn put_request(
+fn put_request_lines(
     alloc: Global,
     request: Request,
     repeats: Option<u64>,
     text: &mut String,
 ) -> Result<(), AllocError> {
-    let id = request.request_id;
-    let operation = text_of(alloc, request.operation)?;
-    write!(text, "Request id {id}: {operation} on ")?;
-    put_target(alloc, &request.target, text)?;
-    put_body(&request.body, text)?;
-    text.push_str(wish_words(request.reply))?;
+    put_request(alloc, &request, text)?;
+    put_count(request.body.octets, text)?;
     text.push('\n')?;
     let field = ft_request(&request.contexts);
-    put_contexts(request.contexts, text)?;
-    put_ft(alloc, field, repeats, text)
-}
-
-/// Appends the line of a LocateRequest.
-fn put_locate_request(
-    alloc: Global,
-    request: &LocateRequest,
-    text: &mut String,
-) -> Result<(), AllocError> {
-    let id = request.request_id;
-    write!(text, "LocateRequest id {id}: ")?;
-    put_target(alloc, &request.target, text)?;
-    text.push('\n')
+    put_contexts(alloc, request.contexts, text)?;
+    put_ft_line(alloc, field, repeats, text)
 }
 
 /// The request that a message answers or cancels: its number, its operation, and how many messages ago it came.
@@ -164,45 +129,35 @@ fn put_earlier(
     write!(text, ", {later} after request {number}")
 }
 
-/// Appends what a system exception is.
+/// Appends what a system exception is, or that the body is none.
 fn put_system_exception(alloc: Global, body: &Body, text: &mut String) -> Result<(), AllocError> {
     let Some(raised) = system_exception(body) else {
-        return text.push_str(" bad body");
+        return text.push_str(" bad");
     };
-    match names::system_exception(raised.id) {
-        Some(name) => write!(text, " {name}")?,
-        None => {
-            let id = text_of(alloc, raised.id)?;
-            write!(text, " {id}")?
-        }
+    text.push(' ')?;
+    match exception_name(raised.id) {
+        Some(name) => text.push_str(name)?,
+        None => text.push_str(&text_of(alloc, raised.id)?)?,
     }
     let minor = raised.minor;
-    let completed = names::completion(raised.completed);
+    let completed = completion_name(raised.completed);
     write!(text, " minor {minor:#010x} completed {completed}")
 }
 
-/// Appends what a user exception is.
+/// Appends what a user exception is, or that the body is none.
 fn put_user_exception(alloc: Global, body: &Body, text: &mut String) -> Result<(), AllocError> {
-    match user_exception(body) {
-        Some(id) => {
-            let id = text_of(alloc, id)?;
-            write!(text, " {id}")
-        }
-        None => text.push_str(" bad body"),
-    }
+    let Some(id) = exception_id(body) else {
+        return text.push_str(" bad");
+    };
+    text.push(' ')?;
+    text.push_str(&text_of(alloc, id)?)
 }
 
-/// Appends the status of a Reply, and what its body is to it.
-fn put_outcome(alloc: Global, reply: &Reply, text: &mut String) -> Result<(), AllocError> {
-    let Some(status) = ReplyStatus::from_number(reply.status) else {
-        return text.push('?');
-    };
-    write!(text, "{status}")?;
-    match status {
-        ReplyStatus::SystemException => put_system_exception(alloc, &reply.body, text),
-        ReplyStatus::UserException => put_user_exception(alloc, &reply.body, text),
-        _ => put_body(&reply.body, text),
-    }
+/// Appends the end of the line of an answer: its body.
+fn put_end(alloc: Global, body: &Body, text: &mut String) -> Result<(), AllocError> {
+    put_body(alloc, body, text)?;
+    put_count(body.octets, text)?;
+    text.push('\n')
 }
 
 /// Appends the lines of a Reply.
@@ -215,10 +170,15 @@ fn put_reply(
     let id = reply.request_id;
     write!(text, "Reply id {id}")?;
     put_earlier(alloc, earlier, text)?;
-    text.push_str(": ")?;
-    put_outcome(alloc, &reply, text)?;
-    text.push('\n')?;
-    put_contexts(reply.contexts, text)
+    text.push(':')?;
+    put_reply_status(reply.status, text)?;
+    match ReplyStatus::from_number(reply.status) {
+        Some(ReplyStatus::SystemException) => put_system_exception(alloc, &reply.body, text)?,
+        Some(ReplyStatus::UserException) => put_user_exception(alloc, &reply.body, text)?,
+        _ => {}
+    }
+    put_end(alloc, &reply.body, text)?;
+    put_contexts(alloc, reply.contexts, text)
 }
 
 /// Appends the line of a LocateReply.
@@ -231,18 +191,21 @@ fn put_locate_reply(
     let id = reply.request_id;
     write!(text, "LocateReply id {id}")?;
     put_earlier(alloc, earlier, text)?;
-    text.push_str(": ")?;
-    match LocateStatus::from_number(reply.status) {
-        Some(LocateStatus::SystemException) => {
-            text.push_str("LOC_SYSTEM_EXCEPTION")?;
-            put_system_exception(alloc, &reply.body, text)?
-        }
-        Some(status) => {
-            write!(text, "{status}")?;
-            put_body(&reply.body, text)?
-        }
-        None => text.push('?')?,
+    text.push(':')?;
+    put_locate_status(reply.status, text)?;
+    if let Some(LocateStatus::SystemException) = LocateStatus::from_number(reply.status) {
+        put_system_exception(alloc, &reply.body, text)?;
     }
+    put_end(alloc, &reply.body, text)
+}
+
+/// Appends the line of a LocateRequest.
+fn put_locate_line(
+    alloc: Global,
+    request: &LocateRequest,
+    text: &mut String,
+) -> Result<(), AllocError> {
+    put_locate_request(alloc, request, text)?;
     text.push('\n')
 }
 
@@ -277,8 +240,8 @@ pub(crate) fn put_message(
     let order = shown.seen.message.order;
     write!(text, "{number} {sender} to {end} {version} {order} ")?;
     match shown.seen.message.content {
-        Content::Request(request) => put_request(alloc, request, repeats, text),
-        Content::LocateRequest(request) => put_locate_request(alloc, &request, text),
+        Content::Request(request) => put_request_lines(alloc, request, repeats, text),
+        Content::LocateRequest(request) => put_locate_line(alloc, &request, text),
         Content::Reply(reply) => put_reply(alloc, reply, earlier, text),
         Content::LocateReply(reply) => put_locate_reply(alloc, &reply, earlier, text),
         Content::Cancel(cancel) => put_cancel(alloc, cancel.request_id, earlier, text),
@@ -377,24 +340,24 @@ fn put_counted(what: &str, numbers: &[u64], text: &mut String) -> Result<(), All
 }
 
 /// Appends the lines at the end.
-pub(crate) fn put_summary(summary: &Summary, text: &mut String) -> Result<(), AllocError> {
-    let messages = summary.messages;
-    let connections = summary.connections;
+pub(crate) fn put_counts(counts: &Counts, text: &mut String) -> Result<(), AllocError> {
+    let messages = counts.messages;
+    let connections = counts.connections;
     write!(text, "end {messages} messages on {connections} connections")?;
-    if summary.missing > 0 {
-        let missing = summary.missing;
+    if counts.missing > 0 {
+        let missing = counts.missing;
         write!(text, ", {missing} octets missing")?;
     }
     text.push('\n')?;
     put_counted(
         "requests without a reply",
-        summary.unanswered.as_slice(),
+        counts.unanswered.as_slice(),
         text,
     )?;
-    put_counted("of these cancelled", summary.cancelled.as_slice(), text)?;
-    put_counted("replies without a request", summary.strays.as_slice(), text)?;
-    put_counted("repeats", summary.repeats.as_slice(), text)?;
-    let faults = summary.faults;
-    let passed = summary.passed;
+    put_counted("of these cancelled", counts.cancelled.as_slice(), text)?;
+    put_counted("replies without a request", counts.strays.as_slice(), text)?;
+    put_counted("repeats", counts.repeats.as_slice(), text)?;
+    let faults = counts.faults;
+    let passed = counts.passed;
     write!(text, "faults {faults}, {passed} octets passed over\n")
 }

@@ -3,7 +3,7 @@
 use std::fmt;
 
 /// A protocol that octets look like.
-#[derive(Clone, Copy, Debug, PartialEq, Eq)]
+#[derive(Clone, Copy)]
 pub(crate) enum Looks {
     Http,
     Tls,

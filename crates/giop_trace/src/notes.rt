@@ -3,7 +3,7 @@
 use std::str;
 
 /// What a line says that has no octets.
-#[derive(Clone, Copy, Debug, PartialEq, Eq)]
+#[derive(Clone, Copy)]
 pub(crate) enum Note<'t> {
     /// The head of a connection whose octets stand in this form.
     Head(&'t [u8]),

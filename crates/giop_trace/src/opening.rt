@@ -5,7 +5,7 @@ use giop_core::{Header, MessageKind};
 use std::alloc::{AllocError, Global};
 
 /// Whether a side asked so far, by the headers in its octets.
-#[derive(Debug, Drop)]
+#[derive(Drop)]
 pub(crate) struct Asking {
     /// How many octets of a frame are still to come.
     left: u64,

@@ -3,7 +3,7 @@
 use std::alloc::{AllocError, Global};
 
 /// What each message asked for, and whether it was cancelled.
-#[derive(Debug, Drop)]
+#[derive(Drop)]
 pub(crate) struct Operations {
     names: Vec<u8>,
     /// The place in `names` after that of each message.

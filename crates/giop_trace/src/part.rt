@@ -9,7 +9,7 @@ use crate::place::Wanted;
 use giop_core::{Content, FtField, ReplyWish, ft_request};
 
 /// What a message is to the pairs of requests and answers.
-#[derive(Clone, Copy, Debug, PartialEq, Eq)]
+#[derive(Clone, Copy)]
 pub(crate) enum Part {
     /// A request of this id, which waits for an answer of this kind.
     Asks(Wanted, u32),

@@ -1,12 +1,12 @@
 //! The lines of a trace, for a person or as JSON.
 
+use crate::counts::Counts;
 use crate::looks::Looks;
 use crate::sender::Sender;
 use crate::shown::Shown;
 use crate::sink::Sink;
 use crate::steps::Left;
 use crate::stop::Stop;
-use crate::summary::Summary;
 use crate::{json, lines, reports};
 use giop_link::LinkFault;
 use std::alloc::Global;
@@ -22,7 +22,7 @@ pub enum Format {
 }
 
 /// What is known of a connection beside its octets.
-#[derive(Clone, Copy, Debug)]
+#[derive(Clone, Copy)]
 pub(crate) struct Endpoints<'t> {
     /// The number of its stream in the capture.
     pub stream: Option<u64>,
@@ -152,11 +152,11 @@ impl Printer {
     }
 
     /// Prints the lines at the end.
-    pub fn summary<W: Write>(&self, summary: &Summary, out: &mut Sink<W>) -> Result<(), Stop> {
+    pub fn counts<W: Write>(&self, counts: &Counts, out: &mut Sink<W>) -> Result<(), Stop> {
         let mut text = String::new(self.alloc);
         match self.format {
-            Format::Lines => lines::put_summary(summary, &mut text)?,
-            Format::Json => reports::put_summary(self.alloc, summary, &mut text)?,
+            Format::Lines => lines::put_counts(counts, &mut text)?,
+            Format::Json => reports::put_counts(self.alloc, counts, &mut text)?,
         }
         out.print(&text)
     }

@@ -6,6 +6,7 @@ use crate::sink::{Sink, Source};
 use crate::stop::{Failure, Stop};
 use crate::text::Text;
 use giop_frames::Limits;
+use giop_text::is_capture;
 use std::alloc::Global;
 use std::io::{BufWriter, Read, Write};
 
@@ -18,19 +19,6 @@ pub struct Options {
     pub resumes: bool,
     /// The form of the lines.
     pub format: Format,
-}
-
-/// Whether octets begin a file of packets: pcap in either order of octets, with moments in microseconds or nanoseconds,
-/// or pcapng.
-fn is_packets(input: &[u8]) -> bool {
-    matches!(
-        input,
-        [0xd4, 0xc3, 0xb2, 0xa1, ..]
-            | [0xa1, 0xb2, 0xc3, 0xd4, ..]
-            | [0x4d, 0x3c, 0xb2, 0xa1, ..]
-            | [0xa1, 0xb2, 0x3c, 0x4d, ..]
-            | [0x0a, 0x0d, 0x0d, 0x0a, ..]
-    )
 }
 
 /// Whether octets begin a message.
@@ -59,7 +47,7 @@ const ALONE: Endpoints = Endpoints {
 
 /// Refuses an input by its first octets.
 fn judge(is_raw: bool, first: &[u8]) -> Result<(), Stop> {
-    if is_packets(first) {
+    if is_capture(first) {
         return Err(Stop::Packets);
     }
     if !is_raw && is_octets(first) {

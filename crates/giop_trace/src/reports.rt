@@ -1,13 +1,13 @@
 //! The lines beside those of messages as JSON, an object each.
 
+use crate::counts::Counts;
 use crate::looks::Looks;
 use crate::printing::Endpoints;
 use crate::sender::Sender;
 use crate::steps::Left;
 use crate::stop::Stop;
-use crate::summary::Summary;
-use crate::texts::text_of;
 use giop_link::LinkFault;
+use giop_text::text_of;
 use serde::Serialize;
 use std::alloc::{AllocError, Global};
 
@@ -21,13 +21,17 @@ struct ConnectionObject {
     acceptor: Option<String>,
 }
 
-/// Octets that the capture missed.
+/// Octets of a direction that are no message: those that the capture missed, that were passed over, or that are left.
 #[derive(Drop, Serialize)]
-struct MissingObject {
+struct OctetsObject {
     line: &'static str,
     connection: u64,
     direction: &'static str,
+    #[serde(skip_serializing_if = "Option::is_none")]
+    from: Option<u64>,
     octets: u64,
+    #[serde(skip_serializing_if = "Option::is_none")]
+    partial: Option<u64>,
 }
 
 /// A fault in the frame that begins at a place.
@@ -39,26 +43,6 @@ struct FaultObject {
     at: u64,
     fault: String,
     looks: Option<&'static str>,
-}
-
-/// Octets that were passed over.
-#[derive(Drop, Serialize)]
-struct PassedObject {
-    line: &'static str,
-    connection: u64,
-    direction: &'static str,
-    from: u64,
-    octets: u64,
-}
-
-/// What is left of a side at the end of its connection.
-#[derive(Drop, Serialize)]
-struct RestObject {
-    line: &'static str,
-    connection: u64,
-    direction: &'static str,
-    octets: u64,
-    partial: u64,
 }
 
 /// The end of all connections.
@@ -134,11 +118,13 @@ pub(crate) fn put_missing(
     octets: u64,
     text: &mut String,
 ) -> Result<(), Stop> {
-    let object = MissingObject {
+    let object = OctetsObject {
         line: "missing",
         connection,
         direction: direction_name(sender),
+        from: None,
         octets,
+        partial: None,
     };
     put_object(alloc, &object, text)
 }
@@ -173,12 +159,13 @@ pub(crate) fn put_passed(
     octets: u64,
     text: &mut String,
 ) -> Result<(), Stop> {
-    let object = PassedObject {
+    let object = OctetsObject {
         line: "passed",
         connection,
         direction: direction_name(sender),
-        from,
+        from: Some(from),
         octets,
+        partial: None,
     };
     put_object(alloc, &object, text)
 }
@@ -199,29 +186,30 @@ pub(crate) fn put_left(
         Left::Rest(octets, partial) => ("rest", octets, partial),
         Left::Unread(octets) => ("unread", octets, 0),
     };
-    let object = RestObject {
+    let object = OctetsObject {
         line,
         connection,
         direction: direction_name(sender),
+        from: None,
         octets,
-        partial,
+        partial: Some(partial),
     };
     put_object(alloc, &object, text)
 }
 
 /// Appends the line at the end.
-pub(crate) fn put_summary(alloc: Global, summary: &Summary, text: &mut String) -> Result<(), Stop> {
+pub(crate) fn put_counts(alloc: Global, counts: &Counts, text: &mut String) -> Result<(), Stop> {
     let object = EndObject {
         line: "end",
-        messages: summary.messages,
-        connections: summary.connections,
-        unanswered: summary.unanswered.as_slice(),
-        cancelled: summary.cancelled.as_slice(),
-        strays: summary.strays.as_slice(),
-        repeats: summary.repeats.as_slice(),
-        faults: summary.faults,
-        passed: summary.passed,
-        missing: summary.missing,
+        messages: counts.messages,
+        connections: counts.connections,
+        unanswered: counts.unanswered.as_slice(),
+        cancelled: counts.cancelled.as_slice(),
+        strays: counts.strays.as_slice(),
+        repeats: counts.repeats.as_slice(),
+        faults: counts.faults,
+        passed: counts.passed,
+        missing: counts.missing,
     };
     put_object(alloc, &object, text)
 }

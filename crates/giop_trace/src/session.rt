@@ -1,6 +1,7 @@
 //! Connections one after another, as they are traced and printed.
 
 use crate::block::Piece;
+use crate::counts::Counts;
 use crate::direction::{Direction, Reading};
 use crate::operations::Operations;
 use crate::printing::{Endpoints, Printer};
@@ -9,7 +10,6 @@ use crate::shown::Shown;
 use crate::sink::Sink;
 use crate::steps::{Left, Step};
 use crate::stop::Stop;
-use crate::summary::Summary;
 use crate::tracer::{Seen, Trace};
 use giop_core::Content;
 use giop_frames::Limits;
@@ -27,7 +27,7 @@ pub(crate) struct Session {
     opener: Direction,
     acceptor: Direction,
     connection: u64,
-    summary: Summary,
+    counts: Counts,
     /// Whether each direction so far ended after a message, with nothing left.
     pub is_clean: bool,
 }
@@ -41,14 +41,14 @@ fn operation_of<'m>(content: &Content<'m>) -> Option<&'m [u8]> {
 }
 
 /// Counts what a message has to do with earlier ones.
-fn count(seen: &Seen, operations: &mut Operations, summary: &mut Summary) -> Result<(), Stop> {
+fn count(seen: &Seen, operations: &mut Operations, counts: &mut Counts) -> Result<(), Stop> {
     operations.push(operation_of(&seen.message.content))?;
     if seen.tie.repeats.is_some() {
-        summary.repeats.push(seen.number)?;
+        counts.repeats.push(seen.number)?;
     }
     match (&seen.message.content, seen.tie.request) {
         (Content::Cancel(_), Some(request)) => operations.cancel(request),
-        (Content::Reply(_) | Content::LocateReply(_), None) => summary.strays.push(seen.number)?,
+        (Content::Reply(_) | Content::LocateReply(_), None) => counts.strays.push(seen.number)?,
         _ => {}
     }
     Ok(())
@@ -66,7 +66,7 @@ impl Session {
             opener: Direction::new(alloc),
             acceptor: Direction::new(alloc),
             connection: 0,
-            summary: Summary::new(alloc),
+            counts: Counts::new(alloc),
             is_clean: true,
         }
     }
@@ -76,7 +76,7 @@ impl Session {
         let Some(seen) = self.trace.seen() else {
             return Ok(());
         };
-        count(&seen, &mut self.operations, &mut self.summary)?;
+        count(&seen, &mut self.operations, &mut self.counts)?;
         let operation = self.operations.of(seen.tie.request.unwrap_or(0));
         let shown = Shown {
             seen,
@@ -98,13 +98,13 @@ impl Session {
             Step::Idle => {}
             Step::Gave => self.print_seen(end, out)?,
             Step::Fault(at, fault, looks) => {
-                self.summary.faults = self.summary.faults.saturating_add(1);
+                self.counts.faults = self.counts.faults.saturating_add(1);
                 self.is_clean = false;
                 self.printer
                     .fault(self.connection, sender, at, fault, looks, out)?;
             }
             Step::Passed(from, octets) => {
-                self.summary.pass(octets);
+                self.counts.pass(octets);
                 self.printer
                     .passed(self.connection, sender, from, octets, out)?;
             }
@@ -171,7 +171,7 @@ impl Session {
             Sender::Opener => self.opener.miss(sender, octets, &mut self.trace),
             Sender::Acceptor => self.acceptor.miss(sender, octets, &mut self.trace),
         }
-        self.summary.miss(octets);
+        self.counts.miss(octets);
         self.is_clean = false;
         self.printer.missing(self.connection, sender, octets, out)
     }
@@ -185,7 +185,7 @@ impl Session {
     ) -> Result<(), Stop> {
         match left {
             Left::Nothing => return Ok(()),
-            Left::Passed(_, octets) => self.summary.pass(octets),
+            Left::Passed(_, octets) => self.counts.pass(octets),
             Left::Rest(_, _) | Left::Unread(_) => {}
         }
         self.is_clean = false;
@@ -203,7 +203,7 @@ impl Session {
     /// Goes to the next connection.
     pub fn begin<W: Write>(&mut self, ends: &Endpoints, out: &mut Sink<W>) -> Result<(), Stop> {
         self.connection = self.connection.saturating_add(1);
-        self.summary.connections = self.connection;
+        self.counts.connections = self.connection;
         self.trace.connect(self.connection);
         self.opener = Direction::new(self.alloc);
         self.acceptor = Direction::new(self.alloc);
@@ -230,7 +230,7 @@ impl Session {
 
     /// Prints what was counted.
     pub fn end<W: Write>(&mut self, out: &mut Sink<W>) -> Result<(), Stop> {
-        self.summary.end(&self.trace, &self.operations)?;
-        self.printer.summary(&self.summary, out)
+        self.counts.end(&self.trace, &self.operations)?;
+        self.printer.counts(&self.counts, out)
     }
 }

@@ -4,7 +4,7 @@ use crate::looks::Looks;
 use giop_link::LinkFault;
 
 /// What came of a step.
-#[derive(Debug, Drop)]
+#[derive(Drop)]
 pub(crate) enum Step {
     /// Nothing that is said.
     Idle,
@@ -17,7 +17,7 @@ pub(crate) enum Step {
 }
 
 /// What is left of a side's octets at the end of its connection.
-#[derive(Clone, Copy, Debug)]
+#[derive(Clone, Copy)]
 pub(crate) enum Left {
     Nothing,
     /// So many octets of a frame that is not whole, and of partial messages.

@@ -14,7 +14,7 @@ use std::io::Write;
 use std::mem;
 
 /// What was found in the lines so far.
-#[derive(Clone, Copy, Debug, PartialEq, Eq)]
+#[derive(Clone, Copy, PartialEq, Eq)]
 enum Found {
     /// No line that says anything.
     Nothing,

@@ -172,11 +172,26 @@ impl Trace {
         })
     }
 
+    /// The end that hears a side.
+    fn listener(&self, sender: Sender) -> &Listener<Either> {
+        match sender {
+            Sender::Opener => &self.opener,
+            Sender::Acceptor => &self.acceptor,
+        }
+    }
+
     /// How many octets of a side are held: those of the frame that is not whole, and those of partial messages.
     pub fn held(&self, sender: Sender) -> usize {
-        match sender {
-            Sender::Opener => self.opener.held(),
-            Sender::Acceptor => self.acceptor.held(),
+        self.listener(sender).held()
+    }
+
+    /// How many octets of the frame that a side has begun are still to come, once its header has; none where it has
+    /// begun none.
+    pub(crate) fn left(&self, sender: Sender) -> u64 {
+        let listener = self.listener(sender);
+        match listener.pending() {
+            0 => 0,
+            _ => listener.needed().unwrap_or(0) as u64,
         }
     }
 

@@ -1,8 +1,0 @@
-use Rattle.std.proofs.Common.{◌≡◌, ◌++◌, string_bytes}
-use Rattle.giop_core.specs.Items.{contexts_left}
-use Rattle.giop_run.specs.MessageLines as lines
-use Rattle.giop_run.proofs.messages.put_contexts.Given as goal
-
--- the text and the lines of the contexts that are left are the first text and the lines of all
-abbrev pub invariant-loop-id : goal.invariant-loop-id
-invariant-loop-id l = string_bytes l.text ++ lines.context_lines (contexts_left l.id-iterator) ≡ string_bytes l.fn.text ++ lines.context_lines (contexts_left l.fn.contexts)

@@ -1,8 +1,0 @@
-use Rattle.std.proofs.Common.{rules}
-use Rattle.giop_run.proofs.messages.put_request.Goals as goal
-
-pub returns-in_err-put_request_line : goal.returns-in_err-put_request_line
-returns-in_err-put_request_line c = search rules
-
-pub returns-in_err-put_contexts : goal.returns-in_err-put_contexts
-returns-in_err-put_contexts c = search rules

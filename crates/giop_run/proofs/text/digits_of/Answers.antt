@@ -1,8 +1,0 @@
-use Rattle.std.proofs.Common.{rules}
-use Rattle.giop_run.proofs.text.digits_of.Goals as goal
-
-pub returns-then-is_empty : goal.returns-then-is_empty
-returns-then-is_empty c = search rules
-
-pub returns : goal.returns
-returns c = search rules

@@ -1,0 +1,48 @@
+//! Octets in lines of text: as characters where they print, and as hexadecimal digits.
+
+ghost use Rattle.std.specs.Prelude.{◌≡◌, ◌++◌, string_bytes, IfOk, OnOk};
+ghost use Rattle.giop_text.specs.Text as text;
+
+use std::alloc::{AllocError, Global};
+
+/// Whether an octet stands for itself: those of ASCII from the space on that print, but the
+/// backslash.
+fn is_plain(octet: u8) -> bool
+    ensures { result ≡ text.is_plain octet }
+{
+    matches!(octet, 0x20..=0x7e) && octet != b'\\'
+}
+
+/// Appends an octet as it is, or as `\x` and two digits.
+fn put_octet(alloc: Global, octet: u8, line: &mut String) -> Result<(), AllocError>
+    ensures { OnOk result (string_bytes line.new ≡ string_bytes line.old ++ text.octet_text octet) }
+{
+    if is_plain(octet) {
+        return line.push(char::from(octet));
+    }
+    let digits = hex::encode(alloc, [octet])?;
+    line.push_str("\\x")?;
+    line.push_str(&digits)
+}
+
+/// The text of octets: each as it is where it prints in ASCII and isn't the backslash, else as `\x`
+/// and two digits.
+pub fn text_of(alloc: Global, octets: &[u8]) -> Result<String, AllocError>
+    ensures { IfOk result (λ line. string_bytes line ≡ text.text_of octets.now) }
+{
+    let mut line = String::new(alloc);
+    for octet in octets {
+        put_octet(alloc, *octet, &mut line)?;
+    }
+    Ok(line)
+}
+
+/// The hexadecimal digits of octets in lower case, or a dash where there are none.
+pub fn digits_of(alloc: Global, octets: &[u8]) -> Result<String, AllocError>
+    ensures { IfOk result (λ line. string_bytes line ≡ text.digits_of octets.now) }
+{
+    if octets.is_empty() {
+        return String::from_str(alloc, "-");
+    }
+    hex::encode(alloc, octets)
+}
