@@ -1,7 +1,7 @@
--- A stream as it is fed, from one message to the next.
-use Rattle.std.proofs.Common.{◌≡◌, ◌≢◌, ℕ, zero, suc, ◌+◌, ◌<◌, ◌==◌, ◌&&◌, Bool, true, false, if◌then◌else◌, List, [], ◌++◌, length, take, drop, Option, Some, None, Result, Ok, Err, IfOk, IsSomeAnd, refl, sym, ap, subst, ◌∙◌, arith, length-append}
+-- How a stream ends.
+use Rattle.std.proofs.Common.{◌≡◌, ◌≢◌, ℕ, zero, suc, ◌+◌, ◌<◌, ◌==◌, ◌&&◌, Bool, true, false, if◌then◌else◌, List, length, take, drop, Some, None, Result, Ok, Err, IfOk, refl, sym, ap, subst, ◌∙◌, arith}
 use Rattle.std.proofs.lemmas.Bool.{and_parts, eqb-true}
-use Rattle.std.proofs.lemmas.List.{drop-take, take-append-drop, take-take}
+use Rattle.std.proofs.lemmas.List.{take-append-drop}
 use Rattle.giop_run.specs.declared.stop.Stop.{Stop}
 use Rattle.giop_run.specs.declared.stream.Ending.TheVariants.{Clean, Rest, Fault}
 use Rattle.giop_run.specs.declared.stream.Summary.{Summary}
@@ -11,14 +11,8 @@ use Rattle.giop_frames.specs.declared.fault.StreamFault.{StreamFault}
 use Rattle.giop_frames.specs.declared.fault.StreamFault.TheVariants as fault
 use Rattle.giop_frames.specs.declared.limits.Limits.{Limits}
 use Rattle.giop_frames.specs.Fragments.{partials_in}
-use Rattle.giop_frames.specs.Frames.{Frame, split}
-use Rattle.giop_frames.specs.Standing.{completed_at, IsFault, Standing, StandsFor}
+use Rattle.giop_frames.specs.Standing.{IsFault, Standing}
 use Rattle.giop_frames.specs.Streams.{fault_of, frames_of, messages_of, rest_of, Faults}
-
--- no octets have no message
-pub no_messages : (limits : Limits) → length (messages_of limits []) ≡ 0
-unfolding messages_of split
-no_messages limits = refl
 
 -- a fault that is reported is that of the stream
 pub reported_fault : (limits : Limits) (s c : List ℕ) (e : StreamFault) → e ≢ fault.Memory → IsFault limits s c e → Faults limits s c e
@@ -32,43 +26,6 @@ reported_fault limits s c fault.TwiceStarted n h = h
 reported_fault limits s c fault.TooManyPartial n h = h
 reported_fault limits s c (fault.Body x) n h = h
 reported_fault limits s c fault.MixedOrder n h = h
-
--- octets that were taken, and the next n
-pub taken_more : (k n : ℕ) (s : List ℕ) → take k s ++ take n (drop k s) ≡ take (k + n) s
-taken_more k n s = rw (← take-take k (k + n) s (omega arith), ← drop-take k n s) (take-append-drop k (take (k + n) s))
-
--- the octets that were taken and the rest are all
-pub all_of : (k : ℕ) (s : List ℕ) → take k s ++ drop k s ≡ s
-all_of k s = take-append-drop k s
-
--- what feeding the octets from k on did
-module _ (limits : Limits) (octets : List ℕ) (k n : ℕ) (a b : Standing) (same : a.limits ≡ limits)
-    (stands : StandsFor a (take k octets) → StandsFor b (take k octets ++ take n (drop k octets)))
-    (more : StandsFor a (take k octets) → messages_of a.limits (take k octets ++ take n (drop k octets)) ≡ messages_of a.limits (take k octets) ++ completed_at (length (take k octets ++ take n (drop k octets))) b.message)
-    (before : StandsFor a (take k octets)) where
-  pub stands_on : StandsFor b (take (k + n) octets)
-  stands_on = subst (StandsFor b) (taken_more k n octets) (stands before)
-
-  pub messages_on : messages_of limits (take (k + n) octets) ≡ messages_of limits (take k octets) ++ completed_at (length (take (k + n) octets)) b.message
-  messages_on =
-      subst (λ xs. messages_of limits xs ≡ messages_of limits (take k octets) ++ completed_at (length xs) b.message) (taken_more k n octets)
-      (subst (λ l. messages_of l (take k octets ++ take n (drop k octets)) ≡ messages_of l (take k octets) ++ completed_at (length (take k octets ++ take n (drop k octets))) b.message) same (more before))
-
-  -- one message more where one is lent, and none where none is
-  pub one_more : (f : Frame) → b.message ≡ Some f → length (messages_of limits (take (k + n) octets)) ≡ length (messages_of limits (take k octets)) + 1
-  one_more f is =
-      let at = length (take (k + n) octets) in
-      ap length messages_on ∙ length-append (messages_of limits (take k octets)) (completed_at at b.message) ∙ ap (λ m. length (messages_of limits (take k octets)) + length (completed_at at m)) is
-
-  pub no_more : b.message ≡ None → length (messages_of limits (take (k + n) octets)) ≡ length (messages_of limits (take k octets))
-  no_more is =
-      let at = length (take (k + n) octets) in
-      let none : length (messages_of limits (take k octets)) + 0 ≡ length (messages_of limits (take k octets)) = omega arith in
-      ap length messages_on ∙ length-append (messages_of limits (take k octets)) (completed_at at b.message) ∙ ap (λ m. length (messages_of limits (take k octets)) + length (completed_at at m)) is ∙ none
-
-pub one_lent : (P : Frame → Type 0) (m : Option Frame) → IsSomeAnd m P → (f : Frame) × (m ≡ Some f) × P f
-one_lent P None h = absurd h
-one_lent P (Some f) h = (f, refl, h)
 
 -- how a stream ends that is refused
 pub refused : (limits : Limits) (octets : List ℕ) (k : ℕ) (a : Standing) (e : StreamFault) (messages : ℕ) → a.limits ≡ limits → e ≢ fault.Memory

@@ -7,7 +7,8 @@ use Rattle.giop_frames.specs.Standing.{StandsFor}
 use Rattle.giop_frames.specs.Streams.{messages_of}
 use Rattle.giop_run.specs.Private.{printed}
 use Rattle.giop_run.specs.StreamLines.{stream_lines}
-use Rattle.giop_run.proofs.Endings.{ended, ended_with, no_more, no_messages, one_lent, one_more, stands_on, messages_on}
+use Rattle.giop_frames.proofs.Counted.{no_more, none_told, one_lent, one_more, stands_on, told_on}
+use Rattle.giop_run.proofs.Endings.{ended, ended_with}
 use Rattle.giop_run.proofs.Printing.{appends_none, ended_printed, lines_on, lines_same, none_printed, printed_on}
 use Rattle.giop_run.proofs.stream.read_stream.Goals as goal
 
@@ -17,7 +18,7 @@ loop-taken-init g c = record {
   few = omega arith;
   limits = c.new-assembler.ensures.limits;
   stands = c.new-assembler.ensures.stands;
-  count = sym (no_messages c.args.limits);
+  count = sym (none_told c.args.limits);
   lines = none_printed (g.W.Write.contents c.args.out.now) c.args.detail c.args.limits;
 }
 
@@ -46,7 +47,7 @@ loop-taken-preserved-in-Continue-1 g c =
     let e = rw c.split_at.ensures.back at c.in-Ok.ensures in
     let left = length-drop k a.octets.now in
     let (f, is, lent) = one_lent _ c.feed.new.self.message c.in-Some.ensures.lent in
-    let on = messages_on a.limits a.octets.now k n c.loop-taken.assembler c.feed.new.self i.limits (e.stands (take k a.octets.now)) (e.messages (take k a.octets.now)) i.stands in
+    let on = told_on a.limits a.octets.now k n c.loop-taken.assembler c.feed.new.self i.limits (e.stands (take k a.octets.now)) (e.messages (take k a.octets.now)) i.stands in
     let more = lines_on a.limits (take k a.octets.now) (take (k + n) a.octets.now) c.feed.new.self.message (length (take (k + n) a.octets.now)) on c.in-Some.message f is lent in
     record {
       within = omega (arith, i.within, e.within, left);
@@ -66,7 +67,7 @@ loop-taken-preserved-in-EndAlone g c =
     let e = rw c.split_at.ensures.back at c.in-Ok.ensures in
     let left = length-drop k a.octets.now in
     let (f, is, lent) = one_lent _ c.feed.new.self.message c.in-Some.ensures.lent in
-    let on = messages_on a.limits a.octets.now k n c.loop-taken.assembler c.feed.new.self i.limits (e.stands (take k a.octets.now)) (e.messages (take k a.octets.now)) i.stands in
+    let on = told_on a.limits a.octets.now k n c.loop-taken.assembler c.feed.new.self i.limits (e.stands (take k a.octets.now)) (e.messages (take k a.octets.now)) i.stands in
     let more = lines_on a.limits (take k a.octets.now) (take (k + n) a.octets.now) c.feed.new.self.message (length (take (k + n) a.octets.now)) on c.in-Some.message f is lent in
     let none = appends_none (g.W.Write.contents c.loop-taken.out) in
     record {
@@ -86,7 +87,7 @@ loop-taken-preserved g c =
     let n = c.in-Ok.n in
     let e = rw c.split_at.ensures.back at c.in-Ok.ensures in
     let left = length-drop k a.octets.now in
-    let on = messages_on a.limits a.octets.now k n c.loop-taken.assembler c.feed.new.self i.limits (e.stands (take k a.octets.now)) (e.messages (take k a.octets.now)) i.stands in
+    let on = told_on a.limits a.octets.now k n c.loop-taken.assembler c.feed.new.self i.limits (e.stands (take k a.octets.now)) (e.messages (take k a.octets.now)) i.stands in
     let same = lines_same a.limits (take k a.octets.now) (take (k + n) a.octets.now) c.feed.new.self.message (length (take (k + n) a.octets.now)) on c.in_default.ensures.lent in
     record {
       within = omega (arith, i.within, e.within, left);
