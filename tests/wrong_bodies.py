@@ -383,12 +383,16 @@ def due(edits, crates):
     above = {name for name in edits if below & {it.name for it in crates[name].below()}} - changed
     wanted = turned([(name, edits[name]) for name in edits if name in changed], turn)
     wanted += turned([(name, edits[name]) for name in edits if name in above], turn)
-    wanted += [(name, some) for name, some in groups(edits)[turn % GROUPS] if name not in changed | above]
+    # (where edits are few, some groups have none)
+    group = next(filter(None, turned(groups(edits), turn)), [])
+    wanted += [(name, some) for name, some in group if name not in changed | above]
     taken, left = [], BUDGET
     for name, some in wanted:
+        # (a crate's first check is dear, so it is not made for a few; one crate's is made in any case)
+        few = min(8, len(some))
         count = min(len(some), int((left - SECONDS[name]) / EACH.get(name, ELSE)))
-        # (a crate's first check is dear, so it is not made for a few)
-        if count >= min(8, len(some)):
+        if count >= few or not taken:
+            count = max(count, few)
             taken.append((name, turned(some, turn * count)[:count]))
             left -= cost_of(name, count)
     return taken
