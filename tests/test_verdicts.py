@@ -2,10 +2,11 @@
 import dataclasses
 import types
 import unittest
+import unittest.mock
 
 from tests.edits import Edit, Pair, functions_of
 from tests.verdicts import NAMES_ONLY, PROVED, REFUSED, UNSURE, Result, Verdict, chief, refusers
-from tests.wrong_bodies import OTHERWISE, UNSAID, Trials
+from tests.wrong_bodies import OTHERWISE, UNSAID, Trials, all_edits, due, parts_of
 
 CURSOR = "cdr_core::cursor::Cursor::"
 
@@ -98,3 +99,22 @@ class OfChecks(unittest.TestCase):
 
 if __name__ == "__main__":
     unittest.main()
+
+
+class OfTurns(unittest.TestCase):
+    """Which wrong bodies are due."""
+
+    def test_each_comes(self):
+        """Some are due whatever the number of commits, and in one round of the turns each."""
+        edits = {crate: [it for it in some if it.refused_by] for crate, some in all_edits().items()}
+        edits = {crate: some for crate, some in edits.items() if some}
+        crates = {name: types.SimpleNamespace(below=list) for name in edits}
+        met = []
+        for turn in range(len(parts_of(edits))):
+            def said(*words, turn=turn):
+                return str(turn) if words[0] == "rev-list" else ""
+            with self.subTest(turn), unittest.mock.patch("tests.wrong_bodies.git", said):
+                taken = due(edits, crates)
+                self.assertTrue(taken)
+                met += [it for _, some in taken for it in some]
+        self.assertEqual([it.name for some in edits.values() for it in some if it not in met], [])

@@ -33,6 +33,7 @@ import argparse
 import contextlib
 import fnmatch
 import hashlib
+import itertools
 import json
 import os
 import re
@@ -66,7 +67,8 @@ ADVICE = {
 
 # the processor time of --turns, in seconds
 BUDGET = 600
-GROUPS = 16
+# the fewest edits of a crate that it is checked for
+FEW = 8
 # the memory of a check, in bytes
 MEMORY = 3 << 30
 # the most edits of a round: beyond, each further one saves little
@@ -350,19 +352,16 @@ def cost_of(crate, count):
     return SECONDS[crate] + EACH.get(crate, ELSE) * count
 
 
-def groups(edits):
-    """All edits in groups of about equal cost: a list of (crate, its edits) for each."""
-    most = sum(cost_of(crate, len(names)) for crate, names in edits.items()) / GROUPS
-    parts = []
-    for crate, names in edits.items():
-        size = max(8, int((most - SECONDS[crate]) / EACH.get(crate, ELSE)))
-        count = -(-len(names) // size)
-        parts += [(crate, names[at::count]) for at in range(count)]
-    made = [[] for _ in range(GROUPS)]
-    for part in sorted(parts, key=lambda it: (-cost_of(it[0], len(it[1])), it[0])):
-        least = min(made, key=lambda group: sum(cost_of(crate, len(names)) for crate, names in group))
-        least.append(part)
-    return made
+def parts_of(edits):
+    """All edits in parts, each of a crate and as many of it as the budget allows: (crate, its edits), of each crate one,
+    and again."""
+    rows = []
+    for crate, some in edits.items():
+        # (a crate's first check is dear, so it is not made for a few)
+        size = max(FEW, int((BUDGET - SECONDS[crate]) / EACH.get(crate, ELSE)))
+        count = -(-len(some) // size)
+        rows.append([(crate, some[at::count]) for at in range(count)])
+    return [part for row in itertools.zip_longest(*rows) for part in row if part]
 
 
 def turned(items, turn):
@@ -381,21 +380,15 @@ def due(edits, crates):
     edits = {crate: some for crate, some in edits.items() if some}
     changed, below = changed_since_base()
     above = {name for name in edits if below & {it.name for it in crates[name].below()}} - changed
-    wanted = turned([(name, edits[name]) for name in edits if name in changed], turn)
-    wanted += turned([(name, edits[name]) for name in edits if name in above], turn)
-    # (where edits are few, some groups have none)
-    group = next(filter(None, turned(groups(edits), turn)), [])
-    wanted += [(name, some) for name, some in group if name not in changed | above]
-    taken, left = [], BUDGET
-    for name, some in wanted:
-        # (a crate's first check is dear, so it is not made for a few; one crate's is made in any case)
-        few = min(8, len(some))
-        count = min(len(some), int((left - SECONDS[name]) / EACH.get(name, ELSE)))
-        if count >= few or not taken:
-            count = max(count, few)
-            taken.append((name, turned(some, turn * count)[:count]))
-            left -= cost_of(name, count)
-    return taken
+    order = [changed, above, set(edits) - changed - above]
+    taken, left = {}, BUDGET
+    for names in order:
+        for name, some in turned(parts_of({name: edits[name] for name in edits if name in names}), turn):
+            cost = cost_of(name, len(some)) - (SECONDS[name] if name in taken else 0)
+            if cost <= left or not taken:
+                taken.setdefault(name, []).extend(some)
+                left -= cost
+    return [*taken.items()]
 
 
 def have_libraries(crates, since):
