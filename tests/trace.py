@@ -29,7 +29,23 @@ REQUEST, REPLY, CANCEL, LOCATE, LOCATED, CLOSE, ERROR, FRAGMENT = range(8)
 STATUSES = ["NO_EXCEPTION", "USER_EXCEPTION", "SYSTEM_EXCEPTION", "LOCATION_FORWARD"]
 LOCATIONS = ["UNKNOWN_OBJECT", "OBJECT_HERE", "OBJECT_FORWARD"]
 WISHES = {0: "none", 1: "empty", 3: "full"}
-NAMES = {1: "CodeSets", 13: "FT_REQUEST"}
+# IOP 7.7, by their numbers
+CONTEXTS = [
+    "TransactionService", "CodeSets", "ChainBypassCheck", "ChainBypassInfo", "LogicalThreadId", "BI_DIR_IIOP",
+    "SendingContextRunTime", "INVOCATION_POLICIES", "FORWARDED_IDENTITY", "UnknownExceptionInfo", "RTCorbaPriority",
+    "RTCorbaPriorityRange", "FT_GROUP_VERSION", "FT_REQUEST", "ExceptionDetailMessage", "SecurityAttributeService",
+    "ActivityService", "RMICustomMaxStreamFormat", "ACCESS_SESSION_ID", "SERVICE_SESSION_ID", "FIREWALL_PATH",
+    "FIREWALL_PATH_RESP",
+]
+# CORBA 3.3 Part 1, annex A
+EXCEPTIONS = [
+    "UNKNOWN", "BAD_PARAM", "NO_MEMORY", "IMP_LIMIT", "COMM_FAILURE", "INV_OBJREF", "NO_PERMISSION", "INTERNAL",
+    "MARSHAL", "INITIALIZE", "NO_IMPLEMENT", "BAD_TYPECODE", "BAD_OPERATION", "NO_RESOURCES", "NO_RESPONSE",
+    "PERSIST_STORE", "BAD_INV_ORDER", "TRANSIENT", "FREE_MEM", "INV_IDENT", "INV_FLAG", "INTF_REPOS", "BAD_CONTEXT",
+    "OBJ_ADAPTER", "DATA_CONVERSION", "OBJECT_NOT_EXIST", "TRANSACTION_REQUIRED", "TRANSACTION_ROLLEDBACK",
+    "INVALID_TRANSACTION", "INV_POLICY", "CODESET_INCOMPATIBLE", "REBIND", "TIMEOUT", "TRANSACTION_UNAVAILABLE",
+    "TRANSACTION_MODE", "BAD_QOS", "INVALID_ACTIVITY", "ACTIVITY_COMPLETED", "ACTIVITY_REQUIRED", "THREAD_CANCELLED",
+]
 EPOCH = datetime.datetime(1582, 10, 15)
 
 
@@ -174,14 +190,14 @@ def object_of(message, number, connection, side, end, request, repeat, earlier):
         "octets": len(says.get("body", b"")) if kind in (REQUEST, REPLY, LOCATED) else None,
         "status": status[says["status"]] if status else None,
         "request": request, "later": number - request if request else None, "exception": says.get("exception"),
-        "contexts": [{"id": i, "name": NAMES[i], "octets": o.hex()} for i, o in message.contexts()] if has_contexts else [],
+        "contexts": [{"id": i, "name": CONTEXTS[i], "octets": o.hex()} for i, o in message.contexts()] if has_contexts else [],
         "ft": ft, "repeats": repeat,
     }
 
 
 def exception(order, rng):
     """A system exception: its octets, and what is printed of it."""
-    name, minor, done = rng.choice(["UNKNOWN", "MARSHAL", "TIMEOUT"]), rng.randrange(1 << 32), rng.randrange(3)
+    name, minor, done = rng.choice(EXCEPTIONS), rng.randrange(1 << 32), rng.randrange(3)
     out = Octets(0, order)
     giop.system_body(name, done, minor)(out)
     return out.all, {"id": giop.repository_id(name), "name": name, "minor": minor, "completed": ["YES", "NO", "MAYBE"][done]}
@@ -444,3 +460,34 @@ class Trace(unittest.TestCase):
     def test_junk(self, seed):
         """Each message is found after octets that are none."""
         self.judge(check_junk, with_junk(random.Random(seed)), seed)
+
+
+def lines_alone(*messages):
+    """The lines of a connection on which one side sends these."""
+    made = Session(random.Random(SEED))
+    made.open()
+    for octets in messages:
+        made.text.append(octets.hex() + "\n")
+    return traced("".join(made.text))[1].splitlines()
+
+
+class Names(unittest.TestCase):
+    """The standard's names of what stands in messages as a number."""
+
+    @classmethod
+    def setUpClass(cls):
+        programs.program("GIOP")
+
+    @base.each(lambda: [(name, (number, name)) for number, name in enumerate([*CONTEXTS, "unknown"])])
+    def test_contexts(self, part):
+        """Each service context, and the first number that has no name."""
+        number, name = part
+        # (FT_REQUEST has a line more)
+        line = lines_alone(giop.request(1, b"k", "get", contexts=[(number, b"\7")]))[2]
+        self.assertEqual(line, f"  context {number} 07 {name}, 1 octets")
+
+    @base.each(lambda: [(name, name) for name in EXCEPTIONS])
+    def test_exceptions(self, name):
+        """Each system exception."""
+        line = lines_alone(giop.system_exception(1, name, completed=1))[1]
+        self.assertIn(f" status SYSTEM_EXCEPTION {name} minor 0x00000000 completed NO body ", line)
