@@ -473,6 +473,13 @@ class Serve(unittest.TestCase):
                 peer.wants(MESSAGE_ERROR)
                 peer.ended()
 
+    def test_log_of_long_messages(self):
+        """What is logged is read by the server's limit, also beyond the one that it has by default."""
+        lines = "1 Request id 5 key 63 operation add performed\n1 Request id 20 key 63 operation get performed\n"
+        long = giop.request(5, KEY, "add", SEVEN, contexts=[(99, bytes(1_500_000))])
+        with serving(1, options=["--log", "--limit", "2097152"], error=lines) as port:
+            exchange(port, long + get(20), total(5, 7) + total(20, 7))
+
     def test_bad_share(self):
         """A share that is none of the capacity is refused before anything is printed."""
         for number in "0", "3":
