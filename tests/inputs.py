@@ -26,6 +26,8 @@ BINARY = b"hint: the input is binary; --raw takes octets as they are\r\n"
 COLONS = b"hint: the input has colons; tr -d : leaves them out\r\n"
 FOLLOW = b"hint: the input is what tshark prints of both sides of a connection; giop trace reads it\r\n"
 REFERENCE = "IOR:00000000000000010000000000000000"
+# what is written on a terminal last, by nobody else
+LAST = b"\x00"
 
 
 @contextlib.contextmanager
@@ -54,21 +56,21 @@ class Inputs(unittest.TestCase):
         """What the program writes on a standard error that is a terminal, with this standard input, or a terminal that
         ends."""
         ours, theirs = pty.openpty()
-        with os.fdopen(ours, "rb", buffering=0) as reader:
-            pipe = subprocess.PIPE if given is not None else theirs
-            with subprocess.Popen([self.giop, *words], stdin=pipe, stdout=subprocess.DEVNULL, stderr=theirs) as program:
-                os.close(theirs)
+        with os.fdopen(ours, "rb", buffering=0) as reader, os.fdopen(theirs, "wb", buffering=0) as terminal:
+            pipe = subprocess.PIPE if given is not None else terminal
+            with subprocess.Popen([self.giop, *words], stdin=pipe, stdout=subprocess.DEVNULL, stderr=terminal) as program:
                 if given is None:
                     os.write(ours, b"\x04")
                 else:
                     program.stdin.write(given)
                     program.stdin.close()
-                said = b""
-                with contextlib.suppress(OSError):
-                    while part := reader.read(4096):
-                        said += part
                 self.assertEqual(program.wait(SECONDS), status, " ".join(words))
-        return said
+            # (a terminal hands on what is written some time later, and loses it where its last writer is gone by then)
+            terminal.write(LAST)
+            said = b""
+            while not said.endswith(LAST):
+                said += reader.read(4096)
+        return said.removesuffix(LAST)
 
     def hints(self, what, wanted, *words, **given):
         """On a terminal this is said."""
