@@ -19,7 +19,8 @@ fn cursor_at<'m>(body: &Body<'m>) -> Option<Cursor<'m>> {
     Some(Cursor::new(body.octets, body.order, u64::from(at)))
 }
 
-/// The system exception that a body is: its id, its minor code and its completion. None where the body is none.
+/// The system exception that a body is: its id, its minor code and its completion. None where the body is none, or its
+/// completion is none that the standard has (CDR 9.3.2.6: an enum's number is one of its members).
 pub fn system_exception<'m>(body: &Body<'m>) -> Option<SystemException<'m>> {
     let mut cursor = cursor_at(body)?;
     let id = cursor.string().ok()?;

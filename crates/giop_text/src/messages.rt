@@ -1,4 +1,6 @@
 //! The words and the lines that show a message.
+//!
+//! Each call appends to a text. Where an allocation fails, nothing is said of what the text is then: it is not printed.
 
 ghost use Rattle.std.specs.Prelude.{◌≡◌, ◌++◌, ◌∷◌, ℕ, List, [], Option, Some, string_bytes, OnOk};
 ghost use Rattle.giop_core.specs.Ft.{ft_seen};

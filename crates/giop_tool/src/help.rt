@@ -105,7 +105,8 @@ Other lines are passed over. With --raw octets of one direction. A message has a
 
 Lines: one for each message of either side, in order: its number, its direction, `>` from the side that opened
 the connection and `<` from the one that accepted it, how many octets of that direction have come with its last
-one, and what it says, as `giop show` prints it. At the end what was counted.
+one, and what it says, in the words of `giop show`; of an answer first the request that it answers. At the end
+what was counted.
 
 Example:
   $ tshark -r retry.pcap -q -z follow,tcp,raw,0 | giop trace

@@ -9,11 +9,12 @@ use crate::tracing::Tracing;
 use clap::builder::ValueParser;
 use clap::error::ErrorKind;
 use clap::{Arg, ArgAction, ArgMatches, Command};
+use giop_lines::Format;
 use giop_run::{
     CAPACITY, Form, Input, LEAST_LIMIT, LIMIT, MOST_CONNECTIONS, MOST_LIMIT, MOST_OUTCOMES,
     MOST_PARTIALS, Numbers, PARTIALS, START, Service, Task,
 };
-use giop_trace::{Format, Options};
+use giop_trace::Options;
 use std::alloc::{AllocError, Global};
 
 /// What the program is to do.

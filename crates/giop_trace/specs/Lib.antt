@@ -1,12 +1,5 @@
--- What has to be believed of this crate, in reading order. Clauses are those of GIOP (CORBA 3.3 Part 2, chapter 9) and of
--- Fault Tolerant CORBA (FT); what no clause says is marked `own rule`.
--- Pairing: which request a message answers or cancels, and which it repeats. Waiting, Keys: what is kept of the earlier
--- messages for that. Following: which octets of a text belong to
--- which side of which connection. Tracing: the messages of connections in order, by what each side sent.
-pub mod Pairing
-pub mod Waiting
-pub mod Keys
+-- What has to be believed of this crate.
+-- Following: whose octets a line of the input has.
 pub mod Following
-pub mod Tracing
 -- words of private functions: nothing public rests on them
 pub mod Private

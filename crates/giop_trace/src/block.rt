@@ -1,7 +1,7 @@
 //! A connection as the input tells of it: its stream, its two ends, and what was held of its octets.
 
 use crate::opening::Asking;
-use crate::sender::Sender;
+use giop_tap::Sender;
 use std::alloc::{AllocError, Global};
 
 /// What a line gives of a side.

@@ -2,14 +2,13 @@
 //! known, and reading can go on after it, or after octets that the capture missed. What is read is not held.
 
 use crate::headers::{HEADER, header_in, is_cut, is_fragment, is_plausible};
-use crate::looks::looks_of;
-use crate::sender::Sender;
-use crate::steps::{Left, Step};
+use crate::steps::Step;
 use crate::stop::Stop;
-use crate::tracer::Trace;
 use giop_core::Header;
 use giop_frames::{Limits, StreamFault};
+use giop_lines::{Left, looks_of};
 use giop_link::LinkFault;
+use giop_tap::{Sender, Trace};
 use std::alloc::{AllocError, Global};
 
 /// What is done with a side's octets.

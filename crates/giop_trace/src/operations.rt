@@ -61,6 +61,17 @@ impl Operations {
         }
     }
 
+    /// Those of these messages that were cancelled.
+    pub fn cancelled_of(&self, alloc: Global, numbers: &[u64]) -> Result<Vec<u64>, AllocError> {
+        let mut cancelled = Vec::new(alloc);
+        for number in numbers {
+            if self.is_cancelled(*number) {
+                cancelled.push(*number)?;
+            }
+        }
+        Ok(cancelled)
+    }
+
     /// The place after that of the message of a number.
     fn end_of(&self, number: u64) -> usize {
         match place_of(number) {

@@ -1,11 +1,11 @@
 //! What `giop trace` does with its input.
 
-use crate::printing::{Endpoints, Format, Printer};
 use crate::session::Session;
 use crate::sink::{Sink, Source};
 use crate::stop::{Failure, Stop};
 use crate::text::Text;
 use giop_frames::Limits;
+use giop_lines::{Endpoints, Format, Printer};
 use giop_text::is_capture;
 use std::alloc::Global;
 use std::io::{BufWriter, Read, Write};

@@ -1,18 +1,15 @@
 //! Connections one after another, as they are traced and printed.
 
 use crate::block::Piece;
-use crate::counts::Counts;
 use crate::direction::{Direction, Reading};
 use crate::operations::Operations;
-use crate::printing::{Endpoints, Printer};
-use crate::sender::Sender;
-use crate::shown::Shown;
 use crate::sink::Sink;
-use crate::steps::{Left, Step};
+use crate::steps::Step;
 use crate::stop::Stop;
-use crate::tracer::{Seen, Trace};
 use giop_core::Content;
 use giop_frames::Limits;
+use giop_lines::{Counts, Endpoints, Left, Printer, Shown};
+use giop_tap::{Seen, Sender, Trace};
 use std::alloc::Global;
 use std::io::Write;
 
@@ -83,7 +80,7 @@ impl Session {
             end,
             operation,
         };
-        self.printer.message(shown, out)
+        out.print(&self.printer.message(shown)?)
     }
 
     /// Prints what came of a step.
@@ -100,13 +97,15 @@ impl Session {
             Step::Fault(at, fault, looks) => {
                 self.counts.faults = self.counts.faults.saturating_add(1);
                 self.is_clean = false;
-                self.printer
-                    .fault(self.connection, sender, at, fault, looks, out)?;
+                out.print(
+                    &self
+                        .printer
+                        .fault(self.connection, sender, at, fault, looks)?,
+                )?;
             }
             Step::Passed(from, octets) => {
                 self.counts.pass(octets);
-                self.printer
-                    .passed(self.connection, sender, from, octets, out)?;
+                out.print(&self.printer.passed(self.connection, sender, from, octets)?)?;
             }
         }
         Ok(())
@@ -173,7 +172,7 @@ impl Session {
         }
         self.counts.miss(octets);
         self.is_clean = false;
-        self.printer.missing(self.connection, sender, octets, out)
+        out.print(&self.printer.missing(self.connection, sender, octets)?)
     }
 
     /// Prints what is left of a side.
@@ -189,7 +188,7 @@ impl Session {
             Left::Rest(_, _) | Left::Unread(_) => {}
         }
         self.is_clean = false;
-        self.printer.left(self.connection, sender, left, out)
+        out.print(&self.printer.left(self.connection, sender, left)?)
     }
 
     /// Ends the connection.
@@ -207,7 +206,7 @@ impl Session {
         self.trace.connect(self.connection);
         self.opener = Direction::new(self.alloc);
         self.acceptor = Direction::new(self.alloc);
-        self.printer.connection(self.connection, ends, out)
+        out.print(&self.printer.connection(self.connection, ends)?)
     }
 
     /// Traces what a line gives of a side, and prints what comes of it.
@@ -230,7 +229,11 @@ impl Session {
 
     /// Prints what was counted.
     pub fn end<W: Write>(&mut self, out: &mut Sink<W>) -> Result<(), Stop> {
-        self.counts.end(&self.trace, &self.operations)?;
-        self.printer.counts(&self.counts, out)
+        self.counts.messages = self.trace.ties().len() as u64;
+        self.counts.unanswered = self.trace.unanswered()?;
+        self.counts.cancelled = self
+            .operations
+            .cancelled_of(self.alloc, &self.counts.unanswered)?;
+        out.print(&self.printer.counts(&self.counts)?)
     }
 }

@@ -1,6 +1,5 @@
 //! Why a trace stops before its work is done.
 
-use crate::follow::FollowError;
 use std::alloc::{AllocError, AllocFailed};
 use std::io;
 use std::io::ErrorKind;
@@ -56,16 +55,6 @@ where
 {
     fn from(_e: AllocFailed<T>) -> Stop {
         Stop::Memory
-    }
-}
-
-impl From<FollowError> for Stop {
-    fn from(error: FollowError) -> Stop {
-        match error {
-            FollowError::OddDigits(line) => Stop::OddDigits(line),
-            FollowError::Colons(line) => Stop::Colons(line),
-            FollowError::Memory => Stop::Memory,
-        }
     }
 }
 

@@ -3,11 +3,11 @@
 use crate::block::{Block, Piece};
 use crate::follow::{Line, LineError, line_of};
 use crate::notes::{Note, missing_in, note_of};
-use crate::printing::Endpoints;
-use crate::sender::Sender;
 use crate::session::Session;
 use crate::sink::Sink;
 use crate::stop::Stop;
+use giop_lines::Endpoints;
+use giop_tap::Sender;
 use std::alloc::Global;
 use std::collections::BTreeMap;
 use std::io::Write;

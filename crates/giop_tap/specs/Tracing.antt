@@ -1,0 +1,91 @@
+-- The messages of connections in the order in which they complete, by what each side sent.
+use Rattle.std.specs.Prelude.{◌≡◌, ℕ, ◌++◌, List, [], ◌∷◌, length, drop}
+use Rattle.giop_core.specs.declared.header.Version.{Version}
+use Rattle.giop_core.specs.Content.{Content}
+use Rattle.giop_frames.specs.declared.limits.Limits.{Limits}
+use Rattle.giop_link.specs.Hearing.{Sound, heard_as, says}
+use Rattle.giop_link.specs.Listening.{Listened, ListenerStands}
+use Rattle.giop_tap.specs.declared.pairing.Tie.{Tie}
+use Rattle.giop_tap.specs.declared.sender.Sender.{Sender}
+use Rattle.giop_tap.specs.declared.sender.Sender.TheVariants.{Opener, Acceptor}
+use Rattle.giop_tap.specs.Keys.{AreNamed, Keys}
+use Rattle.giop_tap.specs.Pairing.{Said, named, ties, waiting}
+use Rattle.giop_tap.specs.Waiting.{AreWaiting, Waits}
+
+-- each message counts to a reader beside the connection
+abbrev pub counts : Version → Content → Sound Content
+counts version m = says m
+
+-- the messages in a stream, and those that octets bring after what came before
+abbrev pub said_in : Limits → List ℕ → List Content
+said_in limits s = heard_as counts limits s
+
+abbrev pub news : Limits → List ℕ → List ℕ → List Content
+news limits before octets = drop (length (said_in limits before)) (said_in limits (before ++ octets))
+
+-- what has come: the number of the connection, the octets of each side on it, or since it was resumed, and the messages on
+-- all connections, the latest first
+pub record Talk : Type 0 where
+  pub connection : ℕ
+  pub opener : List ℕ
+  pub acceptor : List ℕ
+  pub earlier : List Said
+
+-- messages of a side after those
+abbrev pub said_after : ℕ → Sender → List Content → List Said → List Said
+said_after connection sender [] earlier = earlier
+said_after connection sender (m ∷ ms) earlier = said_after connection sender ms (record { connection = connection; sender = sender; content = m } ∷ earlier)
+
+-- more octets of a side: the messages that they bring stand after all others
+abbrev pub talk_after : Limits → Sender → List ℕ → Talk → Talk
+talk_after limits Opener octets t = record {
+  connection = t.connection;
+  opener = t.opener ++ octets;
+  acceptor = t.acceptor;
+  earlier = said_after t.connection Opener (news limits t.opener octets) t.earlier;
+}
+talk_after limits Acceptor octets t = record {
+  connection = t.connection;
+  opener = t.opener;
+  acceptor = t.acceptor ++ octets;
+  earlier = said_after t.connection Acceptor (news limits t.acceptor octets) t.earlier;
+}
+
+-- the stream of a side begins anew: what is left of it counts no more
+abbrev pub resumed : Sender → Talk → Talk
+resumed Opener t = record t { opener = [] }
+resumed Acceptor t = record t { acceptor = [] }
+
+-- another connection
+abbrev pub connected : ℕ → Talk → Talk
+connected connection t = record { connection = connection; opener = []; acceptor = []; earlier = t.earlier }
+
+-- nothing has come
+abbrev pub silence : Talk
+silence = record { connection = 0; opener = []; acceptor = []; earlier = [] }
+
+-- what is kept of messages: what each had to do with those before it, the requests that wait, and those with keys
+pub record Paired : Type 0 where
+  pub ties : List Tie
+  pub waiting : Waits
+  pub keyed : Keys
+
+-- it is that of these messages, the latest first
+pub record PairsStand (p : Paired) (earlier : List Said) : Type 0 where
+  pub ties_are : p.ties ≡ ties earlier
+  pub waiting_are : AreWaiting p.waiting (waiting earlier)
+  pub keyed_are : AreNamed p.keyed (named earlier)
+
+-- a trace, and what it stands for
+pub record Traced : Type 0 where
+  pub limits : Limits
+  pub connection : ℕ
+  pub opener : Listened
+  pub acceptor : Listened
+  pub pairs : Paired
+
+pub record TraceStands (x : Traced) (t : Talk) : Type 0 where
+  pub connection_is : x.connection ≡ t.connection
+  pub opener_stands : ListenerStands counts x.limits x.opener t.opener
+  pub acceptor_stands : ListenerStands counts x.limits x.acceptor t.acceptor
+  pub pairs_stand : PairsStand x.pairs t.earlier

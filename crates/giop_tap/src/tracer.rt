@@ -1,0 +1,209 @@
+//! A reader beside connections: each message of either side, and what it has to do with earlier ones.
+
+ghost use Rattle.std.specs.Prelude.{◌≡◌, ◌≤◌, ◌++◌, ℕ, List, length, take, slice_get, ◌-◌, IfOk, IfSome, Some};
+ghost use Rattle.giop_frames.specs.declared.limits.Limits.{Limits};
+ghost use Rattle.giop_link.specs.Listening.{ListenerStands};
+ghost use Rattle.giop_tap.specs.Pairing.{Said};
+ghost use Rattle.giop_tap.specs.Tracing as tracing;
+ghost use Rattle.giop_tap.specs.Tracing.{PairsStand, Talk, TraceStands, counts, news, said_after, talk_after};
+
+use crate::either::Either;
+use crate::pairing::{Pairs, Tie};
+use crate::sender::Sender;
+use giop_core::Message;
+use giop_frames::{Limits, StreamFault};
+use giop_link::{LinkFault, Listener};
+use std::alloc::{AllocError, Global};
+use std::marker::Model;
+
+/// Takes octets of a side up to and with the end of the next message, or all, and that message among the others.
+fn hear(
+    listener: &mut Listener<Either>,
+    pairs: &mut Pairs,
+    connection: u64,
+    sender: Sender,
+    piece: &[u8],
+) -> Result<usize, LinkFault>
+    ensures stands { (limits : Limits) (s : List ℕ) → ListenerStands counts limits listener.old s → IfOk result (λ n. ListenerStands counts limits listener.new (s ++ take n piece.now)) }
+    ensures pairs { (limits : Limits) (s : List ℕ) (earlier : List Said) → ListenerStands counts limits listener.old s → PairsStand pairs.old earlier
+        → IfOk result (λ n. PairsStand pairs.new (said_after connection sender (news limits s (take n piece.now)) earlier)) }
+    ensures within { IfOk result (λ n. n ≤ length piece.now) }
+{
+    let taken = listener.feed(piece)?;
+    if listener.is_closed() {
+        return Ok(taken);
+    }
+    let Some(message) = listener.message() else {
+        return Ok(taken);
+    };
+    match pairs.take(connection, sender, &message.content) {
+        Ok(_) => Ok(taken),
+        Err(_) => Err(LinkFault::Stream(StreamFault::Memory)),
+    }
+}
+
+/// A message as a trace lends it.
+#[derive(Debug, Drop)]
+pub struct Seen<'t> {
+    /// Its number among all messages of all connections, from 1.
+    pub number: u64,
+    pub connection: u64,
+    pub sender: Sender,
+    pub message: Message<'t>,
+    pub tie: Tie,
+}
+
+/// A reader beside connections, one after another: it takes the octets of both sides as they come, and lends each
+/// message that completes, with the request that it answers or cancels, and the one that it repeats.
+///
+/// A message may be of either side: requests of the side that accepted the connection count as well, and have ids of
+/// their own (GIOP 9.8: bi-directional GIOP).
+#[derive(Debug, Drop)]
+pub struct Trace {
+    alloc: Global,
+    limits: Limits,
+    connection: u64,
+    opener: Listener<Either>,
+    acceptor: Listener<Either>,
+    pairs: Pairs,
+    /// The side whose message is lent.
+    lends: Option<Sender>,
+}
+
+impl Model for Trace {
+    ghost use Rattle.giop_tap.specs.Tracing.{Traced};
+
+    ghost Value = { Traced };
+
+    ghost view = { λ t. record { limits = t.limits; connection = t.connection; opener = t.opener; acceptor = t.acceptor; pairs = t.pairs } };
+}
+
+impl Trace {
+    /// A reader to which nothing has come.
+    pub fn new(alloc: Global, limits: Limits) -> Trace
+        ensures stands { TraceStands result tracing.silence }
+        ensures limits { result.limits ≡ limits }
+    {
+        Trace {
+            alloc,
+            limits,
+            connection: 0,
+            opener: Listener::new(alloc, limits),
+            acceptor: Listener::new(alloc, limits),
+            pairs: Pairs::new(alloc),
+            lends: None,
+        }
+    }
+
+    /// Goes to another connection, of this number. What has come on the one before counts as far as later messages
+    /// repeat its requests.
+    pub fn connect(&mut self, connection: u64)
+        ensures stands { (t : Talk) → TraceStands self.old t → TraceStands self.new (tracing.connected connection t) }
+        ensures limits { self.new.limits ≡ self.old.limits }
+    {
+        self.connection = connection;
+        self.opener = Listener::new(self.alloc, self.limits);
+        self.acceptor = Listener::new(self.alloc, self.limits);
+        self.lends = None;
+    }
+
+    /// Lets the stream of a side begin anew, as after a fault: what was left of it is dropped.
+    pub fn resume(&mut self, sender: Sender)
+        ensures stands { (t : Talk) → TraceStands self.old t → TraceStands self.new (tracing.resumed sender t) }
+        ensures limits { self.new.limits ≡ self.old.limits }
+    {
+        let listener = Listener::new(self.alloc, self.limits);
+        match sender {
+            Sender::Opener => self.opener = listener,
+            Sender::Acceptor => self.acceptor = listener,
+        }
+        self.lends = None;
+    }
+
+    /// Takes octets of a side up to and with the end of the next message, or all of them, and returns how many.
+    ///
+    /// An error is the first fault of the side's stream, after which nothing that comes of it counts until it is
+    /// resumed; or that an allocation failed, after which the trace is no longer whole.
+    pub fn feed(&mut self, sender: Sender, piece: &[u8]) -> Result<usize, LinkFault>
+        ensures stands { (t : Talk) → TraceStands self.old t → IfOk result (λ n. TraceStands self.new (talk_after self.old.limits sender (take n piece.now) t)) }
+        ensures within { IfOk result (λ n. n ≤ length piece.now) }
+        ensures limits { self.new.limits ≡ self.old.limits }
+    {
+        self.lends = Some(sender);
+        let connection = self.connection;
+        match sender {
+            Sender::Opener => hear(
+                &mut self.opener,
+                &mut self.pairs,
+                connection,
+                Sender::Opener,
+                piece,
+            ),
+            Sender::Acceptor => hear(
+                &mut self.acceptor,
+                &mut self.pairs,
+                connection,
+                Sender::Acceptor,
+                piece,
+            ),
+        }
+    }
+
+    /// The message that the last call of `feed` completed, if it did.
+    pub fn seen(&self) -> Option<Seen<'_>>
+        // its number is that of all messages so far
+        ensures number { IfSome result (λ s. s.number ≡ length self.now.pairs.ties) }
+        ensures tie { IfSome result (λ s. slice_get self.now.pairs.ties (length self.now.pairs.ties - 1) ≡ Some s.tie) }
+        ensures connection { IfSome result (λ s. s.connection ≡ self.now.connection) }
+    {
+        let sender = self.lends?;
+        let message = match sender {
+            Sender::Opener => self.opener.message()?,
+            Sender::Acceptor => self.acceptor.message()?,
+        };
+        let ties = self.pairs.ties();
+        let tie = *ties.last()?;
+        Some(Seen {
+            number: ties.len() as u64,
+            connection: self.connection,
+            sender,
+            message,
+            tie,
+        })
+    }
+
+    /// The end that hears a side.
+    fn listener(&self, sender: Sender) -> &Listener<Either> {
+        match sender {
+            Sender::Opener => &self.opener,
+            Sender::Acceptor => &self.acceptor,
+        }
+    }
+
+    /// How many octets of a side are held: those of the frame that is not whole, and those of partial messages.
+    pub fn held(&self, sender: Sender) -> usize {
+        self.listener(sender).held()
+    }
+
+    /// How many octets of the frame that a side has begun are still to come, once its header has; none where it has
+    /// begun none.
+    pub fn left(&self, sender: Sender) -> u64 {
+        let listener = self.listener(sender);
+        match listener.pending() {
+            0 => 0,
+            _ => listener.needed().unwrap_or(0) as u64,
+        }
+    }
+
+    /// What each message had to do with those before it, by number.
+    pub fn ties(&self) -> &[Tie]
+        ensures { result.now ≡ self.now.pairs.ties }
+    {
+        self.pairs.ties()
+    }
+
+    /// The numbers of the requests that no message has answered, in their order.
+    pub fn unanswered(&self) -> Result<Vec<u64>, AllocError> {
+        self.pairs.unanswered()
+    }
+}

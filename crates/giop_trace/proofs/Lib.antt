@@ -1,8 +1,0 @@
-pub mod Places
-pub mod Stacks
-pub mod Kept
-pub mod Rising
-pub mod Keyed
-pub mod LineEnds
-pub mod News
-pub mod Feeding
