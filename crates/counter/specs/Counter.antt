@@ -7,11 +7,11 @@ use Rattle.cdr_core.specs.View.{forms}
 use Rattle.ft_log.specs.Performed.{Performed, raised, returned, system}
 use Rattle.ft_log.specs.declared.system_exception.Completion.TheVariants.{No}
 use Rattle.ft_log.specs.declared.system_exception.SystemName.TheVariants.{BadOperation}
-use Rattle.ft_orb.specs.Accessors.{long_of, read_at}
-use Rattle.ft_orb.specs.Interfaces.{Types}
-use Rattle.ft_orb.specs.Ranges.{is_in_range}
-use Rattle.ft_orb.specs.Objects.{Object, meaning_of}
-use Rattle.ft_orb.specs.Servants.{Meaning}
+use Rattle.ft_objects.specs.Accessors.{long_of, read_at}
+use Rattle.ft_objects.specs.Interfaces.{Types}
+use Rattle.ft_objects.specs.Ranges.{is_in_range}
+use Rattle.ft_objects.specs.Objects.{Object, meaning_of}
+use Rattle.ft_objects.specs.Servants.{Meaning}
 
 -- its object key, `c`
 abbrev pub is_counter : List ℕ → Bool

@@ -1,8 +1,8 @@
-//! A counter as a CORBA object: a servant of `ft_orb`, and its object reference.
+//! A counter as a CORBA object: a servant of `ft_objects`, and its object reference.
 //!
-//! It stands on `ft_orb`, whose servant it is, and on `ior_core`, which writes references. It promises that the counter
-//! does what its table of operations says, and that its reference is that of an object of this type at a port of this
-//! machine.
+//! It stands on `ft_objects`, whose servant it is, and on `ior_core`, which writes references. It promises that the
+//! counter does what its table of operations says, and that its reference is that of an object of this type at a port of
+//! this machine.
 #![tactic(auto)]
 
 mod reference;

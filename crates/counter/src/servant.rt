@@ -2,12 +2,12 @@
 
 ghost use Rattle.std.specs.Prelude.{◌≡◌, IfOk, OnErr};
 ghost use Rattle.counter.specs.Counter.{add_types, get_types, sum_of, tells};
-ghost use Rattle.ft_orb.specs.Interfaces.{types_of};
+ghost use Rattle.ft_objects.specs.Interfaces.{types_of};
 ghost use Rattle.ft_log.specs.View.{performed_in};
 
 use cdr_core::{Ty, Val};
 use ft_log::{Completion, Outcome, SystemName};
-use ft_orb::{Lookup, Servant, Signature, long_at};
+use ft_objects::{Lookup, Servant, Signature, long_at};
 use std::alloc::{AllocError, Global};
 use std::marker::Model;
 
@@ -29,7 +29,7 @@ pub struct Counter {
 impl Model for Counter {
     ghost use Rattle.std.specs.Prelude.{◌≡◌, ℤ};
     ghost use Rattle.counter.specs.Counter.{add_types, get_types};
-    ghost use Rattle.ft_orb.specs.Interfaces.{types_of};
+    ghost use Rattle.ft_objects.specs.Interfaces.{types_of};
 
     ghost Value = { ℤ };
 

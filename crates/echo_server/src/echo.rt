@@ -2,7 +2,8 @@
 
 use cdr_core::{Order, Val};
 use ft_log::{Outcome, RawStatus};
-use ft_orb::{Asked, Performer, boolean_at, octets_at, ulong_at};
+use ft_objects::{boolean_at, octets_at, ulong_at};
+use ft_orb::{Asked, Performer};
 use std::alloc::{AllocError, Global};
 
 /// How many calls were performed.

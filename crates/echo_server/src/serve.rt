@@ -4,7 +4,8 @@ ghost use Rattle.std.specs.Prelude.{◌≡◌, IfOk, None};
 ghost use Rattle.ft_orb.specs.Engines.{waits_in};
 
 use crate::echo::Echo;
-use ft_orb::{Engine, Interfaces, serve_engine};
+use ft_objects::Interfaces;
+use ft_orb::{Engine, serve_engine};
 use ft_tcp::{Socket, SystemClock};
 use giop_frames::Limits;
 use std::hash::RandomState;

@@ -6,10 +6,9 @@ use Rattle.ft_client.specs.declared.client.FtClient.{FtClient}
 use Rattle.ft_client.specs.declared.ended.Ended.{Ended as CodeEnded}
 use Rattle.ft_client.specs.Clients.{Client, Ended}
 use Rattle.ft_client.specs.Standing.{FtStands, down}
-use Rattle.ft_orb.specs.declared.server.Server.{Server}
 use Rattle.ft_orb.specs.Outputs.{Made}
-use Rattle.ft_orb.specs.Servants.{Meaning}
-use Rattle.ft_orb.specs.Standing.{Stands}
+use Rattle.ft_objects.specs.Servants.{Meaning}
+use Rattle.ft_orb.specs.Standing.{Shown, Stands}
 use Rattle.ft_ends.specs.declared.wire.Wire.{Wire as CodeWire}
 use Rattle.ft_ends.specs.Laws.{sides_of}
 use Rattle.ft_ends.specs.Playing.{AreClientsOf, AreNew, given_of, numbered}
@@ -106,12 +105,12 @@ none-at (x ∷ xs) (suc k) h = none-at xs k (omega arith)
 
 module _ {State : Type 0} (meaning : Meaning State) (made : Made State) (before : List (ℕ × ℤ × Ended)) where
   -- A step of no client does nothing.
-  pub runs-still : (server : Server State) (opened : ℕ) (cs : List FtClient) (us : List CodeWire) (out : List (ℕ × ℤ × CodeEnded)) (w : World) (s : Step) → length w.members ≤ client_of s → Runs meaning made server opened cs us before out w
+  pub runs-still : (server : Shown State) (opened : ℕ) (cs : List FtClient) (us : List CodeWire) (out : List (ℕ × ℤ × CodeEnded)) (w : World) (s : Step) → length w.members ≤ client_of s → Runs meaning made server opened cs us before out w
       → Runs meaning made server opened cs us before out (step (sides_of meaning made down) w s)
   runs-still server opened cs us out w s none h = subst (λ (o : Option Member). Runs meaning made server opened cs us before out (step_of (sides_of meaning made down) w s o)) (sym (none-at w.members (client_of s) none)) h
 
   -- A step of a client.
-  pub runs-step : (cs : List FtClient) (us : List CodeWire) (out : List (ℕ × ℤ × CodeEnded)) (w : World) (s : Step) (m : Member) (old next : Server State) (opened opened' : ℕ) (client : FtClient) (wire : CodeWire) (now : List (ℕ × ℤ × CodeEnded))
+  pub runs-step : (cs : List FtClient) (us : List CodeWire) (out : List (ℕ × ℤ × CodeEnded)) (w : World) (s : Step) (m : Member) (old next : Shown State) (opened opened' : ℕ) (client : FtClient) (wire : CodeWire) (now : List (ℕ × ℤ × CodeEnded))
       → slice_get w.members (client_of s) ≡ Some m → Runs meaning made old opened cs us before out w → IsReady meaning made w s
       → Stands meaning made next (moved (sides_of meaning made down) w.past w.opened s m).past → IsWireFor (tells meaning made (moved (sides_of meaning made down) w.past w.opened s m).past) wire (moved (sides_of meaning made down) w.past w.opened s m).member.wire
       → opened' ≡ (moved (sides_of meaning made down) w.past w.opened s m).opened
@@ -152,7 +151,7 @@ get-set (z ∷ xs) (suc k) x d lt = get-set xs k x d (omega arith)
 
 module _ {State : Type 0} (meaning : Meaning State) (made : Made State) (before : List (ℕ × ℤ × Ended)) where
   -- A step at a place of the lists, with its completions.
-  pub runs-stepped : (old next : Server State) (opened opened' : ℕ) (cs : List FtClient) (us : List CodeWire) (out now : List (ℕ × ℤ × CodeEnded)) (w : World) (s : Step) (k : ℕ) (c c1 d c2 : FtClient) (u u1 : CodeWire)
+  pub runs-stepped : (old next : Shown State) (opened opened' : ℕ) (cs : List FtClient) (us : List CodeWire) (out now : List (ℕ × ℤ × CodeEnded)) (w : World) (s : Step) (k : ℕ) (c c1 d c2 : FtClient) (u u1 : CodeWire)
       → k ≡ client_of s → k < length cs → k < length us → c ≡ get_or cs k c → u ≡ get_or us k u
       → ((m : Member) → Holds meaning made old c u (moved_to w.past opened m) → IsSettled meaning made w.past opened m s
       → Holds meaning made next c1 u1 (moved (sides_of meaning made down) w.past opened s m) × (opened' ≡ (moved (sides_of meaning made down) w.past opened s m).opened))

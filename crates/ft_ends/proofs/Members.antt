@@ -16,7 +16,7 @@ use Rattle.ft_orb.specs.ExactlyOnce.{Arrival}
 use Rattle.ft_orb.specs.History.{Event, arrivals}
 use Rattle.ft_orb.specs.Outputs.{Made}
 use Rattle.ft_orb.specs.Requests.{Wanted}
-use Rattle.ft_orb.specs.Servants.{Meaning}
+use Rattle.ft_objects.specs.Servants.{Meaning}
 use Rattle.ft_ends.specs.Both.{key_of}
 use Rattle.ft_ends.specs.Fine.{AreFaithful, IsFine, IsFineCall, IsFineSaid, IsFront}
 use Rattle.ft_ends.specs.Laws.{sides_of}

@@ -5,12 +5,11 @@ use Rattle.std.proofs.lemmas.Bool.{false≢true}
 use Rattle.ft_client.specs.declared.client.FtClient.{FtClient}
 use Rattle.ft_client.specs.Clients.{Joined, Parted, after, says}
 use Rattle.ft_client.specs.Standing.{FtStands, down}
-use Rattle.ft_orb.specs.declared.server.Server.{Server}
 use Rattle.ft_orb.specs.ExactlyOnce.{OneExpiration}
 use Rattle.ft_orb.specs.History.{Close, Event, Lost, Opened, Piece, arrivals}
 use Rattle.ft_orb.specs.Outputs.{Made}
-use Rattle.ft_orb.specs.Servants.{Meaning}
-use Rattle.ft_orb.specs.Standing.{Stands}
+use Rattle.ft_objects.specs.Servants.{Meaning}
+use Rattle.ft_orb.specs.Standing.{Shown, Stands}
 use Rattle.ft_ends.specs.declared.wire.Wire.{Wire as CodeWire}
 use Rattle.ft_ends.specs.Laws.{sides_of}
 use Rattle.ft_ends.specs.Private.{Holds, IsUnused, IsWire, IsWireFor, tells}
@@ -31,14 +30,14 @@ err-then (Ok x) is a = absurd (false≢true is)
 err-then (Err e) is a = a
 
 module _ {State : Type 0} (meaning : Meaning State) (made : Made State) (past : List Event) (opened : ℕ) (m : Member) where
-  holds-still : (old new : Server State) (client next : FtClient) (was is : CodeWire) (v : Moved) → new ≡ old → next ≡ client → is ≡ was → Holds meaning made old client was v → Holds meaning made new next is v
+  holds-still : (old new : Shown State) (client next : FtClient) (was is : CodeWire) (v : Moved) → new ≡ old → next ≡ client → is ≡ was → Holds meaning made old client was v → Holds meaning made new next is v
   holds-still old new client next was is v server_same client_same wire_same h = record {
     server_is = subst (λ s. Stands meaning made s v.past) (sym server_same) h.server_is;
     client_is = subst (λ c. FtStands c v.member.life.client) (sym client_same) h.client_is;
     wire_is = subst (λ u. IsWireFor (tells meaning made v.past) u v.member.wire) (sym wire_same) h.wire_is;
   }
 
-  pub up-moved : (count now : ℕ) (old new : Server State) (client : FtClient) (was is : CodeWire)
+  pub up-moved : (count now : ℕ) (old new : Shown State) (client : FtClient) (was is : CodeWire)
       → ((x : Wire) → Stands meaning made old past → IsWire (tells meaning made past) was x → OneExpiration (arrivals made.limits (Piece x.number now (take count (going_up (sides_of meaning made down) x)) ∷ past))
       → Stands meaning made new (Piece x.number now (take count (going_up (sides_of meaning made down) x)) ∷ past)
       × IsWire (tells meaning made (Piece x.number now (take count (going_up (sides_of meaning made down) x)) ∷ past)) is (record x { went = x.went + length (take count (going_up (sides_of meaning made down) x)) }))
@@ -57,7 +56,7 @@ module _ {State : Type 0} (meaning : Meaning State) (made : Made State) (past : 
           let r = fed x h.server_is some one in
           (record { server_is = r.0; client_is = h.client_is; wire_is = r.1 }, refl)
 
-  pub shut-moved : (old new : Server State) (client : FtClient) (was is : CodeWire)
+  pub shut-moved : (old new : Shown State) (client : FtClient) (was is : CodeWire)
       → ((x : Wire) → Stands meaning made old past → IsWire (tells meaning made past) was x → Stands meaning made new (Close x.number ∷ past) × IsWire (tells meaning made (Close x.number ∷ past)) is x)
       → (was.number ≡ None → (new ≡ old) × (is ≡ was)) → Holds meaning made old client was (moved_to past opened m)
       → Holds meaning made new client is (shut (sides_of meaning made down) past opened m m.wire) × (opened ≡ (shut (sides_of meaning made down) past opened m m.wire).opened)
@@ -73,7 +72,7 @@ module _ {State : Type 0} (meaning : Meaning State) (made : Made State) (past : 
           let r = closed x h.server_is some in
           (record { server_is = r.0; client_is = h.client_is; wire_is = subst (λ o. IsWireFor (tells meaning made (Close x.number ∷ past)) is o) (sym at) r.1 }, refl)
 
-  pub cut-moved : (old new : Server State) (client next : FtClient) (was is : CodeWire)
+  pub cut-moved : (old new : Shown State) (client next : FtClient) (was is : CodeWire)
       → ((x : Wire) → Stands meaning made old past → FtStands client m.life.client → IsWire (tells meaning made past) was x
       → Stands meaning made new (Lost x.number ∷ past) × FtStands next (after (down m.life.client.limits) Parted m.life.client) × IsUnused is)
       → (was.number ≡ None → (new ≡ old) × (next ≡ client) × (is ≡ was)) → Holds meaning made old client was (moved_to past opened m)
@@ -90,7 +89,7 @@ module _ {State : Type 0} (meaning : Meaning State) (made : Made State) (past : 
           let r = gone x h.server_is h.client_is some in
           (record { server_is = r.0; client_is = r.1; wire_is = r.2 }, refl)
 
-  pub down-moved : (count : ℕ) (old new : Server State) (client next : FtClient) (was is : CodeWire)
+  pub down-moved : (count : ℕ) (old new : Shown State) (client next : FtClient) (was is : CodeWire)
       → ((x : Wire) → Stands meaning made old past → FtStands client m.life.client → IsWire (tells meaning made past) was x
       → Holds meaning made new next is (fed_with (sides_of meaning made down) past opened m.life x (take count (coming_down (sides_of meaning made down) past x))))
       → (was.number ≡ None → (new ≡ old) × (next ≡ client) × (is ≡ was)) → Holds meaning made old client was (moved_to past opened m)
@@ -106,7 +105,7 @@ module _ {State : Type 0} (meaning : Meaning State) (made : Made State) (past : 
           let some = subst (λ o. IsWireFor (tells meaning made past) was o) at h.wire_is in
           fed x h.server_is h.client_is some
 
-  pub connect-moved : (now opened' : ℕ) (old new : Server State) (client next : FtClient) (was is : CodeWire)
+  pub connect-moved : (now opened' : ℕ) (old new : Shown State) (client next : FtClient) (was is : CodeWire)
       → (Stands meaning made old past → FtStands client m.life.client → is_some m.life.client.link ≡ false → IsUnused was → tells meaning made past (suc opened) ≡ []
       → Stands meaning made new (Opened (suc opened) ∷ past) × FtStands next (after (down m.life.client.limits) (Joined now) m.life.client)
       × IsWire (tells meaning made (Opened (suc opened) ∷ past)) is (record { number = suc opened; said = says (Joined now) m.life.client; went = 0; came = 0 }) × (opened' ≡ suc opened))

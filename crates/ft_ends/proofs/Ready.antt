@@ -15,11 +15,11 @@ use Rattle.ft_client.specs.declared.client.FtClient.{FtClient}
 use Rattle.ft_client.specs.Clients.{Linked, Pending}
 use Rattle.ft_client.specs.Messages.{Transmission}
 use Rattle.ft_client.specs.Standing.{down}
-use Rattle.ft_orb.specs.declared.server.Server.{Server}
+use Rattle.ft_orb.specs.Standing.{Shown}
 use Rattle.ft_orb.specs.ExactlyOnce.{OneExpiration}
 use Rattle.ft_orb.specs.History.{Event, arrivals}
 use Rattle.ft_orb.specs.Outputs.{Made}
-use Rattle.ft_orb.specs.Servants.{Meaning}
+use Rattle.ft_objects.specs.Servants.{Meaning}
 use Rattle.ft_ends.specs.declared.wire.Wire.{Wire as CodeWire}
 use Rattle.ft_ends.specs.declared.steps.Call.{Call as CodeCall}
 use Rattle.ft_ends.specs.declared.steps.Step.{Step as CodeStep}
@@ -123,7 +123,7 @@ new-clean [] (c ∷ cs) h = absurd h
 new-clean (n ∷ ns) [] h = absurd h
 
 -- What begins is set.
-pub set-is : {State : Type 0} (meaning : Meaning State) (made : Made State) (newcomers : List Newcomer) (server : Server State) (clients cs : List FtClient) (wires us : List CodeWire) (n : ℕ) → cs ≡ clients → us ≡ wires → n ≡ length clients
+pub set-is : {State : Type 0} (meaning : Meaning State) (made : Made State) (newcomers : List Newcomer) (server : Shown State) (clients cs : List FtClient) (wires us : List CodeWire) (n : ℕ) → cs ≡ clients → us ≡ wires → n ≡ length clients
     → IsTrue (meaning.is_state made.opening) → AreUnused n wires → AreBeginning meaning made newcomers server clients → AreSet meaning made newcomers server cs us
 set-is meaning made newcomers server clients cs wires us n clients_same wires_same count state unused h = record {
   stands = h.stands;

@@ -31,11 +31,11 @@ use Rattle.ft_client.specs.Messages.{Call}
 use Rattle.ft_client.specs.Standing.{down}
 use Rattle.ft_orb.specs.ExactlyOnce.{state_of}
 use Rattle.ft_orb.specs.History.{arrivals, arrivals_in, front_in}
-use Rattle.ft_orb.specs.Interfaces.{no_object, no_operation, operation, raw_operation}
+use Rattle.ft_objects.specs.Interfaces.{no_object, no_operation, operation, raw_operation}
 use Rattle.ft_orb.specs.Outputs.{Made}
 use Rattle.ft_orb.specs.Tellings.{rendering}
 use Rattle.ft_orb.specs.Requests.{rules_of}
-use Rattle.ft_orb.specs.Servants.{Meaning}
+use Rattle.ft_objects.specs.Servants.{Meaning}
 use Rattle.ft_ends.specs.Both.{ended_of}
 use Rattle.ft_ends.specs.Laws.{sides_of}
 use Rattle.ft_ends.specs.World.{CallNow, Cancel, Connect, Cut, Down, Shut, Step, Tick, UpTo, World, world}

@@ -14,7 +14,7 @@ use Rattle.ft_log.specs.declared.system_exception.SystemName.TheVariants.{BadCon
 use Rattle.ft_client.specs.Clients.{Cancelled, Ended, Expired}
 use Rattle.ft_client.specs.Messages.{Answer, Asked, Call, Said, Withdrawn, replied}
 use Rattle.ft_orb.specs.History.{Close, Event, Gone, Line, Lost, Opened, Piece, Shut as Closed, Up, clock, line}
-use Rattle.ft_orb.specs.Replies.{body_of, order_of, status_of}
+use Rattle.ft_objects.specs.Replies.{body_of, order_of, status_of}
 use Rattle.ft_ends.specs.Both.{ended_of}
 use Rattle.ft_orb.specs.Tellings.{Closing, Failed, Located, Replied, Telling}
 use Rattle.ft_ends.specs.Tellings.{shown_as}

@@ -25,9 +25,9 @@ use Rattle.ft_client.specs.Messages.{Answer, Asked, Call, Said, fields_of, Trans
 use Rattle.ft_orb.specs.ExactlyOnce.{Arrival, Present, answer_of, answers_after}
 use Rattle.ft_orb.specs.History.{Close, Event, Gone, Line, Lost, Opened, Piece, Shut, Up, arrivals, arrivals_in, arrivals_on, completed, connection_of, does_count, heard_after, line, longer, shut}
 use Rattle.ft_orb.specs.Outputs.{Made, close_told, close_told_on, error_told, error_told_on, farewell_told}
-use Rattle.ft_orb.specs.Replies.{answered_as, body_of, order_of, status_of}
+use Rattle.ft_objects.specs.Replies.{answered_as, body_of, order_of, status_of}
 use Rattle.ft_orb.specs.Requests.{Wanted, arrival_of, asking, field_of, rules_of}
-use Rattle.ft_orb.specs.Servants.{Meaning}
+use Rattle.ft_objects.specs.Servants.{Meaning}
 use Rattle.ft_ends.specs.Both.{Answers, Explains, ended_of, key_of}
 use Rattle.ft_ends.specs.Fine.{AreFaithful, IsFine, IsFineCall, IsFineSaid, IsFineTelling, IsFront}
 use Rattle.ft_ends.specs.Laws.{ArePlain, AreShort, IsPlain}

@@ -12,13 +12,12 @@ use Rattle.ft_client.specs.Messages.{Said, octets_said}
 use Rattle.ft_client.specs.Standing.{FtStands, down}
 use Rattle.ft_orb.specs.declared.events.Note.{Note}
 use Rattle.ft_orb.specs.declared.events.Note.TheVariants.{Done, Memory, Refused}
-use Rattle.ft_orb.specs.declared.server.Server.{Server}
 use Rattle.ft_orb.specs.ExactlyOnce.{OneExpiration}
 use Rattle.ft_orb.specs.History.{Close, Event, Lost, Opened, Piece, arrivals, connection_of}
 use Rattle.ft_orb.specs.Laws.{is_memory}
 use Rattle.ft_orb.specs.Outputs.{Made, Writes, after, law_says, output, table_says}
-use Rattle.ft_orb.specs.Servants.{Meaning}
-use Rattle.ft_orb.specs.Standing.{Stands}
+use Rattle.ft_objects.specs.Servants.{Meaning}
+use Rattle.ft_orb.specs.Standing.{Shown, Stands}
 use Rattle.ft_ends.specs.declared.wire.Wire.{Wire as CodeWire}
 use Rattle.ft_ends.specs.Laws.{TellingsAreWritten, sides_of}
 use Rattle.ft_ends.specs.Private.{Holds, IsIdle, IsUnused, IsWay, IsWire, tells}
@@ -55,7 +54,7 @@ module _ {State : Type 0} (meaning : Meaning State) (made : Made State) (written
       (out ∙ ap (λ (o : List ℕ). was.down.octets.items ++ o) (said ∙ sym (written made past e))) at h.down)
 
   -- the next octets come up
-  pub up-is : (server : Server State) (was is : CodeWire) (past : List Event) (x : Wire) (count now number : ℕ) (piece : List ℕ) (note : Note) → was.number ≡ Some number → piece ≡ take count (drop was.up.delivered was.up.octets.items) → is_memory note ≡ false
+  pub up-is : (server : Shown State) (was is : CodeWire) (past : List Event) (x : Wire) (count now number : ℕ) (piece : List ℕ) (note : Note) → was.number ≡ Some number → piece ≡ take count (drop was.up.delivered was.up.octets.items) → is_memory note ≡ false
       → Stands meaning made server (after made.limits past (Piece number now piece) note)
       → ((octets : List ℕ) × (is.down.octets.items ≡ was.down.octets.items ++ octets) × (OneExpiration (arrivals made.limits (after made.limits past (Piece number now piece) note)) → Writes made.limits meaning.knows (law_says meaning made) past (Piece number now piece) octets note))
       → is.number ≡ was.number → is.down.delivered ≡ was.down.delivered → ((all : List ℕ) (went : ℕ) → IsWay was.up all went → IsWay is.up all (went + length (take count (drop went all))))
@@ -82,7 +81,7 @@ module _ {State : Type 0} (meaning : Meaning State) (made : Made State) (written
       )
 
   -- the server closes a connection
-  pub shut-is : (server : Server State) (was is : CodeWire) (past : List Event) (x : Wire) (number : ℕ) (note : Note) → was.number ≡ Some number → is_memory note ≡ false → Stands meaning made server (after made.limits past (Close number) note)
+  pub shut-is : (server : Shown State) (was is : CodeWire) (past : List Event) (x : Wire) (number : ℕ) (note : Note) → was.number ≡ Some number → is_memory note ≡ false → Stands meaning made server (after made.limits past (Close number) note)
       → (octets : List ℕ) → is.down.octets.items ≡ was.down.octets.items ++ octets → Writes made.limits meaning.knows (table_says meaning made) past (Close number) octets note
       → is.number ≡ was.number → is.down.delivered ≡ was.down.delivered → is.up ≡ was.up → IsWire (tells meaning made past) was x
       → Stands meaning made server (Close x.number ∷ past) × IsWire (tells meaning made (Close x.number ∷ past)) is x
@@ -101,7 +100,7 @@ module _ {State : Type 0} (meaning : Meaning State) (made : Made State) (written
 
 module _ {State : Type 0} (meaning : Meaning State) (made : Made State) where
   -- a new connection
-  pub joined-is : (server : Server State) (was is : CodeWire) (past : List Event) (number : ℕ) (note : Note) (said : List Said) → is_memory note ≡ false → Stands meaning made server (after made.limits past (Opened number) note)
+  pub joined-is : (server : Shown State) (was is : CodeWire) (past : List Event) (number : ℕ) (note : Note) (said : List Said) → is_memory note ≡ false → Stands meaning made server (after made.limits past (Opened number) note)
       → is.number ≡ Some number → is.up.octets.items ≡ was.up.octets.items ++ stream octets_said said → is.up.delivered ≡ was.up.delivered → is.down ≡ was.down → tells meaning made past number ≡ [] → IsUnused was
       → Stands meaning made server (Opened number ∷ past) × IsWire (tells meaning made (Opened number ∷ past)) is (record { number = number; said = said; went = 0; came = 0 })
   joined-is server was is past number note said plain stands has out at same fresh h =
@@ -116,7 +115,7 @@ module _ {State : Type 0} (meaning : Meaning State) (made : Made State) where
       )
 
   -- octets come down: the client keeps its connection, or leaves it
-  module _ (server : Server State) (client : FtClient) (is : CodeWire) (past : List Event) (opened : ℕ) (life : Life) (x : Wire) (count : ℕ) where
+  module _ (server : Shown State) (client : FtClient) (is : CodeWire) (past : List Event) (opened : ℕ) (life : Life) (x : Wire) (count : ℕ) where
     abbrev next : List ℕ
     next = take count (coming_down (sides_of meaning made down) past x)
 

@@ -18,12 +18,12 @@ use Rattle.ft_log.specs.Performed.{Performed}
 use Rattle.ft_log.specs.declared.system_exception.SystemName.{SystemName}
 use Rattle.ft_log.specs.declared.system_exception.SystemName.TheVariants as name
 use Rattle.ft_orb.specs.ExactlyOnce.{Absent, Arrival, Bad, Field, Present, acts, answer_by_field, has_key, live_keys, new_answer, outcome_kept, outcome_of, performed_after, performed_of, state_after, state_after_call}
-use Rattle.ft_orb.specs.Interfaces.{AreArgumentsOf, Interface, IsValidInterface, no_object, no_operation, operation, raw_operation}
+use Rattle.ft_objects.specs.Interfaces.{AreArgumentsOf, Interface, IsValidInterface, no_object, no_operation, operation, raw_operation}
 use Rattle.ft_orb.specs.Laws.{CallsAreAsked}
 use Rattle.ft_orb.specs.Outputs.{Made}
-use Rattle.ft_orb.specs.Replies.{answered_as}
+use Rattle.ft_objects.specs.Replies.{answered_as}
 use Rattle.ft_orb.specs.Requests.{AreGivenBy, Call, Wanted, asked_of, asking, locating, rules_of}
-use Rattle.ft_orb.specs.Servants.{IsServant, Meaning}
+use Rattle.ft_objects.specs.Servants.{IsServant, Meaning}
 use Rattle.ft_ends.specs.Laws.{AnswersAreShort, ArePlain, IsPlain, IsShort}
 use Rattle.ft_ends.proofs.Lists.{each-append, each-left}
 

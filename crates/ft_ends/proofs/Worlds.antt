@@ -21,7 +21,7 @@ use Rattle.ft_orb.specs.History.{arrivals}
 use Rattle.ft_orb.specs.Laws.{KeysActOnce}
 use Rattle.ft_orb.specs.Outputs.{Made}
 use Rattle.ft_orb.specs.Requests.{Wanted, rules_of}
-use Rattle.ft_orb.specs.Servants.{Meaning}
+use Rattle.ft_objects.specs.Servants.{Meaning}
 use Rattle.ft_ends.specs.Both.{ActsOnce, AreDistinct, Explains, IsExplainedAs, IsSentBy, IsSentFor, IsSentIn, completed_count, key_at, key_of}
 use Rattle.ft_ends.specs.Fine.{AreFaithful}
 use Rattle.ft_ends.specs.Laws.{AnswersAreShort, ArePlain, AreShort, BothEndsActOnce, DirectionsAreFaithful, IsFineStep, IsPlain, sides_of}

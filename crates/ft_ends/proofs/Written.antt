@@ -1,7 +1,7 @@
 -- What a server writes are the octets of what it says.
 use Rattle.std.proofs.Common.{◌≡◌, ℕ, List, [], ◌∷◌, ◌++◌, refl, sym, ap, ◌∙◌, append_assoc, flat_map}
 use Rattle.ft_client.specs.Directions.{stream}
-use Rattle.ft_orb.specs.Servants.{Meaning}
+use Rattle.ft_objects.specs.Servants.{Meaning}
 use Rattle.ft_orb.specs.Tellings.{Telling, octets_told}
 use Rattle.ft_ends.specs.Laws.{TellingsAreWritten}
 use Rattle.ft_ends.specs.Tellings.{law_told}

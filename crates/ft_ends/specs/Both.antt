@@ -15,9 +15,9 @@ use Rattle.ft_client.specs.Messages.{Transmission, question_of}
 use Rattle.ft_orb.specs.ExactlyOnce.{Arrival, OneExpiration, Present, acts, answer_of, outcome_kept, performed_of}
 use Rattle.ft_orb.specs.History.{Event, arrivals}
 use Rattle.ft_orb.specs.Outputs.{Made}
-use Rattle.ft_orb.specs.Replies.{answered_as, body_of, order_of}
+use Rattle.ft_objects.specs.Replies.{answered_as, body_of, order_of}
 use Rattle.ft_orb.specs.Requests.{Wanted, asking, rules_of}
-use Rattle.ft_orb.specs.Servants.{Meaning}
+use Rattle.ft_objects.specs.Servants.{Meaning}
 use Rattle.ft_ends.specs.World.{Member, Newcomer, World}
 
 -- the key of a transmission

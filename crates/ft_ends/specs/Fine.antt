@@ -10,7 +10,7 @@ use Rattle.giop_link.specs.Hearing.{Hearing, heard}
 use Rattle.ft_client.specs.Directions.{stream}
 use Rattle.ft_client.specs.Messages.{Answer, Asked, Call, Said, Transmission, Withdrawn, contexts_of, incoming_of, octets_said, request_behind}
 use Rattle.ft_orb.specs.ExactlyOnce.{Present}
-use Rattle.ft_orb.specs.Replies.{body_limit}
+use Rattle.ft_objects.specs.Replies.{body_limit}
 use Rattle.ft_orb.specs.Requests.{field_of}
 use Rattle.ft_ends.specs.Both.{key_of}
 use Rattle.ft_orb.specs.Tellings.{Closing, Failed, Located, Replied, Telling, octets_told}

@@ -13,9 +13,9 @@ use Rattle.ft_client.specs.Standing.{down}
 use Rattle.ft_orb.specs.ExactlyOnce.{Arrival, answer_of}
 use Rattle.ft_orb.specs.History.{Event}
 use Rattle.ft_orb.specs.Outputs.{Made, law_says, output}
-use Rattle.ft_orb.specs.Replies.{answered_as, body_limit, body_of, order_of}
+use Rattle.ft_objects.specs.Replies.{answered_as, body_limit, body_of, order_of}
 use Rattle.ft_orb.specs.Requests.{Wanted, asking, locating, rules_of}
-use Rattle.ft_orb.specs.Servants.{Meaning}
+use Rattle.ft_objects.specs.Servants.{Meaning}
 use Rattle.ft_ends.specs.Both.{ActsOnce, AreDistinct}
 use Rattle.ft_ends.specs.Fine.{AreFaithful, IsFineCall}
 use Rattle.ft_orb.specs.Tellings.{octets_told}

@@ -10,10 +10,9 @@ use Rattle.ft_client.specs.Clients.{Ended, new_client}
 use Rattle.ft_client.specs.Ends.{ended_of}
 use Rattle.ft_client.specs.Messages.{Call}
 use Rattle.ft_client.specs.Standing.{FtStands}
-use Rattle.ft_orb.specs.declared.server.Server.{Server}
 use Rattle.ft_orb.specs.Outputs.{Made}
-use Rattle.ft_orb.specs.Servants.{Meaning}
-use Rattle.ft_orb.specs.Standing.{Stands}
+use Rattle.ft_objects.specs.Servants.{Meaning}
+use Rattle.ft_orb.specs.Standing.{Shown, Stands}
 use Rattle.ft_ends.specs.declared.steps.Call.{Call as CodeCall}
 use Rattle.ft_ends.specs.declared.steps.Step.{Step as CodeStep}
 use Rattle.ft_ends.specs.declared.steps.Step.TheVariants as code
@@ -69,7 +68,7 @@ AreClientsOf [] (c ∷ cs) = ⊥
 AreClientsOf (m ∷ ms) [] = ⊥
 
 -- nothing has happened to the server, and the clients are new, with ids that differ
-pub record AreBeginning {State : Type 0} (meaning : Meaning State) (made : Made State) (newcomers : List Newcomer) (server : Server State) (clients : List FtClient) : Type 0 where
+pub record AreBeginning {State : Type 0} (meaning : Meaning State) (made : Made State) (newcomers : List Newcomer) (server : Shown State) (clients : List FtClient) : Type 0 where
   pub stands : Stands meaning made server []
   pub clients_are : AreNew newcomers clients
   pub distinct : AreDistinct newcomers

@@ -11,12 +11,11 @@ use Rattle.ft_client.specs.Directions.{stream}
 use Rattle.ft_client.specs.Laws.{CallsCompleteOnce, LivesGoOn, RequestsAreAsLong}
 use Rattle.ft_client.specs.Messages.{octets_said}
 use Rattle.ft_client.specs.Standing.{FtStands, down}
-use Rattle.ft_orb.specs.declared.server.Server.{Server}
 use Rattle.ft_orb.specs.ExactlyOnce.{OneExpiration}
 use Rattle.ft_orb.specs.History.{Event, arrivals}
 use Rattle.ft_orb.specs.Outputs.{Made}
-use Rattle.ft_orb.specs.Servants.{Meaning}
-use Rattle.ft_orb.specs.Standing.{Stands}
+use Rattle.ft_objects.specs.Servants.{Meaning}
+use Rattle.ft_orb.specs.Standing.{Shown, Stands}
 use Rattle.ft_ends.specs.declared.way.Way.{Way}
 use Rattle.ft_ends.specs.declared.wire.Wire.{Wire as CodeWire}
 use Rattle.ft_ends.specs.Both.{AreDistinct}
@@ -87,7 +86,7 @@ module _ {State : Type 0} (meaning : Meaning State) (made : Made State) where
   tells past c = tellings (law_told meaning made) past c
 
   -- the server, a client and its wire, after a step of that client
-  pub record Holds (server : Server State) (client : FtClient) (wire : CodeWire) (v : Moved) : Type 0 where
+  pub record Holds (server : Shown State) (client : FtClient) (wire : CodeWire) (v : Moved) : Type 0 where
     pub server_is : Stands meaning made server v.past
     pub client_is : FtStands client v.member.life.client
     pub wire_is : IsWireFor (tells v.past) wire v.member.wire
@@ -100,7 +99,7 @@ module _ {State : Type 0} (meaning : Meaning State) (made : Made State) where
     pub once : OneExpiration (arrivals made.limits (moved (sides_of meaning made down) past opened s m).past)
 
   -- all of it stands for a world, where these were the completions before its first step
-  pub record Runs (server : Server State) (opened : ℕ) (clients : List FtClient) (wires : List CodeWire) (before : List (ℕ × ℤ × Ended)) (out : List (ℕ × ℤ × CodeEnded)) (w : World) : Type 0 where
+  pub record Runs (server : Shown State) (opened : ℕ) (clients : List FtClient) (wires : List CodeWire) (before : List (ℕ × ℤ × Ended)) (out : List (ℕ × ℤ × CodeEnded)) (w : World) : Type 0 where
     pub server_is : Stands meaning made server w.past
     pub opened_is : opened ≡ w.opened
     pub held : AreHeld (tells w.past) w.members clients wires
@@ -112,7 +111,7 @@ module _ {State : Type 0} (meaning : Meaning State) (made : Made State) where
     pub others : (k : ℕ) (m : Member) (x : Wire) → slice_get w.members k ≡ Some m → m.wire ≡ Some x → (k ≡ client_of s → ⊥) → tells (step (sides_of meaning made down) w s).past x.number ≡ tells w.past x.number
 
   -- a new server, new clients with clean ids that differ, and wires without connections
-  pub record AreSet (newcomers : List Newcomer) (server : Server State) (clients : List FtClient) (wires : List CodeWire) : Type 0 where
+  pub record AreSet (newcomers : List Newcomer) (server : Shown State) (clients : List FtClient) (wires : List CodeWire) : Type 0 where
     pub stands : Stands meaning made server []
     pub state : IsTrue (meaning.is_state made.opening)
     pub held : AreHeld (tells []) (map member_of newcomers) clients wires

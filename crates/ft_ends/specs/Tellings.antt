@@ -7,7 +7,7 @@ use Rattle.cdr_core.specs.declared.order.Order.TheVariants.{Big}
 use Rattle.ft_client.specs.Messages.{Answer, Shown, located, replied}
 use Rattle.ft_orb.specs.History.{Event, connection_of}
 use Rattle.ft_orb.specs.Outputs.{Made, law_says, told}
-use Rattle.ft_orb.specs.Servants.{Meaning}
+use Rattle.ft_objects.specs.Servants.{Meaning}
 use Rattle.ft_orb.specs.Tellings.{Closing, Failed, Located, Replied, Telling}
 
 -- GIOP 9.4.3: what a client hears of a Reply without contexts: in every version its body stands at the place 24

@@ -3,7 +3,7 @@
 ghost use Rattle.ft_ends.specs.Laws.{AnswersAreShort, BothEndsActOnce, CallsAreOfSteps, DirectionsAreFaithful, TellingsAreWritten};
 ghost use Rattle.ft_ends.specs.Private.{ClientLaws};
 
-use ft_orb::Servant;
+use ft_objects::Servant;
 
 /// What an event makes a server write are the octets of messages: a reply to each request that it completes and that
 /// wishes for one, and then MessageError or CloseConnection, if the connection ends.

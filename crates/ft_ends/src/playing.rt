@@ -19,7 +19,8 @@ use crate::octets::are_fine;
 use crate::steps::Step;
 use crate::wire::{Wire, called, cancelled, closed, come_down, come_up, connected, cut};
 use ft_client::{Ended, FtClient};
-use ft_orb::{PlayError, Servant, Server};
+use ft_objects::Servant;
+use ft_orb::{PlayError, Server};
 use std::alloc::{AllocError, Global};
 
 /// Takes a step with the client whose step it is.

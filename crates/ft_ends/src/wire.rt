@@ -24,7 +24,8 @@ use crate::outcomes::{after_call, after_opening, after_serving};
 use crate::steps::Call;
 use crate::way::Way;
 use ft_client::FtClient;
-use ft_orb::{Servant, Server};
+use ft_objects::Servant;
+use ft_orb::Server;
 use std::alloc::{AllocError, Global};
 
 /// The number of a client's connection, if there is one, and the octets that are on their way up and down.

@@ -12,7 +12,7 @@ use Rattle.ft_orb.specs.Laws.{CutPiecesWriteTheSame, PiecesMayBeCut}
 use Rattle.ft_orb.specs.Outputs.{law_says, output, table_of_past, table_says}
 use Rattle.ft_orb.specs.Private.{error_at}
 use Rattle.ft_orb.specs.Requests.{Wanted, rules_of}
-use Rattle.ft_orb.specs.Servants.{Meaning}
+use Rattle.ft_objects.specs.Servants.{Meaning}
 use Rattle.ft_orb.specs.Table.{Table, table_after, table_answers}
 use Rattle.ft_orb.specs.Tellings.{rendered}
 use Rattle.ft_orb.proofs.Folded.{answers_after-append, table_after-append, table_answers-append, table_answers-length}

@@ -14,7 +14,7 @@ use Rattle.ft_orb.specs.declared.events.Note.TheVariants.{Done, Memory, Refused}
 use Rattle.ft_orb.specs.declared.wire.StreamEnd.{StreamEnd}
 use Rattle.ft_orb.specs.declared.wire.StreamEnd.TheVariants as stream
 use Rattle.ft_orb.specs.Answers.{Agrees, Answer, calls_of}
-use Rattle.ft_orb.specs.Catalogues.{Offer}
+use Rattle.ft_objects.specs.Catalogues.{Offer}
 use Rattle.ft_orb.specs.Engines.{Asks, Awaited, Ends, Rests, Resumes, Stops, waits_in}
 use Rattle.ft_orb.specs.ExactlyOnce.{Arrival}
 use Rattle.ft_orb.specs.Handovers.{AreHandedIn, Handover, IsHandedIn, OwnerSays, given_in, handed_in}

@@ -1,8 +1,6 @@
 -- A piece that was fed in parts, at one moment, counts as one piece, whatever came of the last part.
 use Rattle.std.proofs.Common.{◌≡◌, ℕ, ◌+◌, ◌≤◌, ◌<◌, ◌-◌, ◌==◌, max, nat_lt, nat_le, Bool, true, false, if◌then◌else◌, List, [], ◌∷◌, ◌++◌, drop, length, take, Option, Some, None, is_none, refl, sym, ap, subst, ◌∙◌, arith, length-append}
-use Rattle.std.specs.BTreeMap.{get}
 use Rattle.std.specs.List.{list_all}
-use Rattle.std.specs.Ordering.{nat_cmp}
 use Rattle.std.proofs.Math.Seq.{take-add, take-append-add, take-length}
 use Rattle.std.proofs.lemmas.Bool.{le-leb, leb-false, leb-true, ltb-false, ltb-true}
 use Rattle.std.proofs.lemmas.List.{append-nil, length-drop, length-take-le, take-append-drop, take-take}
@@ -11,14 +9,13 @@ use Rattle.giop_link.specs.Hearing.{Ending, ending, meaning_in}
 use Rattle.giop_link.specs.Laws.{EndingsStay, EndsAreSilent, HearingGrows}
 use Rattle.ft_log.specs.Performed.{Performed}
 use Rattle.ft_orb.specs.declared.events.Note.TheVariants.{Done}
-use Rattle.ft_orb.specs.declared.server.Server.{Server}
 use Rattle.ft_orb.specs.ExactlyOnce.{Arrival, Rules}
 use Rattle.ft_orb.specs.History.{Event, Gone, Line, Lost, Piece, Shut, Up, arrivals, arrivals_in, arrivals_on, clock, completed, counted, front_in, front_on, least, line, longer, shortened}
 use Rattle.ft_orb.specs.Outputs.{IsCutShort, Made, Writes, is_going, needs_memory, output_cut, table_of_past, table_says}
 use Rattle.ft_orb.specs.Tellings.{rendered}
 use Rattle.ft_orb.specs.Requests.{Call, Wanted, rules_of}
-use Rattle.ft_orb.specs.Servants.{Meaning}
-use Rattle.ft_orb.specs.Standing.{IsFor, Stands, table_of}
+use Rattle.ft_objects.specs.Servants.{Meaning}
+use Rattle.ft_orb.specs.Standing.{IsFor, Shown, Stands, held_in, table_of}
 use Rattle.ft_orb.specs.Table.{AreAlike, Table, table_after, table_answers}
 use Rattle.ft_orb.specs.Visits.{IsShortest, count_to}
 use Rattle.ft_orb.specs.Private.{error_at}
@@ -134,7 +131,7 @@ module _ {S : Type 0} (rules : Rules S Wanted Call Performed) (knows : List ℕ 
       ∙ take-add j n octets ∙ ap (λ (l : List ℕ). take j octets ++ l) (sym f.2)
 
 -- Pasts that bring the same.
-module _ {S : Type 0} (meaning : Meaning S) (made : Made S) (server : Server S) (p q : List Event) where
+module _ {S : Type 0} (meaning : Meaning S) (made : Made S) (server : Shown S) (p q : List Event) where
   pub stands-same : clock p ≡ clock q → counted p ≡ counted q → ((d : ℕ) → line p d ≡ line q d) → arrivals made.limits p ≡ arrivals made.limits q → Stands meaning made server p → Stands meaning made server q
   stands-same moment count lines all st = record {
     limits_are = st.limits_are;
@@ -142,8 +139,8 @@ module _ {S : Type 0} (meaning : Meaning S) (made : Made S) (server : Server S) 
     share_is = st.share_is;
     moment = st.moment ∙ moment;
     greatest = λ d. sym (ap (λ (xs : List ℕ). list_all (λ x. nat_lt x d) xs) count) ∙ st.greatest d;
-    lines = λ d. subst (λ (l : Line). IsFor made.limits (get nat_cmp server.links d) l) (lines d) (st.lines d);
-    table = subst (λ (xs : List (Arrival Wanted)). AreAlike server.desk.keeper.clock (table_of server.desk) (table_after (rules_of meaning made.capacity made.share) (record { state = made.opening; entries = [] }) xs)) all st.table;
+    lines = λ d. subst (λ (l : Line). IsFor made.limits (held_in server.links d) l) (lines d) (st.lines d);
+    table = subst (λ (xs : List (Arrival Wanted)). AreAlike server.clock (table_of server) (table_after (rules_of meaning made.capacity made.share) (record { state = made.opening; entries = [] }) xs)) all st.table;
   }
 
 -- Two pieces of a connection at one moment, one after the other: x and then y.
@@ -157,13 +154,13 @@ module _ {S : Type 0} (meaning : Meaning S) (made : Made S) (past : List Event) 
   abbrev First : List (Arrival Wanted)
   First = completed made.limits past (Piece c moment x)
 
-  pub stands-joined : (server : Server S) → Stands meaning made server (Piece c moment y ∷ Then) → Stands meaning made server (Piece c moment (x ++ y) ∷ past)
+  pub stands-joined : (server : Shown S) → Stands meaning made server (Piece c moment y ∷ Then) → Stands meaning made server (Piece c moment (x ++ y) ∷ past)
   stands-joined server st =
       let cut = pieces-may-be-cut grow made.limits past c moment x y in
       stands-same meaning made server (Piece c moment y ∷ Then) (Piece c moment (x ++ y) ∷ past) cut.1 cut.2 cut.3 cut.0 st
 
   -- .. and then the connection is lost
-  pub stands-lost : (server : Server S) → Stands meaning made server (Lost c ∷ Piece c moment y ∷ Then) → Stands meaning made server (Lost c ∷ Piece c moment (x ++ y) ∷ past)
+  pub stands-lost : (server : Shown S) → Stands meaning made server (Lost c ∷ Piece c moment y ∷ Then) → Stands meaning made server (Lost c ∷ Piece c moment (x ++ y) ∷ past)
   stands-lost server st =
       let cut = pieces-may-be-cut grow made.limits past c moment x y in
       stands-same meaning made server (Lost c ∷ Piece c moment y ∷ Then) (Lost c ∷ Piece c moment (x ++ y) ∷ past) cut.1 cut.2
@@ -276,7 +273,7 @@ module _ {S : Type 0} (meaning : Meaning S) (made : Made S) (past : List Event) 
         shortened-is : (s : List ℕ) × (line past c ≡ Up s) → front_on made.limits c (max (clock past) moment) (line past c) piece (Count + handled) ≡ Before ++ Front handled
         shortened-is up = shortened-up up.0 up.1 handled cut.few
 
-    pub cut-stands : (server : Server S) → Stands meaning made server (Lost c ∷ Piece c moment (Front handled) ∷ Mid) → Stands meaning made server (Lost c ∷ shortened made.limits past (Piece c moment piece) (Count + handled) ∷ past)
+    pub cut-stands : (server : Shown S) → Stands meaning made server (Lost c ∷ Piece c moment (Front handled) ∷ Mid) → Stands meaning made server (Lost c ∷ shortened made.limits past (Piece c moment piece) (Count + handled) ∷ past)
     cut-stands server st =
         subst (λ (e : Event). Stands meaning made server (Lost c ∷ e ∷ past)) (sym short)
         (stands-lost meaning made past c moment Before (Front handled) grow stays silent server st)
@@ -322,7 +319,7 @@ module _ {S : Type 0} (meaning : Meaning S) (made : Made S) (past : List Event) 
     due = λ odd. subst (λ (e : Event). length written < length (output_cut made.limits meaning.knows (table_says meaning made) past e handled)) (sym same-short) (cut.due odd);
   }
 
-  pub cut-within-stands : (server : Server S) → Stands meaning made server (Lost c ∷ shortened made.limits past (Piece c moment (take n piece)) handled ∷ past) → Stands meaning made server (Lost c ∷ shortened made.limits past (Piece c moment piece) handled ∷ past)
+  pub cut-within-stands : (server : Shown S) → Stands meaning made server (Lost c ∷ shortened made.limits past (Piece c moment (take n piece)) handled ∷ past) → Stands meaning made server (Lost c ∷ shortened made.limits past (Piece c moment piece) handled ∷ past)
   cut-within-stands server st = subst (λ (e : Event). Stands meaning made server (Lost c ∷ e ∷ past)) (sym same-short) st
 
 -- Shortest fronts, one after the other.

@@ -11,7 +11,7 @@ use Rattle.ft_orb.specs.History.{arrivals}
 use Rattle.ft_orb.specs.Now.{IsIdleNow, answer_now, has_live_key, is_held, is_let_in_now, outcome_held, performed_now}
 use Rattle.ft_orb.specs.NowFirsts.{ExpiredAreRefusedNow, FirstWithoutCall, InvalidAreRefusedNow, KeylessAct, KeylessWithoutCall, OthersAnswer, RepeatsAnswerNow, RepeatsInEventsAnswerNow, RoomForLiveClients}
 use Rattle.ft_orb.specs.Requests.{Wanted, asked_of, rules_of}
-use Rattle.ft_orb.specs.Servants.{Meaning}
+use Rattle.ft_objects.specs.Servants.{Meaning}
 use Rattle.ft_orb.proofs.Asking.{asked-never}
 use Rattle.ft_orb.proofs.Folded.{ClocksGrow-append, ClocksGrow-front}
 use Rattle.ft_orb.proofs.Headline.{arrivals-grow, event-clocks}

@@ -28,19 +28,18 @@ use Rattle.ft_orb.specs.declared.pausing.Pause.TheVariants as pause
 use Rattle.ft_orb.specs.declared.pausing.Pending.{Pending}
 use Rattle.ft_orb.specs.declared.pausing.Place.{Place}
 use Rattle.ft_orb.specs.declared.serving.Cut.{Cut}
-use Rattle.ft_orb.specs.declared.server.Server.{Server}
-use Rattle.ft_orb.specs.Catalogues.{Offer}
+use Rattle.ft_objects.specs.Catalogues.{Offer}
 use Rattle.ft_orb.specs.Engines.{Asks, AsksOnce, Awaited, Ends, EndsOnce, IsDue, IsOnce, Keeps, Rests, Resumes, ResumesOnce, Stops, as_server, awaited_of, waits_in}
 use Rattle.ft_orb.specs.ExactlyOnce.{Arrival, ClocksGrow, OneExpiration, Rules, state_of}
 use Rattle.ft_orb.specs.History.{Event, Gone, Line, Piece, Shut, Up, arrivals, arrivals_in, arrivals_on, clock, completed, front_on, line, longer, shortened}
-use Rattle.ft_orb.specs.Interfaces.{AreArgumentsOf}
+use Rattle.ft_objects.specs.Interfaces.{AreArgumentsOf}
 use Rattle.ft_orb.specs.Outputs.{Writes, after, output_cut, table_of_past, table_says}
 use Rattle.ft_orb.specs.Owners.{Owner, answered_so_far, made_of, meaning_of, owner_rules, rules_with}
 use Rattle.ft_orb.specs.Pauses.{Breaks, IsServedTo, Paused, Reaches}
 use Rattle.ft_orb.specs.Private.{Served, counted_by, all_answered}
 use Rattle.ft_orb.specs.Tellings.{rendered, reply_by}
 use Rattle.ft_orb.specs.Requests.{Call, Wanted, asked_of, asking}
-use Rattle.ft_orb.specs.Standing.{IsFor, IsSameBut, Stands, capacity_of, share_of, table_of}
+use Rattle.ft_orb.specs.Standing.{IsFor, IsSameBut, Shown, Stands, capacity_of, share_of, table_of}
 use Rattle.ft_orb.specs.Table.{AreAlike, Table, table_after, table_answers}
 use Rattle.ft_orb.specs.Waits.{Finishes, call_of}
 use Rattle.ft_orb.proofs.Due.{last-acts, none-acted}
@@ -207,7 +206,7 @@ module _ {C : Type 0} (offers : C → Offer) (owner : Owner) where
       → Reaches owner.offer owner.answers (logged old.keeper.log).capacity (logged old.keeper.log).share owner.limits c now t s out piece calls (pause.Asks w place) link (logged new.keeper.log).entries grown)
       → Stops offers owner calls past c moment piece place.taken new out grown
   stops-now calls old new past c moment piece now out grown was link w place p h are waits is same at then-at stood held live some within reaches =
-      let server : Server (List Call) = as_server old calls in
+      let server : Shown (List Call) = as_server old calls in
       let line-for : IsFor owner.limits (Some was) (line past c) = subst (λ (o : Option Linked). IsFor owner.limits o (line past c)) stood (h.stands.lines c) in
       let up = up-by owner.limits (line past c) was line-for live in
       let first = reaches up.0 (Folded past) up.2 (alike-then (meaning_of owner) (made_of owner) server server past c moment piece h.stands now at) in
@@ -229,11 +228,11 @@ module _ {C : Type 0} (offers : C → Offer) (owner : Owner) where
         whole = omega (arith, size, within);
         some = omega (arith, size, within, some);
         paused = λ s t st al.
-            let al0 : AreAlike now (table_of server.desk) t = subst (λ (n : ℕ). AreAlike n (table_of server.desk) t) then-at al in
+            let al0 : AreAlike now (table_of server) t = subst (λ (n : ℕ). AreAlike n (table_of server) t) then-at al in
             let r = reaches s t st al0 in
             let eq : r.0 ≡ first.0 = append_cancel_left out r.0 first.0 (sym r.1 ∙ first.1) in
-            subst (λ (n : ℕ). Paused owner.offer owner.answers (capacity_of server.desk) (share_of server.desk) owner.limits c n t s (take place.taken piece) link calls (logged new.keeper.log).entries first.0 place.handled w) (sym then-at)
-            (subst (λ (l : List ℕ). Paused owner.offer owner.answers (capacity_of server.desk) (share_of server.desk) owner.limits c now t s (take place.taken piece) link calls (logged new.keeper.log).entries l place.handled w) eq r.2);
+            subst (λ (n : ℕ). Paused owner.offer owner.answers (capacity_of server) (share_of server) owner.limits c n t s (take place.taken piece) link calls (logged new.keeper.log).entries first.0 place.handled w) (sym then-at)
+            (subst (λ (l : List ℕ). Paused owner.offer owner.answers (capacity_of server) (share_of server) owner.limits c now t s (take place.taken piece) link calls (logged new.keeper.log).entries l place.handled w) eq r.2);
       } in
       stops-by calls new past c moment piece out grown w place up.0 first.0 up.1 within first.1 keeps
     where
@@ -285,12 +284,12 @@ module _ {C : Type 0} (offers : C → Offer) (owner : Owner) where
     }
 
     -- what waited, as it was reached
-    reached : (s : List ℕ) (t : Table (List Call) Performed) → LinkStands owner.limits a.was s → AreAlike old.keeper.clock (table_of a.server.desk) t
-        → Reaches owner.offer owner.answers (capacity_of a.server.desk) (share_of a.server.desk) owner.limits p.connection old.keeper.clock t s [] octets calls (pause.Asks p.waiting p.place) a.link (logged old.keeper.log).entries written
+    reached : (s : List ℕ) (t : Table (List Call) Performed) → LinkStands owner.limits a.was s → AreAlike old.keeper.clock (table_of a.server) t
+        → Reaches owner.offer owner.answers (capacity_of a.server) (share_of a.server) owner.limits p.connection old.keeper.clock t s [] octets calls (pause.Asks p.waiting p.place) a.link (logged old.keeper.log).entries written
     reached s t st al = (
       written,
       refl,
-      subst (λ (l : List ℕ). Paused owner.offer owner.answers (capacity_of a.server.desk) (share_of a.server.desk) owner.limits p.connection old.keeper.clock t s l a.link calls (logged old.keeper.log).entries written p.place.handled p.waiting) (sym here) (a.paused s t st al),
+      subst (λ (l : List ℕ). Paused owner.offer owner.answers (capacity_of a.server) (share_of a.server) owner.limits p.connection old.keeper.clock t s l a.link calls (logged old.keeper.log).entries written p.place.handled p.waiting) (sym here) (a.paused s t st al),
     )
 
     resumes-by : (note : Note)
@@ -310,9 +309,9 @@ module _ {C : Type 0} (offers : C → Offer) (owner : Owner) where
         resumes-by Done
         (fed-ok (meaning_of owner) (made_of owner) a.server (as_server new Later) past p.connection moment octets old.keeper.clock [] (written ++ more-written.0) a.was a.link a.stands both-same a.clock clock a.stood held a.live
         (λ s t st al.
-        stood-whole (owner_rules owner.offer.interface owner.answers (capacity_of a.server.desk) (share_of a.server.desk)) owner.offer.knows owner.limits p.connection old.keeper.clock t s [] octets p.place.taken a.link (answered_so_far Later (logged new.keeper.log).entries) (written ++ more-written.0) h
+        stood-whole (owner_rules owner.offer.interface owner.answers (capacity_of a.server) (share_of a.server)) owner.offer.knows owner.limits p.connection old.keeper.clock t s [] octets p.place.taken a.link (answered_so_far Later (logged new.keeper.log).entries) (written ++ more-written.0) h
         (omega (arith, size))
-        (reach-goes owner.offer owner.answers (capacity_of a.server.desk) (share_of a.server.desk) owner.limits p.connection old.keeper.clock t s [] octets p.place h a.link calls (logged old.keeper.log).entries (logged new.keeper.log).entries written (written ++ more-written.0) p.waiting step r outcome
+        (reach-goes owner.offer owner.answers (capacity_of a.server) (share_of a.server) owner.limits p.connection old.keeper.clock t s [] octets p.place h a.link calls (logged old.keeper.log).entries (logged new.keeper.log).entries written (written ++ more-written.0) p.waiting step r outcome
         (reached s t st al) gave more-written.2 by is)))
 
     -- .. or its answer is not appended, and the connection is lost
@@ -322,7 +321,7 @@ module _ {C : Type 0} (offers : C → Offer) (owner : Owner) where
         resumes-by (Memory at.handled at.answered)
         (fed-err (meaning_of owner) (made_of owner) a.server (as_server new Later) past p.connection moment octets old.keeper.clock [] (written ++ more-written.0) a.was at a.stands both-same a.clock clock a.stood gone a.live a.some
         (λ s t st al.
-        reach-breaks owner.offer owner.answers (capacity_of a.server.desk) (share_of a.server.desk) owner.limits p.connection old.keeper.clock t s [] octets grow p.place at a.link calls (logged old.keeper.log).entries (logged new.keeper.log).entries written (written ++ more-written.0) p.waiting step r outcome
+        reach-breaks owner.offer owner.answers (capacity_of a.server) (share_of a.server) owner.limits p.connection old.keeper.clock t s [] octets grow p.place at a.link calls (logged old.keeper.log).entries (logged new.keeper.log).entries written (written ++ more-written.0) p.waiting step r outcome
         (omega (arith, size)) (reached s t st al) gave more-written.2 by is))
 
   -- what waits is what the engine keeps
@@ -448,11 +447,11 @@ module _ {C : Type 0} (offers : C → Offer) (owner : Owner) where
       fed-err (meaning_of owner) (made_of owner) b.server (as_server new calls) past x.connection moment octets old.keeper.clock [] written b.was (all_answered x.place.handled) b.stands same
       b.clock (ap (λ (k : Keeper). k.clock) kept) b.stood gone b.live b.some
       (λ s t st al.
-      reach-left owner.offer owner.answers (capacity_of b.server.desk) (share_of b.server.desk) owner.limits x.connection old.keeper.clock t s [] octets grow x.place b.link calls (logged old.keeper.log).entries (logged new.keeper.log).entries written x.waiting
+      reach-left owner.offer owner.answers (capacity_of b.server) (share_of b.server) owner.limits x.connection old.keeper.clock t s [] octets grow x.place b.link calls (logged old.keeper.log).entries (logged new.keeper.log).entries written x.waiting
       (omega (arith, size)) (
         written,
         refl,
-        subst (λ (l : List ℕ). Paused owner.offer owner.answers (capacity_of b.server.desk) (share_of b.server.desk) owner.limits x.connection old.keeper.clock t s l b.link calls (logged old.keeper.log).entries written x.place.handled x.waiting)
+        subst (λ (l : List ℕ). Paused owner.offer owner.answers (capacity_of b.server) (share_of b.server) owner.limits x.connection old.keeper.clock t s l b.link calls (logged old.keeper.log).entries written x.place.handled x.waiting)
             (sym (take_all x.place.taken octets (omega (arith, size)))) (b.paused s t st al),
       )
       (ap (λ (k : Keeper). (logged k.log).entries) kept))

@@ -9,7 +9,7 @@ use Rattle.ft_orb.specs.declared.engine.Engine.{Engine}
 use Rattle.ft_orb.specs.declared.events.Note.{Note}
 use Rattle.ft_orb.specs.declared.keeper.Waiting.{Waiting}
 use Rattle.ft_orb.specs.declared.pausing.Pending.{Pending}
-use Rattle.ft_orb.specs.Catalogues.{Offer}
+use Rattle.ft_objects.specs.Catalogues.{Offer}
 use Rattle.ft_orb.specs.Engines.{Awaited, Ends, Keeps, Resumes, Stops, as_server, awaited_of, waits_in}
 use Rattle.ft_orb.specs.EnginesNow.{AsksNow, EndsNow, IsDueNow, IsNow, ResumesNow}
 use Rattle.ft_orb.specs.ExactlyOnce.{Arrival, ClocksGrow, Rules, clock_after, state_after}

@@ -5,10 +5,10 @@ use Rattle.std.proofs.lemmas.List.{map-append}
 use Rattle.std.proofs.lemmas.Slice.Eq.{bytes_eq-Decides}
 use Rattle.cdr_core.specs.Value.{Values}
 use Rattle.ft_log.specs.Performed.{Performed}
-use Rattle.ft_orb.specs.Catalogues.{Offer}
+use Rattle.ft_objects.specs.Catalogues.{Offer}
 use Rattle.ft_orb.specs.Answers.{Agrees, Answer, AnswersHaveARule, AreAnswers, OwnersAreServants, answer_for, calls_of, refusal, rule_of}
-use Rattle.ft_orb.specs.Interfaces.{AreArgumentsOf, Interface, IsOutcomeOf, no_object, no_operation, operation, raw_operation}
-use Rattle.ft_orb.specs.Replies.{IsRenderable}
+use Rattle.ft_objects.specs.Interfaces.{AreArgumentsOf, Interface, IsOutcomeOf, no_object, no_operation, operation, raw_operation}
+use Rattle.ft_objects.specs.Replies.{IsRenderable}
 use Rattle.ft_orb.specs.Requests.{Call}
 
 -- the rule gives each answer in its turn

@@ -3,14 +3,13 @@ use Rattle.std.proofs.Common.{◌≡◌, ℕ, List, ◌++◌, Result, subst, ◌
 use Rattle.ft_log.specs.Performed.{Performed}
 use Rattle.ft_log.specs.declared.system_exception.SystemName.{SystemName}
 use Rattle.ft_orb.specs.declared.events.Note.{Note}
-use Rattle.ft_orb.specs.declared.server.Server.{Server}
 use Rattle.ft_orb.specs.ExactlyOnce.{clock_after}
 use Rattle.ft_orb.specs.History.{Event, arrivals, completed}
 use Rattle.ft_orb.specs.Now.{EventsActNow, IsTableNow, PlaysActNow, ServantsActNow, now_says, state_now}
 use Rattle.ft_orb.specs.Outputs.{Made, Plays, Writes, after, table_of_past, table_says}
 use Rattle.ft_orb.specs.Requests.{rules_of}
-use Rattle.ft_orb.specs.Servants.{Meaning}
-use Rattle.ft_orb.specs.Standing.{Stands}
+use Rattle.ft_objects.specs.Servants.{Meaning}
+use Rattle.ft_orb.specs.Standing.{Shown, Stands}
 use Rattle.ft_orb.proofs.Headline.{arrivals-grow, event-clocks}
 use Rattle.ft_orb.proofs.Now.{run_now, tables-answer-now}
 
@@ -28,14 +27,14 @@ module _ {S : Type 0} (meaning : Meaning S) (made : Made S) where
   pub says-now : table_says meaning made ≡ now_says meaning made
   says-now = λ i past e. says-now-at past e i
 
-  pub servant-now : (server : Server S) (past : List Event) → Stands meaning made server past → server.desk.servant ≡ state_now meaning made past
+  pub servant-now : (server : Shown S) (past : List Event) → Stands meaning made server past → server.servant ≡ state_now meaning made past
   servant-now server past st = st.table.state ∙ (past-now past).state
 
-  pub event-now : (server : Server S) (past : List Event) (e : Event) (note : Note) (out grown : List ℕ)
+  pub event-now : (server : Shown S) (past : List Event) (e : Event) (note : Note) (out grown : List ℕ)
       → ((written : List ℕ) × (grown ≡ out ++ written) × Writes made.limits meaning.knows (table_says meaning made) past e written note × Stands meaning made server (after made.limits past e note))
       → (written : List ℕ) × (grown ≡ out ++ written)
       × Writes made.limits meaning.knows (now_says meaning made) past e written note
-      × (server.desk.servant ≡ state_now meaning made (after made.limits past e note))
+      × (server.servant ≡ state_now meaning made (after made.limits past e note))
   event-now server past e note out grown x = (
     x.0,
     x.1,

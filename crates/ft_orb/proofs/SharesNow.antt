@@ -12,7 +12,7 @@ use Rattle.ft_log.specs.declared.system_exception.SystemName.TheVariants.{BadCon
 use Rattle.ft_orb.specs.ExactlyOnce.{Absent, Arrival, Bad, ClocksGrow, Field, Present, Rules, clock_after, is_admissible, live_key, live_keys, new_answer, state_after}
 use Rattle.ft_orb.specs.Now.{RoomForEachClientNow, acts_now, answer_now, answer_now_by_field, is_held, is_let_in_now, performed_now, performed_now_after}
 use Rattle.ft_orb.specs.Requests.{asked_of}
-use Rattle.ft_orb.specs.Servants.{Meaning}
+use Rattle.ft_objects.specs.Servants.{Meaning}
 use Rattle.ft_orb.specs.Shares.{clients_of}
 use Rattle.ft_orb.specs.Table.{remembered}
 use Rattle.ft_orb.proofs.Asking.{asked-never}

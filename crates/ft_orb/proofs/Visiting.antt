@@ -6,7 +6,7 @@ use Rattle.ft_orb.specs.declared.events.Note.{Note}
 use Rattle.ft_orb.specs.declared.events.Note.TheVariants.{Done, Memory, Refused}
 use Rattle.ft_orb.specs.declared.wire.StreamEnd.{StreamEnd}
 use Rattle.ft_orb.specs.declared.wire.StreamEnd.TheVariants as stream
-use Rattle.ft_orb.specs.Catalogues.{Offer}
+use Rattle.ft_objects.specs.Catalogues.{Offer}
 use Rattle.ft_orb.specs.Engines.{Ends, Rests, as_server, waits_in}
 use Rattle.ft_orb.specs.History.{Close, Event, Lost, Piece, line}
 use Rattle.ft_orb.specs.Outputs.{Plays, after, is_going, table_says}

@@ -5,16 +5,16 @@ use Rattle.giop_frames.specs.declared.limits.Limits.{Limits}
 use Rattle.ft_log.specs.Performed.{Performed, system}
 use Rattle.ft_log.specs.declared.system_exception.Completion.TheVariants.{No}
 use Rattle.ft_log.specs.declared.system_exception.SystemName.TheVariants.{Internal}
-use Rattle.ft_orb.specs.Catalogues.{IsOffer, Offer}
+use Rattle.ft_objects.specs.Catalogues.{IsOffer, Offer}
 use Rattle.ft_orb.specs.ExactlyOnce.{state_of}
 use Rattle.ft_orb.specs.History.{Event, arrivals}
-use Rattle.ft_orb.specs.Interfaces.{IsOutcomeOf}
+use Rattle.ft_objects.specs.Interfaces.{IsOutcomeOf}
 use Rattle.ft_orb.specs.Now.{now_says, state_now}
 use Rattle.ft_orb.specs.Outputs.{Noted, Plays, law_says, past_after}
 use Rattle.ft_orb.specs.Owners.{Owner, made_of, meaning_of, rules_with}
-use Rattle.ft_orb.specs.Replies.{IsRenderable}
+use Rattle.ft_objects.specs.Replies.{IsRenderable}
 use Rattle.ft_orb.specs.Requests.{Call}
-use Rattle.ft_orb.specs.Servants.{IsServant}
+use Rattle.ft_objects.specs.Servants.{IsServant}
 
 -- a call, and the outcome that it was given
 pub record Answer : Type 0 where

@@ -7,9 +7,9 @@ use Rattle.ft_log.specs.declared.outcome.Outcome.{Outcome}
 use Rattle.ft_log.specs.declared.system_exception.Completion.TheVariants.{Maybe}
 use Rattle.ft_log.specs.declared.system_exception.SystemName.TheVariants.{Internal}
 use Rattle.ft_orb.specs.Answers.{Answer}
-use Rattle.ft_orb.specs.Catalogues.{Offer}
-use Rattle.ft_orb.specs.Interfaces.{IsOutcomeOf}
-use Rattle.ft_orb.specs.Replies.{IsRenderable}
+use Rattle.ft_objects.specs.Catalogues.{Offer}
+use Rattle.ft_objects.specs.Interfaces.{IsOutcomeOf}
+use Rattle.ft_objects.specs.Replies.{IsRenderable}
 use Rattle.ft_orb.specs.Requests.{Call}
 use Rattle.ft_orb.specs.Wires.{IfKnown}
 

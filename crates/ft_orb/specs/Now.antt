@@ -11,13 +11,12 @@ use Rattle.ft_orb.specs.ExactlyOnce.{Absent, Arrival, Bad, ClocksGrow, Field, On
 use Rattle.ft_orb.specs.Table.{Table, remembered, table_after, table_answers, table_step}
 use Rattle.ft_log.specs.Performed.{Performed}
 use Rattle.ft_orb.specs.declared.events.Note.{Note}
-use Rattle.ft_orb.specs.declared.server.Server.{Server}
 use Rattle.ft_orb.specs.History.{Event, arrivals, completed}
 use Rattle.ft_orb.specs.Outputs.{Made, Noted, Plays, Writes, table_says}
 use Rattle.ft_orb.specs.Requests.{Wanted, rules_of}
-use Rattle.ft_orb.specs.Servants.{Meaning}
+use Rattle.ft_objects.specs.Servants.{Meaning}
 use Rattle.ft_orb.specs.Shares.{clients_of}
-use Rattle.ft_orb.specs.Standing.{Stands}
+use Rattle.ft_orb.specs.Standing.{Shown, Stands}
 
 -- the field has this key, and its expiration is at or after the clock
 abbrev pub has_live_key : ℕ → RequestKey → Field → Bool
@@ -176,7 +175,7 @@ PlaysActNow {State} meaning =
 
 -- The servant of a server that stands for a past has that state, over every past too.
 abbrev pub ServantsActNow : {State : Type 0} → Meaning State → Type 0
-ServantsActNow {State} meaning = (made : Made State) (server : Server State) (past : List Event) → Stands meaning made server past → server.desk.servant ≡ state_now meaning made past
+ServantsActNow {State} meaning = (made : Made State) (server : Shown State) (past : List Event) → Stands meaning made server past → server.servant ≡ state_now meaning made past
 
 -- Where the capacity is enough for the share of each client, only a client that has used up its own share is answered NO_RESOURCES,
 -- whatever expirations requests carry.

@@ -9,7 +9,7 @@ use Rattle.ft_orb.specs.History.{Event, arrivals, clock, completed}
 use Rattle.ft_orb.specs.Now.{IsIdleNow, answer_now, is_held, performed_now}
 use Rattle.ft_orb.specs.Outputs.{Made}
 use Rattle.ft_orb.specs.Requests.{Wanted, asked_of, rules_of}
-use Rattle.ft_orb.specs.Servants.{Meaning}
+use Rattle.ft_objects.specs.Servants.{Meaning}
 
 module _ {State Content Call Outcome : Type 0} (rules : Rules State Content Call Outcome) where
   -- after these arrivals the next one is answered with this refusal, and is not performed

@@ -4,12 +4,12 @@ use Rattle.giop_frames.specs.declared.limits.Limits.{Limits}
 use Rattle.ft_log.specs.Keys.{has_room_for}
 use Rattle.ft_log.specs.Kept.{KeptOutcome}
 use Rattle.ft_log.specs.Performed.{Performed}
-use Rattle.ft_orb.specs.Catalogues.{Offer}
+use Rattle.ft_objects.specs.Catalogues.{Offer}
 use Rattle.ft_orb.specs.ExactlyOnce.{Rules}
-use Rattle.ft_orb.specs.Interfaces.{Interface}
+use Rattle.ft_objects.specs.Interfaces.{Interface}
 use Rattle.ft_orb.specs.Outputs.{Made}
 use Rattle.ft_orb.specs.Requests.{Call, Wanted, asked_of}
-use Rattle.ft_orb.specs.Servants.{Meaning}
+use Rattle.ft_objects.specs.Servants.{Meaning}
 use Rattle.ft_orb.specs.Table.{Table}
 
 -- the rules of an owner that answers a call by the calls answered before, in any way whatever

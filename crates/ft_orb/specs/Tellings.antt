@@ -13,7 +13,7 @@ use Rattle.ft_log.specs.Performed.{Performed, raw, returned}
 use Rattle.ft_log.specs.declared.outcome.RawStatus.TheVariants.{NoException}
 use Rattle.ft_log.specs.declared.system_exception.SystemName.{SystemName}
 use Rattle.ft_orb.specs.ExactlyOnce.{Arrival}
-use Rattle.ft_orb.specs.Replies.{answered_as, body_of, locate_reply, locate_status, message_error, order_of, reply, status_of}
+use Rattle.ft_objects.specs.Replies.{answered_as, body_of, locate_reply, locate_status, message_error, order_of, reply, status_of}
 use Rattle.ft_orb.specs.Requests.{Wanted, asking, locating}
 
 -- a Reply to the request of an id, with its byte order, its status and the values of its body; the status of the target of a locate

@@ -7,7 +7,7 @@ use Rattle.ft_orb.specs.declared.events.Note.TheVariants.{Done}
 use Rattle.ft_orb.specs.declared.wire.StreamEnd.{StreamEnd}
 use Rattle.ft_orb.specs.declared.wire.StreamEnd.TheVariants as stream
 use Rattle.ft_orb.specs.Answers.{calls_of}
-use Rattle.ft_orb.specs.Catalogues.{Offer}
+use Rattle.ft_objects.specs.Catalogues.{Offer}
 use Rattle.ft_orb.specs.Engines.{Awaited, Ends, Rests, as_server}
 use Rattle.ft_orb.specs.Handovers.{Handover, IsHandedIn, handed_in}
 use Rattle.ft_orb.specs.History.{Event, Piece, completed}

@@ -1,15 +1,5 @@
--- Proofs that clauses cite, or that those of servants do. Nobody has to read them to know what is promised.
--- that arguments are there and of their types, that numbers are in their ranges by a test and back, that numbers and sequences fit as
--- results, that outcomes of bounded types can be sent, and that a servant by a table keeps its promises: proofs of servants cite them
-pub mod Accessors
-pub mod Ranges
-pub mod Results
-pub mod Sizes
-pub mod Objects
--- that what is kept can be sent, what waits is made room for, and types are valid is a fact each, with at most one proof: fields of
--- `Keeper`, `Engine` and `Typed` cite them
+-- Proofs that clauses cite. Nobody has to read them to know what is promised.
+-- that what is kept can be sent, and what waits is made room for, is a fact each, with at most one proof: fields of `Keeper` and
+-- `Engine` cite them
 pub mod Outcomes
 pub mod Readiness
-pub mod Validity
--- that a catalogue that is filled in keeps the promises of one: the `impl` of `Interfaces` cites it
-pub mod Promises

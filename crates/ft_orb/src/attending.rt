@@ -16,13 +16,13 @@ ghost use Rattle.ft_orb.specs.Visits.{HandsIn, IsEnded, IsVisited, TakesPart, ca
 ghost use Rattle.ft_orb.specs.Wires.{Act, AreNoted, AreReadInTime, AreSmall, ClockSays, HasEnded, IsFarewell, Turn, WireSays, entries_of, events_in, past_with};
 ghost use Rattle.ft_orb.specs.declared.events.Note.{Note};
 
-use crate::catalogue::Catalogue;
 use crate::engine::{Engine, Fed};
 use crate::error::ServeError;
 use crate::performer::Performer;
 use crate::streaming::{PIECE, write_all, write_farewell};
 use crate::wire::{Clock, StreamEnd, Wire, WireError};
 use ft_log::{Completion, Outcome, SystemName};
+use ft_objects::Catalogue;
 use std::alloc::Global;
 
 /// The outcome to hand in for the request that waits: the owner's, or INTERNAL where that one can't answer it.
@@ -245,8 +245,8 @@ pub fn serve_engine<C: Catalogue + Drop, O: Performer, W: Wire, K: Clock>(
         × Rests C.offers o (calls ++ calls_of (handed_in log)) engine.new (history.Lost connection ∷ past_with o.limits past connection turns)
         × WireSays turns last (W.traffic wire.old) (W.traffic wire.new)
         × ClockSays turns (K.given clock.old) (K.given clock.new)) }
-    // each key by itself, whatever expirations requests carry: the same turns, what is written in them, and the calls answered up to
-    // them
+    // each key by itself, whatever expirations requests carry: the same turns, what is written in them, and the calls that are
+    // answered up to them
     ensures now { (log : List Handover) × OwnerSays log (O.answered owner.old) (O.answered owner.new) × ((o : Owner) (calls : List Call) (past : List history.Event) → Rests C.offers o calls engine.old past
         → is_going o.limits (line past connection) ≡ true → Agrees o.answers calls (handed_in log) → AreHandedIn o.offer log × (turns : List Turn) × (last : List Act)
         × Plays o.limits o.offer.knows (table_says (meaning_of o) (made_of o)) past (events_in connection turns) (entries_of turns)

@@ -9,12 +9,12 @@ ghost use Rattle.cdr_core.specs.declared.order.Order.TheVariants.{Big};
 ghost use Rattle.giop_core.specs.Written.{exception_body};
 ghost use Rattle.ft_log.specs.Performed.{system};
 ghost use Rattle.ft_log.specs.View.{performed_in};
-ghost use Rattle.ft_orb.specs.Interfaces.{IsOutcomeOf, IsRaised, IsValidInterface, interface_of, raise_of};
-ghost use Rattle.ft_orb.specs.Replies.{IsRenderable, body_limit};
+ghost use Rattle.ft_objects.specs.Interfaces.{IsOutcomeOf, IsRaised, IsValidInterface, interface_of, raise_of};
+ghost use Rattle.ft_objects.specs.Replies.{IsRenderable, body_limit};
 
-use crate::signature::Lookup;
 use cdr_core::{Ty, Val, are_writable, end_of_list, fits, has_no_nul};
 use ft_log::{Completion, Outcome, SystemName};
+use ft_objects::Lookup;
 
 /// The place where the body of a Reply begins (GIOP 9.4.1, GIOP 9.4.3).
 const BODY: u64 = 24;

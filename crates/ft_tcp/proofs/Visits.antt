@@ -10,7 +10,7 @@ use Rattle.ft_orb.specs.declared.error.ConnectError.TheVariants as connecting
 use Rattle.ft_orb.specs.declared.events.Note.TheVariants.{Done, Refused}
 use Rattle.ft_orb.specs.History.{Event, Opened, Up, does_count, line}
 use Rattle.ft_orb.specs.Outputs.{Made, is_going, note_in, table_says}
-use Rattle.ft_orb.specs.Servants.{Meaning}
+use Rattle.ft_objects.specs.Servants.{Meaning}
 use Rattle.ft_orb.specs.Standing.{note_of_opening}
 use Rattle.ft_orb.specs.Wires.{IfKnown}
 use Rattle.ft_orb.proofs.Streams.{grows-then}

@@ -8,7 +8,8 @@ ghost use Rattle.ft_orb.specs.Wires.{IfKnown};
 ghost use Rattle.ft_tcp.specs.Visits.{AreVisits, IsVisit, Visit, acts_of, moments_in, moments_of, past_with_visit, past_with_visits};
 
 use crate::socket::Socket;
-use ft_orb::{Clock, Servant, Server, Wire, serve_stream};
+use ft_objects::Servant;
+use ft_orb::{Clock, Server, Wire, serve_stream};
 use std::alloc::Global;
 use std::io;
 use std::net::TcpListener;

@@ -1,8 +1,7 @@
 -- What the server of a play and of a service keeps to.
 use Rattle.std.specs.Prelude.{◌≡◌, ◌<◌, ◌⊎◌, ℤ, unwrap_or}
 use Rattle.giop_frames.specs.declared.limits.Limits.{Limits}
-use Rattle.ft_orb.specs.declared.server.Server.{Server}
-use Rattle.ft_orb.specs.Standing.{IsNew}
+use Rattle.ft_orb.specs.Standing.{IsNew, Shown}
 use Rattle.giop_run.specs.declared.play.Terms.{Terms}
 use Rattle.giop_run.specs.declared.setting.Numbers.{Numbers}
 use Rattle.giop_run.specs.Plays.{made_by}
@@ -20,5 +19,5 @@ abbrev pub HasBadShare : Numbers → Type 0
 HasBadShare n = (unwrap_or n.share n.capacity ≡ 0) ⊎ (n.capacity < unwrap_or n.share n.capacity)
 
 -- a server to which nothing has happened, with these numbers: its servant is a counter with the total at the beginning
-abbrev pub IsOffered : Numbers → Server ℤ → Type 0
+abbrev pub IsOffered : Numbers → Shown ℤ → Type 0
 IsOffered n server = (t : Terms) × AreTermsOf n t × IsNew (made_by t) server

@@ -5,7 +5,8 @@ ghost use Rattle.std.specs.Prelude.{◌≡◌, ◌<◌, ◌≤◌, IfOk, length}
 use cdr_core::Val;
 use counter::Counter;
 use ft_log::Outcome;
-use ft_orb::{Lookup, Servant, Wire, WireError};
+use ft_objects::{Lookup, Servant};
+use ft_orb::{Wire, WireError};
 use ft_tcp::Socket;
 use giop_core::{Content, Reply, ReplyStatus, Request, ft_request};
 use giop_frames::{Assembler, Limits};

@@ -2,9 +2,9 @@
 use Rattle.std.proofs.Common.{◌≡◌, ◌∙◌, inr, ℕ, List, [], map, Result, Err, Vec, Global, refl, ap, subst, sym}
 use Rattle.cdr_core.specs.declared.types.Ty.{Ty}
 use Rattle.cdr_core.specs.Form.{Forms}
-use Rattle.ft_orb.specs.Filling.{CanBeAdded, IsFree, IsNotValidOr, IsWhyNothing, ids_of, offer_of, raw_objects}
-use Rattle.ft_orb.specs.Interfaces.{operation, raise_of}
-use Rattle.ft_orb.specs.declared.error.InterfacesError.{InterfacesError}
+use Rattle.ft_objects.specs.Filling.{CanBeAdded, IsFree, IsNotValidOr, IsWhyNothing, ids_of, offer_of, raw_objects}
+use Rattle.ft_objects.specs.Interfaces.{operation, raise_of}
+use Rattle.ft_objects.specs.declared.error.InterfacesError.{InterfacesError}
 use Rattle.lemonrudder.specs.declared.cataloguing.Cataloguing.{Cataloguing}
 use Rattle.lemonrudder.specs.declared.refusal.Refusal.{Refusal}
 use Rattle.lemonrudder.specs.Declares.{OnOperation, Spell}

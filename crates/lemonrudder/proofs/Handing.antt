@@ -10,7 +10,7 @@ use Rattle.cdr_core.specs.Spelling.{SpellsMembers}
 use Rattle.cdr_core.specs.Value.{Values}
 use Rattle.cdr_core.specs.View.{values_of}
 use Rattle.ft_log.specs.Performed.{Performed}
-use Rattle.ft_orb.specs.Catalogues.{Offer}
+use Rattle.ft_objects.specs.Catalogues.{Offer}
 use Rattle.ft_orb.specs.Engines.{Awaited, CanAnswer}
 use Rattle.lemonrudder.specs.declared.refusal.Refusal.{Refusal}
 use Rattle.lemonrudder.specs.declared.refusal.Refusal.TheVariants as refusal

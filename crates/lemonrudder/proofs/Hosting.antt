@@ -1,7 +1,7 @@
 -- A server of the objects of a catalogue, in the words of the slots that hold both.
 use Rattle.std.proofs.Common.{◌≡◌, ℕ, ℤ, Bool, true, not, Option, Some, None, Result, Ok, refl, sym, subst, arith}
 use Rattle.giop_frames.specs.declared.limits.Limits.{Limits}
-use Rattle.ft_orb.specs.declared.interfaces.Interfaces.{Interfaces}
+use Rattle.ft_objects.specs.declared.interfaces.Interfaces.{Interfaces}
 use Rattle.lemonrudder.specs.declared.cataloguing.Cataloguing.{Cataloguing}
 use Rattle.lemonrudder.specs.declared.object.Object.{Object}
 use Rattle.lemonrudder.specs.declared.object.Object.TheVariants.{Catalogue, Server}

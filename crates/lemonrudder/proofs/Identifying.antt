@@ -3,7 +3,7 @@ use Rattle.std.proofs.Common.{◌≡◌, ◌≢◌, ◌∙◌, ◌⊎◌, inl, i
 use Rattle.std.proofs.lemmas.Bool.{eqb-true, false≢true}
 use Rattle.std.specs.List.{AllByRecursion}
 use Rattle.cdr_core.specs.Spelling.{IsClean}
-use Rattle.ft_orb.specs.Filling.{AreClean}
+use Rattle.ft_objects.specs.Filling.{AreClean}
 use Rattle.lemonrudder.specs.Identifies.{AreIdsOf, EndsInNoNul, with_nuls}
 
 -- ids that were read, and octets after the last NUL

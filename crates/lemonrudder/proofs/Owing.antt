@@ -7,7 +7,7 @@ use Rattle.ft_orb.specs.declared.engine.Fed.TheVariants as fed
 use Rattle.ft_orb.specs.declared.error.ServeError.{ServeError}
 use Rattle.ft_orb.specs.declared.events.Note.{Note}
 use Rattle.ft_orb.specs.declared.events.Note.TheVariants.{Done}
-use Rattle.ft_orb.specs.Catalogues.{Offer}
+use Rattle.ft_objects.specs.Catalogues.{Offer}
 use Rattle.ft_orb.specs.Engines.{AsksOnce, Awaited, Ends, EndsOnce, Feeds, FeedsOnce, Resumes, ResumesOnce, Stops}
 use Rattle.ft_orb.specs.EnginesNow.{AsksNow, EndsNow, FeedsNow, ResumesNow}
 use Rattle.ft_orb.specs.History.{Event, Piece}

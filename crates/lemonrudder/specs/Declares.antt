@@ -2,7 +2,7 @@
 use Rattle.std.specs.Prelude.{◌≡◌, ◌⊎◌, ℕ, List, [], ◌∷◌, ◌++◌, Result, Ok, Err}
 use Rattle.cdr_core.specs.Fitting.{AreValid}
 use Rattle.cdr_core.specs.Form.{Forms}
-use Rattle.ft_orb.specs.Interfaces.{Interface, operation}
+use Rattle.ft_objects.specs.Interfaces.{Interface, operation}
 use Rattle.lemonrudder.specs.declared.cataloguing.Cataloguing.{Cataloguing}
 use Rattle.lemonrudder.specs.declared.refusal.Refusal.{Refusal}
 use Rattle.lemonrudder.specs.declared.refusal.Refusal.TheVariants as refusal

@@ -1,10 +1,10 @@
 -- What a call on a catalogue does.
 use Rattle.std.specs.Prelude.{◌≡◌, ℕ, ℤ, Bool, true, false, List, [], map, Option, None, Result, Ok, Err}
 use Rattle.cdr_core.specs.Form.{Forms}
-use Rattle.ft_orb.specs.Catalogues.{Offer}
-use Rattle.ft_orb.specs.Filling.{CanBeAdded, IsFree, IsNotValidOr, IsWhyNoObject, IsWhyNothing, TakesOperations, changed, ids_of, nothing, offer_of, raw_objects, with_object, with_operation, with_raw_object}
-use Rattle.ft_orb.specs.Interfaces.{Interface, raise_of, raw_operation}
-use Rattle.ft_orb.specs.declared.error.InterfacesError.{InterfacesError}
+use Rattle.ft_objects.specs.Catalogues.{Offer}
+use Rattle.ft_objects.specs.Filling.{CanBeAdded, IsFree, IsNotValidOr, IsWhyNoObject, IsWhyNothing, TakesOperations, changed, ids_of, nothing, offer_of, raw_objects, with_object, with_operation, with_raw_object}
+use Rattle.ft_objects.specs.Interfaces.{Interface, raise_of, raw_operation}
+use Rattle.ft_objects.specs.declared.error.InterfacesError.{InterfacesError}
 use Rattle.lemonrudder.specs.declared.cataloguing.Cataloguing.{Cataloguing}
 use Rattle.lemonrudder.specs.declared.object.Object.{Object}
 use Rattle.lemonrudder.specs.declared.object.Object.TheVariants.{Catalogue}

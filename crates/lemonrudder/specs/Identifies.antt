@@ -1,7 +1,7 @@
 -- What naming the repository ids of an object does.
 use Rattle.std.specs.Prelude.{◌≡◌, ◌≢◌, ◌⊎◌, ℕ, List, [], ◌∷◌, ◌++◌, Some, Result, Ok, Err, ⊤}
 use Rattle.std.proofs.Common.{Vec, Global}
-use Rattle.ft_orb.specs.Filling.{AreClean, AreNoOperations, changed, texts, with_identity}
+use Rattle.ft_objects.specs.Filling.{AreClean, AreNoOperations, changed, texts, with_identity}
 use Rattle.lemonrudder.specs.declared.cataloguing.Cataloguing.{Cataloguing}
 use Rattle.lemonrudder.specs.declared.refusal.Refusal.{Refusal}
 use Rattle.lemonrudder.specs.declared.refusal.Refusal.TheVariants as refusal

@@ -2,9 +2,9 @@
 use Rattle.std.specs.Prelude.{◌≡◌, ℕ, List, []}
 use Rattle.giop_frames.specs.declared.limits.Limits.{Limits}
 use Rattle.ft_log.specs.Performed.{Performed}
-use Rattle.ft_orb.specs.declared.interfaces.Interfaces.{Interfaces}
+use Rattle.ft_objects.specs.declared.interfaces.Interfaces.{Interfaces}
 use Rattle.ft_orb.specs.Engines.{Rests}
-use Rattle.ft_orb.specs.Filling.{offer_of}
+use Rattle.ft_objects.specs.Filling.{offer_of}
 use Rattle.ft_orb.specs.Requests.{Call}
 use Rattle.lemonrudder.specs.declared.serving.Serving.{Serving}
 use Rattle.lemonrudder.specs.Dues.{IsPlaced, owed}

@@ -11,12 +11,12 @@ use Rattle.cdr_core.specs.Value.{Values, values}
 use Rattle.cdr_core.specs.View.{forms_of, values_of}
 use Rattle.ft_log.specs.Performed.{Performed, raised, raw, returned, system}
 use Rattle.ft_orb.specs.declared.error.ServeError.{ServeError}
-use Rattle.ft_orb.specs.Accessors.{read_at, string_of}
+use Rattle.ft_objects.specs.Accessors.{read_at, string_of}
 use Rattle.ft_orb.specs.Engines.{Asks, Awaited, CanAnswer, Resumes, ResumesOnce, waits_in}
 use Rattle.ft_orb.specs.EnginesNow.{ResumesNow}
-use Rattle.ft_orb.specs.Filling.{ids_of, is_a_name, names_id, non_existent_name, offer_of}
+use Rattle.ft_objects.specs.Filling.{ids_of, is_a_name, names_id, non_existent_name, offer_of}
 use Rattle.ft_orb.specs.History.{Event}
-use Rattle.ft_orb.specs.Interfaces.{Interface, operation}
+use Rattle.ft_objects.specs.Interfaces.{Interface, operation}
 use Rattle.ft_orb.specs.Owners.{Owner}
 use Rattle.ft_orb.specs.Requests.{Call}
 use Rattle.ft_orb.specs.Standing.{note_of}

@@ -8,11 +8,11 @@ use Rattle.cdr_core.specs.Writing.{AreWritable, octets_of_all}
 use Rattle.giop_core.specs.Ft as ft
 use Rattle.giop_core.specs.Ft.{Ft, ft_in}
 use Rattle.giop_link.specs.Hearing.{Question}
-use Rattle.ft_orb.specs.Accessors.{boolean_of, octets_in, read_at, ulong_of}
+use Rattle.ft_objects.specs.Accessors.{boolean_of, octets_in, read_at, ulong_of}
 use Rattle.ft_orb.specs.Engines.{Asks, Awaited, waits_in}
-use Rattle.ft_orb.specs.Filling.{offer_of}
+use Rattle.ft_objects.specs.Filling.{offer_of}
 use Rattle.ft_orb.specs.History.{Event}
-use Rattle.ft_orb.specs.Interfaces.{Interface, raw_operation}
+use Rattle.ft_objects.specs.Interfaces.{Interface, raw_operation}
 use Rattle.ft_orb.specs.Owners.{Owner}
 use Rattle.ft_orb.specs.Requests.{Call}
 use Rattle.lemonrudder.specs.declared.refusal.Refusal.{Refusal}

@@ -9,8 +9,8 @@ use Rattle.ft_client.specs.declared.error.CallError.{CallError}
 use Rattle.ft_client.specs.declared.error.CallError.TheVariants as calling
 use Rattle.ft_orb.specs.declared.error.ConnectError.{ConnectError}
 use Rattle.ft_orb.specs.declared.error.ConnectError.TheVariants as connecting
-use Rattle.ft_orb.specs.declared.error.InterfacesError.{InterfacesError}
-use Rattle.ft_orb.specs.declared.error.InterfacesError.TheVariants as offering
+use Rattle.ft_objects.specs.declared.error.InterfacesError.{InterfacesError}
+use Rattle.ft_objects.specs.declared.error.InterfacesError.TheVariants as offering
 use Rattle.ft_orb.specs.declared.error.ServeError.{ServeError}
 use Rattle.ft_orb.specs.declared.error.ServeError.TheVariants as serving
 use Rattle.giop_core.specs.declared.error.WriteError.{WriteError}

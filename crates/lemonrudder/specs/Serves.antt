@@ -8,7 +8,7 @@ use Rattle.ft_orb.specs.declared.error.ServeError.{ServeError}
 use Rattle.ft_orb.specs.declared.events.Note.TheVariants.{Memory}
 use Rattle.ft_orb.specs.Engines.{Asks, Awaited, Feeds, FeedsOnce, IsFit, IsLeftAt, IsThen, Resumes, ResumesOnce, Rests, waits_in}
 use Rattle.ft_orb.specs.EnginesNow.{FeedsNow, ResumesNow}
-use Rattle.ft_orb.specs.Filling.{offer_of}
+use Rattle.ft_objects.specs.Filling.{offer_of}
 use Rattle.ft_orb.specs.History.{Close, Event, Lost, Opened, Piece, completed, line}
 use Rattle.ft_orb.specs.Outputs.{is_going}
 use Rattle.ft_orb.specs.Owners.{Owner}

@@ -5,7 +5,7 @@ ghost use Rattle.lemonrudder.specs.Identifies.{AreIds};
 use crate::refusal::Refusal;
 use crate::types::types_of;
 use cdr_core::Ty;
-use ft_orb::{Interfaces, Signature};
+use ft_objects::{Interfaces, Signature};
 use std::alloc::Global;
 use std::mem;
 

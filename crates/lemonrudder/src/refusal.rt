@@ -6,7 +6,8 @@ ghost use Rattle.lemonrudder.specs.Refusals.{error_number, filled, number_in, re
 
 use cdr_core::{CdrError, Fault, Kind};
 use ft_client::CallError;
-use ft_orb::{ConnectError, InterfacesError, ServeError};
+use ft_objects::InterfacesError;
+use ft_orb::{ConnectError, ServeError};
 use giop_core::WriteError;
 use ior_core::IorError;
 use std::alloc::{AllocError, AllocFailed};

@@ -9,7 +9,8 @@ mod questions;
 use crate::due::Due;
 use crate::refusal::{Refusal, count_of};
 use crate::terms::Terms;
-use ft_orb::{Engine, Fed, Interfaces, ServeError};
+use ft_objects::Interfaces;
+use ft_orb::{Engine, Fed, ServeError};
 use std::alloc::Global;
 use std::hash::RandomState;
 

@@ -6,12 +6,11 @@ use Rattle.giop_frames.specs.declared.limits.Limits.{Limits}
 use Rattle.ft_log.specs.Performed.{Performed}
 use Rattle.ft_log.specs.declared.system_exception.SystemName.{SystemName}
 use Rattle.ft_orb.specs.ExactlyOnce.{OneExpiration}
-use Rattle.ft_orb.specs.declared.server.Server.{Server}
 use Rattle.ft_orb.specs.History.{Event, Piece, arrivals}
 use Rattle.ft_orb.specs.Laws.{OutputsArePlayed, PlayedEventsCount, PlaysActOnce, PlaysWriteTheirOutputs, entries_in}
 use Rattle.ft_orb.specs.Outputs.{Made, Noted, law_says, output, table_says}
-use Rattle.ft_orb.specs.Servants.{Meaning}
-use Rattle.ft_orb.specs.Standing.{Stands}
+use Rattle.ft_objects.specs.Servants.{Meaning}
+use Rattle.ft_orb.specs.Standing.{Shown, Stands}
 use Rattle.uses.specs.Pieces.{event_of, octets_for}
 use Rattle.uses.specs.declared.pieces.Piece.{Piece as CodePiece}
 
@@ -45,7 +44,7 @@ module _ {S : Type 0} (meaning : Meaning S) (made : Made S) where
   TableFor past es = octets_for made.limits meaning.knows (table_says meaning made) past es
 
   -- one piece more was fed
-  pub fed-more : (server : Server S) (pieces : List CodePiece) (i : ℕ) (p : CodePiece) (octets : List ℕ) (past : List Event) (start out grown written : List ℕ) → i < length pieces → p ≡ get_or pieces i p → octets ≡ p.octets.items
+  pub fed-more : (server : Shown S) (pieces : List CodePiece) (i : ℕ) (p : CodePiece) (octets : List ℕ) (past : List Event) (start out grown written : List ℕ) → i < length pieces → p ≡ get_or pieces i p → octets ≡ p.octets.items
       → out ≡ start ++ TableFor past (map event_of (take i pieces)) → grown ≡ out ++ written
       → written ≡ output made.limits meaning.knows (table_says meaning made) (reverse (map event_of (take i pieces)) ++ past) (Piece 1 p.moment octets)
       → Stands meaning made server (Piece 1 p.moment octets ∷ (reverse (map event_of (take i pieces)) ++ past))

@@ -13,7 +13,7 @@ use Rattle.ft_log.specs.Performed.{Performed}
 use Rattle.ft_log.specs.declared.system_exception.SystemName.{SystemName}
 use Rattle.ft_orb.specs.ExactlyOnce.{Arrival, answer_of, has_key, outcome_kept, outcome_of, performed_of}
 use Rattle.ft_orb.specs.History.{arrivals}
-use Rattle.ft_orb.specs.Replies.{answered_as}
+use Rattle.ft_objects.specs.Replies.{answered_as}
 use Rattle.ft_orb.specs.Requests.{Call as Asked, Wanted}
 use Rattle.uses.specs.Cutting.{IsFirst, first_ticket, newcomers, world_at}
 use Rattle.uses.specs.Serving.{tickets_made}

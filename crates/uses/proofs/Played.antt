@@ -10,13 +10,12 @@ use Rattle.ft_ends.specs.Both.{ActsOnce}
 use Rattle.ft_ends.specs.Laws.{sides_of}
 use Rattle.ft_ends.specs.Playing.{AreBeginning, AreNew, given_of, numbered, step_as}
 use Rattle.ft_ends.specs.World.{Step, World, world}
-use Rattle.ft_orb.specs.declared.server.Server.{Server}
-use Rattle.ft_orb.specs.Standing.{Stands}
+use Rattle.ft_orb.specs.Standing.{Shown, Stands}
 use Rattle.uses.specs.Cutting.{newcomers}
 use Rattle.uses.specs.Serving.{tickets_made}
 use Rattle.uses.specs.Tickets.{tickets_meaning}
 
-pub begins : (limits : Limits) (server : Server ℕ) (clients : List FtClient) → Stands tickets_meaning (tickets_made limits) server [] → AreNew (newcomers limits) clients
+pub begins : (limits : Limits) (server : Shown ℕ) (clients : List FtClient) → Stands tickets_meaning (tickets_made limits) server [] → AreNew (newcomers limits) clients
     → AreBeginning tickets_meaning (tickets_made limits) (newcomers limits) server clients
 begins limits server clients stands new = record { stands = stands; clients_are = new; distinct = (tt, tt) }
 
@@ -40,6 +39,6 @@ module _ (limits : Limits) where
       → ActsOnce tickets_meaning (tickets_made limits) (newcomers limits) (played limits steps) → ActsOnce tickets_meaning (tickets_made limits) (newcomers limits) (played limits expected)
   once_in steps expected = subst (λ (ss : List Step). ActsOnce tickets_meaning (tickets_made limits) (newcomers limits) (played limits ss))
 
-  pub stands_in : (server : Server ℕ) (steps expected : List Step) → steps ≡ expected
+  pub stands_in : (server : Shown ℕ) (steps expected : List Step) → steps ≡ expected
       → Stands tickets_meaning (tickets_made limits) server (played limits steps).past → Stands tickets_meaning (tickets_made limits) server (played limits expected).past
   stands_in server steps expected = subst (λ (ss : List Step). Stands tickets_meaning (tickets_made limits) server (played limits ss).past)

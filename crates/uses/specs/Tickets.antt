@@ -6,9 +6,9 @@ use Rattle.cdr_core.specs.View.{forms}
 use Rattle.ft_log.specs.Performed.{Performed, returned, system}
 use Rattle.ft_log.specs.declared.system_exception.Completion.TheVariants.{No}
 use Rattle.ft_log.specs.declared.system_exception.SystemName.TheVariants.{ImpLimit}
-use Rattle.ft_orb.specs.Interfaces.{Types}
-use Rattle.ft_orb.specs.Objects.{Object, meaning_of}
-use Rattle.ft_orb.specs.Servants.{Meaning}
+use Rattle.ft_objects.specs.Interfaces.{Types}
+use Rattle.ft_objects.specs.Objects.{Object, meaning_of}
+use Rattle.ft_objects.specs.Servants.{Meaning}
 
 -- its object key
 abbrev pub is_tickets : List ℕ → Bool

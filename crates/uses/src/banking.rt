@@ -5,10 +5,8 @@ ghost use Rattle.ft_orb.specs.Engines.{waits_in};
 
 use cdr_core::{Ty, Val};
 use ft_log::{Completion, Outcome, SystemName};
-use ft_orb::{
-    Asked, Catalogue, ConnectError, Engine, Event, Fed, Interfaces, InterfacesError, Performer,
-    ServeError, Signature, longlong_at, string_at,
-};
+use ft_objects::{Catalogue, Interfaces, InterfacesError, Signature, longlong_at, string_at};
+use ft_orb::{Asked, ConnectError, Engine, Event, Fed, Performer, ServeError};
 use giop_frames::Limits;
 use std::alloc::{AllocError, Global};
 use std::collections::BTreeMap;

@@ -6,13 +6,13 @@ ghost use Rattle.cdr_core.specs.View.{value_of, values_of};
 ghost use Rattle.giop_core.specs.Content.{Rest};
 ghost use Rattle.giop_core.specs.Lent.{content_of, rest_of};
 ghost use Rattle.ft_log.specs.View.{performed_in};
-ghost use Rattle.ft_orb.specs.Interfaces.{raw_arguments};
+ghost use Rattle.ft_objects.specs.Interfaces.{raw_arguments};
 ghost use Rattle.uses.specs.Forwarding.{CanBeForwarded, can_stand, completion_of, first_said, forwarded_octets, kept_status, outcome_of, told_by, untold};
 ghost use Rattle.uses.specs.declared.forwarding.ForwardError.TheVariants.{Memory, Unfit};
 
 use cdr_core::{Order, Val, has_no_nul};
 use ft_log::{Completion, Outcome, RawStatus, SystemName};
-use ft_orb::{boolean_at, octets_at, ulong_at};
+use ft_objects::{boolean_at, octets_at, ulong_at};
 use giop_core::{Body, Content, Message, ReplyWish, Target, Version, WriteError, write_request};
 use giop_frames::{Assembler, Limits, StreamFault};
 use std::alloc::{AllocError, Global};

@@ -4,12 +4,12 @@ ghost use Rattle.std.specs.Prelude.{◌≡◌, [], map, IfOk, IsTrue, OnErr};
 ghost use Rattle.cdr_core.specs.Parts.{longlong_value};
 ghost use Rattle.cdr_core.specs.View.{value_of};
 ghost use Rattle.ft_log.specs.View.{performed_in};
-ghost use Rattle.ft_orb.specs.Interfaces.{types_of};
+ghost use Rattle.ft_objects.specs.Interfaces.{types_of};
 ghost use Rattle.uses.specs.Ledger.{entries_types, is_ledger, lists, post_types, posted, refuses, settled, tells, total_types};
 
 use cdr_core::{Ty, Val};
 use ft_log::{Completion, Outcome, SystemName};
-use ft_orb::{Lookup, Servant, Signature, longlong_at};
+use ft_objects::{Lookup, Servant, Signature, longlong_at};
 use std::alloc::{AllocError, Global};
 use std::marker::Model;
 
@@ -46,7 +46,7 @@ pub struct Ledger {
 
 impl Model for Ledger {
     ghost use Rattle.std.specs.Prelude.{◌≡◌, ℤ, List, IsTrue};
-    ghost use Rattle.ft_orb.specs.Interfaces.{types_of};
+    ghost use Rattle.ft_objects.specs.Interfaces.{types_of};
     ghost use Rattle.uses.specs.Ledger.{entries_types, is_ledger, post_types, total_of, total_types};
 
     ghost Value = { List ℤ };

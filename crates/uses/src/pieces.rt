@@ -8,7 +8,8 @@ ghost use Rattle.uses.specs.Pieces.{AreServedOnce, event_of, octets_for};
 
 use crate::serving::ServingError;
 use crate::tickets::Tickets;
-use ft_orb::{Servant, ServeError, Server};
+use ft_objects::Servant;
+use ft_orb::{ServeError, Server};
 use giop_frames::Limits;
 use std::alloc::Global;
 use std::hash::RandomState;

@@ -4,13 +4,14 @@ ghost use Rattle.std.specs.Prelude.{◌≡◌, ◌+◌, ◌%◌, ◌^◌, List, 
 ghost use Rattle.cdr_core.specs.View.{values_of};
 ghost use Rattle.giop_core.specs.Content.{Rest};
 ghost use Rattle.ft_log.specs.View.{performed_in};
-ghost use Rattle.ft_orb.specs.Interfaces.{raw_arguments};
+ghost use Rattle.ft_objects.specs.Interfaces.{raw_arguments};
 ghost use Rattle.uses.specs.Relaying.{Exchange, Exchanged, IsForwarded};
 
 use crate::banking::{BankingError, serve_events};
 use crate::forwarding::{ForwardError, body_of, forward_request, read_reply, untold};
 use ft_log::{Completion, Outcome, SystemName};
-use ft_orb::{Asked, Engine, Event, Interfaces, Performer, Servant, Server};
+use ft_objects::{Interfaces, Servant};
+use ft_orb::{Asked, Engine, Event, Performer, Server};
 use giop_frames::Limits;
 use std::alloc::{AllocError, Global};
 use std::hash::RandomState;

@@ -2,12 +2,12 @@
 
 ghost use Rattle.std.specs.Prelude.{◌≡◌, pos, IfOk, OnErr};
 ghost use Rattle.ft_log.specs.View.{performed_in};
-ghost use Rattle.ft_orb.specs.Interfaces.{types_of};
+ghost use Rattle.ft_objects.specs.Interfaces.{types_of};
 ghost use Rattle.uses.specs.Saving.{balance_types, deposit_types, deposited, tells};
 
 use cdr_core::{Ty, Val};
 use ft_log::{Completion, Outcome, SystemName};
-use ft_orb::{Lookup, Servant, Signature, longlong_at};
+use ft_objects::{Lookup, Servant, Signature, longlong_at};
 use std::alloc::{AllocError, Global};
 use std::marker::Model;
 
@@ -35,7 +35,7 @@ pub struct Savings {
 
 impl Model for Savings {
     ghost use Rattle.std.specs.Prelude.{◌≡◌, ℤ};
-    ghost use Rattle.ft_orb.specs.Interfaces.{types_of};
+    ghost use Rattle.ft_objects.specs.Interfaces.{types_of};
     ghost use Rattle.uses.specs.Saving.{balance_types, deposit_types};
 
     ghost Value = { ℤ };

@@ -1,12 +1,12 @@
 //! Write a servant: an object that hands out numbers.
 
 ghost use Rattle.std.specs.Prelude.{◌≡◌, IfOk};
-ghost use Rattle.ft_orb.specs.Interfaces.{types_of};
+ghost use Rattle.ft_objects.specs.Interfaces.{types_of};
 ghost use Rattle.uses.specs.Tickets.{next_types};
 
 use cdr_core::{Ty, Val};
 use ft_log::{Completion, Outcome, SystemName};
-use ft_orb::{Lookup, Servant, Signature};
+use ft_objects::{Lookup, Servant, Signature};
 use std::alloc::{AllocError, Global};
 use std::marker::Model;
 
@@ -25,7 +25,7 @@ pub struct Tickets {
 
 impl Model for Tickets {
     ghost use Rattle.std.specs.Prelude.{◌≡◌, ℕ};
-    ghost use Rattle.ft_orb.specs.Interfaces.{types_of};
+    ghost use Rattle.ft_objects.specs.Interfaces.{types_of};
     ghost use Rattle.uses.specs.Tickets.{next_types};
 
     ghost Value = { ℕ };

@@ -4,13 +4,13 @@ use Rattle.std.proofs.Common.{rules, refl, subst, sym, inl}
 use Rattle.cdr_core.specs.Fitting.{FitsMembers}
 use Rattle.cdr_core.specs.Form as form
 use Rattle.cdr_core.specs.Value.{Values}
-use Rattle.ft_orb.specs.Accessors.{long_of, read_at}
-use Rattle.ft_orb.specs.facts.Accessors.{long_fits}
-use Rattle.ft_orb.specs.Objects.{Suits}
-use Rattle.ft_orb.specs.facts.Objects.{bounded_suits, either_suits, object_is_servant}
-use Rattle.ft_orb.specs.Servants.{IsServant}
-use Rattle.ft_orb.specs.facts.Results.{number_fits}
-use Rattle.ft_orb.specs.facts.Sizes.{clean_by}
+use Rattle.ft_objects.specs.Accessors.{long_of, read_at}
+use Rattle.ft_objects.specs.facts.Accessors.{long_fits}
+use Rattle.ft_objects.specs.Objects.{Suits}
+use Rattle.ft_objects.specs.facts.Objects.{bounded_suits, either_suits, object_is_servant}
+use Rattle.ft_objects.specs.Servants.{IsServant}
+use Rattle.ft_objects.specs.facts.Results.{number_fits}
+use Rattle.ft_objects.specs.facts.Sizes.{clean_by}
 use Rattle.counter.specs.Counter.{add, add_types, counter, counter_meaning, is_long_long, overflow_id, sum_of}
 
 summed : (total n : ℤ) → IsTrue (is_long_long total) → Suits is_long_long add_types (sum_of total n)

@@ -16,7 +16,7 @@ use crate::served;
 use crate::serving::Serving;
 use crate::slot::Slot;
 use crate::terms::Terms;
-use ft_orb::Interfaces;
+use ft_objects::Interfaces;
 use std::alloc::Global;
 use std::hash::RandomState;
 use std::mem;

@@ -5,7 +5,7 @@ ghost use Rattle.cdr_core.specs.Fitting.{AreValid};
 ghost use Rattle.cdr_core.specs.View.{forms_of};
 ghost use Rattle.ft_log.specs.View.{performed_in};
 ghost use Rattle.ft_orb.specs.Engines.{awaited_lent, waits_in};
-ghost use Rattle.ft_orb.specs.Interfaces.{raise_of};
+ghost use Rattle.ft_objects.specs.Interfaces.{raise_of};
 ghost use Rattle.lemonrudder.specs.Outcomes.{forms_in, members_in, outcome_read};
 
 use crate::named::{completion_of, order_of, raw_status_of, system_name_of};
@@ -14,7 +14,8 @@ use crate::serving::Serving;
 use crate::types::values_of;
 use cdr_core::{Order, Ty, Val};
 use ft_log::Outcome;
-use ft_orb::{Asked, Catalogue, Lookup, string_at};
+use ft_objects::{Catalogue, Lookup, string_at};
+use ft_orb::Asked;
 
 impl Serving {
     ghost use Rattle.lemonrudder.specs.Outcomes.{AreFound, AreRead, HandsIn, OnAnswer, OnAnswerRaw, OnIdentify, OnRaise, OnSystem, identity_at, interface_at, member_types, result_types};

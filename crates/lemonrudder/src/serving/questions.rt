@@ -3,13 +3,14 @@
 ghost use Rattle.std.specs.Prelude.{◌≡◌};
 ghost use Rattle.cdr_core.specs.View.{values_of};
 ghost use Rattle.ft_orb.specs.Engines.{awaited_lent};
-ghost use Rattle.ft_orb.specs.Interfaces.{interface_of};
+ghost use Rattle.ft_objects.specs.Interfaces.{interface_of};
 
 use crate::refusal::{Refusal, copied, count_of};
 use crate::request::{RequestHead, put_question};
 use crate::serving::Serving;
 use cdr_core::{Order, end_of_list, write_list};
-use ft_orb::{Asked, Catalogue, Lookup, boolean_at, octets_at, ulong_at};
+use ft_objects::{Catalogue, Lookup, boolean_at, octets_at, ulong_at};
+use ft_orb::Asked;
 use giop_core::{FtField, ft_request};
 use giop_link::Inbound;
 

@@ -7,14 +7,14 @@ use Rattle.cdr_core.specs.Fitting.{Fits, FitsMembers}
 use Rattle.cdr_core.specs.Form as form
 use Rattle.cdr_core.specs.Parts.{longlong, longlong_value}
 use Rattle.cdr_core.specs.Value.{Values}
-use Rattle.ft_orb.specs.Accessors.{longlong_of, read_at}
-use Rattle.ft_orb.specs.facts.Accessors.{longlong_fits}
-use Rattle.ft_orb.specs.Objects.{Suits}
-use Rattle.ft_orb.specs.facts.Objects.{bounded_suits, either_suits, object_is_servant}
-use Rattle.ft_orb.specs.Servants.{IsServant}
-use Rattle.ft_orb.specs.facts.Ranges.{test_by_range}
-use Rattle.ft_orb.specs.facts.Results.{number_fits, sequence_fits}
-use Rattle.ft_orb.specs.facts.Sizes.{clean_by}
+use Rattle.ft_objects.specs.Accessors.{longlong_of, read_at}
+use Rattle.ft_objects.specs.facts.Accessors.{longlong_fits}
+use Rattle.ft_objects.specs.Objects.{Suits}
+use Rattle.ft_objects.specs.facts.Objects.{bounded_suits, either_suits, object_is_servant}
+use Rattle.ft_objects.specs.Servants.{IsServant}
+use Rattle.ft_objects.specs.facts.Ranges.{test_by_range}
+use Rattle.ft_objects.specs.facts.Results.{number_fits, sequence_fits}
+use Rattle.ft_objects.specs.facts.Sizes.{clean_by}
 use Rattle.uses.specs.Ledger.{can_post, entries_types, is_ledger, is_long_long, ledger, ledger_meaning, lists, post, post_types, posted, refused_id, settled, total_of, total_types}
 
 pub total_of-append : (entries : List ℤ) (cents : ℤ) → total_of (entries ++ cents ∷ []) ≡ total_of entries +ℤ cents

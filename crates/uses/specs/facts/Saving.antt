@@ -5,13 +5,13 @@ use Rattle.std.proofs.lemmas.Bool.{and_parts}
 use Rattle.cdr_core.specs.Fitting.{FitsMembers}
 use Rattle.cdr_core.specs.Form as form
 use Rattle.cdr_core.specs.Value.{Values}
-use Rattle.ft_orb.specs.Accessors.{longlong_of, read_at}
-use Rattle.ft_orb.specs.facts.Accessors.{longlong_fits}
-use Rattle.ft_orb.specs.Objects.{Suits}
-use Rattle.ft_orb.specs.facts.Objects.{bounded_suits, either_suits, object_is_servant}
-use Rattle.ft_orb.specs.Servants.{IsServant}
-use Rattle.ft_orb.specs.facts.Results.{number_fits}
-use Rattle.ft_orb.specs.facts.Sizes.{clean_by}
+use Rattle.ft_objects.specs.Accessors.{longlong_of, read_at}
+use Rattle.ft_objects.specs.facts.Accessors.{longlong_fits}
+use Rattle.ft_objects.specs.Objects.{Suits}
+use Rattle.ft_objects.specs.facts.Objects.{bounded_suits, either_suits, object_is_servant}
+use Rattle.ft_objects.specs.Servants.{IsServant}
+use Rattle.ft_objects.specs.facts.Results.{number_fits}
+use Rattle.ft_objects.specs.facts.Sizes.{clean_by}
 use Rattle.uses.specs.Saving.{deposit, deposit_types, deposited, is_long_long, overdrawn_id, savings, savings_meaning}
 
 given_deposit : (balance cents : ℤ) → IsTrue (is_long_long balance) → Suits is_long_long deposit_types (deposited balance cents)

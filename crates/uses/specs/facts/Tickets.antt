@@ -1,9 +1,9 @@
 -- That the tickets keep a servant's promises. Nobody has to read this proof; it stands here since `impl Servant` cites it.
 use Rattle.std.specs.Prelude.{ℕ, ◌+◌, IsTrue}
 use Rattle.std.proofs.Common.{rules, refl, ltb-true}
-use Rattle.ft_orb.specs.Objects.{Suits}
-use Rattle.ft_orb.specs.facts.Objects.{applied_is_servant, bounded_suits, either_suits}
-use Rattle.ft_orb.specs.Servants.{IsServant}
+use Rattle.ft_objects.specs.Objects.{Suits}
+use Rattle.ft_objects.specs.facts.Objects.{applied_is_servant, bounded_suits, either_suits}
+use Rattle.ft_objects.specs.Servants.{IsServant}
 use Rattle.uses.specs.Tickets.{is_ulonglong, next, next_types, tickets, tickets_meaning}
 
 given_next : (given : ℕ) → IsTrue (is_ulonglong given) → Suits is_ulonglong next_types (next given)

@@ -7,7 +7,7 @@ use Rattle.cdr_core.specs.declared.values.Val.{the_lemmas}
 use Rattle.cdr_core.specs.declared.values.Val.TheVariants.{Enum, ULong}
 use Rattle.giop_core.specs.Written.{exception_body}
 use Rattle.ft_log.specs.Exceptions.{completion_number, repository_id}
-use Rattle.ft_orb.specs.Replies.{system_members}
+use Rattle.ft_objects.specs.Replies.{system_members}
 use Rattle.ft_orb.proofs.outcomes.can_refuse.Goals as goal
 
 members : (minor n : ℕ) → values_of (ULong minor ∷ Enum n ∷ []) ≡ system_members minor n

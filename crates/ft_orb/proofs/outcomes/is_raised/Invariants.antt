@@ -2,7 +2,7 @@ use Rattle.std.proofs.Common.{◌↔◌, drop, map}
 use Rattle.std.specs.List.{AllByRecursion}
 use Rattle.cdr_core.specs.Fitting.{AreValid}
 use Rattle.cdr_core.specs.View.{values_of}
-use Rattle.ft_orb.specs.Interfaces.{IsRaised, raise_of}
+use Rattle.ft_objects.specs.Interfaces.{IsRaised, raise_of}
 use Rattle.ft_orb.proofs.outcomes.is_raised.Given as goal
 
 -- it is none of those before this

@@ -4,7 +4,7 @@ use Rattle.ft_log.specs.Logged.{logged}
 use Rattle.ft_log.specs.View.{performed_in}
 use Rattle.ft_orb.specs.Pauses.{Breaks, IsServedTo, Reaches}
 use Rattle.ft_orb.specs.Private.{all_answered}
-use Rattle.ft_orb.specs.Replies.{IsRenderable}
+use Rattle.ft_objects.specs.Replies.{IsRenderable}
 use Rattle.ft_orb.specs.Runs.{answers_by}
 use Rattle.ft_orb.specs.Waits.{call_of}
 use Rattle.ft_orb.proofs.Going.{counted-few}

@@ -12,12 +12,12 @@ pub returns-clause-once : goal.returns-clause-once
 returns-clause-once c =
     let start : c.in_ok-counter.counter ≡ c.args.terms.start = search rules in
     let played = c.in_ok-play.ensures.once (made_with c.args.terms c.in_ok-counter.counter) [] c.new-server.ensures.stands in
-    let total : to_z w64 (of_z w64 c.total-total.result) ≡ c.play.new.server.desk.servant = search rules in
-    law_of c.args.terms c.in_ok-counter.counter c.args.events.now c.new-written.result.items c.play.new.out.items played.0 c.play.new.server.desk.servant _ start c.new-written.ensures.items played.1 total played.2
+    let total : to_z w64 (of_z w64 c.total-total.result) ≡ c.play.new.server.servant = search rules in
+    law_of c.args.terms c.in_ok-counter.counter c.args.events.now c.new-written.result.items c.play.new.out.items played.0 c.play.new.server.servant _ start c.new-written.ensures.items played.1 total played.2
 
 pub returns-clause-now : goal.returns-clause-now
 returns-clause-now c =
     let start : c.in_ok-counter.counter ≡ c.args.terms.start = search rules in
     let played = c.in_ok-play.ensures.now (made_with c.args.terms c.in_ok-counter.counter) [] c.new-server.ensures.stands in
-    let total : to_z w64 (of_z w64 c.total-total.result) ≡ c.play.new.server.desk.servant = search rules in
-    now_of c.args.terms c.in_ok-counter.counter c.args.events.now c.new-written.result.items c.play.new.out.items played.0 c.play.new.server.desk.servant _ start c.new-written.ensures.items played.1 total (played.2, played.3)
+    let total : to_z w64 (of_z w64 c.total-total.result) ≡ c.play.new.server.servant = search rules in
+    now_of c.args.terms c.in_ok-counter.counter c.args.events.now c.new-written.result.items c.play.new.out.items played.0 c.play.new.server.servant _ start c.new-written.ensures.items played.1 total (played.2, played.3)

@@ -1,5 +1,5 @@
 use Rattle.std.proofs.Common.{refl}
-use Rattle.ft_orb.specs.Filling.{offer_of}
+use Rattle.ft_objects.specs.Filling.{offer_of}
 use Rattle.lemonrudder.proofs.Idling.{not_both, not_so}
 use Rattle.lemonrudder.proofs.Owing.{feeds-now-owed, feeds-once-owed, feeds-owed, feeds-stays}
 use Rattle.lemonrudder.proofs.serving.Serving.feed.Goals as goal

@@ -1,7 +1,7 @@
 use Rattle.std.proofs.Common.{refl}
 use Rattle.ft_log.specs.View.{performed_in}
 use Rattle.ft_orb.specs.Engines.{waits_in}
-use Rattle.ft_orb.specs.Filling.{offer_of}
+use Rattle.ft_objects.specs.Filling.{offer_of}
 use Rattle.std.specs.Option.{IsSome}
 use Rattle.lemonrudder.specs.Refusals.{refusal_of_serving}
 use Rattle.lemonrudder.proofs.Ended.{err-done, ok-done}

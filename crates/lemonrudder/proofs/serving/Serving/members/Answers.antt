@@ -1,8 +1,8 @@
 use Rattle.std.proofs.Common.{◌≡◌, ◌∙◌, Some, ap, map, subst, sym}
 use Rattle.cdr_core.specs.View.{forms_of}
 use Rattle.ft_orb.specs.Engines.{awaited_lent}
-use Rattle.ft_orb.specs.Interfaces.{IsValidInterface, interface_of, operation, raise_of, types_of}
-use Rattle.ft_orb.specs.facts.Promises.{offer-is}
+use Rattle.ft_objects.specs.Interfaces.{IsValidInterface, interface_of, operation, raise_of, types_of}
+use Rattle.ft_objects.specs.facts.Promises.{offer-is}
 use Rattle.lemonrudder.specs.Outcomes.{forms_in, interface_at, member_types, members_in}
 use Rattle.lemonrudder.proofs.Handing.{found-some}
 use Rattle.lemonrudder.proofs.Raising.{members-valid}

@@ -1,5 +1,5 @@
 use Rattle.std.proofs.Common.{◌≡◌, drop, map}
-use Rattle.ft_orb.specs.Interfaces.{raise_of}
+use Rattle.ft_objects.specs.Interfaces.{raise_of}
 use Rattle.lemonrudder.specs.Outcomes.{members_in}
 use Rattle.lemonrudder.proofs.serving.outcomes.types_of_exception.Given as goal
 

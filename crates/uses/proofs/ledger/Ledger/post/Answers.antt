@@ -1,6 +1,6 @@
 use Rattle.std.proofs.Common.{rules}
 use Rattle.cdr_core.specs.Form as form
-use Rattle.ft_orb.specs.facts.Ranges.{test_by_range}
+use Rattle.ft_objects.specs.facts.Ranges.{test_by_range}
 use Rattle.uses.specs.facts.Ledger.{posted_stays, total_of-append}
 use Rattle.uses.proofs.ledger.Ledger.post.Goals as goal
 

@@ -1,0 +1,3 @@
+pub mod BasicValues
+pub mod Named
+pub mod Filled

@@ -1,0 +1,85 @@
+-- What a servant offers: its operations with the types of their arguments and of what they give.
+use Rattle.std.specs.Prelude.{◌≡◌, ◌⊎◌, ℕ, Bool, true, false, List, [], ◌∷◌, map, ⊤}
+use Rattle.std.specs.List.{AllByRecursion}
+use Rattle.std.proofs.Common.{Vec, Global}
+use Rattle.cdr_core.specs.Fitting.{AreValid, FitsMembers}
+use Rattle.cdr_core.specs.Form.{Forms}
+use Rattle.cdr_core.specs.Parts.{ulong_value}
+use Rattle.cdr_core.specs.Spelling.{IsClean}
+use Rattle.cdr_core.specs.Value as value
+use Rattle.cdr_core.specs.Value.{Values, values}
+use Rattle.cdr_core.specs.View.{forms_of}
+use Rattle.cdr_core.specs.declared.order.Order.{Order}
+use Rattle.cdr_core.specs.declared.order.Order.TheVariants.{Big, Little}
+use Rattle.cdr_core.specs.declared.types.Ty.{Ty}
+use Rattle.giop_core.specs.Content.{Rest}
+use Rattle.ft_log.specs.Performed.{Performed, raised, raw, returned, system}
+use Rattle.ft_objects.specs.declared.signature.Lookup.{Lookup}
+use Rattle.ft_objects.specs.declared.signature.Lookup.TheVariants as lookup
+use Rattle.ft_objects.specs.declared.signature.Signature.{Signature}
+
+-- the types of an operation's arguments, of its results (the return value, then the out and inout parameters), and of the
+-- members of each exception that it declares, by its repository id
+pub record Types : Type 0 where
+  pub arguments : Forms
+  pub results : Forms
+  pub raises : List (List ℕ × Forms)
+
+-- what an object key and an operation's name lead to: an operation of types, or one that is raw, whose bodies nobody but its
+-- owner reads and writes (own rule)
+pub data Interface : Type 0 where
+  no_object : Interface
+  no_operation : Interface
+  operation : Types → Interface
+  raw_operation : Interface
+
+-- all types are valid
+abbrev pub IsValidInterface : Interface → Type 0
+IsValidInterface (operation t) = AreValid t.arguments × AreValid t.results × AllByRecursion (λ r. AreValid r.1) t.raises
+IsValidInterface _ = ⊤
+
+-- whether it is little-endian
+abbrev pub is_little : Order → Bool
+is_little Big = false
+is_little Little = true
+
+-- the arguments of a raw operation are the body of its request: the octets, whether they are little-endian, and their place in the
+-- message
+abbrev pub raw_arguments : Rest → Values
+raw_arguments body = values (value.octets body.octets ∷ value.boolean (is_little body.order) ∷ ulong_value body.place ∷ [])
+
+-- these are arguments of the operation
+abbrev pub AreArgumentsOf : Interface → Values → Type 0
+AreArgumentsOf (operation t) arguments = FitsMembers t.arguments arguments
+AreArgumentsOf raw_operation arguments = (body : Rest) × (arguments ≡ raw_arguments body)
+AreArgumentsOf _ arguments = ⊥
+
+-- an exception is declared with this id, and these are its members
+abbrev pub IsRaised : List (List ℕ × Forms) → List ℕ → Values → Type 0
+IsRaised [] id members = ⊥
+IsRaised (r ∷ rs) id members = ((r.0 ≡ id) × FitsMembers r.1 members) ⊎ IsRaised rs id members
+
+-- an outcome is one of the operation: results of its types, an exception that it declares, or a system exception; of a raw one a
+-- body of octets, or a system exception
+abbrev pub IsOutcomeOf : Interface → Performed → Type 0
+IsOutcomeOf (operation t) (returned results) = FitsMembers t.results results
+IsOutcomeOf (operation t) (raised id members) = IsClean id × IsRaised t.raises id members
+IsOutcomeOf (operation t) (system name minor completion) = ⊤
+IsOutcomeOf raw_operation (raw status order body) = ⊤
+IsOutcomeOf raw_operation (system name minor completion) = ⊤
+IsOutcomeOf _ outcome = ⊥
+
+-- an exception of the code
+abbrev pub raise_of : Vec ℕ Global × Vec Ty Global → List ℕ × Forms
+raise_of r = (r.0.items, forms_of r.1.items)
+
+-- a signature of the code
+abbrev pub types_of : Signature → Types
+types_of s = record { arguments = forms_of s.arguments.items; results = forms_of s.results.items; raises = map raise_of s.raises.items }
+
+-- what the code's look-up says
+abbrev pub interface_of : Lookup → Interface
+interface_of lookup.NoObject = no_object
+interface_of lookup.NoOperation = no_operation
+interface_of (lookup.Operation s) = operation (types_of s.now)
+interface_of lookup.Raw = raw_operation

@@ -1,0 +1,12 @@
+-- Proofs that clauses cite, or that those of servants do. Nobody has to read them to know what is promised.
+-- that arguments are there and of their types, that numbers are in their ranges by a test and back, that numbers and sequences fit as
+-- results, that outcomes of bounded types can be sent, and that a servant by a table keeps its promises: proofs of servants cite them
+pub mod Accessors
+pub mod Ranges
+pub mod Results
+pub mod Sizes
+pub mod Objects
+-- that types are valid is a fact, with at most one proof: a field of `Typed` cites it
+pub mod Validity
+-- that a catalogue that is filled in keeps the promises of one: the `impl` of `Interfaces` cites it
+pub mod Promises

@@ -1,7 +1,0 @@
-use Rattle.std.proofs.Common.{◌↔◌, drop, map}
-use Rattle.ft_orb.specs.Filling.{AreClean}
-use Rattle.ft_orb.proofs.interfaces.are_clean.Given as goal
-
--- no id before this has a NUL
-abbrev pub invariant-loop-id : goal.invariant-loop-id
-invariant-loop-id l = AreClean (map (λ id. id.items) l.ids) ↔ AreClean (map (λ id. id.items) (drop l.id-index l.ids))
