@@ -319,8 +319,8 @@ def line_of(file: str, name: str) -> int:
 def excluded_lines(wrongs: list[Wrong]) -> list[str]:
     """The wrong bodies by the clause that refuses them, and before these those of which it is not said."""
     lines = []
-    for clause in sorted({w.refused_by or "" for w in wrongs}):
-        said = "; ".join(w.text() for w in wrongs if (w.refused_by or "") == clause)
+    for clause in sorted({w.refused_by for w in wrongs}):
+        said = "; ".join(w.text() for w in wrongs if w.refused_by == clause)
         lines.append(f"- {clause} refuses {said}" if clause else f"- to be refused, by a clause that is not noted yet: {said}")
     return lines
 

@@ -35,7 +35,8 @@ LISTS = [
         "The headline's own words",
         "From the clause `new` of `play`. `ExactlyOnce` is the heart of it, without a log or an octet: read it first.",
         HEADLINE,
-        tuple("ft_orb/" + it for it in "ExactlyOnce Requests History Outputs Standing Servants Laws".split()),
+        tuple("ft_orb/" + it for it in "ExactlyOnce Requests History Outputs Standing Laws".split())
+        + ("ft_objects/Servants",),
     ),
     Listing(
         "Laws that make these words mean the sentence",
@@ -74,15 +75,16 @@ LISTS = [
         "What is asked of a servant, of a catalogue, and of the requests that arrive; and how a wire and a clock are"
         " believed: where they say what they did, and only there.",
         (
-            ("ft_orb", None, ("IsServant", "IsOffer", "OneExpiration", "IfKnown", "act_of_read", "act_of_write")),
+            ("ft_objects", None, ("IsServant", "IsOffer")),
+            ("ft_orb", None, ("OneExpiration", "IfKnown", "act_of_read", "act_of_write")),
         ),
-        ("ft_orb/",),
+        ("ft_objects/", "ft_orb/"),
     ),
     Listing(
         "Answers as messages",
         "What a request is offered, and what a Reply says.",
         HEADLINE,
-        ("ft_orb/",),
+        ("ft_objects/", "ft_orb/"),
         (("ft_orb", "replies_have_one_body"),),
     ),
     Listing("Keys and outcomes", "What a key is, and what is kept under it.", HEADLINE, ("ft_log/",)),
@@ -167,4 +169,7 @@ LISTS = [
 # so many of them are the headline's, layer by layer
 LAYERS = 11
 # from the top down
-FLOORS = ["ft_ends", "ft_client", "ft_orb", "ft_log", "giop_link", "giop_frames", "giop_core", "ior_core", "cdr_core"]
+FLOORS = [
+    "ft_ends", "ft_client", "ft_orb", "ft_objects", "ft_log", "giop_link", "giop_frames", "giop_core", "ior_core",
+    "cdr_core",
+]
