@@ -5,11 +5,9 @@ ghost use Rattle.std.specs.Duration.{as_nanos};
 ghost use Rattle.ft_tcp.specs.Moments.{moment_at};
 
 use ft_orb::Clock;
+use giop_core::UNIX_EPOCH;
 use std::rt;
 use std::time::{Duration, SystemTime};
-
-/// 1 January 1970, 00:00 UTC, in units of 100 ns since 15 October 1582.
-pub const UNIX_EPOCH: u64 = 122_192_928_000_000_000;
 
 /// How many units of 100 ns a second has.
 const UNITS: u64 = 10_000_000;

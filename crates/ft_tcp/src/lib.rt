@@ -10,6 +10,6 @@ mod clock;
 mod serving;
 mod socket;
 
-pub use clock::{SystemClock, UNIX_EPOCH};
+pub use clock::SystemClock;
 pub use serving::{serve_connection, serve_on};
 pub use socket::Socket;

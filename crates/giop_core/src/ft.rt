@@ -20,6 +20,9 @@ use ior_core::read_tagged;
 /// The id of the service context FT_REQUEST (FT 23.2.7).
 pub const FT_REQUEST: u32 = 13;
 
+/// 1 January 1970, 00:00 UTC, in units of 100 ns since 15 October 1582, as an expiration counts (TimeBase::TimeT).
+pub const UNIX_EPOCH: u64 = 122_192_928_000_000_000;
+
 /// What the service contexts of a request say of its client.
 #[derive(Clone, Copy, Debug, Drop)]
 pub enum FtField<'m> {

@@ -46,7 +46,7 @@ pub use reply::{Reply, ReplyStatus, write_reply};
 pub use request::{ReplyWish, Request, write_request};
 
 // what messages lend
-pub use ft::{FT_REQUEST, FtField, ft_request, write_ft};
+pub use ft::{FT_REQUEST, FtField, UNIX_EPOCH, ft_request, write_ft};
 pub use ior_view::IorView;
 pub use service_context::Contexts;
 pub use target_address::Target;

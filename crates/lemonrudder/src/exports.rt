@@ -13,6 +13,7 @@ mod message;
 mod server;
 
 use crate::slot::Slot;
+use giop_core::UNIX_EPOCH;
 use std::alloc::Global;
 
 /// The version of the library: major * 65536 + minor * 256 + patch.
@@ -30,9 +31,6 @@ pub extern "C" fn lr_close(alloc: Global, slot: &mut Slot)
 {
     let _object = slot.take(alloc);
 }
-
-/// 1 January 1970, 00:00 UTC, in units of 100 ns since 15 October 1582.
-const UNIX_EPOCH: u64 = 122_192_928_000_000_000;
 
 /// How many units of 100 ns a second has.
 const UNITS: u64 = 10_000_000;
