@@ -11,7 +11,7 @@ use crate::report::{Report, mixed};
 use crate::stop::Stop;
 use crate::words::number;
 use cdr_core::Val;
-use ft_log::{Key, Log, LogError, Outcome};
+use ft_log::{Key, Log, LogError, Outcome, Retention};
 use std::alloc::{AllocError, Global};
 use std::hash::RandomState;
 
@@ -104,7 +104,11 @@ fn keep(alloc: Global, log: &mut Log, task: Task, index: u32) -> Result<bool, Lo
 
 /// Keeps so many outcomes.
 fn work(alloc: Global, hasher: RandomState, task: Task) -> Result<Report, LogError> {
-    let mut log = Log::new(alloc, task.entries, task.share, hasher);
+    let retention = Retention {
+        capacity: task.entries,
+        share: task.share,
+    };
+    let mut log = Log::new(alloc, retention, hasher);
     let mut found: u64 = 0;
     let mut sum = 0;
     for index in 0..task.count {

@@ -7,6 +7,7 @@
 
 use crate::stop::Stop;
 use counter::Counter;
+use ft_log::Retention;
 use ft_orb::{Event, Note, Server, Written, play};
 use giop_frames::Limits;
 use hex::FromHexError;
@@ -99,14 +100,11 @@ fn print_played(
 ) -> Result<(), Stop> {
     let alloc = rt.alloc();
     let counter = Counter::new(alloc, terms.start)?;
-    let mut server = Server::new(
-        alloc,
-        counter,
-        terms.limits,
-        terms.capacity,
-        terms.share,
-        hasher,
-    );
+    let retention = Retention {
+        capacity: terms.capacity,
+        share: terms.share,
+    };
+    let mut server = Server::new(alloc, counter, terms.limits, retention, hasher);
     let mut written = Vec::new(alloc);
     if play(alloc, &mut server, events, &mut written).is_err() {
         return Err(Stop::Memory);

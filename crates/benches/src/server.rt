@@ -17,6 +17,7 @@ use crate::serving::{Owned, Serving};
 use crate::stop::Stop;
 use crate::words::number;
 use counter::Counter;
+use ft_log::Retention;
 use ft_orb::{Engine, Server};
 use giop_frames::Limits;
 use std::alloc::{AllocError, Global};
@@ -273,14 +274,11 @@ fn work<S: Serving>(rt: &HostRuntime, server: &mut S, task: Task) -> Result<Repo
 /// A server of a counter from 0 that keeps so many outcomes, and whose connection 1 is open.
 fn new_server(alloc: Global, hasher: RandomState, task: Task) -> Result<Server<Counter>, Stop> {
     let counter = Counter::new(alloc, 0)?;
-    let mut server = Server::new(
-        alloc,
-        counter,
-        Limits::default(),
-        task.entries,
-        task.share,
-        hasher,
-    );
+    let retention = Retention {
+        capacity: task.entries,
+        share: task.share,
+    };
+    let mut server = Server::new(alloc, counter, Limits::default(), retention, hasher);
     match server.connect(1) {
         Ok(()) => Ok(server),
         Err(_) => Err(Stop::Memory),
@@ -290,14 +288,11 @@ fn new_server(alloc: Global, hasher: RandomState, task: Task) -> Result<Server<C
 /// An engine that keeps so many outcomes, whose connection 1 is open, and whose owner counts from 0.
 fn new_engine(alloc: Global, hasher: RandomState, task: Task) -> Result<Owned, Stop> {
     let catalogue = Counter::new(alloc, 0)?;
-    let mut engine = Engine::new(
-        alloc,
-        catalogue,
-        Limits::default(),
-        task.entries,
-        task.share,
-        hasher,
-    );
+    let retention = Retention {
+        capacity: task.entries,
+        share: task.share,
+    };
+    let mut engine = Engine::new(alloc, catalogue, Limits::default(), retention, hasher);
     match engine.connect(1) {
         Ok(()) => Ok(Owned {
             alloc,

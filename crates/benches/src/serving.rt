@@ -56,11 +56,12 @@ impl Serving for Owned {
             let Fed::Asks(taken) = self.engine.feed(1, moment, left, out).ok()? else {
                 return Some(());
             };
+            let number = self.engine.asked()?.number;
             let outcome = self.perform()?;
-            if !self.engine.can_answer(&outcome) {
+            if !self.engine.can_answer(number, &outcome) {
                 return None;
             }
-            self.engine.answer(outcome, out).ok()?;
+            self.engine.answer(number, outcome, out).ok()?;
             left = left.get(taken..)?;
         }
         None

@@ -6,6 +6,7 @@ use crate::octets::{ADD_7, SEVEN, SEVEN_1};
 use cdr_core::Order;
 use counter::Counter;
 use ft_client::FtClient;
+use ft_log::Retention;
 use ft_orb::Server;
 use giop_frames::Limits;
 use giop_run::CAPACITY;
@@ -37,9 +38,13 @@ impl Ends {
     fn new(alloc: Global, hasher: RandomState) -> Result<Ends, Fail> {
         let counter = Counter::new(alloc, 0)?;
         let limits = Limits::default();
+        let retention = Retention {
+            capacity: CAPACITY,
+            share: CAPACITY,
+        };
         Ok(Ends {
             client: client(alloc)?,
-            server: Server::new(alloc, counter, limits, CAPACITY, CAPACITY, hasher),
+            server: Server::new(alloc, counter, limits, retention, hasher),
         })
     }
 

@@ -4,6 +4,7 @@ ghost use Rattle.std.specs.Prelude.{◌≡◌, IfOk, None};
 ghost use Rattle.ft_orb.specs.Engines.{waits_in};
 
 use crate::echo::Echo;
+use ft_log::Retention;
 use ft_objects::Interfaces;
 use ft_orb::{Engine, serve_engine};
 use ft_tcp::{Socket, SystemClock};
@@ -29,7 +30,11 @@ fn new_engine(rt: &HostRuntime) -> io::Result<Engine<Interfaces>>
     }
     let hasher = RandomState::new(rt)?;
     let limits = Limits::default();
-    Ok(Engine::new(alloc, interfaces, limits, CAPACITY, CAPACITY, hasher))
+    let retention = Retention {
+        capacity: CAPACITY,
+        share: CAPACITY,
+    };
+    Ok(Engine::new(alloc, interfaces, limits, retention, hasher))
 }
 
 /// Serves one connection to its end.

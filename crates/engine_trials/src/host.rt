@@ -74,12 +74,15 @@ impl Host {
         requires asking { IsSome (waits_in self.old.engine) }
         ensures idle { waits_in self.new.engine ≡ None }
     {
-        if let Some(asked) = self.engine.asked()
-            && let Some(outcome) = self.owner.perform(&asked)
-            && self.engine.can_answer(&outcome)
+        let Some(asked) = self.engine.asked() else {
+            return Ok(());
+        };
+        let number = asked.number;
+        if let Some(outcome) = self.owner.perform(&asked)
+            && self.engine.can_answer(number, &outcome)
         {
-            return Ok(self.engine.answer(outcome, out)?);
+            return Ok(self.engine.answer(number, outcome, out)?);
         }
-        Err(Unserved::GivenUp(self.engine.give_up()))
+        Err(Unserved::GivenUp(self.engine.give_up(number)))
     }
 }

@@ -10,6 +10,7 @@ use crate::owner::{Manner, Owner};
 use crate::stop::Stop;
 use crate::terms::{Terms, terms_in};
 use counter::Counter;
+use ft_log::Retention;
 use ft_orb::Engine;
 use std::alloc::{AllocError, Global};
 use std::hash::RandomState;
@@ -25,14 +26,11 @@ fn catalogue(alloc: Global) -> Result<Counter, AllocError> {
 fn new_host(alloc: Global, hasher: RandomState, terms: &Terms) -> Result<Host, AllocError>
     ensures { IfOk result (λ host. waits_in host.engine ≡ None) }
 {
-    let engine = Engine::new(
-        alloc,
-        catalogue(alloc)?,
-        terms.limits,
-        terms.capacity,
-        terms.share,
-        hasher,
-    );
+    let retention = Retention {
+        capacity: terms.capacity,
+        share: terms.share,
+    };
+    let engine = Engine::new(alloc, catalogue(alloc)?, terms.limits, retention, hasher);
     let owner = Owner {
         alloc,
         count: Count { total: terms.start },

@@ -273,13 +273,13 @@ module _ {State : Type 0} (meaning : Meaning State) (made : Made State) where
 
   module _ (all : List (Arrival Wanted)) (said : List Said) where
     told-replies : (before xs : List (Arrival Wanted)) → all ≡ before ++ xs → AllByRecursion (λ a. IsFrom said a) xs
-        → AllByRecursion (λ x. IsReply all said x) (filter_map answer_in (answers_told meaning.knows xs (answers_after (rules_of meaning made.capacity made.share) made.opening before xs)))
+        → AllByRecursion (λ x. IsReply all said x) (filter_map answer_in (answers_told (answer_told meaning.knows) xs (answers_after (rules_of meaning made.capacity made.share) made.opening before xs)))
     told-replies before [] split h = tt
     told-replies before (a ∷ later) split h =
         let rules = rules_of meaning made.capacity made.share in
         let from = h.0 in
         let answer = answer_of rules made.opening before a in
-        let rest = answers_told meaning.knows later (answers_after rules made.opening (before ++ a ∷ []) later) in
+        let rest = answers_told (answer_told meaning.knows) later (answers_after rules made.opening (before ++ a ∷ []) later) in
         subst (λ (w : Wanted). AllByRecursion (λ x. IsReply all said x) (filter_map answer_in (cons_option (answer_told meaning.knows w answer) rest))) (sym from.content) (
           (
             from.transmission,
@@ -290,14 +290,14 @@ module _ {State : Type 0} (meaning : Meaning State) (made : Made State) where
         )
 
   module _ (sends : AreShort meaning made) (said : List Said) where
-    told-fine : (before xs : List (Arrival Wanted)) → ArePlain before → AllByRecursion (λ a. IsFrom said a) xs → AllByRecursion IsFineTelling (answers_told meaning.knows xs (answers_after (rules_of meaning made.capacity made.share) made.opening before xs))
+    told-fine : (before xs : List (Arrival Wanted)) → ArePlain before → AllByRecursion (λ a. IsFrom said a) xs → AllByRecursion IsFineTelling (answers_told (answer_told meaning.knows) xs (answers_after (rules_of meaning made.capacity made.share) made.opening before xs))
     told-fine before [] plain h = tt
     told-fine before (a ∷ later) plain h =
         let rules = rules_of meaning made.capacity made.share in
         let from = h.0 in
         let own = plain-from said a from in
         let answer = answer_of rules made.opening before a in
-        let rest = answers_told meaning.knows later (answers_after rules made.opening (before ++ a ∷ []) later) in
+        let rest = answers_told (answer_told meaning.knows) later (answers_after rules made.opening (before ++ a ∷ []) later) in
         subst (λ (w : Wanted). AllByRecursion IsFineTelling (cons_option (answer_told meaning.knows w answer) rest)) (sym from.content) (
           (from.fine.id, status-low (answered_as answer), sends before a plain own),
           told-fine (before ++ a ∷ []) later (each-append (λ b. IsPlain b.content) before (a ∷ []) plain (own, tt)) h.1,
@@ -319,7 +319,7 @@ module _ {State : Type 0} (meaning : Meaning State) (made : Made State) where
       let says = law_told meaning made in
       let all = arrivals made.limits (e ∷ past) in
       let here = tellings-here says e past c on in
-      let answers = answers_told meaning.knows (completed made.limits past e) (answers_after (rules_of meaning made.capacity made.share) made.opening (arrivals made.limits past) (completed made.limits past e)) in
+      let answers = answers_told (answer_told meaning.knows) (completed made.limits past e) (answers_after (rules_of meaning made.capacity made.share) made.opening (arrivals made.limits past) (completed made.limits past e)) in
       let bye = option_to_list (farewell_told made.limits past e) in
       let P : Answer → Type 0 = λ x. IsReply all said x in
       let now : AllByRecursion P (filter_map answer_in (says past e)) =

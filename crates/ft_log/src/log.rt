@@ -8,6 +8,7 @@ ghost use Rattle.ft_log.specs.View.{key_of};
 use crate::error::LogError;
 use crate::key::Key;
 use crate::outcome::Outcome;
+use crate::retention::Retention;
 use crate::store::Store;
 use std::alloc::Global;
 use std::fmt;
@@ -44,12 +45,12 @@ impl Log {
     ghost use Rattle.ft_log.specs.View.{performed_in};
     ghost use Rattle.ft_log.specs.declared.error.LogError.TheVariants.{Full, ShareFull};
 
-    /// A log that keeps nothing. It may keep `capacity` outcomes, `share` of them for each client.
-    pub fn new(alloc: Global, capacity: u32, share: u32, hasher: RandomState) -> Log
-        ensures { logged result ≡ record { capacity = capacity; share = share; entries = []; room = None } }
+    /// A log that keeps nothing.
+    pub fn new(alloc: Global, retention: Retention, hasher: RandomState) -> Log
+        ensures { logged result ≡ record { capacity = retention.capacity; share = retention.share; entries = []; room = None } }
     {
         Log {
-            store: Store::new(alloc, capacity, share, hasher),
+            store: Store::new(alloc, retention.capacity, retention.share, hasher),
         }
     }
 

@@ -9,12 +9,12 @@ use Rattle.ft_log.specs.declared.system_exception.SystemName.{SystemName}
 use Rattle.ft_orb.specs.ExactlyOnce.{Arrival, Rules, answers_after}
 use Rattle.ft_orb.specs.History.{Event, Gone, Line, Piece, Shut, Up, arrivals, arrivals_in, arrivals_on, clock, completed, line, longer}
 use Rattle.ft_orb.specs.Laws.{CutPiecesWriteTheSame, PiecesMayBeCut}
-use Rattle.ft_orb.specs.Outputs.{law_says, output, table_of_past, table_says}
+use Rattle.ft_orb.specs.Outputs.{law_says, output_by, table_of_past, table_says}
 use Rattle.ft_orb.specs.Private.{error_at}
 use Rattle.ft_orb.specs.Requests.{Wanted, rules_of}
 use Rattle.ft_objects.specs.Servants.{Meaning}
 use Rattle.ft_orb.specs.Table.{Table, table_after, table_answers}
-use Rattle.ft_orb.specs.Tellings.{rendered}
+use Rattle.ft_orb.specs.Tellings.{Teller, answer_told, rendered}
 use Rattle.ft_orb.proofs.Folded.{answers_after-append, table_after-append, table_answers-append, table_answers-length}
 use Rattle.ft_orb.proofs.Hearing.{arrivals_in-by, arrivals_in-ended, arrivals_in-message}
 use Rattle.ft_orb.proofs.Pieces.{same-by}
@@ -99,20 +99,20 @@ module _ (limits : Limits) (past : List Event) (c moment : ℕ) (x y : List ℕ)
   errors-cut stays Shut before more none = append-nil (before ++ more) ∙ sym (ap (λ (l : List ℕ). l ++ (more ++ [])) (append-nil before) ∙ ap (λ (l : List ℕ). before ++ l) (append-nil more))
   errors-cut stays (Up s) before more none = up-errors stays s before more (ending limits s) (ending limits (s ++ x)) refl refl (λ e is. none s e refl is)
 
-  module _ (knows : List ℕ → Bool) (answers : List Event → Event → List (Result Performed SystemName)) where
+  module _ {Outcome : Type 0} (tell : Teller Outcome) (answers : List Event → Event → List (Result Outcome SystemName)) where
     output-cut : HearingGrows meaning_in → EndingsStay meaning_in → EndsAreSilent meaning_in → answers past (Piece c moment (x ++ y)) ≡ answers past (Piece c moment x) ++ answers First (Piece c moment y) → length (answers past (Piece c moment x)) ≡ length (completed limits past (Piece c moment x))
-        → output limits knows answers past (Piece c moment (x ++ y)) ≡ output limits knows answers past (Piece c moment x) ++ output limits knows answers First (Piece c moment y)
+        → output_by limits tell answers past (Piece c moment (x ++ y)) ≡ output_by limits tell answers past (Piece c moment x) ++ output_by limits tell answers First (Piece c moment y)
     output-cut grow stays silent says size =
-        let before = rendered knows (completed limits past (Piece c moment x)) (answers past (Piece c moment x)) in
-        let more = rendered knows (completed limits First (Piece c moment y)) (answers First (Piece c moment y)) in
-        let both : rendered knows (completed limits past (Piece c moment (x ++ y))) (answers past (Piece c moment (x ++ y))) ≡ before ++ more =
-        (λ i. rendered knows (completed-cut grow i) (says i)) ∙ rendered-append knows (completed limits past (Piece c moment x)) (completed limits First (Piece c moment y)) (answers past (Piece c moment x)) (answers First (Piece c moment y)) size in
-        output-is limits knows answers past (Piece c moment (x ++ y)) ∙ ap (λ (l : List ℕ). l ++ error_on limits (line past c) (x ++ y)) both
+        let before = rendered tell (completed limits past (Piece c moment x)) (answers past (Piece c moment x)) in
+        let more = rendered tell (completed limits First (Piece c moment y)) (answers First (Piece c moment y)) in
+        let both : rendered tell (completed limits past (Piece c moment (x ++ y))) (answers past (Piece c moment (x ++ y))) ≡ before ++ more =
+        (λ i. rendered tell (completed-cut grow i) (says i)) ∙ rendered-append tell (completed limits past (Piece c moment x)) (completed limits First (Piece c moment y)) (answers past (Piece c moment x)) (answers First (Piece c moment y)) size in
+        output-is limits tell answers past (Piece c moment (x ++ y)) ∙ ap (λ (l : List ℕ). l ++ error_on limits (line past c) (x ++ y)) both
         ∙ errors-cut stays (line past c) before more (λ s e up is.
         let none : completed limits First (Piece c moment y) ≡ [] = second-is ∙ ap (λ (l : Line). arrivals_on limits c (max (clock past) moment) (longer x l) y) up ∙ silent-second silent (max (clock past) moment) s e is in
-        ap (λ (l : List (Arrival Wanted)). rendered knows l (answers First (Piece c moment y))) none)
+        ap (λ (l : List (Arrival Wanted)). rendered tell l (answers First (Piece c moment y))) none)
         ∙ ap (λ (l : Line). (before ++ error_on limits (line past c) x) ++ (more ++ error_on limits l y)) (sym line-here)
-        ∙ sym (λ i. output-is limits knows answers past (Piece c moment x) i ++ output-is limits knows answers First (Piece c moment y) i)
+        ∙ sym (λ i. output-is limits tell answers past (Piece c moment x) i ++ output-is limits tell answers First (Piece c moment y) i)
 
 pub pieces-may-be-cut : HearingGrows meaning_in → PiecesMayBeCut
 pieces-may-be-cut grow limits past c moment x y = (arrivals-cut limits past c moment x y grow, now-same limits past c moment x y, refl, lines-cut limits past c moment x y)
@@ -126,10 +126,10 @@ cut-pieces-write grow stays silent {State} meaning made past c moment x y =
     let t = table_of_past meaning made past in
     let cut = completed-cut made.limits past c moment x y grow in
     let table : table_of_past meaning made first ≡ table_after rules t a = table_after-append rules (record { state = made.opening; entries = [] }) (arrivals made.limits past) a in (
-      output-cut made.limits past c moment x y meaning.knows (table_says meaning made) grow stays silent
+      output-cut made.limits past c moment x y (answer_told meaning.knows) (table_says meaning made) grow stays silent
           (ap (λ (l : List (Arrival Wanted)). table_answers rules t l) cut ∙ table_answers-append rules t a b ∙ ap (λ (u : Table State Performed). table_answers rules t a ++ table_answers rules u b) (sym table))
           (table_answers-length rules t a),
-      output-cut made.limits past c moment x y meaning.knows (law_says meaning made) grow stays silent
+      output-cut made.limits past c moment x y (answer_told meaning.knows) (law_says meaning made) grow stays silent
           (ap (λ (l : List (Arrival Wanted)). answers_after rules made.opening (arrivals made.limits past) l) cut ∙ answers_after-append rules made.opening (arrivals made.limits past) a b)
           (answers_after-length rules made.opening (arrivals made.limits past) a),
     )

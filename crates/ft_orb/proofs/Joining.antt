@@ -12,7 +12,7 @@ use Rattle.ft_orb.specs.declared.events.Note.TheVariants.{Done}
 use Rattle.ft_orb.specs.ExactlyOnce.{Arrival, Rules}
 use Rattle.ft_orb.specs.History.{Event, Gone, Line, Lost, Piece, Shut, Up, arrivals, arrivals_in, arrivals_on, clock, completed, counted, front_in, front_on, least, line, longer, shortened}
 use Rattle.ft_orb.specs.Outputs.{IsCutShort, Made, Writes, is_going, needs_memory, output_cut, table_of_past, table_says}
-use Rattle.ft_orb.specs.Tellings.{rendered}
+use Rattle.ft_orb.specs.Tellings.{Teller, answer_told, rendered}
 use Rattle.ft_orb.specs.Requests.{Call, Wanted, rules_of}
 use Rattle.ft_objects.specs.Servants.{Meaning}
 use Rattle.ft_orb.specs.Standing.{IsFor, Shown, Stands, held_in, table_of}
@@ -56,7 +56,7 @@ needs-going limits past c moment [] h = absurd cc
 needs-going limits past c moment (x ∷ xs) h = (omega arith, h)
 
 -- The shortest front of octets that completes so many arrivals after a stream.
-module _ {S : Type 0} (rules : Rules S Wanted Call Performed) (knows : List ℕ → Bool) (limits : Limits) (c now : ℕ) (t : Table S Performed) (s : List ℕ) where
+module _ {S Outcome : Type 0} (rules : Rules S Wanted Call Outcome) (tell : Teller Outcome) (limits : Limits) (c now : ℕ) (t : Table S Outcome) (s : List ℕ) where
   abbrev Here : List ℕ → List (Arrival Wanted)
   Here p = arrivals_in limits c now s p
 
@@ -86,12 +86,12 @@ module _ {S : Type 0} (rules : Rules S Wanted Call Performed) (knows : List ℕ 
       let m = f.0 in
       let small : m ≤ n = let h = f.1 in omega (arith, h, size) in
       let same : take m (take n octets) ≡ take m octets = take-take m n octets small in
-      front-exact rules knows limits c now t s octets m k (omega (arith, small, within))
+      front-exact rules tell limits c now t s octets m k (omega (arith, small, within))
       (subst (λ (l : List ℕ). k ≤ length (Here l)) same f.3)
       (λ i less. subst (λ (l : List ℕ). length (Here l) < k) (take-take i n octets (omega (arith, less, small))) (f.4 i less))
       ∙ sym (f.2 ∙ same)
 
-module _ {S : Type 0} (rules : Rules S Wanted Call Performed) (knows : List ℕ → Bool) (limits : Limits) (c now : ℕ) (t : Table S Performed) (s octets : List ℕ) (j : ℕ) (grow : HearingGrows meaning_in) where
+module _ {S Outcome : Type 0} (rules : Rules S Wanted Call Outcome) (tell : Teller Outcome) (limits : Limits) (c now : ℕ) (t : Table S Outcome) (s octets : List ℕ) (j : ℕ) (grow : HearingGrows meaning_in) where
   abbrev Size : ℕ → ℕ
   Size n = length (arrivals_in limits c now s (take n octets))
 
@@ -121,11 +121,11 @@ module _ {S : Type 0} (rules : Rules S Wanted Call Performed) (knows : List ℕ 
   pub front-shift : (h : ℕ) → j ≤ length octets → ((m : ℕ) → m < j → Size m < Size j) → h ≤ length (Rest (drop j octets))
       → front_in limits c now s octets (Size j + h) ≡ take j octets ++ front_in limits c now (s ++ take j octets) (drop j octets) h
   front-shift h within shortest enough =
-      let f = front-of rules knows limits c now t (s ++ take j octets) (drop j octets) h enough in
+      let f = front-of rules tell limits c now t (s ++ take j octets) (drop j octets) h enough in
       let n = f.0 in
       let size = length-drop j octets in
       let small = f.1 in
-      front-exact rules knows limits c now t s octets (j + n) (Size j + h) (omega (arith, size, small, within))
+      front-exact rules tell limits c now t s octets (j + n) (Size j + h) (omega (arith, size, small, within))
       (let all = size-rest n in let rest = f.3 in omega (arith, all, rest))
       (fewer-rest h n shortest f.4)
       ∙ take-add j n octets ∙ ap (λ (l : List ℕ). take j octets ++ l) (sym f.2)
@@ -171,16 +171,16 @@ module _ {S : Type 0} (meaning : Meaning S) (made : Made S) (past : List Event) 
   writes-joined first more h k = ((λ i. h.0 i ++ k.0 i) ∙ sym (cut-pieces-write grow stays silent meaning made past c moment x y).0, h.1)
 
   -- what the table answers to both, and then to so many of the second
-  rendered-joined : (a : ℕ) → output_cut made.limits meaning.knows (table_says meaning made) past (Piece c moment (x ++ y)) (length First + a)
-      ≡ rendered meaning.knows First (table_says meaning made past (Piece c moment x)) ++ output_cut made.limits meaning.knows (table_says meaning made) Then (Piece c moment y) a
+  rendered-joined : (a : ℕ) → output_cut made.limits (answer_told meaning.knows) (table_says meaning made) past (Piece c moment (x ++ y)) (length First + a)
+      ≡ rendered (answer_told meaning.knows) First (table_says meaning made past (Piece c moment x)) ++ output_cut made.limits (answer_told meaning.knows) (table_says meaning made) Then (Piece c moment y) a
   rendered-joined a =
       let t = table_of_past meaning made past in
       let rest = completed made.limits Then (Piece c moment y) in
       let table : table_of_past meaning made Then ≡ table_after Rules-of t First = table_after-append Rules-of (record { state = made.opening; entries = [] }) (arrivals made.limits past) First in
-      ap (λ (xs : List (Arrival Wanted)). rendered meaning.knows (take (length First + a) xs) (table_answers Rules-of t xs)) (completed-cut made.limits past c moment x y grow)
-      ∙ (λ i. rendered meaning.knows (take-append-add First rest a i) (table_answers-append Rules-of t First rest i))
-      ∙ rendered-append meaning.knows First (take a rest) (table_answers Rules-of t First) (table_answers Rules-of (table_after Rules-of t First) rest) (table_answers-length Rules-of t First)
-      ∙ ap (λ (u : Table S Performed). rendered meaning.knows First (table_answers Rules-of t First) ++ rendered meaning.knows (take a rest) (table_answers Rules-of u rest)) (sym table)
+      ap (λ (xs : List (Arrival Wanted)). rendered (answer_told meaning.knows) (take (length First + a) xs) (table_answers Rules-of t xs)) (completed-cut made.limits past c moment x y grow)
+      ∙ (λ i. rendered (answer_told meaning.knows) (take-append-add First rest a i) (table_answers-append Rules-of t First rest i))
+      ∙ rendered-append (answer_told meaning.knows) First (take a rest) (table_answers Rules-of t First) (table_answers Rules-of (table_after Rules-of t First) rest) (table_answers-length Rules-of t First)
+      ∙ ap (λ (u : Table S Performed). rendered (answer_told meaning.knows) First (table_answers Rules-of t First) ++ rendered (answer_told meaning.knows) (take a rest) (table_answers Rules-of u rest)) (sym table)
 
 -- A piece of which the first j octets were taken as a piece, and an allocation failed in the rest.
 module _ {S : Type 0} (meaning : Meaning S) (made : Made S) (past : List Event) (c moment : ℕ) (piece : List ℕ) (j : ℕ) (grow : HearingGrows meaning_in) (stays : EndingsStay meaning_in) (silent : EndsAreSilent meaning_in)
@@ -217,7 +217,7 @@ module _ {S : Type 0} (meaning : Meaning S) (made : Made S) (past : List Event) 
       let same : max (clock Mid) moment ≡ now = now-same made.limits past c moment Before Left in
       let rest : length (completed made.limits Mid (Piece c moment Left)) ≡ length (arrivals_in made.limits c now (s ++ Before) Left) = λ i. length (arrivals_on made.limits c (same i) (later i) Left) in
       (λ i. front_on made.limits c now (up i) piece (on Before i + h))
-      ∙ front-shift (rules_of meaning made.capacity made.share) meaning.knows made.limits c now (table_of_past meaning made past) s piece j grow h within
+      ∙ front-shift (rules_of meaning made.capacity made.share) (answer_told meaning.knows) made.limits c now (table_of_past meaning made past) s piece j grow h within
       (λ m less. let few = shortest m less in let a = on (take m piece) in let b = on Before in omega (arith, few, a, b))
       (omega (arith, enough, rest))
       ∙ sym (λ i. Before ++ front_on made.limits c (same i) (later i) Left h)
@@ -228,27 +228,27 @@ module _ {S : Type 0} (meaning : Meaning S) (made : Made S) (past : List Event) 
       ap (λ (l : List ℕ). Piece c moment l) (shortened-up up.0 up.1 h enough)
 
   module _ (going : is_going made.limits (line past c) ≡ true) (first more : List ℕ) (handled answered : ℕ) (writes : Writes made.limits meaning.knows (table_says meaning made) past (Piece c moment Before) first Done)
-      (cut : IsCutShort made.limits meaning.knows (table_says meaning made) Mid (Piece c moment Left) more handled answered) where
+      (cut : IsCutShort made.limits (answer_told meaning.knows) (table_says meaning made) Mid (Piece c moment Left) more handled answered) where
     short : shortened made.limits past (Piece c moment piece) (Count + handled) ≡ Piece c moment (Before ++ Front handled)
     short = shortened-joined going handled cut.few
 
     needs : (0 < length Left) × (is_going made.limits (line Mid c) ≡ true)
     needs = needs-going made.limits Mid c moment Left cut.needs
 
-    first-is : first ≡ rendered meaning.knows (completed made.limits past (Piece c moment Before)) (table_says meaning made past (Piece c moment Before))
+    first-is : first ≡ rendered (answer_told meaning.knows) (completed made.limits past (Piece c moment Before)) (table_says meaning made past (Piece c moment Before))
     first-is =
         let still : is_going made.limits (longer Before (line past c)) ≡ true = subst (λ (l : Line). is_going made.limits l ≡ true) (line-here made.limits past c moment Before Left) needs.1 in
-        writes.0 ∙ output-is made.limits meaning.knows (table_says meaning made) past (Piece c moment Before) ∙ ap (λ (l : List ℕ). rendered meaning.knows (completed made.limits past (Piece c moment Before)) (table_says meaning made past (Piece c moment Before)) ++ l) (calm-going made.limits (line past c) Before still)
-        ∙ append-nil (rendered meaning.knows (completed made.limits past (Piece c moment Before)) (table_says meaning made past (Piece c moment Before)))
+        writes.0 ∙ output-is made.limits (answer_told meaning.knows) (table_says meaning made) past (Piece c moment Before) ∙ ap (λ (l : List ℕ). rendered (answer_told meaning.knows) (completed made.limits past (Piece c moment Before)) (table_says meaning made past (Piece c moment Before)) ++ l) (calm-going made.limits (line past c) Before still)
+        ∙ append-nil (rendered (answer_told meaning.knows) (completed made.limits past (Piece c moment Before)) (table_says meaning made past (Piece c moment Before)))
 
-    out-is : (a : ℕ) → output_cut made.limits meaning.knows (table_says meaning made) past (shortened made.limits past (Piece c moment piece) (Count + handled)) (Count + a)
-        ≡ first ++ output_cut made.limits meaning.knows (table_says meaning made) Mid (Piece c moment (Front handled)) a
+    out-is : (a : ℕ) → output_cut made.limits (answer_told meaning.knows) (table_says meaning made) past (shortened made.limits past (Piece c moment piece) (Count + handled)) (Count + a)
+        ≡ first ++ output_cut made.limits (answer_told meaning.knows) (table_says meaning made) Mid (Piece c moment (Front handled)) a
     out-is a =
-        ap (λ (e : Event). output_cut made.limits meaning.knows (table_says meaning made) past e (Count + a)) short
+        ap (λ (e : Event). output_cut made.limits (answer_told meaning.knows) (table_says meaning made) past e (Count + a)) short
         ∙ rendered-joined meaning made past c moment Before (Front handled) grow stays silent a
-        ∙ ap (λ (l : List ℕ). l ++ output_cut made.limits meaning.knows (table_says meaning made) Mid (Piece c moment (Front handled)) a) (sym first-is)
+        ∙ ap (λ (l : List ℕ). l ++ output_cut made.limits (answer_told meaning.knows) (table_says meaning made) Mid (Piece c moment (Front handled)) a) (sym first-is)
 
-    pub cut-joined : IsCutShort made.limits meaning.knows (table_says meaning made) past (Piece c moment piece) (first ++ more) (Count + handled) (Count + answered)
+    pub cut-joined : IsCutShort made.limits (answer_told meaning.knows) (table_says meaning made) past (Piece c moment piece) (first ++ more) (Count + handled) (Count + answered)
     cut-joined = record {
       out = ap (λ (l : List ℕ). first ++ l) cut.out ∙ sym (out-is answered);
       few = let all = all-count in let few = cut.few in omega (arith, all, few);
@@ -265,7 +265,7 @@ module _ {S : Type 0} (meaning : Meaning S) (made : Made S) (past : List Event) 
       due = λ odd.
           let less = cut.due (omega (arith, odd)) in
           let a = length-append first more in
-          let b = length-append first (output_cut made.limits meaning.knows (table_says meaning made) Mid (Piece c moment (Front handled)) handled) in
+          let b = length-append first (output_cut made.limits (answer_told meaning.knows) (table_says meaning made) Mid (Piece c moment (Front handled)) handled) in
           let all = ap (λ (l : List ℕ). length l) (out-is handled) in
           omega (arith, less, a, b, all);
     }
@@ -280,7 +280,7 @@ module _ {S : Type 0} (meaning : Meaning S) (made : Made S) (past : List Event) 
 
 -- A piece of which the first n octets are a piece in which an allocation failed.
 module _ {S : Type 0} (meaning : Meaning S) (made : Made S) (past : List Event) (c moment : ℕ) (piece : List ℕ) (n : ℕ) (grow : HearingGrows meaning_in) (within : n ≤ length piece) (written : List ℕ) (handled answered : ℕ)
-    (cut : IsCutShort made.limits meaning.knows (table_says meaning made) past (Piece c moment (take n piece)) written handled answered) where
+    (cut : IsCutShort made.limits (answer_told meaning.knows) (table_says meaning made) past (Piece c moment (take n piece)) written handled answered) where
   going-here : (0 < length (take n piece)) × (is_going made.limits (line past c) ≡ true)
   going-here = needs-going made.limits past c moment (take n piece) cut.needs
 
@@ -290,7 +290,7 @@ module _ {S : Type 0} (meaning : Meaning S) (made : Made S) (past : List Event) 
       let size = ap (λ (l : Line). length (arrivals_on made.limits c now l (take n piece))) up.1 in
       let few = cut.few in
       ap (λ (l : Line). front_on made.limits c now l piece handled) up.1
-      ∙ front-within (rules_of meaning made.capacity made.share) meaning.knows made.limits c now (table_of_past meaning made past) up.0 piece n handled within (omega (arith, size, few))
+      ∙ front-within (rules_of meaning made.capacity made.share) (answer_told meaning.knows) made.limits c now (table_of_past meaning made past) up.0 piece n handled within (omega (arith, size, few))
       ∙ sym (ap (λ (l : Line). front_on made.limits c now l (take n piece) handled) up.1)
 
   front-same : front_on made.limits c (max (clock past) moment) (line past c) piece handled ≡ front_on made.limits c (max (clock past) moment) (line past c) (take n piece) handled
@@ -299,9 +299,9 @@ module _ {S : Type 0} (meaning : Meaning S) (made : Made S) (past : List Event) 
   same-short : shortened made.limits past (Piece c moment piece) handled ≡ shortened made.limits past (Piece c moment (take n piece)) handled
   same-short = ap (λ (l : List ℕ). Piece c moment l) front-same
 
-  pub cut-within : IsCutShort made.limits meaning.knows (table_says meaning made) past (Piece c moment piece) written handled answered
+  pub cut-within : IsCutShort made.limits (answer_told meaning.knows) (table_says meaning made) past (Piece c moment piece) written handled answered
   cut-within = record {
-    out = cut.out ∙ sym (ap (λ (e : Event). output_cut made.limits meaning.knows (table_says meaning made) past e answered) same-short);
+    out = cut.out ∙ sym (ap (λ (e : Event). output_cut made.limits (answer_told meaning.knows) (table_says meaning made) past e answered) same-short);
     few =
         let whole = ap (λ (l : List ℕ). length (completed made.limits past (Piece c moment l))) (take-append-drop n piece) in
         let all = ap (λ (l : List (Arrival Wanted)). length l) (completed-cut made.limits past c moment (take n piece) (drop n piece) grow) in
@@ -316,7 +316,7 @@ module _ {S : Type 0} (meaning : Meaning S) (made : Made S) (past : List Event) 
         let all = ap (λ (l : List ℕ). length l) front-same in
         let size = length-take-le n piece within in
         omega (arith, less, all, size, within);
-    due = λ odd. subst (λ (e : Event). length written < length (output_cut made.limits meaning.knows (table_says meaning made) past e handled)) (sym same-short) (cut.due odd);
+    due = λ odd. subst (λ (e : Event). length written < length (output_cut made.limits (answer_told meaning.knows) (table_says meaning made) past e handled)) (sym same-short) (cut.due odd);
   }
 
   pub cut-within-stands : (server : Shown S) → Stands meaning made server (Lost c ∷ shortened made.limits past (Piece c moment (take n piece)) handled ∷ past) → Stands meaning made server (Lost c ∷ shortened made.limits past (Piece c moment piece) handled ∷ past)
@@ -373,6 +373,6 @@ module _ (limits : Limits) (past : List Event) (c moment : ℕ) (piece : List �
       let all = ap (λ (l : List (Arrival Wanted)). length l) (completed-cut limits past c moment (take n piece) (drop n piece) grow) in
       let size = length-append (completed limits past (Piece c moment (take n piece))) (completed limits (Piece c moment (take n piece) ∷ past) (Piece c moment (drop n piece))) in
       let here = on piece in
-      let few = front-least (rules_of meaning made.capacity made.share) meaning.knows limits c now (table_of_past meaning made past) up.0 piece n k within (omega (arith, count, whole, all, size, here)) front m less in
+      let few = front-least (rules_of meaning made.capacity made.share) (answer_told meaning.knows) limits c now (table_of_past meaning made past) up.0 piece n k within (omega (arith, count, whole, all, size, here)) front m less in
       let there = on (take m piece) in
       omega (arith, few, there, count)

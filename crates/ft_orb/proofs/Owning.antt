@@ -37,11 +37,11 @@ use Rattle.ft_orb.specs.Outputs.{Writes, after, output_cut, table_of_past, table
 use Rattle.ft_orb.specs.Owners.{Owner, answered_so_far, made_of, meaning_of, owner_rules, rules_with}
 use Rattle.ft_orb.specs.Pauses.{Breaks, IsServedTo, Paused, Reaches}
 use Rattle.ft_orb.specs.Private.{Served, counted_by, all_answered}
-use Rattle.ft_orb.specs.Tellings.{rendered, reply_by}
+use Rattle.ft_orb.specs.Tellings.{answer_told, rendered, reply_by}
 use Rattle.ft_orb.specs.Requests.{Call, Wanted, asked_of, asking}
 use Rattle.ft_orb.specs.Standing.{IsFor, IsSameBut, Shown, Stands, capacity_of, share_of, table_of}
 use Rattle.ft_orb.specs.Table.{AreAlike, Table, table_after, table_answers}
-use Rattle.ft_orb.specs.Waits.{Finishes, call_of}
+use Rattle.ft_orb.specs.Waits.{Finishes, call_of, field_with}
 use Rattle.ft_orb.proofs.Due.{last-acts, none-acted}
 use Rattle.ft_orb.proofs.Folded.{ClocksGrow-front, folded_step}
 use Rattle.ft_orb.proofs.Going.{front-exact, goes-start, rendered-more, stood-whole}
@@ -55,12 +55,12 @@ use Rattle.ft_orb.proofs.Stopping.{reach-breaks, reach-goes, reach-left}
 pub start-at : (offer : Offer) (answers : List Call → Call → Performed) (capacity share : ℕ) (limits : Limits) (c now : ℕ) (t : Table (List Call) Performed) (s piece : List ℕ) (link : Linked) (calls : List Call) (entries : List (KeptOutcome Performed)) (out : List ℕ)
     → LinkStands limits link s → AreAlike now (answered_so_far calls entries) t → IsServedTo offer answers capacity share limits c now t s out piece (record { taken = 0; handled = 0 }) calls link entries out
 start-at offer answers capacity share limits c now t s piece link calls entries out st al =
-    ([], sym (append-nil out), goes-start (owner_rules offer.interface answers capacity share) offer.knows limits c now t s link (answered_so_far calls entries) st al)
+    ([], sym (append-nil out), goes-start (owner_rules offer.interface answers capacity share) (answer_told offer.knows) limits c now t s link (answered_so_far calls entries) st al)
 
 -- .. and it is served whole, or up to what waits
 pub whole-is : (offer given : Offer) (answers : List Call → Call → Performed) (capacity share : ℕ) (limits : Limits) (c now : ℕ) (t : Table (List Call) Performed) (s start piece : List ℕ) (calls : List Call) (p : Pause) (link : Linked) (entries : List (KeptOutcome Performed)) (out : List ℕ)
     → offer ≡ given → p ≡ pause.Whole → Reaches offer answers capacity share limits c now t s start piece calls p link entries out
-    → (written : List ℕ) × (out ≡ start ++ written) × Served (owner_rules given.interface answers capacity share) given.knows limits c now t s piece link (answered_so_far calls entries) written
+    → (written : List ℕ) × (out ≡ start ++ written) × Served (owner_rules given.interface answers capacity share) (answer_told given.knows) limits c now t s piece link (answered_so_far calls entries) written
 whole-is offer given answers capacity share limits c now t s start piece calls p link entries out are is h =
     subst (λ (o : Offer). Reaches o answers capacity share limits c now t s start piece calls pause.Whole link entries out) are
     (subst (λ (x : Pause). Reaches offer answers capacity share limits c now t s start piece calls x link entries out) is h)
@@ -108,8 +108,9 @@ module _ {C : Type 0} (offers : C → Offer) (owner : Owner) where
     pub last : Arrival Wanted
     pub completes : completed owner.limits past (Piece c moment octets) ≡ front ++ last ∷ []
     pub asks : asked_of owner.offer.interface last.content ≡ Ok (call_of w)
+    pub field : last.field ≡ field_with w.retained
     pub fit : AreArgumentsOf (owner.offer.interface w.object_key.items w.operation.items) (values_of w.arguments.items)
-    pub out : written ≡ output_cut owner.limits owner.offer.knows Says past (Piece c moment octets) (length front)
+    pub out : written ≡ output_cut owner.limits (answer_told owner.offer.knows) Says past (Piece c moment octets) (length front)
     pub count : handled ≡ length front
     pub first : (n : ℕ) → n < length octets → length (completed owner.limits past (Piece c moment (take n octets))) ≤ length front
     pub before : (table_after Theirs (Folded past) front).state ≡ calls
@@ -131,10 +132,11 @@ module _ {C : Type 0} (offers : C → Offer) (owner : Owner) where
         last = p.a;
         completes = all;
         asks = ap (λ (x : Wanted). asked_of owner.offer.interface x) p.waits.content ∙ p.waits.spells.asks;
+        field = p.waits.field;
         fit = p.waits.spells.fit;
-        out = p.out ∙ sym (rendered-more Theirs owner.offer.knows (Folded past) p.before (p.a ∷ []))
-            ∙ sym (ap (λ (xs : List (Arrival Wanted)). rendered owner.offer.knows (take (length p.before) xs) (table_answers Theirs (Folded past) xs)) all
-            ∙ ap (λ (xs : List (Arrival Wanted)). rendered owner.offer.knows xs (table_answers Theirs (Folded past) (p.before ++ p.a ∷ []))) (take-append_seam p.before (p.a ∷ [])));
+        out = p.out ∙ sym (rendered-more Theirs (answer_told owner.offer.knows) (Folded past) p.before (p.a ∷ []))
+            ∙ sym (ap (λ (xs : List (Arrival Wanted)). rendered (answer_told owner.offer.knows) (take (length p.before) xs) (table_answers Theirs (Folded past) xs)) all
+            ∙ ap (λ (xs : List (Arrival Wanted)). rendered (answer_told owner.offer.knows) xs (table_answers Theirs (Folded past) (p.before ++ p.a ∷ []))) (take-append_seam p.before (p.a ∷ [])));
         count = p.count;
         first = λ n less. let few = p.first n less in let size = ap (λ (xs : List (Arrival Wanted)). length xs) (on (take n octets)) in omega (arith, few, size);
         before = sym p.alike.state;
@@ -167,6 +169,7 @@ module _ {C : Type 0} (offers : C → Offer) (owner : Owner) where
         last = b.last;
         completes = b.completes;
         asks = b.asks;
+        field = b.field;
         fit = b.fit;
         out = b.out;
         question = b.question;
@@ -190,7 +193,7 @@ module _ {C : Type 0} (offers : C → Offer) (owner : Owner) where
       let here = ap (λ (xs : List (Arrival Wanted)). length xs) (on (take taken piece)) in
       let all = ap (λ (xs : List (Arrival Wanted)). length xs) b.completes in
       let both = length-append b.front (b.last ∷ []) in
-      let exact = front-exact Theirs owner.offer.knows owner.limits c now (Folded past) s piece taken k within (omega (arith, count, here))
+      let exact = front-exact Theirs (answer_told owner.offer.knows) owner.limits c now (Folded past) s piece taken k within (omega (arith, count, here))
       (λ m less.
       let few = b.first m (omega (arith, size, within, less)) in
       let there = ap (λ (xs : List (Arrival Wanted)). length xs) (on (take m (take taken piece))) in
@@ -199,18 +202,18 @@ module _ {C : Type 0} (offers : C → Offer) (owner : Owner) where
       ap (λ (l : Line). Piece c moment (front_on owner.limits c now l piece k)) up ∙ ap (λ (l : List ℕ). Piece c moment l) exact
 
   -- a request waits
-  pub stops-now : (calls : List Call) (old new : Engine C) (past : List Event) (c moment : ℕ) (piece : List ℕ) (now : ℕ) (out grown : List ℕ) (was link : Linked) (w : Waiting) (place : Place) (p : Pending) → Rests offers owner calls old past → offers new.catalogue ≡ owner.offer → new.pending ≡ Some p
-      → p ≡ record { connection = c; waiting = w; place = place } → IsSameBut c (as_server old calls) (as_server new calls) → now ≡ max old.keeper.clock moment → new.keeper.clock ≡ now → get nat_cmp old.links c ≡ Some was → get nat_cmp new.links c ≡ Some link → was.is_closed ≡ false
+  pub stops-now : (calls : List Call) (old new : Engine C) (past : List Event) (c moment : ℕ) (piece : List ℕ) (now : ℕ) (out grown : List ℕ) (was link : Linked) (w : Waiting) (place : Place) (number : ℕ) (p : Pending) → Rests offers owner calls old past → offers new.catalogue ≡ owner.offer → new.pending ≡ Some p
+      → p ≡ record { number = number; connection = c; waiting = w; place = place } → IsSameBut c (as_server old calls) (as_server new calls) → now ≡ max old.keeper.clock moment → new.keeper.clock ≡ now → get nat_cmp old.links c ≡ Some was → get nat_cmp new.links c ≡ Some link → was.is_closed ≡ false
       → 0 < place.taken → place.taken ≤ length piece
       → ((s : List ℕ) (t : Table (List Call) Performed) → LinkStands owner.limits was s → AreAlike now (answered_so_far calls (logged old.keeper.log).entries) t
       → Reaches owner.offer owner.answers (logged old.keeper.log).capacity (logged old.keeper.log).share owner.limits c now t s out piece calls (pause.Asks w place) link (logged new.keeper.log).entries grown)
       → Stops offers owner calls past c moment piece place.taken new out grown
-  stops-now calls old new past c moment piece now out grown was link w place p h are waits is same at then-at stood held live some within reaches =
+  stops-now calls old new past c moment piece now out grown was link w place number p h are waits is same at then-at stood held live some within reaches =
       let server : Shown (List Call) = as_server old calls in
       let line-for : IsFor owner.limits (Some was) (line past c) = subst (λ (o : Option Linked). IsFor owner.limits o (line past c)) stood (h.stands.lines c) in
       let up = up-by owner.limits (line past c) was line-for live in
       let first = reaches up.0 (Folded past) up.2 (alike-then (meaning_of owner) (made_of owner) server server past c moment piece h.stands now at) in
-      let x : Pending = record { connection = c; waiting = w; place = place } in
+      let x : Pending = record { number = number; connection = c; waiting = w; place = place } in
       let size = length-take place.taken piece in
       let keeps : Keeps offers owner calls new past moment (take place.taken piece) first.0 x = record {
         offer_is = are;
@@ -234,13 +237,13 @@ module _ {C : Type 0} (offers : C → Offer) (owner : Owner) where
             subst (λ (n : ℕ). Paused owner.offer owner.answers (capacity_of server) (share_of server) owner.limits c n t s (take place.taken piece) link calls (logged new.keeper.log).entries first.0 place.handled w) (sym then-at)
             (subst (λ (l : List ℕ). Paused owner.offer owner.answers (capacity_of server) (share_of server) owner.limits c now t s (take place.taken piece) link calls (logged new.keeper.log).entries l place.handled w) eq r.2);
       } in
-      stops-by calls new past c moment piece out grown w place up.0 first.0 up.1 within first.1 keeps
+      stops-by calls new past c moment piece out grown w place number up.0 first.0 up.1 within first.1 keeps
     where
-      stops-by : (calls : List Call) (new : Engine C) (past : List Event) (c moment : ℕ) (piece out grown : List ℕ) (w : Waiting) (place : Place) (s written : List ℕ) → line past c ≡ Up s → place.taken ≤ length piece → grown ≡ out ++ written
-          → Keeps offers owner calls new past moment (take place.taken piece) written (record { connection = c; waiting = w; place = place })
+      stops-by : (calls : List Call) (new : Engine C) (past : List Event) (c moment : ℕ) (piece out grown : List ℕ) (w : Waiting) (place : Place) (number : ℕ) (s written : List ℕ) → line past c ≡ Up s → place.taken ≤ length piece → grown ≡ out ++ written
+          → Keeps offers owner calls new past moment (take place.taken piece) written (record { number = number; connection = c; waiting = w; place = place })
           → Stops offers owner calls past c moment piece place.taken new out grown
-      stops-by calls new past c moment piece out grown w place s written up within appended keeps =
-          let x : Pending = record { connection = c; waiting = w; place = place } in
+      stops-by calls new past c moment piece out grown w place number s written up within appended keeps =
+          let x : Pending = record { number = number; connection = c; waiting = w; place = place } in
           let a = asks-of calls new past moment (take place.taken piece) written x keeps in
           let b = brings-of calls new past moment (take place.taken piece) written x keeps in
           let size = length-append a.front (a.last ∷ []) in
@@ -248,7 +251,9 @@ module _ {C : Type 0} (offers : C → Offer) (owner : Owner) where
           record {
             written = written;
             appended = appended;
+            number = number;
             call = call_of w;
+            field = field_with w.retained;
             asks = a;
             short = short-of calls new past c moment piece place.taken written place.handled w s (length a.front + 1) up within b (omega (arith, size, all));
           }
@@ -309,7 +314,7 @@ module _ {C : Type 0} (offers : C → Offer) (owner : Owner) where
         resumes-by Done
         (fed-ok (meaning_of owner) (made_of owner) a.server (as_server new Later) past p.connection moment octets old.keeper.clock [] (written ++ more-written.0) a.was a.link a.stands both-same a.clock clock a.stood held a.live
         (λ s t st al.
-        stood-whole (owner_rules owner.offer.interface owner.answers (capacity_of a.server) (share_of a.server)) owner.offer.knows owner.limits p.connection old.keeper.clock t s [] octets p.place.taken a.link (answered_so_far Later (logged new.keeper.log).entries) (written ++ more-written.0) h
+        stood-whole (owner_rules owner.offer.interface owner.answers (capacity_of a.server) (share_of a.server)) (answer_told owner.offer.knows) owner.limits p.connection old.keeper.clock t s [] octets p.place.taken a.link (answered_so_far Later (logged new.keeper.log).entries) (written ++ more-written.0) h
         (omega (arith, size))
         (reach-goes owner.offer owner.answers (capacity_of a.server) (share_of a.server) owner.limits p.connection old.keeper.clock t s [] octets p.place h a.link calls (logged old.keeper.log).entries (logged new.keeper.log).entries written (written ++ more-written.0) p.waiting step r outcome
         (reached s t st al) gave more-written.2 by is)))
@@ -387,7 +392,7 @@ module _ {C : Type 0} (offers : C → Offer) (owner : Owner) where
         acts_now = last-acts owner (xs ++ b.front) b.last calls (call_of w) mid then;
         is_first = none-acted owner xs b.front (mid ∙ sym was);
         calls_are = sym was;
-        out = b.out ∙ ap (λ (answers : List (Result Performed SystemName)). rendered owner.offer.knows (take (length b.front) (completed owner.limits past e)) answers) (says-agree (meaning_of owner) (made_of owner) past e one);
+        out = b.out ∙ ap (λ (answers : List (Result Performed SystemName)). rendered (answer_told owner.offer.knows) (take (length b.front) (completed owner.limits past e)) answers) (says-agree (meaning_of owner) (made_of owner) past e one);
       }
 
   keeps-once : (calls : List Call) (engine : Engine C) (past : List Event) (moment : ℕ) (octets written : List ℕ) (p : Pending) (out grown : List ℕ) → Keeps offers owner calls engine past moment octets written p → grown ≡ out ++ written
@@ -397,12 +402,15 @@ module _ {C : Type 0} (offers : C → Offer) (owner : Owner) where
       record {
         written = written;
         appended = appended;
+        number = p.number;
         call = call_of p.waiting;
+        field = field_with p.waiting.retained;
         is_awaited = ap (λ (o : Option Pending). option_map awaited_of o) k.waits;
         front = b.front;
         last = b.last;
         completes = b.completes;
         asks = b.asks;
+        carries = b.field;
         once = due-at calls past p.connection moment octets written p.place.handled p.waiting b (sym k.stands.table.state ∙ k.answered);
       }
 

@@ -18,8 +18,8 @@ use Rattle.ft_orb.specs.Now.{acts_now, performed_now, performed_now_after}
 use Rattle.ft_orb.specs.Outputs.{table_of_past}
 use Rattle.ft_orb.specs.Owners.{Owner, made_of, meaning_of, rules_with}
 use Rattle.ft_orb.specs.Requests.{Call, Wanted}
-use Rattle.ft_orb.specs.Tellings.{rendered}
-use Rattle.ft_orb.specs.Waits.{call_of}
+use Rattle.ft_orb.specs.Tellings.{answer_told, rendered}
+use Rattle.ft_orb.specs.Waits.{call_of, field_with}
 use Rattle.ft_orb.proofs.Due.{counts}
 use Rattle.ft_orb.proofs.Folded.{ClocksGrow-front}
 use Rattle.ft_orb.proofs.Headline.{arrivals-grow, event-clocks}
@@ -109,7 +109,7 @@ module _ {C : Type 0} (offers : C → Offer) (owner : Owner) where
         acts = last-acts-now owner (xs ++ b.front) b.last calls (call_of w) mid then;
         is_first = none-acted-now owner xs b.front (mid ∙ sym was);
         calls_are = sym was;
-        out = b.out ∙ ap (λ (answers : List (Result Performed SystemName)). rendered owner.offer.knows (take (length b.front) (completed owner.limits past e)) answers) (says-now-at (meaning_of owner) (made_of owner) past e);
+        out = b.out ∙ ap (λ (answers : List (Result Performed SystemName)). rendered (answer_told owner.offer.knows) (take (length b.front) (completed owner.limits past e)) answers) (says-now-at (meaning_of owner) (made_of owner) past e);
       }
 
   keeps-now : (calls : List Call) (engine : Engine C) (past : List Event) (moment : ℕ) (octets written : List ℕ) (p : Pending) (out grown : List ℕ) → Keeps offers owner calls engine past moment octets written p → grown ≡ out ++ written
@@ -119,12 +119,15 @@ module _ {C : Type 0} (offers : C → Offer) (owner : Owner) where
       record {
         written = written;
         appended = appended;
+        number = p.number;
         call = call_of p.waiting;
+        field = field_with p.waiting.retained;
         is_awaited = ap (λ (o : Option Pending). option_map awaited_of o) k.waits;
         front = b.front;
         last = b.last;
         completes = b.completes;
         asks = b.asks;
+        carries = b.field;
         due = due-now calls past p.connection moment octets written p.place.handled p.waiting b (sym k.stands.table.state ∙ k.answered);
       }
 

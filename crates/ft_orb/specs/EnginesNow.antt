@@ -6,13 +6,14 @@ use Rattle.ft_orb.specs.declared.error.ServeError.{ServeError}
 use Rattle.ft_orb.specs.declared.events.Note.{Note}
 use Rattle.ft_orb.specs.declared.events.Note.TheVariants.{Done}
 use Rattle.ft_orb.specs.Engines.{Awaited}
-use Rattle.ft_orb.specs.ExactlyOnce.{Arrival, state_after}
+use Rattle.ft_orb.specs.ExactlyOnce.{Arrival, Field, state_after}
 use Rattle.ft_orb.specs.History.{Event, Piece, arrivals, completed}
 use Rattle.ft_orb.specs.Now.{acts_now, now_says, performed_now}
 use Rattle.ft_orb.specs.Outputs.{Writes, after, output_cut}
 use Rattle.ft_orb.specs.Owners.{Owner, made_of, meaning_of, rules_with}
 use Rattle.ft_orb.specs.Requests.{Call, Wanted, asked_of}
 use Rattle.ft_orb.specs.Standing.{note_of}
+use Rattle.ft_orb.specs.Tellings.{answer_told}
 
 module _ (owner : Owner) where
   -- What was written for an event are the answers with each key by itself, and the calls of the requests that are performed so are
@@ -31,18 +32,21 @@ module _ (owner : Owner) where
     pub acts : acts_now (rules_with owner) (performed_now (rules_with owner) (arrivals owner.limits past ++ front)) last ≡ true
     pub is_first : performed_now (rules_with owner) (arrivals owner.limits past ++ front) ≡ performed_now (rules_with owner) (arrivals owner.limits past)
     pub calls_are : calls ≡ state_after (rules_with owner) [] (performed_now (rules_with owner) (arrivals owner.limits past))
-    pub out : written ≡ output_cut owner.limits owner.offer.knows (now_says (meaning_of owner) (made_of owner)) past e (length front)
+    pub out : written ≡ output_cut owner.limits (answer_told owner.offer.knows) (now_says (meaning_of owner) (made_of owner)) past e (length front)
 
   -- what the owner acts on, over the past alone
   pub record AsksNow (calls : List Call) (past : List Event) (c moment : ℕ) (octets : List ℕ) (waits : Option Awaited) (before out : List ℕ) : Type 0 where
     pub written : List ℕ
     pub appended : out ≡ before ++ written
+    pub number : ℕ
     pub call : Call
-    pub is_awaited : waits ≡ Some (record { connection = c; call = call })
+    pub field : Field
+    pub is_awaited : waits ≡ Some (record { number = number; connection = c; call = call; field = field })
     pub front : List (Arrival Wanted)
     pub last : Arrival Wanted
     pub completes : completed owner.limits past (Piece c moment octets) ≡ front ++ last ∷ []
     pub asks : asked_of owner.offer.interface last.content ≡ Ok call
+    pub carries : last.field ≡ field
     pub due : IsDueNow calls past (Piece c moment octets) front last written
 
   abbrev pub FeedsNow : List Call → List Event → (c moment : ℕ) → List ℕ → Result Fed ServeError → Option Awaited → List ℕ → List ℕ → Type 0

@@ -46,21 +46,26 @@ reply_told _ version id p = Some (Replied version (order_of p) id (status_of p) 
 abbrev pub reply_by : ReplyWish → Version → ℕ → Performed → List ℕ
 reply_by wish version id p = octets_if (reply_told wish version id p)
 
+-- what is said to what arrived for its answer, if anything
+abbrev pub Teller : Type 0 → Type 0
+Teller Outcome = Wanted → Result Outcome SystemName → Option Telling
+
 -- the message of an answer to what arrived, if one is wished for
-abbrev pub answer_told : (List ℕ → Bool) → Wanted → Result Performed SystemName → Option Telling
+abbrev pub answer_told : (List ℕ → Bool) → Teller Performed
 answer_told knows (asking c q) answer = reply_told q.wish q.version q.id (answered_as answer)
 answer_told knows (locating c version id to) answer = Some (Located version id (locate_status knows (key_of_addressed to)))
 
--- its octets
-unfoldable pub rendering : (List ℕ → Bool) → Wanted → Result Performed SystemName → List ℕ
-rendering knows w answer = octets_if (answer_told knows w answer)
+module _ {Outcome : Type 0} (tell : Teller Outcome) where
+  -- its octets
+  unfoldable pub rendering : Wanted → Result Outcome SystemName → List ℕ
+  rendering w answer = octets_if (tell w answer)
 
--- the messages of these answers to these arrivals, in order
-abbrev pub answers_told : (List ℕ → Bool) → List (Arrival Wanted) → List (Result Performed SystemName) → List Telling
-answers_told knows [] answers = []
-answers_told knows (a ∷ later) [] = []
-answers_told knows (a ∷ later) (answer ∷ answers) = cons_option (answer_told knows a.content answer) (answers_told knows later answers)
+  -- the messages of these answers to these arrivals, in order
+  abbrev pub answers_told : List (Arrival Wanted) → List (Result Outcome SystemName) → List Telling
+  answers_told [] answers = []
+  answers_told (a ∷ later) [] = []
+  answers_told (a ∷ later) (answer ∷ answers) = cons_option (tell a.content answer) (answers_told later answers)
 
--- their octets, one after another
-abbrev pub rendered : (List ℕ → Bool) → List (Arrival Wanted) → List (Result Performed SystemName) → List ℕ
-rendered knows arrivals answers = flat_map octets_told (answers_told knows arrivals answers)
+  -- their octets, one after another
+  abbrev pub rendered : List (Arrival Wanted) → List (Result Outcome SystemName) → List ℕ
+  rendered arrivals answers = flat_map octets_told (answers_told arrivals answers)

@@ -3,7 +3,7 @@
 ghost use Rattle.std.specs.Prelude.{◌≡◌, ◌<◌, ◌≤◌, ◌∷◌, ◌++◌, ℕ, false, true, List, IfOk, IsSome, None, length};
 ghost use Rattle.ft_log.specs.View.{performed_in};
 ghost use Rattle.ft_orb.specs.Answers.{Agrees, calls_of};
-ghost use Rattle.ft_orb.specs.Engines.{Asks, Awaited, CanAnswer, Ends, IsFit, Rests, Resumes, waits_in};
+ghost use Rattle.ft_orb.specs.Engines.{Asks, Awaited, CanAnswer, Ends, IsFit, IsOpen, Rests, Resumes, waits_in};
 ghost use Rattle.ft_orb.specs.Handovers.{AreHandedIn, Handover, OwnerSays, handed_in};
 ghost use Rattle.ft_orb.specs.History as history;
 ghost use Rattle.ft_orb.specs.History.{line};
@@ -26,13 +26,13 @@ use ft_objects::Catalogue;
 use std::alloc::Global;
 
 /// The outcome to hand in for the request that waits: the owner's, or INTERNAL where that one can't answer it.
-fn fitting<C: Catalogue + Drop>(engine: &Engine<C>, outcome: Outcome) -> Outcome
+fn fitting<C: Catalogue + Drop>(engine: &Engine<C>, number: u64, outcome: Outcome) -> Outcome
     requires fit { IsFit (C.offers engine.now.catalogue) (waits_in engine.now) }
-    requires asking { IsSome (waits_in engine.now) }
-    ensures can { CanAnswer (C.offers engine.now.catalogue) (waits_in engine.now) (performed_in result) }
+    requires open { IsOpen number (waits_in engine.now) }
+    ensures can { CanAnswer (C.offers engine.now.catalogue) (waits_in engine.now) number (performed_in result) }
     ensures handed { HandsIn (C.offers engine.now.catalogue) (waits_in engine.now) (performed_in outcome) (performed_in result) }
 {
-    if engine.can_answer(&outcome) {
+    if engine.can_answer(number, &outcome) {
         return outcome;
     }
     Outcome::System(SystemName::Internal, 0, Completion::Maybe)
@@ -55,12 +55,13 @@ fn attend_ask<C: Catalogue + Drop, O: Performer>(
     let Some(asked) = engine.asked() else {
         return Ok(());
     };
+    let number = asked.number;
     let Some(outcome) = owner.perform(alloc, &asked) else {
-        engine.give_up();
+        engine.give_up(number);
         return Err(StreamEnd::Memory);
     };
-    let outcome = fitting(engine, outcome);
-    match engine.answer(outcome, out) {
+    let outcome = fitting(engine, number, outcome);
+    match engine.answer(number, outcome, out) {
         Ok(()) => Ok(()),
         Err(_) => Err(StreamEnd::Memory),
     }

@@ -6,7 +6,7 @@ ghost use Rattle.ft_orb.specs.Engines.{awaited_lent};
 ghost use Rattle.ft_orb.specs.Handovers.{answers_given};
 ghost use Rattle.ft_orb.specs.Wires.{IfKnown};
 
-use crate::engine::Asked;
+use crate::asked::Asked;
 use ft_log::Outcome;
 use std::alloc::Global;
 

@@ -7,6 +7,7 @@ ghost use Rattle.giop_run.specs.Plays.{AreOfLaw, AreOfNow, AreOfTable};
 
 use crate::stop::Stop;
 use counter::Counter;
+use ft_log::Retention;
 use ft_orb::{Event, Server, Written, play};
 use giop_frames::Limits;
 use std::alloc::Global;
@@ -46,14 +47,11 @@ pub(crate) fn play_events(
     ensures now { IfOk result (λ played. AreOfNow terms (map event_of events.now) (map noted played.written.items) played.total) }
 {
     let counter = Counter::new(alloc, terms.start)?;
-    let mut server = Server::new(
-        alloc,
-        counter,
-        terms.limits,
-        terms.capacity,
-        terms.share,
-        hasher,
-    );
+    let retention = Retention {
+        capacity: terms.capacity,
+        share: terms.share,
+    };
+    let mut server = Server::new(alloc, counter, terms.limits, retention, hasher);
     let mut written = Vec::new(alloc);
     play(alloc, &mut server, events, &mut written)?;
     let total = server.servant().total();

@@ -11,6 +11,7 @@ use crate::setting::{DONE, FAILED, Service};
 use crate::stop::Stop;
 use crate::watching::{Watch, Watched};
 use counter::{Counter, reference_text};
+use ft_log::Retention;
 use ft_objects::Servant;
 use ft_orb::{Clock, Server};
 use ft_tcp::{Socket, SystemClock, serve_connection, serve_on};
@@ -42,7 +43,13 @@ fn new_server<S: Servant + Drop>(
     ensures { IsNew (record { limits = terms.limits; capacity = terms.capacity; share = terms.share; opening = servant }) result }
 {
     let (capacity, share) = (terms.capacity, terms.share);
-    Server::new(alloc, servant, terms.limits, capacity, share, hasher)
+    Server::new(
+        alloc,
+        servant,
+        terms.limits,
+        Retention { capacity, share },
+        hasher,
+    )
 }
 
 /// How long a read or a write may take.

@@ -25,9 +25,14 @@ none_waits None idle = refl
 none_waits (Some x) idle = absurd (idle refl)
 
 -- no outcome can answer where nothing waits
-pub none_can : (offer : Offer) (o : Option Awaited) (p : Performed) → o ≡ None → CanAnswer offer o p → ⊥
-none_can offer None p e can = can
-none_can offer (Some w) p e can = none-some w (sym e)
+pub none_can : (offer : Offer) (o : Option Awaited) (n : ℕ) (p : Performed) → o ≡ None → CanAnswer offer o n p → ⊥
+none_can offer None n p e can = can
+none_can offer (Some w) n p e can = none-some w (sym e)
+
+-- what can answer is an answer to what waits
+pub can_at : (offer : Offer) (o : Option Awaited) (x : Awaited) (n : ℕ) (p : Performed) → Some x ≡ o → CanAnswer offer o n p → CanAnswer offer o x.number p
+can_at offer None x n p is can = absurd can
+can_at offer (Some w) x n p is can = let same : x ≡ w = cc in (ap (λ (v : Awaited). v.number) (sym same), can.1, can.2)
 
 -- a number names nothing
 pub unnamed : {A : Type 0} (x : Option A) (e : Refusal) (s : Serving) (r : Result ℕ Refusal) (Does : A → Type 0) → or_range x ≡ Err e → r ≡ Err e → ByName x s s r Does

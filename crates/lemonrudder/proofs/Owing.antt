@@ -31,7 +31,7 @@ module _ {C : Type 0} (offers : C → Offer) (owner : Owner) (calls : List Call)
   ends-owed e note engine x = record { written = x.written; appended = grows n before x.written out few x.appended; writes = x.writes; rests = x.rests }
 
   stops-owed : (c moment : ℕ) (piece : List ℕ) (taken : ℕ) (engine : Engine C) → Stops offers owner calls past c moment piece taken engine before out → Stops offers owner calls past c moment piece taken engine (drop n before) (drop n out)
-  stops-owed c moment piece taken engine x = record { written = x.written; appended = grows n before x.written out few x.appended; call = x.call; asks = x.asks; short = x.short }
+  stops-owed c moment piece taken engine x = record { written = x.written; appended = grows n before x.written out few x.appended; number = x.number; call = x.call; field = x.field; asks = x.asks; short = x.short }
 
   pub feeds-owed : (c moment : ℕ) (piece : List ℕ) (f : Result Fed ServeError) (engine : Engine C) → Feeds offers owner calls past c moment piece f engine before out → Feeds offers owner calls past c moment piece f engine (drop n before) (drop n out)
   feeds-owed c moment piece (Ok fed.Whole) engine x = ends-owed _ _ engine x
@@ -47,7 +47,7 @@ module _ {C : Type 0} (offers : C → Offer) (owner : Owner) (calls : List Call)
   ends-once-owed e note x = (x.0, grows n before x.0 out few x.1, x.2)
 
   asks-once-owed : (c moment : ℕ) (octets : List ℕ) (waits : Option Awaited) → AsksOnce offers owner calls past c moment octets waits before out → AsksOnce offers owner calls past c moment octets waits (drop n before) (drop n out)
-  asks-once-owed c moment octets waits x = record { written = x.written; appended = grows n before x.written out few x.appended; call = x.call; is_awaited = x.is_awaited; front = x.front; last = x.last; completes = x.completes; asks = x.asks; once = x.once }
+  asks-once-owed c moment octets waits x = record { written = x.written; appended = grows n before x.written out few x.appended; number = x.number; call = x.call; field = x.field; is_awaited = x.is_awaited; front = x.front; last = x.last; completes = x.completes; asks = x.asks; carries = x.carries; once = x.once }
 
   pub feeds-once-owed : (c moment : ℕ) (piece : List ℕ) (f : Result Fed ServeError) (waits : Option Awaited) → FeedsOnce offers owner calls past c moment piece f waits before out → FeedsOnce offers owner calls past c moment piece f waits (drop n before) (drop n out)
   feeds-once-owed c moment piece (Ok fed.Whole) waits x = ends-once-owed (Piece c moment piece) Done x
@@ -69,7 +69,7 @@ module _ (owner : Owner) (calls : List Call) (past : List Event) (n : ℕ) (befo
   ends-now-owed e note x = (x.0, grows n before x.0 out few x.1, x.2)
 
   asks-now-owed : (c moment : ℕ) (octets : List ℕ) (waits : Option Awaited) → AsksNow owner calls past c moment octets waits before out → AsksNow owner calls past c moment octets waits (drop n before) (drop n out)
-  asks-now-owed c moment octets waits x = record { written = x.written; appended = grows n before x.written out few x.appended; call = x.call; is_awaited = x.is_awaited; front = x.front; last = x.last; completes = x.completes; asks = x.asks; due = x.due }
+  asks-now-owed c moment octets waits x = record { written = x.written; appended = grows n before x.written out few x.appended; number = x.number; call = x.call; field = x.field; is_awaited = x.is_awaited; front = x.front; last = x.last; completes = x.completes; asks = x.asks; carries = x.carries; due = x.due }
 
   pub feeds-now-owed : (c moment : ℕ) (piece : List ℕ) (f : Result Fed ServeError) (waits : Option Awaited) → FeedsNow owner calls past c moment piece f waits before out → FeedsNow owner calls past c moment piece f waits (drop n before) (drop n out)
   feeds-now-owed c moment piece (Ok fed.Whole) waits x = ends-now-owed (Piece c moment piece) Done x

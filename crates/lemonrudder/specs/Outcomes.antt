@@ -38,7 +38,7 @@ Answers outcome s t o = (owner : Owner) (calls : List Call) (past : List Event) 
 
 -- an outcome can answer what waits
 abbrev pub CanBe : Performed → Serving → Type 0
-CanBe outcome s = CanAnswer (offer_of s.engine.catalogue) (waits_in s.engine) outcome
+CanBe outcome s = (number : ℕ) × CanAnswer (offer_of s.engine.catalogue) (waits_in s.engine) number outcome
 
 -- an outcome is handed in, and the number n is answered: not where nothing waits, nor where it can't be that of the operation
 abbrev pub HandsIn : ℕ → Performed → Serving → Serving → Result ℕ Refusal → Type 0

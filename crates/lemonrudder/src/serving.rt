@@ -9,6 +9,7 @@ mod questions;
 use crate::due::Due;
 use crate::refusal::{Refusal, count_of};
 use crate::terms::Terms;
+use ft_log::Retention;
 use ft_objects::Interfaces;
 use ft_orb::{Engine, Fed, ServeError};
 use std::alloc::Global;
@@ -38,7 +39,13 @@ impl Serving {
             seed: _,
         } = terms;
         Serving {
-            engine: Engine::new(alloc, interfaces, limits, capacity, share, hasher),
+            engine: Engine::new(
+                alloc,
+                interfaces,
+                limits,
+                Retention { capacity, share },
+                hasher,
+            ),
             alloc,
             due: Due::new(Vec::new(alloc)),
             due_on: 0,
@@ -120,10 +127,11 @@ impl Serving {
     pub fn give_up(&mut self) -> Result<u64, Refusal>
         ensures { OnGiveUp self.old self.new result }
     {
-        if !self.engine.is_asking() {
+        let Some(asked) = self.engine.asked() else {
             return Err(Refusal::Idle);
-        }
-        self.engine.give_up();
+        };
+        let number = asked.number;
+        self.engine.give_up(number);
         Ok(0)
     }
 

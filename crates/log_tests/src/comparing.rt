@@ -2,7 +2,7 @@
 
 use crate::list_log::ListLog;
 use crate::minors::{minor_in, outcome_of};
-use ft_log::{Key, Log, LogError};
+use ft_log::{Key, Log, LogError, Retention};
 use std::alloc::Global;
 use std::hash::RandomState;
 
@@ -90,7 +90,7 @@ impl Both {
 /// A log and its list, of that capacity and share.
 fn both_of(alloc: Global, hasher: RandomState, capacity: u32, share: u32) -> Both {
     Both {
-        log: Log::new(alloc, capacity, share, hasher),
+        log: Log::new(alloc, Retention { capacity, share }, hasher),
         list: ListLog::new(alloc, capacity as usize, share as usize),
     }
 }

@@ -3,7 +3,7 @@
 use crate::minors::keep_minor;
 use crate::steps::Step::{Expires, Finds, Forgets, Holds, HoldsOf, Keeps, MakesRoom, Refuses};
 use crate::steps::{Step, assert_given};
-use ft_log::{Log, LogError};
+use ft_log::{Log, LogError, Retention};
 use std::alloc::{AllocError, Global};
 use std::hash::RandomState;
 
@@ -111,7 +111,11 @@ fn is_shown(alloc: Global, log: &Log, wanted: &str) -> Result<bool, AllocError> 
 #[test]
 fn a_log_is_printed_without_its_outcomes(rt: HostRuntime) {
     let hasher = RandomState::new(&rt).expect(&rt, "random");
-    let mut log = Log::new(rt.alloc(), 4, 1, hasher);
+    let retention = Retention {
+        capacity: 4,
+        share: 1,
+    };
+    let mut log = Log::new(rt.alloc(), retention, hasher);
     assert!(rt; keep_minor(rt.alloc(), &mut log, b"A", 1, 30, 7) == Ok(true));
     assert!(rt; keep_minor(rt.alloc(), &mut log, b"B", 2, 30, 9) == Ok(true));
     let text = "Log { capacity: 4, share: 1, len: 2, .. }";

@@ -1,7 +1,7 @@
 //! Many long clients.
 
 use crate::minors::{keep_minor, minor_of};
-use ft_log::{Log, LogError};
+use ft_log::{Log, LogError, Retention};
 use std::alloc::Global;
 use std::hash::RandomState;
 
@@ -52,7 +52,11 @@ fn are_found(alloc: Global, log: &Log) -> Result<bool, LogError> {
 #[test]
 fn a_thousand_long_clients_are_kept(rt: HostRuntime) {
     let hasher = RandomState::new(&rt).expect(&rt, "random");
-    let mut log = Log::new(rt.alloc(), 1000, 1, hasher);
+    let retention = Retention {
+        capacity: 1000,
+        share: 1,
+    };
+    let mut log = Log::new(rt.alloc(), retention, hasher);
     assert!(rt; are_kept(rt.alloc(), &mut log).unwrap_or(false));
     assert!(rt; keep_client(rt.alloc(), &mut log, 1000) == Err(LogError::Full));
     assert!(rt; are_found(rt.alloc(), &log).unwrap_or(false));

@@ -1,7 +1,7 @@
 //! Calls of a log, one after another, and what each gives.
 
 use crate::minors::{keep_minor, minor_of};
-use ft_log::{Key, Log, LogError};
+use ft_log::{Key, Log, LogError, Retention};
 use std::alloc::Global;
 use std::hash::RandomState;
 use std::process::Abort;
@@ -67,7 +67,7 @@ pub(crate) fn assert_given(
     (capacity, share): (u32, u32),
     steps: &[Step],
 ) {
-    let mut log = Log::new(rt.alloc(), capacity, share, hasher);
+    let mut log = Log::new(rt.alloc(), Retention { capacity, share }, hasher);
     for (index, step) in steps.iter().enumerate() {
         let holds = is_given(rt.alloc(), &mut log, step).unwrap_or(false);
         assert!(rt; holds, "step {index}");

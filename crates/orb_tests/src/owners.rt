@@ -5,7 +5,7 @@ use crate::visits::{Course, Wanted, course_of, is_wanted};
 use crate::{MemoryClock, MemoryWire, Terms};
 use cdr_core::Val;
 use counter::Counter;
-use ft_log::Outcome;
+use ft_log::{Outcome, Retention};
 use ft_orb::{Asked, Engine, Performer, StreamEnd, serve_engine};
 use giop_frames::Limits;
 use giop_run::CAPACITY;
@@ -65,14 +65,11 @@ fn comes_of(alloc: Global, hasher: RandomState, gift: Gift) -> Result<Course, Fa
         fails: 0,
     };
     let counter = Counter::new(alloc, 0)?;
-    let mut engine = Engine::new(
-        alloc,
-        counter,
-        Limits::default(),
-        CAPACITY,
-        CAPACITY,
-        hasher,
-    );
+    let retention = Retention {
+        capacity: CAPACITY,
+        share: CAPACITY,
+    };
+    let mut engine = Engine::new(alloc, counter, Limits::default(), retention, hasher);
     engine.connect(1)?;
     let mut owner = Told { gift, calls: 0 };
     let mut wire = MemoryWire::new(alloc, terms);

@@ -2,6 +2,7 @@
 
 use crate::{Act, MemoryClock, MemoryWire, Terms};
 use counter::Counter;
+use ft_log::Retention;
 use ft_orb::{Server, StreamEnd, serve_stream};
 use giop_frames::Limits;
 use giop_run::CAPACITY;
@@ -16,7 +17,11 @@ pub(crate) fn new_server(
 ) -> Result<Server<Counter>, AllocError> {
     let counter = Counter::new(alloc, 0)?;
     let limits = Limits::default();
-    Ok(Server::new(alloc, counter, limits, CAPACITY, CAPACITY, hasher))
+    let retention = Retention {
+        capacity: CAPACITY,
+        share: CAPACITY,
+    };
+    Ok(Server::new(alloc, counter, limits, retention, hasher))
 }
 
 /// What came of a connection.

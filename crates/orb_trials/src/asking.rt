@@ -3,6 +3,7 @@
 use crate::misses::{connect_miss, serve_miss};
 use crate::server_samples::{AGAIN, ANSWER};
 use counter::Counter;
+use ft_log::Retention;
 use ft_orb::{ServeError, Server};
 use giop_frames::Limits;
 use std::alloc::{AllocError, Global};
@@ -27,7 +28,11 @@ pub(crate) fn new_server(
     hasher: RandomState,
 ) -> Result<Server<Counter>, AllocError> {
     let counter = Counter::new(alloc, 0)?;
-    Ok(Server::new(alloc, counter, LEAST, MOST, MOST, hasher))
+    let retention = Retention {
+        capacity: MOST,
+        share: MOST,
+    };
+    Ok(Server::new(alloc, counter, LEAST, retention, hasher))
 }
 
 /// A request, the moment at which it comes, and what is to be written for it.

@@ -1,7 +1,7 @@
 //! A log that keeps one outcome more.
 
 use crate::misses::log_miss;
-use ft_log::{Completion, Key, Log, Outcome, SystemName};
+use ft_log::{Completion, Key, Log, Outcome, Retention, SystemName};
 use std::alloc::Global;
 use std::hash::RandomState;
 use trials::{Miss, Sample, Trial, Wrong};
@@ -53,7 +53,11 @@ impl Keeping {
         sample: &Sample,
         count: i32,
     ) -> Result<Keeping, Miss> {
-        let mut log = Log::new(alloc, MOST, MOST, hasher);
+        let retention = Retention {
+            capacity: MOST,
+            share: MOST,
+        };
+        let mut log = Log::new(alloc, retention, hasher);
         let mut earlier = Vec::new(alloc);
         for number in 0..count {
             let key = Key::new(alloc, sample.octets, number)?;

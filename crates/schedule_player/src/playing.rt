@@ -8,6 +8,7 @@ use cdr_core::Order;
 use counter::Counter;
 use ft_client::{Ended, FtClient, ReplyBody};
 use ft_ends::{Step, both_ends};
+use ft_log::Retention;
 use ft_orb::{PlayError, Server};
 use std::alloc::{AllocError, Global};
 use std::hash::RandomState;
@@ -83,14 +84,11 @@ pub(crate) fn play(
     requires { AllByRecursion IsCallable steps.now }
 {
     let counter = Counter::new(alloc, terms.total)?;
-    let mut server = Server::new(
-        alloc,
-        counter,
-        terms.limits,
-        terms.capacity,
-        terms.share,
-        hasher,
-    );
+    let retention = Retention {
+        capacity: terms.capacity,
+        share: terms.share,
+    };
+    let mut server = Server::new(alloc, counter, terms.limits, retention, hasher);
     let mut completions = Vec::new(alloc);
     let played = both_ends(alloc, &mut server, clients, steps, &mut completions);
     Ok(Played {

@@ -4,7 +4,7 @@ ghost use Rattle.std.specs.Prelude.{◌≡◌, IsSome, None};
 ghost use Rattle.ft_orb.specs.Engines.{waits_in};
 
 use cdr_core::{Ty, Val};
-use ft_log::{Completion, Outcome, SystemName};
+use ft_log::{Completion, Outcome, Retention, SystemName};
 use ft_objects::{Catalogue, Interfaces, InterfacesError, Signature, longlong_at, string_at};
 use ft_orb::{Asked, ConnectError, Engine, Event, Fed, Performer, ServeError};
 use giop_frames::Limits;
@@ -146,20 +146,22 @@ fn answer<C: Catalogue + Drop, O: Performer>(
     requires asking { IsSome (waits_in engine.old) }
     ensures idle { waits_in engine.new ≡ None }
 {
-    if let Some(asked) = engine.asked()
-        && let Some(outcome) = owner.perform(alloc, &asked)
-    {
+    let Some(asked) = engine.asked() else {
+        return Ok(());
+    };
+    let number = asked.number;
+    if let Some(outcome) = owner.perform(alloc, &asked) {
         // what was performed is answered in any case, by INTERNAL where its outcome is none of the operation
-        let outcome = if engine.can_answer(&outcome) {
+        let outcome = if engine.can_answer(number, &outcome) {
             outcome
         } else {
             Outcome::System(SystemName::Internal, 0, Completion::Maybe)
         };
-        if engine.can_answer(&outcome) {
-            return Ok(engine.answer(outcome, out)?);
+        if engine.can_answer(number, &outcome) {
+            return Ok(engine.answer(number, outcome, out)?);
         }
     }
-    engine.give_up();
+    engine.give_up(number);
     Err(BankingError::GivenUp)
 }
 
@@ -236,7 +238,11 @@ pub fn serve_bank(
 ) -> Result<Bank, BankingError> {
     let mut bank = Bank::new(alloc);
     // at most 100 outcomes are kept, at most 100 of each client
-    let mut engine = Engine::new(alloc, bank_interfaces(alloc)?, limits, 100, 100, hasher);
+    let retention = Retention {
+        capacity: 100,
+        share: 100,
+    };
+    let mut engine = Engine::new(alloc, bank_interfaces(alloc)?, limits, retention, hasher);
     serve_events(alloc, &mut engine, &mut bank, events, out)?;
     Ok(bank)
 }

@@ -12,6 +12,7 @@ ghost use Rattle.uses.specs.Tickets.{tickets_meaning};
 use crate::tickets::Tickets;
 use ft_client::{Ended, FtClient};
 use ft_ends::{Call, Step, both_ends};
+use ft_log::Retention;
 use ft_orb::{PlayError, Server};
 use giop_core::Version;
 use giop_frames::Limits;
@@ -103,7 +104,11 @@ pub fn ticket_at_cut(
 {
     ft_ends::laws::calls_are_of_steps();
     let tickets = Tickets::new(alloc)?;
-    let mut server = Server::new(alloc, tickets, limits, 100, 10, hasher);
+    let retention = Retention {
+        capacity: 100,
+        share: 10,
+    };
+    let mut server = Server::new(alloc, tickets, limits, retention, hasher);
     let mut clients = one_client(alloc, limits)?;
     let steps = steps_at_cut(alloc, request, reply)?;
     let mut completions = Vec::new(alloc);

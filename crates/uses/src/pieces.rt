@@ -8,6 +8,7 @@ ghost use Rattle.uses.specs.Pieces.{AreServedOnce, event_of, octets_for};
 
 use crate::serving::ServingError;
 use crate::tickets::Tickets;
+use ft_log::Retention;
 use ft_objects::Servant;
 use ft_orb::{ServeError, Server};
 use giop_frames::Limits;
@@ -52,7 +53,11 @@ pub fn serve_pieces(
     ft_orb::laws::tables_act_once::<Tickets>();
     ft_orb::laws::plays_write_their_outputs();
     let tickets = Tickets::new(alloc)?;
-    let mut server = Server::new(alloc, tickets, limits, 100, 10, hasher);
+    let retention = Retention {
+        capacity: 100,
+        share: 10,
+    };
+    let mut server = Server::new(alloc, tickets, limits, retention, hasher);
     server.connect(1)?;
     let mut out = Vec::new(alloc);
     feed_all(&mut server, pieces, &mut out)?;

@@ -9,7 +9,7 @@ ghost use Rattle.uses.specs.Relaying.{Exchange, Exchanged, IsForwarded};
 
 use crate::banking::{BankingError, serve_events};
 use crate::forwarding::{ForwardError, body_of, forward_request, read_reply, untold};
-use ft_log::{Completion, Outcome, SystemName};
+use ft_log::{Completion, Outcome, Retention, SystemName};
 use ft_objects::{Interfaces, Servant};
 use ft_orb::{Asked, Engine, Event, Performer, Server};
 use giop_frames::Limits;
@@ -145,6 +145,10 @@ pub fn serve_relay<B: Back + Drop>(
     let mut interfaces = Interfaces::new(alloc);
     interfaces.add_raw_object(object_key)?;
     // at most 100 outcomes are kept, at most 100 of each client
-    let mut engine = Engine::new(alloc, interfaces, limits, 100, 100, hasher);
+    let retention = Retention {
+        capacity: 100,
+        share: 100,
+    };
+    let mut engine = Engine::new(alloc, interfaces, limits, retention, hasher);
     serve_events(alloc, &mut engine, relay, events, out)
 }

@@ -12,6 +12,7 @@ ghost use Rattle.uses.specs.Tickets.{tickets_meaning};
 
 use crate::tickets::Tickets;
 use ft_client::{CallError, Ended, FtClient};
+use ft_log::Retention;
 use ft_orb::{ConnectError, ServeError, Server};
 use giop_core::Version;
 use giop_frames::Limits;
@@ -74,7 +75,11 @@ pub fn next_ticket(
     ensures given { IfOk result (λ told. IsGiven limits told.1) }
 {
     let tickets = Tickets::new(alloc)?;
-    let mut server = Server::new(alloc, tickets, limits, 100, 10, hasher);
+    let retention = Retention {
+        capacity: 100,
+        share: 10,
+    };
+    let mut server = Server::new(alloc, tickets, limits, retention, hasher);
     let mut client = FtClient::new(alloc, b"A", Version::V12, limits)?;
     let completion = call_twice(alloc, &mut client, &mut server)?;
     Ok((completion, server.servant().given()))

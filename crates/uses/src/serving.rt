@@ -4,6 +4,7 @@ ghost use Rattle.std.specs.Prelude.{◌≡◌, IfOk};
 ghost use Rattle.uses.specs.Serving.{first_output, second_output};
 
 use crate::tickets::Tickets;
+use ft_log::Retention;
 use ft_orb::{ConnectError, ServeError, Server};
 use giop_frames::Limits;
 use std::alloc::{AllocError, Global};
@@ -33,8 +34,11 @@ pub fn serve_once(
     ensures second { IfOk result (λ written. written.1.items ≡ second_output limits octets.now) }
 {
     let tickets = Tickets::new(alloc)?;
-    // at most 100 outcomes are kept, at most 10 of each client
-    let mut server = Server::new(alloc, tickets, limits, 100, 10, hasher);
+    let retention = Retention {
+        capacity: 100,
+        share: 10,
+    };
+    let mut server = Server::new(alloc, tickets, limits, retention, hasher);
     let mut first = Vec::new(alloc);
     server.connect(1)?;
     server.feed(1, 50, octets, &mut first)?;

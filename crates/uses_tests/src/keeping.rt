@@ -1,6 +1,6 @@
 //! Outcomes that are kept.
 
-use ft_log::{Completion, Key, Log, LogError, Outcome, SystemName};
+use ft_log::{Completion, Key, Log, LogError, Outcome, Retention, SystemName};
 use std::alloc::Global;
 use std::hash::RandomState;
 use std::test::Fail;
@@ -52,7 +52,11 @@ fn found_after(
 
 #[test]
 fn the_first_outcome_is_kept_until_it_expires(rt: HostRuntime) -> Result<(), Fail> {
-    let mut log = Log::new(rt.alloc(), 2, 2, RandomState::new(&rt)?);
+    let retention = Retention {
+        capacity: 2,
+        share: 2,
+    };
+    let mut log = Log::new(rt.alloc(), retention, RandomState::new(&rt)?);
     for (retention_id, minor, moments, wanted) in &OFFERS {
         let found = found_after(rt.alloc(), &mut log, (*retention_id, *minor), *moments);
         assert!(rt; found == *wanted, "{minor}");

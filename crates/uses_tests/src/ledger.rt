@@ -1,6 +1,7 @@
 //! A ledger that a server performs.
 
 use crate::octets::{ENTRIES, ONE_ENTRY, POST, REFUSED, RETURNED, SETTLE, TOTAL, TWO_ENTRIES};
+use ft_log::Retention;
 use ft_orb::Server;
 use giop_frames::Limits;
 use std::alloc::{AllocError, Global};
@@ -35,12 +36,15 @@ fn with_numbers(alloc: Global, before: &[u8], numbers: &[i64]) -> Result<Vec<u8>
 fn a_ledger_tells_its_entries(rt: HostRuntime) -> Result<(), Fail> {
     let alloc = rt.alloc();
     let hasher = RandomState::new(&rt)?;
+    let retention = Retention {
+        capacity: 100,
+        share: 10,
+    };
     let mut server = Server::new(
         alloc,
         Ledger::new(alloc)?,
         Limits::default(),
-        100,
-        10,
+        retention,
         hasher,
     );
     server.connect(1)?;

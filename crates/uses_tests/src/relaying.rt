@@ -7,7 +7,7 @@ use crate::relayed::{
     THOUSAND, THOUSAND_BEHIND, UNKNOWN,
 };
 use cdr_core::Order;
-use ft_log::{Completion, Outcome, RawStatus, SystemName};
+use ft_log::{Completion, Outcome, RawStatus, Retention, SystemName};
 use ft_orb::{Event, Server};
 use giop_frames::Limits;
 use std::alloc::{AllocError, Global};
@@ -69,7 +69,11 @@ fn savings(rt: &HostRuntime) -> Result<Behind<Savings>, Fail> {
     let alloc = rt.alloc();
     let hasher = RandomState::new(rt)?;
     let limits = Limits::default();
-    let server = Server::new(alloc, Savings::new(alloc)?, limits, 100, 10, hasher);
+    let retention = Retention {
+        capacity: 100,
+        share: 10,
+    };
+    let server = Server::new(alloc, Savings::new(alloc)?, limits, retention, hasher);
     Ok(Behind::new(server))
 }
 

@@ -1,6 +1,7 @@
 //! Savings that a server performs.
 
 use crate::octets::{RETURNED, SAVE, SAVINGS_OVERDRAWN};
+use ft_log::Retention;
 use ft_orb::Server;
 use giop_frames::Limits;
 use std::alloc::{AllocError, Global};
@@ -19,12 +20,15 @@ fn with_cents(alloc: Global, before: &[u8], cents: i64) -> Result<Vec<u8>, Alloc
 fn savings_are_not_overdrawn(rt: HostRuntime) -> Result<(), Fail> {
     let alloc = rt.alloc();
     let hasher = RandomState::new(&rt)?;
+    let retention = Retention {
+        capacity: 100,
+        share: 10,
+    };
     let mut server = Server::new(
         alloc,
         Savings::new(alloc)?,
         Limits::default(),
-        100,
-        10,
+        retention,
         hasher,
     );
     let mut written = Vec::new(alloc);

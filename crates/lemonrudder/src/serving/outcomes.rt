@@ -24,13 +24,14 @@ impl Serving {
     fn hand_in(&mut self, outcome: Outcome, count: u64) -> Result<u64, Refusal>
         ensures { HandsIn count (performed_in outcome) self.old self.new result }
     {
-        if !self.engine.is_asking() {
+        let Some(asked) = self.engine.asked() else {
             return Err(Refusal::Idle);
-        }
-        if !self.engine.can_answer(&outcome) {
+        };
+        let number = asked.number;
+        if !self.engine.can_answer(number, &outcome) {
             return Err(Refusal::Outcome);
         }
-        self.engine.answer(outcome, &mut self.due.octets)?;
+        self.engine.answer(number, outcome, &mut self.due.octets)?;
         Ok(count)
     }
 

@@ -19,7 +19,7 @@ returns-in_err-attend_ask-in-Ok-Asks-clause-table g c =
       λ o calls past rests there agrees.
           let s = rw c.in-Ok-Asks.field-0-is at (c.in-Ok-Asks.ensures.table o calls past rests) in
           let place = rw c.in-Ok-Asks.field-0-is at c.in-Ok-Asks.ensures.place in
-          let r = asked.2 o calls past c.args.moment (take c.in-Ok-Asks.taken c.args.piece.now) s.written (record { connection = c.args.connection; call = s.call }) s.asks there agrees in
+          let r = asked.2 o calls past c.args.moment (take c.in-Ok-Asks.taken c.args.piece.now) s.written (record { number = s.number; connection = c.args.connection; call = s.call; field = s.field }) s.asks there agrees in
           let m = memory-ended (Unit {0}) ℕ c.in_err-attend_ask-in-Ok-Asks.field-0.0 r.1 r.2 in (
             r.0,
             (
@@ -49,7 +49,7 @@ returns-in_ok-attend_ask-in-Ok-Asks-clause-table g c =
       λ o calls past rests there agrees.
           let s = rw c.in-Ok-Asks.field-0-is at (c.in-Ok-Asks.ensures.table o calls past rests) in
           let place = rw c.in-Ok-Asks.field-0-is at c.in-Ok-Asks.ensures.place in
-          let r = asked.2 o calls past c.args.moment (take c.in-Ok-Asks.taken c.args.piece.now) s.written (record { connection = c.args.connection; call = s.call }) s.asks there agrees in (
+          let r = asked.2 o calls past c.args.moment (take c.in-Ok-Asks.taken c.args.piece.now) s.written (record { number = s.number; connection = c.args.connection; call = s.call; field = s.field }) s.asks there agrees in (
             r.0,
             part-asked g.C.Catalogue.offers o c.streams_are_heard.ensures.grows c.streams_are_heard.ensures.stays c.streams_are_heard.ensures.silent past c.args.connection c.args.moment calls (calls_with calls asked.0) c.args.piece.now c.in-Ok-Asks.taken c.feed.new.self c.attend_ask.new.engine
                 c.args.out.now.items c.feed.new.out.items c.attend_ask.new.out.items r.1 place.1 s r.2 r.3,

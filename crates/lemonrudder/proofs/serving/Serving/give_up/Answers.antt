@@ -1,10 +1,14 @@
-use Rattle.std.proofs.Common.{rules, refl}
+use Rattle.std.proofs.Common.{refl, sym, ◌∙◌}
+use Rattle.std.proofs.lemmas.Option.{none-some}
 use Rattle.lemonrudder.proofs.Idling.{not_both}
 use Rattle.lemonrudder.proofs.serving.Serving.give_up.Goals as goal
 
+pub returns-in_default : goal.returns-in_default
+returns-in_default c = (λ idle. (refl, refl), λ some. absurd (not_both _ some (sym c.in_default.ensures)))
+
 pub returns : goal.returns
 returns c = (
-  λ idle. absurd (not_both _ (search rules) idle),
+  λ idle. absurd (none-some _ (sym (c.in-Some.ensures ∙ idle))),
   λ some. (
     refl,
     c.give_up.ensures.idle,

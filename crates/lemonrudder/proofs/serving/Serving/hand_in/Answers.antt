@@ -1,28 +1,33 @@
-use Rattle.std.proofs.Common.{refl}
+use Rattle.std.proofs.Common.{refl, sym, ◌∙◌}
+use Rattle.std.proofs.lemmas.Option.{none-some}
 use Rattle.ft_log.specs.View.{performed_in}
-use Rattle.ft_orb.specs.Engines.{waits_in}
+use Rattle.ft_orb.specs.Engines.{awaited_lent}
 use Rattle.ft_objects.specs.Filling.{offer_of}
-use Rattle.std.specs.Option.{IsSome}
 use Rattle.lemonrudder.specs.Refusals.{refusal_of_serving}
 use Rattle.lemonrudder.proofs.Ended.{err-done, ok-done}
-use Rattle.lemonrudder.proofs.Handing.{none_can, none_waits}
+use Rattle.lemonrudder.proofs.Handing.{can_at, none_can}
 use Rattle.lemonrudder.proofs.Idling.{not_both, not_so}
 use Rattle.lemonrudder.proofs.Owing.{resumes-now-owed, resumes-once-owed, resumes-owed, resumes-stays}
 use Rattle.lemonrudder.proofs.serving.Serving.hand_in.Goals as goal
 
-pub returns-then-not-is_asking : goal.returns-then-not-is_asking
-returns-then-not-is_asking c =
-    let asking = λ (some : IsSome (waits_in c.args.self.now.engine)). not_so c.if-not-is_asking.true (c.is_asking.ensures.1 some) in
-    (λ idle. (refl, refl), λ some cannot. absurd (asking some), λ can. absurd (none_can (offer_of c.args.self.now.engine.catalogue) _ (performed_in c.args.outcome) (none_waits _ asking) can))
+pub returns-in_default : goal.returns-in_default
+returns-in_default c = (
+  λ idle. (refl, refl),
+  λ some cannot. absurd (not_both _ some (sym c.in_default.ensures)),
+  λ can. absurd (none_can (offer_of c.args.self.now.engine.catalogue) _ can.0 (performed_in c.args.outcome) (sym c.in_default.ensures) can.1),
+)
 
 pub returns-then-not-can_answer : goal.returns-then-not-can_answer
-returns-then-not-can_answer c =
-    (λ idle. absurd (not_both _ (c.is_asking.ensures.0 c.if-not-is_asking.false) idle), λ some cannot. (refl, refl), λ can. absurd (not_so c.if-not-can_answer.true (c.can_answer.ensures.1 can)))
+returns-then-not-can_answer c = (
+  λ idle. absurd (none-some _ (sym (c.in-Some.ensures ∙ idle))),
+  λ some cannot. (refl, refl),
+  λ can. absurd (not_so c.if-not-can_answer.true (c.can_answer.ensures.1 (can_at (offer_of c.args.self.now.engine.catalogue) _ (awaited_lent c.in-Some.asked) can.0 (performed_in c.args.outcome) c.in-Some.ensures can.1))),
+)
 
 pub returns-in_err-answer : goal.returns-in_err-answer
 returns-in_err-answer c = (
-  λ idle. absurd (not_both _ (c.is_asking.ensures.0 c.if-not-is_asking.false) idle),
-  λ some cannot. absurd (cannot (c.can_answer.ensures.0 c.if-not-can_answer.false)),
+  λ idle. absurd (none-some _ (sym (c.in-Some.ensures ∙ idle))),
+  λ some cannot. absurd (cannot (c.in-Some.asked.number, c.can_answer.ensures.0 c.if-not-can_answer.false)),
   λ can. (
     c.answer.result,
     err-done c.args.count refusal_of_serving c.answer.result _ c.from_residual.result c.in_err-answer.was c.from_residual.ensures.1,
@@ -42,8 +47,8 @@ returns-in_err-answer c = (
 
 pub returns : goal.returns
 returns c = (
-  λ idle. absurd (not_both _ (c.is_asking.ensures.0 c.if-not-is_asking.false) idle),
-  λ some cannot. absurd (cannot (c.can_answer.ensures.0 c.if-not-can_answer.false)),
+  λ idle. absurd (none-some _ (sym (c.in-Some.ensures ∙ idle))),
+  λ some cannot. absurd (cannot (c.in-Some.asked.number, c.can_answer.ensures.0 c.if-not-can_answer.false)),
   λ can. (
     c.answer.result,
     ok-done c.args.count refusal_of_serving c.answer.result _ c.in_ok-answer.was,
