@@ -31,7 +31,7 @@ HEAD = """{made}
 A call is quoted from its source, to which its heading leads, in short: `S` is what `self` points to at the call, and
 `S'` at the return; where a type is called `S`, `self.old` and `self.new` stay. [READING.md](../READING.md#a-contract)
 says how to read a clause. After it come the definitions that it cites, by the `use` lines of its source, and the wrong
-bodies: one that names a clause was refused by it, and the others are to be tried.
+bodies, each below the clause that refuses it.
 """
 
 
@@ -317,11 +317,11 @@ def line_of(file: str, name: str) -> int:
 
 
 def excluded_lines(wrongs: list[Wrong]) -> list[str]:
-    """The wrong bodies by the clause that refuses them, and before these those of which it is not said."""
+    """The wrong bodies by the clause that refuses them."""
     lines = []
     for clause in sorted({w.refused_by for w in wrongs}):
         said = "; ".join(w.text() for w in wrongs if w.refused_by == clause)
-        lines.append(f"- {clause} refuses {said}" if clause else f"- to be refused, by a clause that is not noted yet: {said}")
+        lines.append(f"- {clause} refuses {said}")
     return lines
 
 

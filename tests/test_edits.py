@@ -33,6 +33,12 @@ class OfCrates(unittest.TestCase):
             with self.subTest(crate):
                 self.assertEqual([it for it in public_calls(crate) if it not in have], [])
 
+    def test_each_says_what_refuses_it(self):
+        """Each edit names the clauses that refuse it, as tests/wrong_bodies.py --write adds them."""
+        for crate in crates():
+            with self.subTest(crate):
+                self.assertEqual([it.name for it in edits_of(crate) if it.refused_by is None], [])
+
     def test_nothing_else_stands_there(self):
         """Each folder of wrong bodies has files of edits alone."""
         for folder in glob.glob(f"{ROOT}/crates/*/wrong_bodies"):

@@ -82,6 +82,12 @@ class OfChecks(unittest.TestCase):
         self.assertEqual(self.judged(gone, f"fn {CURSOR}boolean: not proved").kind, NAMES_ONLY)
         self.assertIsNone(self.judged(gone, f"fn {CURSOR}boolean: not proved", is_alone=False))
 
+    def test_invariant_of_a_type(self):
+        """Its note stands at the type, and the function's own line names it."""
+        note = "note: src/other.rt:9:5: it is not proved that the invariant of what it gives holds (`invariant_of-self`)"
+        line = f"fn {CURSOR}boolean: no proof: expected answers in ./proofs/a.antt; `search` did not prove `invariant_of-self`"
+        self.assertEqual(self.judged(note, line).by, ("the invariant of a value",))
+
     def test_proved_and_unsure(self):
         self.assertEqual(self.judged(f"fn {CURSOR}boolean: proved").kind, PROVED)
         self.assertEqual(self.judged(f"fn {CURSOR}boolean: no proof: it calls `a`, which is not proved").kind, UNSURE)
@@ -106,8 +112,7 @@ class OfTurns(unittest.TestCase):
 
     def test_each_comes(self):
         """Some are due whatever the number of commits, and in one round of the turns each."""
-        edits = {crate: [it for it in some if it.refused_by] for crate, some in all_edits().items()}
-        edits = {crate: some for crate, some in edits.items() if some}
+        edits = all_edits()
         crates = {name: types.SimpleNamespace(below=list) for name in edits}
         met = []
         for turn in range(len(parts_of(edits))):

@@ -19,6 +19,8 @@ ERROR = re.compile(r"(?:\./)?(src/\S+?):(\d+):\d+: error")
 OF_NAMES = re.compile(r"has no field|is not in scope|has no `|was not admitted|is no name")
 # a line of a function that has open goals of its own
 OPEN = re.compile(r"not proved|no proof: expected answers in")
+# a goal in the line of a function without a proof file, whose note stands elsewhere: at the type, for an invariant
+UNFOUND = re.compile(r"`search` did not prove (`[^`]+`)")
 # a clause of a contract
 CLAUSE = re.compile(r"\s*(requires|ensures)(?: (\w+))? \{")
 
@@ -121,6 +123,7 @@ class Verdict:
             places = {"/".join([*parts[:count], f"+{cycle}"]) for count in range(len(parts))}
             answers += [what for at, what in self.answers if at in places and what.startswith(f"`{function.name}-")]
         telling = goals + [what for what in answers if not OF_NAMES.search(what)]
+        telling = telling or UNFOUND.findall(self.functions[symbol])
         return telling + answers, len(telling)
 
     def judge(self, edit, is_alone):

@@ -15,11 +15,10 @@ What refuses an edit follows from the names of the goals of its function that ar
 the order of the contract; or else those that it owes to what it calls, or invariants, or safety. The line `refused by`
 names them; --write tries those that lack it, and adds it to each file as soon as it is known. Each that it names has to
 refuse the edit again: an edit that is refused by others alone fails, and so does one that is refused only since a proof
-file cites a name that the edit took away.
+file cites a name that the edit took away. So does one without the line.
 
 --turns tries those of crates whose sources or edits changed since the branch left origin's main (or since the last
-commit), then those of crates above one whose specs changed, and then one of sixteen groups, by the number of commits;
-of all of these such as have a line `refused by`.
+commit), then those of crates above one whose specs changed, and then one of sixteen groups, by the number of commits.
 
 With --since SECONDS the libraries are those that the run of `rt ci` left that began then. With --jobs N as many checks
 run at once; else as many as there are processors, and room for them.
@@ -371,13 +370,8 @@ def turned(items, turn):
 
 
 def due(edits, crates):
-    """The edits that are due in this run, within the budget: a list of (crate, its edits).
-
-    They are taken of those whose file says what refuses them; the others are tried by --write, or with all.
-    """
+    """The edits that are due in this run, within the budget: a list of (crate, its edits)."""
     turn = int(git("rev-list", "--count", "HEAD") or 0)
-    edits = {crate: [it for it in some if it.refused_by] for crate, some in edits.items()}
-    edits = {crate: some for crate, some in edits.items() if some}
     changed, below = changed_since_base()
     above = {name for name in edits if below & {it.name for it in crates[name].below()}} - changed
     order = [changed, above, set(edits) - changed - above]
@@ -473,7 +467,7 @@ def said_of(result):
 def report(trials, edits):
     """Says what came of the edits, and returns the status."""
     results = trials.results
-    refused = [it for it, result in results.items() if result.kind in (REFUSED, UNSAID)]
+    refused = [it for it, result in results.items() if result.kind == REFUSED]
     failed = [it for it in results if it not in refused]
     count = sum(map(len, edits.values()))
     for crate, some in edits.items():
@@ -483,9 +477,6 @@ def report(trials, edits):
     for crate, name in failed:
         print(f"NOT REFUSED AS SAID: {crate}/{name}: {said_of(results[crate, name])}")
     others = "" if len(results) == count else "; the others by turns"
-    unsaid = sum(it.refused_by is None for some in edits.values() for it in some)
-    if unsaid:
-        print(f"{unsaid} of {count} have no line `refused by` yet: --write tries them, and adds it")
     earlier = f", {trials.earlier} of them by earlier runs of the same sources" if trials.earlier else ""
     print(f"wrong bodies: {len(results)} of {count} tried, {len(refused)} refused{earlier}{others}; "
           f"{trials.spent / 60:.1f} minutes of processor time")
@@ -513,7 +504,7 @@ class Body(unittest.TestCase):
             try_bodies([self])
         if self.result.kind == UNTRIED:
             self.skipTest(self.result.text)
-        if self.result.kind not in (REFUSED, UNSAID):
+        if self.result.kind != REFUSED:
             self.fail(said_of(self.result))
 
 
