@@ -18,7 +18,7 @@ use crate::stop::Stop;
 use crate::words::number;
 use counter::Counter;
 use ft_log::Retention;
-use ft_orb::{Engine, Server};
+use ft_orb::{Engine, Places, Server};
 use giop_frames::Limits;
 use std::alloc::{AllocError, Global};
 use std::hash::RandomState;
@@ -292,7 +292,14 @@ fn new_engine(alloc: Global, hasher: RandomState, task: Task) -> Result<Owned, S
         capacity: task.entries,
         share: task.share,
     };
-    let mut engine = Engine::new(alloc, catalogue, Limits::default(), retention, hasher);
+    let mut engine = Engine::new(
+        alloc,
+        catalogue,
+        Limits::default(),
+        retention,
+        Places::none(),
+        hasher,
+    );
     match engine.connect(1) {
         Ok(()) => Ok(Owned {
             alloc,

@@ -6,7 +6,7 @@ ghost use Rattle.ft_orb.specs.Engines.{waits_in};
 use crate::echo::Echo;
 use ft_log::Retention;
 use ft_objects::Interfaces;
-use ft_orb::{Engine, serve_engine};
+use ft_orb::{Engine, Places, serve_engine};
 use ft_tcp::{Socket, SystemClock};
 use giop_frames::Limits;
 use std::hash::RandomState;
@@ -34,7 +34,7 @@ fn new_engine(rt: &HostRuntime) -> io::Result<Engine<Interfaces>>
         capacity: CAPACITY,
         share: CAPACITY,
     };
-    Ok(Engine::new(alloc, interfaces, limits, retention, hasher))
+    Ok(Engine::new(alloc, interfaces, limits, retention, Places::none(), hasher))
 }
 
 /// Serves one connection to its end.

@@ -11,7 +11,7 @@ use crate::stop::Stop;
 use crate::terms::{Terms, terms_in};
 use counter::Counter;
 use ft_log::Retention;
-use ft_orb::Engine;
+use ft_orb::{Engine, Places};
 use std::alloc::{AllocError, Global};
 use std::hash::RandomState;
 use std::io;
@@ -30,7 +30,14 @@ fn new_host(alloc: Global, hasher: RandomState, terms: &Terms) -> Result<Host, A
         capacity: terms.capacity,
         share: terms.share,
     };
-    let engine = Engine::new(alloc, catalogue(alloc)?, terms.limits, retention, hasher);
+    let engine = Engine::new(
+        alloc,
+        catalogue(alloc)?,
+        terms.limits,
+        retention,
+        Places::none(),
+        hasher,
+    );
     let owner = Owner {
         alloc,
         count: Count { total: terms.start },

@@ -10,23 +10,23 @@ use Rattle.std.proofs.lemmas.Slice.Eq.{bytes_eq-Decides}
 use Rattle.ft_log.specs.Keys.{RequestKey, are_distinct, clients_in, held_of, same_key}
 use Rattle.ft_log.specs.Kept.{keys_of, kept_for, least_expiration, unexpired}
 use Rattle.ft_log.specs.Tied.{due_of, outcome_for}
-use Rattle.ft_log.specs.View.{entries_at, entry_in, key_of, performed_in}
+use Rattle.ft_log.specs.View.{entries_at, entry_in, holding_in, key_of}
 use Rattle.ft_log.specs.Without.{without}
 use Rattle.ft_log.specs.declared.story.Entry.{Entry}
-use Rattle.ft_log.specs.declared.outcome.Outcome.{Outcome}
+use Rattle.ft_log.specs.declared.held.Held.{Held}
 use Rattle.ft_log.proofs.Listed.{false_from_not, itself, same_is}
 
 abbrev pub keys_at : List Entry → List RequestKey
 keys_at es = keys_of (entries_at es)
 
 -- what is found
-pub kept_for-outcome : (key : RequestKey) (es : List Entry) → option_map performed_in (outcome_for key es) ≡ kept_for key (entries_at es)
+pub kept_for-outcome : (key : RequestKey) (es : List Entry) → option_map holding_in (outcome_for key es) ≡ kept_for key (entries_at es)
 kept_for-outcome key [] = refl
 kept_for-outcome key (e ∷ es) =
-    elim (same_key key (key_of e.key)) as (λ b. option_map performed_in (cond b (Some e.outcome) (outcome_for key es)) ≡ cond b (Some (performed_in e.outcome)) (kept_for key (entries_at es)))
+    elim (same_key key (key_of e.key)) as (λ b. option_map holding_in (cond b (Some e.outcome) (outcome_for key es)) ≡ cond b (Some (holding_in e.outcome)) (kept_for key (entries_at es)))
     [ true ↦ refl | false ↦ kept_for-outcome key es ]
 
-pub copied : (r : Option (Bor Outcome)) → option_map (λ o. performed_in o.now) r ≡ option_map performed_in (option_copied r)
+pub copied : (r : Option (Bor Held)) → option_map (λ o. holding_in o.now) r ≡ option_map holding_in (option_copied r)
 copied None = refl
 copied (Some o) = refl
 
@@ -125,7 +125,7 @@ unexpired-split now [] e rest lt =
 unexpired-split now (f ∷ front) e rest lt = ap (λ l. cond (nat_le now f.expiration) (entry_in f ∷ l) l) (unexpired-split now front e rest lt)
 
 pub outcome_for-without : (key other : RequestKey) (es : List Entry) → outcome_for other (without key es) ≡ cond (same_key other key) None (outcome_for other es)
-outcome_for-without key other [] = elim (same_key other key) as (λ b. ◌≡◌ {A = Option Outcome} None (cond b None None)) [ true ↦ refl | false ↦ refl ]
+outcome_for-without key other [] = elim (same_key other key) as (λ b. ◌≡◌ {A = Option Held} None (cond b None None)) [ true ↦ refl | false ↦ refl ]
 outcome_for-without key other (e ∷ es) = by (same_key key (key_of e.key)) (same_key other (key_of e.key)) refl refl (outcome_for-without key other es)
   where
     by : (b d : Bool) → same_key key (key_of e.key) ≡ b → same_key other (key_of e.key) ≡ d → outcome_for other (without key es) ≡ cond (same_key other key) None (outcome_for other es)

@@ -9,3 +9,4 @@ pub mod Dated
 pub mod Moved
 pub mod Ready
 pub mod Slotted
+pub mod Filling

@@ -16,7 +16,7 @@ use Rattle.ft_log.specs.Without.{without}
 use Rattle.ft_log.specs.declared.story.Entry.{Entry}
 use Rattle.ft_log.specs.declared.order.Due.{Due}
 use Rattle.ft_log.specs.declared.order.Order.{Order}
-use Rattle.ft_log.specs.declared.outcome.Outcome.{Outcome}
+use Rattle.ft_log.specs.declared.held.Held.{Held}
 use Rattle.ft_log.specs.declared.shelf.Kept.{Kept}
 use Rattle.ft_log.specs.declared.shelf.Shelf.{Shelf}
 use Rattle.ft_log.proofs.Entries.{keys_at, same_comm}
@@ -108,7 +108,7 @@ pub outcome_put : (b : Bool) (k : Kept) (o : Option Kept) → option_map (λ x. 
 outcome_put true k o = refl
 outcome_put false k o = refl
 
-pub outcome_taken : (b : Bool) (o : Option Kept) → ◌≡◌ {A = Option Outcome} (option_map (λ x. x.outcome) (cond b None o)) (cond b None (option_map (λ x. x.outcome) o))
+pub outcome_taken : (b : Bool) (o : Option Kept) → ◌≡◌ {A = Option Held} (option_map (λ x. x.outcome) (cond b None o)) (cond b None (option_map (λ x. x.outcome) o))
 outcome_taken true o = refl
 outcome_taken false o = refl
 

@@ -1,7 +1,9 @@
 -- Kept outcomes, in order of keeping.
-use Rattle.std.specs.Prelude.{ℕ, nat_le, min, if◌then◌else◌, List, [], ◌∷◌, map, filter, Option, Some, None}
-use Rattle.std.specs.Option.{option_map_or}
+use Rattle.std.specs.Prelude.{ℕ, ◌&&◌, Bool, nat_eq, nat_le, min, if◌then◌else◌, List, [], ◌∷◌, map, filter, Option, Some, None}
+use Rattle.std.specs.Option.{option_eq, option_map_or}
+use Rattle.ft_log.specs.Holding.{Holding, known, number_of}
 use Rattle.ft_log.specs.Keys.{RequestKey, same_key}
+use Rattle.ft_log.specs.Performed.{Performed}
 
 -- an outcome under a key, until its expiration
 pub record KeptOutcome (Outcome : Type 0) : Type 0 where
@@ -26,3 +28,14 @@ unexpired clock entries = filter (λ e. nat_le clock e.expiration) entries
 abbrev pub least_expiration : {Outcome : Type 0} → List (KeptOutcome Outcome) → Option ℕ
 least_expiration [] = None
 least_expiration (e ∷ es) = Some (option_map_or (min e.expiration) (least_expiration es) e.expiration)
+
+-- the call of this number is parked
+abbrev pub is_parked : ℕ → Holding → Bool
+is_parked number h = option_eq nat_eq (number_of h) (Some number)
+
+abbrev pub filled_if : Bool → Performed → KeptOutcome Holding → KeptOutcome Holding
+filled_if b outcome e = if b then record { key = e.key; expiration = e.expiration; outcome = known outcome } else e
+
+-- an entry with this outcome, where it is of this key, and of the call that is parked under this number
+abbrev pub filled : RequestKey → ℕ → Performed → KeptOutcome Holding → KeptOutcome Holding
+filled key number outcome e = filled_if (same_key key e.key && is_parked number e.outcome) outcome e

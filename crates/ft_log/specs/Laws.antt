@@ -3,9 +3,9 @@ use Rattle.std.specs.Prelude.{◌≡◌, ◌↔◌, ◌<◌, ◌≤◌, ℕ, Lis
 use Rattle.cdr_core.specs.Spelling.{IsClean}
 use Rattle.ft_log.specs.declared.system_exception.SystemName.{SystemName}
 use Rattle.ft_log.specs.Exceptions.{repository_id}
+use Rattle.ft_log.specs.Holding.{Holding}
 use Rattle.ft_log.specs.Keys.{RequestKey, are_distinct, has_room_for, held_of, same_key}
 use Rattle.ft_log.specs.Kept.{KeptOutcome, kept_for, keys_of}
-use Rattle.ft_log.specs.Performed.{Performed}
 
 -- Two keys are one exactly where they are equal.
 abbrev pub SameKeysAreEqual : Type 0
@@ -17,11 +17,11 @@ DistinctKeysDiffer = (front between rest : List RequestKey) (a b : RequestKey) �
 
 -- Where keys are distinct, each entry's outcome is kept for its key ..
 abbrev pub EntriesAreFound : Type 0
-EntriesAreFound = (front rest : List (KeptOutcome Performed)) (e : KeptOutcome Performed) → IsTrue (are_distinct (keys_of (front ++ e ∷ rest))) → kept_for e.key (front ++ e ∷ rest) ≡ Some e.outcome
+EntriesAreFound = (front rest : List (KeptOutcome Holding)) (e : KeptOutcome Holding) → IsTrue (are_distinct (keys_of (front ++ e ∷ rest))) → kept_for e.key (front ++ e ∷ rest) ≡ Some e.outcome
 
 -- .. and what is kept for a key is the outcome of an entry with this key.
 abbrev pub FoundIsAnEntry : Type 0
-FoundIsAnEntry = (key : RequestKey) (entries : List (KeptOutcome Performed)) (o : Performed) → kept_for key entries ≡ Some o → (front : List (KeptOutcome Performed)) × (rest : List (KeptOutcome Performed)) × (e : KeptOutcome Performed) × (entries ≡ front ++ e ∷ rest) × (e.key ≡ key) × (e.outcome ≡ o)
+FoundIsAnEntry = (key : RequestKey) (entries : List (KeptOutcome Holding)) (o : Holding) → kept_for key entries ≡ Some o → (front : List (KeptOutcome Holding)) × (rest : List (KeptOutcome Holding)) × (e : KeptOutcome Holding) × (entries ≡ front ++ e ∷ rest) × (e.key ≡ key) × (e.outcome ≡ o)
 
 -- There is room for another key exactly where neither the capacity nor the client's share is reached.
 abbrev pub RoomIsBelowBoth : Type 0

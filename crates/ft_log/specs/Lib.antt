@@ -3,16 +3,18 @@
 --   Exceptions  the names of system exceptions, their repository ids, and the numbers of completion
 --   Statuses    the statuses of a Reply whose body comes as octets
 --   Performed   what performing a request gave
+--   Holding     what is kept for a request: its outcome, or the number of a call that is parked
 --   Keys        keys of requests, when two are one, how many a client has, and how many clients
 --   Kept        kept outcomes: which is found for a key, and which are forgotten
---   View        what a `Key`, an `Outcome` and an entry of the code stand for
+--   View        what a `Key`, an `Outcome`, a `Held` and an entry of the code stand for
 --   Logged      what a `Log` stands for, and how many slots it has
 -- Store         what shows of a `Log`, by its fields
 -- Laws          what the tests of keys say, and of repository ids
--- Names, Maps, Placed, Shelf, Dues, Without, Tied      words for the fields of a `Log`; no public contract, definition or law uses them
+-- Names, Maps, Placed, Shelf, Dues, Without, Filled, Tied      words for the fields of a `Log`; no public contract, definition or law uses them
 pub mod Exceptions
 pub mod Statuses
 pub mod Performed
+pub mod Holding
 pub mod Keys
 pub mod Kept
 pub mod View
@@ -24,5 +26,6 @@ pub mod Placed
 pub mod Shelf
 pub mod Dues
 pub mod Without
+pub mod Filled
 pub mod Tied
 pub mod Store

@@ -1,8 +1,8 @@
 -- What a `Log` stands for.
 use Rattle.std.specs.Prelude.{ℕ, List, Option}
+use Rattle.ft_log.specs.Holding.{Holding}
 use Rattle.ft_log.specs.Keys.{RequestKey}
 use Rattle.ft_log.specs.Kept.{KeptOutcome}
-use Rattle.ft_log.specs.Performed.{Performed}
 use Rattle.ft_log.specs.View.{entries_at}
 use Rattle.ft_log.specs.declared.story.Entry.{Entry}
 
@@ -11,7 +11,7 @@ use Rattle.ft_log.specs.declared.story.Entry.{Entry}
 pub record Logged : Type 0 where
   pub capacity : ℕ
   pub share : ℕ
-  pub entries : List (KeptOutcome Performed)
+  pub entries : List (KeptOutcome Holding)
   pub room : Option RequestKey
 
 -- what shows of a `Log`: the same, with the entries as the code has them, and how many slots its maps have

@@ -1,5 +1,5 @@
 -- What a log's maps have. No public contract, definition or law uses these words.
-use Rattle.std.specs.Prelude.{◌≡◌, ℕ, Bool, not, ◌||◌, nat_lt, List, [], ◌∷◌, ◌++◌, Option, Some, None, unwrap_or}
+use Rattle.std.specs.Prelude.{◌≡◌, ℕ, Bool, not, ◌||◌, nat_lt, List, [], ◌∷◌, ◌++◌, map, Option, Some, None, unwrap_or}
 use mir.Syntax.{w32}
 use mir.Val.{to_z}
 use Rattle.std.specs.declared.random_state.RandomState.{RandomState}
@@ -36,3 +36,11 @@ held_at m client = unwrap_or (get_by (is_named client None) m) 0
 -- one more client can be counted, where clients are counted
 abbrev pub is_countable : Bool → Counts → Bool
 is_countable is_counted m = not is_counted || nat_lt 0 (spare m)
+
+-- a name with the slot of what stands under it
+abbrev pub slot_of : Name × Kept → Name × ℕ
+slot_of p = (p.0, p.1.slot)
+
+-- the same names in the same order, each with the slot that it had
+abbrev pub IsRefilled : List (Name × Kept) → List (Name × Kept) → Type 0
+IsRefilled old new = map slot_of new ≡ map slot_of old

@@ -4,7 +4,7 @@ use Rattle.indexmap.specs.IndexMap.{spare}
 use Rattle.slab.specs.Slab.{slab_len}
 use Rattle.ft_log.specs.Keys.{RequestKey}
 use Rattle.ft_log.specs.Maps.{under}
-use Rattle.ft_log.specs.declared.outcome.Outcome.{Outcome}
+use Rattle.ft_log.specs.declared.held.Held.{Held}
 use Rattle.ft_log.specs.declared.shelf.Kept.{Kept}
 use Rattle.ft_log.specs.declared.shelf.Shelf.{Shelf}
 
@@ -13,7 +13,7 @@ abbrev pub at_key : Shelf → RequestKey → Option Kept
 at_key s key = under s.outcomes key
 
 -- the outcome under a key
-abbrev pub kept_at : Shelf → RequestKey → Option Outcome
+abbrev pub kept_at : Shelf → RequestKey → Option Held
 kept_at s key = option_map (λ k. k.outcome) (at_key s key)
 
 -- the slot under a key

@@ -8,16 +8,16 @@ use Rattle.ft_log.specs.Keys.{RequestKey, held_of, same_key}
 use Rattle.ft_log.specs.Maps.{Counts, is_countable}
 use Rattle.ft_log.specs.Shelf.{has_room, kept_at, slot_at}
 use Rattle.ft_log.specs.View.{key_of}
-use Rattle.ft_log.specs.contracts.outcome.Outcome as code
+use Rattle.ft_log.specs.contracts.held.Held as code
+use Rattle.ft_log.specs.declared.held.Held.{Held}
 use Rattle.ft_log.specs.declared.story.Entry.{Entry}
 use Rattle.ft_log.specs.declared.order.Due.{Due}
 use Rattle.ft_log.specs.declared.order.Order.{Order}
-use Rattle.ft_log.specs.declared.outcome.Outcome.{Outcome}
 use Rattle.ft_log.specs.declared.room.Room.{Room}
 use Rattle.ft_log.specs.declared.shelf.Shelf.{Shelf}
 
 -- the outcome of the entry with this key
-abbrev pub outcome_for : RequestKey → List Entry → Option Outcome
+abbrev pub outcome_for : RequestKey → List Entry → Option Held
 outcome_for key [] = None
 outcome_for key (e ∷ es) = if same_key key (key_of e.key) then Some e.outcome else outcome_for key es
 

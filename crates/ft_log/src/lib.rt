@@ -8,6 +8,7 @@
 
 mod counts;
 mod error;
+mod held;
 mod key;
 pub mod laws;
 mod log;
@@ -27,6 +28,7 @@ pub use system_exception::{Completion, SystemName};
 
 // the log
 pub use error::LogError;
+pub use held::Held;
 pub use key::Key;
 pub use log::Log;
 pub use retention::Retention;

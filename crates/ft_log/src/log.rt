@@ -6,6 +6,7 @@ ghost use Rattle.ft_log.specs.Kept.{keys_of};
 ghost use Rattle.ft_log.specs.View.{key_of};
 
 use crate::error::LogError;
+use crate::held::Held;
 use crate::key::Key;
 use crate::outcome::Outcome;
 use crate::retention::Retention;
@@ -18,8 +19,8 @@ use std::marker::Model;
 /// The outcomes that a server keeps, in the order in which they were kept, each under a key of its own.
 ///
 /// A contract sees a log as `logged` of it: how many outcomes it may keep, how many of each client, the
-/// entries, and the key that room is made for, if there is one. `find`, `forget`, `keep`, `len`,
-/// `held_by` and `next_expiry` allocate nothing.
+/// entries, and the key that room is made for, if there is one. `find`, `forget`, `keep`, `keep_parked`,
+/// `fill`, `len`, `held_by` and `next_expiry` allocate nothing.
 #[derive(Drop)]
 pub struct Log {
     store: Store,
@@ -39,10 +40,11 @@ impl Model for Log {
 }
 
 impl Log {
-    ghost use Rattle.std.specs.Prelude.{◌≡◌, ◌↔◌, ◌<◌, ◌*◌, ◌++◌, [], ◌∷◌, None, Some, Err, OnOk, OnErr, MatchOption, true, false, length};
-    ghost use Rattle.ft_log.specs.Kept.{kept_for, least_expiration, unexpired};
+    ghost use Rattle.std.specs.Prelude.{◌≡◌, ◌↔◌, ◌<◌, ◌*◌, ◌++◌, [], ◌∷◌, None, Some, Err, OnOk, OnErr, MatchOption, true, false, length, map};
+    ghost use Rattle.ft_log.specs.Holding.{known, parked};
+    ghost use Rattle.ft_log.specs.Kept.{filled, kept_for, least_expiration, unexpired};
     ghost use Rattle.ft_log.specs.Logged.{logged, slots_of};
-    ghost use Rattle.ft_log.specs.View.{performed_in};
+    ghost use Rattle.ft_log.specs.View.{holding_in, performed_in};
     ghost use Rattle.ft_log.specs.declared.error.LogError.TheVariants.{Full, ShareFull};
 
     /// A log that keeps nothing.
@@ -54,9 +56,9 @@ impl Log {
         }
     }
 
-    /// The outcome that is kept for a key.
-    pub fn find(&self, key: &Key) -> Option<&Outcome>
-        ensures { option_map (λ o. performed_in o.now) result ≡ kept_for (key_of key.now) (logged self.now).entries }
+    /// What is kept for a key.
+    pub fn find(&self, key: &Key) -> Option<&Held>
+        ensures { option_map (λ h. holding_in h.now) result ≡ kept_for (key_of key.now) (logged self.now).entries }
     {
         self.store.find(key)
     }
@@ -113,11 +115,31 @@ impl Log {
     pub fn keep(&mut self, key: Key, expiration: u64, outcome: Outcome)
         requires { (logged self.old).room ≡ Some (key_of key) }
         ensures { logged self.new ≡ record (logged self.old) {
-          entries = (logged self.old).entries ++ record { key = key_of key; expiration = expiration; outcome = performed_in outcome } ∷ [];
+          entries = (logged self.old).entries ++ record { key = key_of key; expiration = expiration; outcome = known (performed_in outcome) } ∷ [];
           room = None;
         } }
     {
-        self.store.keep(key, expiration, outcome);
+        self.store.keep(key, expiration, Held::Known(outcome));
+    }
+
+    /// Keeps the place of the outcome of a call that is parked under a number, for the key that room is made for, as `keep`
+    /// keeps an outcome. It can't fail.
+    pub fn keep_parked(&mut self, key: Key, expiration: u64, number: u64)
+        requires { (logged self.old).room ≡ Some (key_of key) }
+        ensures { logged self.new ≡ record (logged self.old) {
+          entries = (logged self.old).entries ++ record { key = key_of key; expiration = expiration; outcome = parked number } ∷ [];
+          room = None;
+        } }
+    {
+        self.store.keep(key, expiration, Held::Parked(number));
+    }
+
+    /// Puts the outcome of a call that is parked under a number in its place, under its key. Where that is forgotten, nothing
+    /// changes. It can't fail.
+    pub fn fill(&mut self, key: Key, number: u64, outcome: Outcome)
+        ensures { logged self.new ≡ record (logged self.old) { entries = map (filled (key_of key) number (performed_in outcome)) (logged self.old).entries } }
+    {
+        self.store.fill(key, number, outcome);
     }
 
     /// No two entries have one key.

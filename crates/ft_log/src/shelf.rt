@@ -2,27 +2,28 @@
 
 ghost use Rattle.std.specs.Prelude.{◌≡◌, ◌<◌, if◌then◌else◌, ℕ, Some, None, bytes_eq, is_some, option_map, slice_get, true, false};
 ghost use Rattle.std.specs.Option.{option_copied, option_map_or};
-ghost use Rattle.indexmap.specs.IndexMap.{spare};
+ghost use Rattle.indexmap.specs.IndexMap.{index_map_len, spare};
 ghost use Rattle.slab.specs.Slab.{get as place_of, slab_len};
+ghost use Rattle.ft_log.specs.Filled.{put_at};
 ghost use Rattle.ft_log.specs.Keys.{RequestKey, same_key};
-ghost use Rattle.ft_log.specs.Maps.{IsPushed, key_in, under};
+ghost use Rattle.ft_log.specs.Maps.{IsPushed, IsRefilled, key_in, under};
 ghost use Rattle.ft_log.specs.Placed.{ArePlaced, ArePlaced-prop, IsMoved};
 ghost use Rattle.ft_log.specs.View.{key_of};
 
+use crate::held::Held;
 use crate::key::Key;
 use crate::name::{Lent, Name};
-use crate::outcome::Outcome;
 use crate::story::Mark;
 use indexmap::IndexMap;
 use slab::Slab;
 use std::alloc::{AllocError, Global};
 use std::hash::RandomState;
 
-/// An outcome, and the slot that has its place.
+/// What is kept for a request, and the slot that has its place.
 #[derive(Drop)]
 pub(crate) struct Kept {
     pub(crate) slot: usize,
-    pub(crate) outcome: Outcome,
+    pub(crate) outcome: Held,
 }
 
 /// Outcomes by their keys.
@@ -52,8 +53,8 @@ impl Shelf {
         }
     }
 
-    /// The outcome of a key.
-    pub(crate) fn outcome_at(&self, key: &Key) -> Option<&Outcome>
+    /// What is kept for a key.
+    pub(crate) fn outcome_at(&self, key: &Key) -> Option<&Held>
         ensures { option_copied result ≡ kept_at self.now (key_of key.now) }
     {
         let name = Lent {
@@ -89,7 +90,7 @@ impl Shelf {
     }
 
     /// Puts an outcome under a key that has none, for which there is room, and gives its slot.
-    pub(crate) fn put(&mut self, key: Key, outcome: Outcome) -> usize
+    pub(crate) fn put(&mut self, key: Key, outcome: Held) -> usize
         requires absent { at_key self.old (key_of key) ≡ None }
         requires room { IsTrue (has_room self.old) }
         ensures kept { (other : RequestKey) → at_key self.new other ≡ (if same_key other (key_of key) then Some (record { slot = result; outcome = outcome }) else at_key self.old other) }
@@ -98,6 +99,16 @@ impl Shelf {
         let slot = self.places.insert_reserved(self.outcomes.len());
         insert(&mut self.outcomes, key, Kept { slot, outcome });
         slot
+    }
+
+    /// Puts an outcome under a key, where the call of this number is parked there.
+    pub(crate) fn fill(&mut self, key: Key, number: u64, outcome: Held)
+        ensures kept { (other : RequestKey) → at_key self.new other ≡ (if same_key other (key_of key) then option_map (put_at number outcome) (at_key self.old other) else at_key self.old other) }
+        ensures sums { (f : RequestKey → ℕ) → sum_by (λ p. f (key_in p.0)) self.new.outcomes.entries ≡ sum_by (λ p. f (key_in p.0)) self.old.outcomes.entries }
+        ensures room { has_room self.new ≡ has_room self.old }
+        ensures len { index_map_len self.new.outcomes ≡ index_map_len self.old.outcomes }
+    {
+        refill(&mut self.outcomes, key, number, outcome);
     }
 
     /// Takes the outcome of a key away, by its slot, and gives the client.
@@ -132,6 +143,24 @@ fn insert(outcomes: &mut Outcomes, key: Key, kept: Kept)
         number: Some(retention_id),
     };
     outcomes.insert(name, kept).unwrap();
+}
+
+/// Puts an outcome under a key, where the call of this number is parked there.
+fn refill(outcomes: &mut Outcomes, key: Key, number: u64, outcome: Held)
+    ensures kept { (other : RequestKey) → under outcomes.new other ≡ (if same_key other (key_of key) then option_map (put_at number outcome) (under outcomes.old other) else under outcomes.old other) }
+    ensures is { IsRefilled outcomes.old.entries outcomes.new.entries }
+    ensures len { index_map_len outcomes.new ≡ index_map_len outcomes.old }
+    ensures room { spare outcomes.new ≡ spare outcomes.old }
+{
+    let name = Lent {
+        client_id: key.client_id.as_slice(),
+        number: Some(key.retention_id),
+    };
+    if let Some(kept) = outcomes.get_mut(name) {
+        if kept.outcome.number() == Some(number) {
+            kept.outcome = outcome;
+        }
+    }
 }
 
 /// Whether the outcome in a place is a client's.

@@ -12,6 +12,7 @@ ghost use Rattle.ft_log.specs.View.{entries_at, key_of};
 
 use crate::counts::{Counts, count_down_if, count_of, count_up_if, reserve_if};
 use crate::error::LogError;
+use crate::held::Held;
 use crate::key::Key;
 use crate::order::{Due, Order};
 use crate::outcome::Outcome;
@@ -52,11 +53,11 @@ pub(crate) struct Store {
 }
 
 impl Store {
-    ghost use Rattle.std.specs.Prelude.{◌≡◌, ◌↔◌, ◌<◌, ◌*◌, ◌++◌, [], ◌∷◌, None, Some, Err, OnOk, OnErr, MatchOption, true, false, length};
-    ghost use Rattle.ft_log.specs.Kept.{kept_for, least_expiration, unexpired};
+    ghost use Rattle.std.specs.Prelude.{◌≡◌, ◌↔◌, ◌<◌, ◌*◌, ◌++◌, [], ◌∷◌, None, Some, Err, OnOk, OnErr, MatchOption, true, false, length, map};
+    ghost use Rattle.ft_log.specs.Kept.{filled, kept_for, least_expiration, unexpired};
     ghost use Rattle.ft_log.specs.Logged.{logged, slots_of};
     ghost use Rattle.ft_log.specs.Store.{shown};
-    ghost use Rattle.ft_log.specs.View.{performed_in};
+    ghost use Rattle.ft_log.specs.View.{holding_in, performed_in};
     ghost use Rattle.ft_log.specs.declared.error.LogError.TheVariants.{Full, ShareFull};
 
     /// A log that keeps nothing. It may keep `capacity` outcomes, `share` of them for each client.
@@ -76,10 +77,10 @@ impl Store {
         }
     }
 
-    /// The outcome that is kept for a key.
+    /// What is kept for a key.
     #[tactic(auto, unfolding(crate::specs::Logged::logged))]
-    pub(crate) fn find(&self, key: &Key) -> Option<&Outcome>
-        ensures { option_map (λ o. performed_in o.now) result ≡ kept_for (key_of key.now) (logged (shown self.now)).entries }
+    pub(crate) fn find(&self, key: &Key) -> Option<&Held>
+        ensures { option_map (λ o. holding_in o.now) result ≡ kept_for (key_of key.now) (logged (shown self.now)).entries }
     {
         self.kept.outcome_at(key)
     }
@@ -197,10 +198,10 @@ impl Store {
     /// Keeps the outcome of the key that room is made for, last of all, until its expiration. Afterwards
     /// room is made for none. It can't fail.
     #[tactic(auto, unfolding(crate::specs::Logged::logged))]
-    pub(crate) fn keep(&mut self, key: Key, expiration: u64, outcome: Outcome)
+    pub(crate) fn keep(&mut self, key: Key, expiration: u64, outcome: Held)
         requires { (logged (shown self.old)).room ≡ Some (key_of key) }
         ensures { logged (shown self.new) ≡ record (logged (shown self.old)) {
-          entries = (logged (shown self.old)).entries ++ record { key = key_of key; expiration = expiration; outcome = performed_in outcome } ∷ [];
+          entries = (logged (shown self.old)).entries ++ record { key = key_of key; expiration = expiration; outcome = holding_in outcome } ∷ [];
           room = None;
         } }
     {
@@ -222,6 +223,21 @@ impl Store {
             key: room.key,
         });
         count_up_if(counts, &mut self.counts, room.client_id);
+    }
+
+    /// Puts the outcome of a call that was parked under a number in the place of that, under its key. Where nothing is kept
+    /// for it any more, nothing changes. It can't fail.
+    #[tactic(auto, unfolding(crate::specs::Logged::logged))]
+    pub(crate) fn fill(&mut self, key: Key, number: u64, outcome: Outcome)
+        ensures { logged (shown self.new) ≡ record (logged (shown self.old)) { entries = map (filled (key_of key) number (performed_in outcome)) (logged (shown self.old)).entries } }
+    {
+        let entry = Entry {
+            key,
+            expiration: number,
+            outcome: Held::Known(outcome),
+        };
+        self.story = Story::filled(&self.story, &entry);
+        self.kept.fill(entry.key, number, entry.outcome);
     }
 
     /// No two entries have one key.

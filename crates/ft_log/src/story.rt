@@ -5,21 +5,22 @@ ghost use Rattle.std.specs.Borrow.{ftrue};
 ghost use Rattle.std.specs.Coded.{coded_list};
 ghost use Rattle.ft_log.specs.contracts.key.Key as key_row;
 ghost use Rattle.ft_log.specs.contracts.story.Entry.{the_row};
+ghost use Rattle.ft_log.specs.Filled.{filled_by};
 ghost use Rattle.ft_log.specs.View.{key_of};
 ghost use Rattle.ft_log.specs.Without.{without};
 ghost use Rattle.ft_log.specs.declared.key.Key.{Key as MarkedKey};
 ghost use Rattle.ft_log.specs.declared.story.Entry.{Entry as KeptEntry};
 
+use crate::held::Held;
 use crate::key::Key;
-use crate::outcome::Outcome;
 use std::marker::Model;
 
-/// An outcome under its key, and the last moment at which it is repeated.
+/// What is kept under a key, and the last moment at which it is repeated.
 #[derive(Drop)]
 pub(crate) struct Entry {
     pub(crate) key: Key,
     pub(crate) expiration: u64,
-    pub(crate) outcome: Outcome,
+    pub(crate) outcome: Held,
 }
 
 /// The key of what it stands in. It takes no memory, and its call does nothing when it runs.
@@ -62,6 +63,14 @@ impl Story {
     /// The same with one more entry.
     pub(crate) fn with(_before: &Story, _entry: &Entry) -> Story
         ensures { result.entries ≡ _before.now.entries ++ _entry.now ∷ [] }
+    {
+        Story {}
+    }
+
+    /// The same with what another entry has, where one is of its key and of the call that is parked under the number that
+    /// stands in the place of its expiration.
+    pub(crate) fn filled(_before: &Story, _entry: &Entry) -> Story
+        ensures { result.entries ≡ filled_by _entry.now _before.now.entries }
     {
         Story {}
     }

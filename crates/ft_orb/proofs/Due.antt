@@ -2,10 +2,9 @@
 use Rattle.std.proofs.Common.{◌≡◌, ◌+◌, Bool, true, false, cond, List, [], ◌∷◌, ◌++◌, length, Result, Ok, Err, is_ok, refl, sym, ap, ◌∙◌, arith, append_assoc, length-append}
 use Rattle.std.proofs.lemmas.Bool.{false≢true}
 use Rattle.std.proofs.lemmas.List.{append-nil, nil_from_length}
-use Rattle.ft_log.specs.Performed.{Performed}
 use Rattle.ft_log.specs.declared.system_exception.SystemName.{SystemName}
 use Rattle.ft_orb.specs.ExactlyOnce.{Arrival, Rules, acts, performed_after, performed_of, state_after, state_after_call, state_of}
-use Rattle.ft_orb.specs.Owners.{Owner, rules_with}
+use Rattle.ft_orb.specs.Owners.{OwnerOf, owned_rules}
 use Rattle.ft_orb.specs.Requests.{Call, Wanted}
 use Rattle.ft_orb.proofs.Law.{AreCalls, grown, performed_after-calls, performed_after-push}
 
@@ -23,9 +22,9 @@ module _ {S C K O : Type 0} (rules : Rules S C K O) where
         | false ↦ performed-grows performed xs
       ]
 
-module _ (owner : Owner) where
-  abbrev Theirs : Rules (List Call) Wanted Call Performed
-  Theirs = rules_with owner
+module _ {Outcome : Type 0} (owner : OwnerOf Outcome) where
+  abbrev Theirs : Rules (List Call) Wanted Call Outcome
+  Theirs = owned_rules owner
 
   one-more : (calls : List Call) (r : Result Call SystemName) → is_ok r ≡ true → length (state_after_call Theirs.apply calls r) ≡ length calls + 1
   one-more calls (Ok call) is = length-append calls (call ∷ [])

@@ -24,6 +24,8 @@ use Rattle.ft_orb.proofs.Folded.{table_after-append, table_answers-append, table
 use Rattle.ft_orb.proofs.Going.{front-exact, least-passes, least-within}
 use Rattle.ft_orb.proofs.Pieces.{needs-by}
 use Rattle.ft_orb.proofs.Told.{error_on, output-is, rendered-append}
+use Rattle.ft_log.specs.Holding.{known}
+use Rattle.ft_orb.specs.Seen.{seen_table}
 
 -- a number below the least that passes does not pass
 least-below : (test : ℕ → Bool) (i n : ℕ) → i < least test n → test i ≡ false
@@ -140,7 +142,7 @@ module _ {S : Type 0} (meaning : Meaning S) (made : Made S) (server : Shown S) (
     moment = st.moment ∙ moment;
     greatest = λ d. sym (ap (λ (xs : List ℕ). list_all (λ x. nat_lt x d) xs) count) ∙ st.greatest d;
     lines = λ d. subst (λ (l : Line). IsFor made.limits (held_in server.links d) l) (lines d) (st.lines d);
-    table = subst (λ (xs : List (Arrival Wanted)). AreAlike server.clock (table_of server) (table_after (rules_of meaning made.capacity made.share) (record { state = made.opening; entries = [] }) xs)) all st.table;
+    table = subst (λ (xs : List (Arrival Wanted)). AreAlike server.clock (table_of server) (seen_table known (table_after (rules_of meaning made.capacity made.share) (record { state = made.opening; entries = [] }) xs))) all st.table;
   }
 
 -- Two pieces of a connection at one moment, one after the other: x and then y.

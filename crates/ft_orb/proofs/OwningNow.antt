@@ -3,29 +3,28 @@ use Rattle.std.proofs.Common.{◌≡◌, ℕ, Bool, true, false, cond, List, [],
 use Rattle.std.specs.Option.{option_map}
 use Rattle.std.proofs.lemmas.List.{append-nil, nil_from_length}
 use Rattle.giop_link.specs.Linking.{Linked}
-use Rattle.ft_log.specs.Performed.{Performed}
 use Rattle.ft_log.specs.declared.system_exception.SystemName.{SystemName}
 use Rattle.ft_orb.specs.declared.engine.Engine.{Engine}
 use Rattle.ft_orb.specs.declared.events.Note.{Note}
 use Rattle.ft_orb.specs.declared.keeper.Waiting.{Waiting}
 use Rattle.ft_orb.specs.declared.pausing.Pending.{Pending}
 use Rattle.ft_objects.specs.Catalogues.{Offer}
-use Rattle.ft_orb.specs.Engines.{Awaited, Ends, Keeps, Resumes, Stops, as_server, awaited_of, waits_in}
-use Rattle.ft_orb.specs.EnginesNow.{AsksNow, EndsNow, IsDueNow, IsNow, ResumesNow}
+use Rattle.ft_orb.specs.Engines.{Awaited, EndsOf, KeepsOf, ResumesOf, StopsOf, as_server, awaited_of, waits_in}
+use Rattle.ft_orb.specs.EnginesNow.{AsksNowOf, EndsNowOf, IsDueNowOf, IsNowOf, ResumesNowOf}
 use Rattle.ft_orb.specs.ExactlyOnce.{Arrival, ClocksGrow, Rules, clock_after, state_after}
 use Rattle.ft_orb.specs.History.{Event, Piece, arrivals, completed}
 use Rattle.ft_orb.specs.Now.{acts_now, performed_now, performed_now_after}
-use Rattle.ft_orb.specs.Outputs.{table_of_past}
-use Rattle.ft_orb.specs.Owners.{Owner, made_of, meaning_of, rules_with}
+use Rattle.ft_orb.specs.Owners.{OwnerOf, owned_rules, owned_table}
 use Rattle.ft_orb.specs.Requests.{Call, Wanted}
-use Rattle.ft_orb.specs.Tellings.{answer_told, rendered}
+use Rattle.ft_orb.specs.Tellings.{rendered}
 use Rattle.ft_orb.specs.Waits.{call_of, field_with}
 use Rattle.ft_orb.proofs.Due.{counts}
 use Rattle.ft_orb.proofs.Folded.{ClocksGrow-front}
 use Rattle.ft_orb.proofs.Headline.{arrivals-grow, event-clocks}
 use Rattle.ft_orb.proofs.Now.{grown_now, performed_now-calls, performed_now-push, run_now}
 use Rattle.ft_orb.proofs.Owning.{Brings, brings-of}
-use Rattle.ft_orb.proofs.Said.{event-now, past-now, says-now-at}
+use Rattle.ft_orb.proofs.Said.{event_now_by, past_now_by, says_now_at_by}
+use Rattle.ft_orb.proofs.Books.{book_by}
 
 module _ {S C K O : Type 0} (rules : Rules S C K O) where
   performed_now-append : (performed xs ys : List (Arrival C)) → performed_now_after rules performed (xs ++ ys) ≡ performed_now_after rules (performed_now_after rules performed xs) ys
@@ -41,9 +40,9 @@ module _ {S C K O : Type 0} (rules : Rules S C K O) where
         | false ↦ performed_now-grows performed xs
       ]
 
-module _ (owner : Owner) where
-  abbrev Theirs : Rules (List Call) Wanted Call Performed
-  Theirs = rules_with owner
+module _ {Outcome : Type 0} (owner : OwnerOf Outcome) where
+  abbrev Theirs : Rules (List Call) Wanted Call Outcome
+  Theirs = owned_rules owner
 
   abbrev Calls : List (Arrival Wanted) → List Call
   Calls xs = state_after Theirs [] (performed_now Theirs xs)
@@ -76,30 +75,30 @@ module _ (owner : Owner) where
             absurd (omega (arith, lengths, size))
       ]) refl
 
-module _ {C : Type 0} (offers : C → Offer) (owner : Owner) where
+module _ {C Outcome : Type 0} (offers : C → Offer) (owner : OwnerOf Outcome) where
   -- each request that is performed so is answered once
-  pub ends-now : (calls : List Call) (past : List Event) (e : Event) (note : Note) (new : Engine C) (out grown : List ℕ) → Ends offers owner calls past e note new out grown → EndsNow owner calls past e note out grown
+  pub ends-now : (calls : List Call) (past : List Event) (e : Event) (note : Note) (new : Engine C) (out grown : List ℕ) → EndsOf offers owner calls past e note new out grown → EndsNowOf owner calls past e note out grown
   ends-now calls past e note new out grown x =
-      let all = event-now (meaning_of owner) (made_of owner) (as_server new calls) past e note out grown (x.written, x.appended, x.writes, x.rests.stands) in
+      let all = event_now_by (book_by owner) (as_server new calls) past e note out grown (x.written, x.appended, x.writes, x.rests.stands) in
       (all.0, all.1, (all.2, all.3))
 
-  pub resumes-now : (calls : List Call) (past : List Event) (c moment : ℕ) (octets written : List ℕ) (note : Note) (new : Engine C) (out grown : List ℕ) → Resumes offers owner calls past c moment octets written note new out grown
-      → ResumesNow owner calls past c moment octets written note out grown
+  pub resumes-now : (calls : List Call) (past : List Event) (c moment : ℕ) (octets written : List ℕ) (note : Note) (new : Engine C) (out grown : List ℕ) → ResumesOf offers owner calls past c moment octets written note new out grown
+      → ResumesNowOf owner calls past c moment octets written note out grown
   resumes-now calls past c moment octets written note new out grown x =
-      let all = event-now (meaning_of owner) (made_of owner) (as_server new calls) past (Piece c moment octets) note [] (written ++ x.more) (written ++ x.more, refl, x.writes, x.rests.stands) in
-      (x.more, x.appended, subst (λ (l : List ℕ). IsNow owner calls past (Piece c moment octets) note l) (sym all.1) (all.2, all.3))
+      let all = event_now_by (book_by owner) (as_server new calls) past (Piece c moment octets) note [] (written ++ x.more) (written ++ x.more, refl, x.writes, x.rests.stands) in
+      (x.more, x.appended, subst (λ (l : List ℕ). IsNowOf owner calls past (Piece c moment octets) note l) (sym all.1) (all.2, all.3))
 
   -- and one that waits is the first that acts
   due-now : (calls : List Call) (past : List Event) (c moment : ℕ) (octets written : List ℕ) (handled : ℕ) (w : Waiting) {link : Linked} (b : Brings offers owner calls past c moment octets written handled w link)
-      → (table_of_past (meaning_of owner) (made_of owner) past).state ≡ calls → IsDueNow owner calls past (Piece c moment octets) b.front b.last written
+      → (owned_table owner past).state ≡ calls → IsDueNowOf owner calls past (Piece c moment octets) b.front b.last written
   due-now calls past c moment octets written handled w b now =
       let e = Piece c moment octets in
       let xs = arrivals owner.limits past in
       let start = clock_after 0 xs in
-      let table = table_of_past (meaning_of owner) (made_of owner) past in
+      let table = owned_table owner past in
       let grow : ClocksGrow start (b.front ++ b.last ∷ []) = subst (λ (l : List (Arrival Wanted)). ClocksGrow start l) b.completes (event-clocks owner.limits past e start (arrivals-grow owner.limits past).1).0 in
       let split = sym (append_assoc xs b.front (b.last ∷ [])) in
-      let stands = past-now (meaning_of owner) (made_of owner) past in
+      let stands = past_now_by (book_by owner) past in
       let first = (run_now (Theirs owner) [] start xs b.front table (ClocksGrow-front start b.front (b.last ∷ []) grow) stands).1 in
       let last = (run_now (Theirs owner) [] start xs (b.front ++ b.last ∷ []) table grow stands).1 in
       let was : Calls owner xs ≡ calls = sym stands.state ∙ now in
@@ -109,11 +108,11 @@ module _ {C : Type 0} (offers : C → Offer) (owner : Owner) where
         acts = last-acts-now owner (xs ++ b.front) b.last calls (call_of w) mid then;
         is_first = none-acted-now owner xs b.front (mid ∙ sym was);
         calls_are = sym was;
-        out = b.out ∙ ap (λ (answers : List (Result Performed SystemName)). rendered (answer_told owner.offer.knows) (take (length b.front) (completed owner.limits past e)) answers) (says-now-at (meaning_of owner) (made_of owner) past e);
+        out = b.out ∙ ap (λ (answers : List (Result Outcome SystemName)). rendered owner.tell (take (length b.front) (completed owner.limits past e)) answers) (says_now_at_by (book_by owner) past e);
       }
 
-  keeps-now : (calls : List Call) (engine : Engine C) (past : List Event) (moment : ℕ) (octets written : List ℕ) (p : Pending) (out grown : List ℕ) → Keeps offers owner calls engine past moment octets written p → grown ≡ out ++ written
-      → AsksNow owner calls past p.connection moment octets (waits_in engine) out grown
+  keeps-now : (calls : List Call) (engine : Engine C) (past : List Event) (moment : ℕ) (octets written : List ℕ) (p : Pending) (out grown : List ℕ) → KeepsOf offers owner calls engine past moment octets written p → grown ≡ out ++ written
+      → AsksNowOf owner calls past p.connection moment octets (waits_in engine) out grown
   keeps-now calls engine past moment octets written p out grown k appended =
       let b = brings-of offers owner calls engine past moment octets written p k in
       record {
@@ -131,8 +130,8 @@ module _ {C : Type 0} (offers : C → Offer) (owner : Owner) where
         due = due-now calls past p.connection moment octets written p.place.handled p.waiting b (sym k.stands.table.state ∙ k.answered);
       }
 
-  pub asks-now : (calls : List Call) (past : List Event) (c moment : ℕ) (piece : List ℕ) (taken : ℕ) (engine : Engine C) (out grown : List ℕ) → Stops offers owner calls past c moment piece taken engine out grown
-      → AsksNow owner calls past c moment (take taken piece) (waits_in engine) out grown
+  pub asks-now : (calls : List Call) (past : List Event) (c moment : ℕ) (piece : List ℕ) (taken : ℕ) (engine : Engine C) (out grown : List ℕ) → StopsOf offers owner calls past c moment piece taken engine out grown
+      → AsksNowOf owner calls past c moment (take taken piece) (waits_in engine) out grown
   asks-now calls past c moment piece taken engine out grown x =
-      subst (λ (v : Awaited). AsksNow owner calls past v.connection moment (take taken piece) (waits_in engine) out grown) x.asks.is
+      subst (λ (v : Awaited). AsksNowOf owner calls past v.connection moment (take taken piece) (waits_in engine) out grown) x.asks.is
       (keeps-now calls engine past moment (take taken piece) x.written x.asks.pending out grown x.asks.keeps x.appended)

@@ -1,5 +1,5 @@
 -- The octets of what a server says.
-use Rattle.std.proofs.Common.{◌≡◌, ◌∙◌, ap, refl, sym, ℕ, Bool, arith, append_assoc, List, [], ◌∷◌, ◌++◌, length, Option, Some, None, Result, flat_map, option_to_list}
+use Rattle.std.proofs.Common.{◌≡◌, ◌∙◌, ap, refl, sym, ℕ, arith, append_assoc, List, [], ◌∷◌, ◌++◌, length, Option, Some, None, Result, flat_map, option_to_list}
 use Rattle.std.specs.List.{cons_option}
 use Rattle.std.proofs.lemmas.Grind.{flat_map-append}
 use Rattle.std.proofs.lemmas.List.{append-nil}

@@ -1,19 +1,25 @@
 -- An owner of an engine: who performs the calls. Its state is the list of the calls that it has answered, the oldest first.
-use Rattle.std.specs.Prelude.{ℕ, true, List, [], ◌∷◌, ◌++◌}
+use Rattle.std.specs.Prelude.{◌≡◌, ℕ, Bool, true, List, [], ◌∷◌, ◌++◌, Result, Ok, Err, refl}
 use Rattle.giop_frames.specs.declared.limits.Limits.{Limits}
 use Rattle.ft_log.specs.Keys.{has_room_for}
 use Rattle.ft_log.specs.Kept.{KeptOutcome}
 use Rattle.ft_log.specs.Performed.{Performed}
 use Rattle.ft_objects.specs.Catalogues.{Offer}
-use Rattle.ft_orb.specs.ExactlyOnce.{Rules}
+use Rattle.ft_orb.specs.ExactlyOnce.{Rules, answers_after}
 use Rattle.ft_objects.specs.Interfaces.{Interface}
 use Rattle.ft_orb.specs.Outputs.{Made}
 use Rattle.ft_orb.specs.Requests.{Call, Wanted, asked_of}
 use Rattle.ft_objects.specs.Servants.{Meaning}
-use Rattle.ft_orb.specs.Table.{Table}
+use Rattle.ft_orb.specs.Table.{Table, table_after, table_answers}
+use Rattle.ft_log.specs.Holding.{Holding, known}
+use Rattle.ft_orb.specs.Tellings.{Later, Teller, answer_told, held_told, nothing_yet}
+use Rattle.ft_orb.specs.Seen.{seen_answer}
+use Rattle.ft_log.specs.declared.system_exception.SystemName.{SystemName}
+use Rattle.ft_orb.specs.History.{Event, arrivals, completed}
+use Rattle.ft_orb.specs.Now.{answers_now_after}
 
 -- the rules of an owner that answers a call by the calls answered before, in any way whatever
-abbrev pub owner_rules : (List ℕ → List ℕ → Interface) → (List Call → Call → Performed) → ℕ → ℕ → Rules (List Call) Wanted Call Performed
+abbrev pub owner_rules : {Outcome : Type 0} → (List ℕ → List ℕ → Interface) → (List Call → Call → Outcome) → ℕ → ℕ → Rules (List Call) Wanted Call Outcome
 owner_rules interface answers capacity share = record {
   asked = asked_of interface;
   apply = λ calls call. (calls ++ call ∷ [], answers calls call);
@@ -45,6 +51,68 @@ meaning_of o = record {
 abbrev pub made_of : Owner → Made (List Call)
 made_of o = record { limits = o.limits; capacity = o.capacity; share = o.share; opening = [] }
 
+-- what an owner says, as its engine's log has it: its answer to a call, by the calls answered before; and what is said for a call that
+-- is parked
+pub record Voice : Type 0 where
+  pub answers : List Call → Call → Holding
+  pub late : Later
+
+-- An owner whose answers are of any kind: how its engine's log holds each, what is said where that is parked, and what is told for it.
+-- An outcome is held as known.
+pub record OwnerOf (Outcome : Type 0) : Type 0 where
+  pub offer : Offer
+  pub answers : List Call → Call → Outcome
+  pub limits : Limits
+  pub capacity : ℕ
+  pub share : ℕ
+  pub hold : Outcome → Holding
+  pub late : Later
+  pub tell : Teller Outcome
+  pub tells : (w : Wanted) (answer : Result Outcome SystemName) → tell w answer ≡ held_told late offer.knows w (seen_answer hold answer)
+
+pub tells_known : (late : Later) (knows : List ℕ → Bool) (w : Wanted) (answer : Result Performed SystemName) → answer_told knows w answer ≡ held_told late knows w (seen_answer known answer)
+tells_known late knows w (Ok outcome) = refl
+tells_known late knows w (Err refusal) = refl
+
+abbrev pub owning : Owner → OwnerOf Performed
+owning o = record {
+  offer = o.offer;
+  answers = o.answers;
+  limits = o.limits;
+  capacity = o.capacity;
+  share = o.share;
+  hold = known;
+  late = nothing_yet;
+  tell = answer_told o.offer.knows;
+  tells = tells_known nothing_yet o.offer.knows;
+}
+
+module _ {Outcome : Type 0} (o : OwnerOf Outcome) where
+  -- its rules
+  abbrev pub owned_rules : Rules (List Call) Wanted Call Outcome
+  owned_rules = owner_rules o.offer.interface o.answers o.capacity o.share
+
+  -- what its engine keeps of its answers
+  abbrev pub kept_of : List Call → Call → Holding
+  kept_of calls call = o.hold (o.answers calls call)
+
+  abbrev pub voice_of : Voice
+  voice_of = record { answers = kept_of; late = o.late }
+
+  -- the table of a new engine, folded over the arrivals of a past, and its answers to those that an event completes
+  abbrev pub owned_table : List Event → Table (List Call) Outcome
+  owned_table past = table_after owned_rules (record { state = []; entries = [] }) (arrivals o.limits past)
+
+  abbrev pub owned_says : List Event → Event → List (Result Outcome SystemName)
+  owned_says past e = table_answers owned_rules (owned_table past) (completed o.limits past e)
+
+  -- the answers of the fold that remembers all, and those with each key by itself
+  abbrev pub owned_law : List Event → Event → List (Result Outcome SystemName)
+  owned_law past e = answers_after owned_rules [] (arrivals o.limits past) (completed o.limits past e)
+
+  abbrev pub owned_now : List Event → Event → List (Result Outcome SystemName)
+  owned_now past e = answers_now_after owned_rules [] (arrivals o.limits past) (completed o.limits past e)
+
 -- the table with the calls answered so far
-abbrev pub answered_so_far : List Call → List (KeptOutcome Performed) → Table (List Call) Performed
+abbrev pub answered_so_far : {Outcome : Type 0} → List Call → List (KeptOutcome Outcome) → Table (List Call) Outcome
 answered_so_far calls entries = record { state = calls; entries = entries }

@@ -1,5 +1,5 @@
 -- What a server says to what arrives, as messages, and their octets.
-use Rattle.std.specs.Prelude.{ℕ, Bool, List, [], ◌∷◌, Option, Some, None, Result, flat_map}
+use Rattle.std.specs.Prelude.{ℕ, Bool, List, [], ◌∷◌, Option, Some, None, Result, Ok, Err, flat_map}
 use Rattle.std.specs.List.{cons_option}
 use Rattle.cdr_core.specs.Value.{Values, no_values}
 use Rattle.cdr_core.specs.declared.order.Order.{Order}
@@ -15,6 +15,7 @@ use Rattle.ft_log.specs.declared.system_exception.SystemName.{SystemName}
 use Rattle.ft_orb.specs.ExactlyOnce.{Arrival}
 use Rattle.ft_objects.specs.Replies.{answered_as, body_of, locate_reply, locate_status, message_error, order_of, reply, status_of}
 use Rattle.ft_orb.specs.Requests.{Wanted, asking, locating}
+use Rattle.ft_log.specs.Holding.{Holding, known, parked}
 
 -- a Reply to the request of an id, with its byte order, its status and the values of its body; the status of the target of a locate
 -- of an id; MessageError; CloseConnection
@@ -54,6 +55,20 @@ Teller Outcome = Wanted → Result Outcome SystemName → Option Telling
 abbrev pub answer_told : (List ℕ → Bool) → Teller Performed
 answer_told knows (asking c q) answer = reply_told q.wish q.version q.id (answered_as answer)
 answer_told knows (locating c version id to) answer = Some (Located version id (locate_status knows (key_of_addressed to)))
+
+-- what is said to what arrived for a call that is parked under a number, if anything
+abbrev pub Later : Type 0
+Later = Wanted → ℕ → Option Telling
+
+-- nothing yet
+abbrev pub nothing_yet : Later
+nothing_yet w number = None
+
+-- the message for what a log keeps, if there is one
+abbrev pub held_told : Later → (List ℕ → Bool) → Teller Holding
+held_told late knows w (Ok (known outcome)) = answer_told knows w (Ok outcome)
+held_told late knows w (Ok (parked number)) = late w number
+held_told late knows w (Err refusal) = answer_told knows w (Err refusal)
 
 module _ {Outcome : Type 0} (tell : Teller Outcome) where
   -- its octets

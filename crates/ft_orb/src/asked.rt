@@ -1,6 +1,6 @@
 //! A request that waits for its outcome, as the owner of an engine sees it.
 
-ghost use Rattle.std.specs.Prelude.{◌≡◌, ◌+◌, MatchOption};
+ghost use Rattle.std.specs.Prelude.{◌≡◌, ◌≤◌, ◌+◌, ◌^◌, MatchOption};
 ghost use Rattle.ft_orb.specs.Engines.{field_lent};
 ghost use Rattle.ft_orb.specs.Waits.{field_with};
 
@@ -48,7 +48,7 @@ pub(crate) fn lent(retained: &Option<Retained>) -> Option<FtRequest<'_>>
 
 /// The number of one request more, if one is left.
 pub(crate) fn next_number(asks: &mut u64) -> Option<u64>
-    ensures { MatchOption result (asks.new ≡ asks.old) (λ n. (n ≡ asks.old) × (asks.new ≡ asks.old + 1)) }
+    ensures { MatchOption result ((asks.new ≡ asks.old) × (2 ^ 64 ≤ asks.old + 1)) (λ n. (n ≡ asks.old) × (asks.new ≡ asks.old + 1)) }
 {
     let number = *asks;
     *asks = number.checked_add(1)?;

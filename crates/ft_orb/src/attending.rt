@@ -93,6 +93,7 @@ fn attend_part<C: Catalogue + Drop, O: Performer>(
             attend_ask(alloc, engine, owner, out)?;
             Ok(taken)
         }
+        Ok(Fed::Repeats(taken)) => Ok(taken),
         Err(ServeError::NoConnection) => Err(StreamEnd::LinkClosed),
         Err(ServeError::Memory { .. }) => Err(StreamEnd::Memory),
     }

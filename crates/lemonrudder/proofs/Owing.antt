@@ -36,11 +36,13 @@ module _ {C : Type 0} (offers : C → Offer) (owner : Owner) (calls : List Call)
   pub feeds-owed : (c moment : ℕ) (piece : List ℕ) (f : Result Fed ServeError) (engine : Engine C) → Feeds offers owner calls past c moment piece f engine before out → Feeds offers owner calls past c moment piece f engine (drop n before) (drop n out)
   feeds-owed c moment piece (Ok fed.Whole) engine x = ends-owed _ _ engine x
   feeds-owed c moment piece (Ok (fed.Asks taken)) engine x = stops-owed c moment piece taken engine x
+  feeds-owed c moment piece (Ok (fed.Repeats taken)) engine x = elim x [ ]
   feeds-owed c moment piece (Err e) engine x = ends-owed _ _ engine x
 
   pub feeds-stays : (c moment : ℕ) (piece : List ℕ) (f : Result Fed ServeError) (engine : Engine C) → Feeds offers owner calls past c moment piece f engine before out → n ≤ length out
   feeds-stays c moment piece (Ok fed.Whole) engine x = stays n before x.written out few x.appended
   feeds-stays c moment piece (Ok (fed.Asks taken)) engine x = stays n before x.written out few x.appended
+  feeds-stays c moment piece (Ok (fed.Repeats taken)) engine x = elim x [ ]
   feeds-stays c moment piece (Err e) engine x = stays n before x.written out few x.appended
 
   ends-once-owed : (e : Event) (note : Note) → EndsOnce offers owner calls past e note before out → EndsOnce offers owner calls past e note (drop n before) (drop n out)
@@ -52,6 +54,7 @@ module _ {C : Type 0} (offers : C → Offer) (owner : Owner) (calls : List Call)
   pub feeds-once-owed : (c moment : ℕ) (piece : List ℕ) (f : Result Fed ServeError) (waits : Option Awaited) → FeedsOnce offers owner calls past c moment piece f waits before out → FeedsOnce offers owner calls past c moment piece f waits (drop n before) (drop n out)
   feeds-once-owed c moment piece (Ok fed.Whole) waits x = ends-once-owed (Piece c moment piece) Done x
   feeds-once-owed c moment piece (Ok (fed.Asks taken)) waits x = asks-once-owed c moment (take taken piece) waits x
+  feeds-once-owed c moment piece (Ok (fed.Repeats taken)) waits x = elim x [ ]
   feeds-once-owed c moment piece (Err e) waits x = ends-once-owed (Piece c moment piece) (note_of {A = Fed} (Err e)) x
 
   pub resumes-owed : (c moment : ℕ) (octets written : List ℕ) (note : Note) (engine : Engine C) → Resumes offers owner calls past c moment octets written note engine before out → Resumes offers owner calls past c moment octets written note engine (drop n before) (drop n out)
@@ -74,6 +77,7 @@ module _ (owner : Owner) (calls : List Call) (past : List Event) (n : ℕ) (befo
   pub feeds-now-owed : (c moment : ℕ) (piece : List ℕ) (f : Result Fed ServeError) (waits : Option Awaited) → FeedsNow owner calls past c moment piece f waits before out → FeedsNow owner calls past c moment piece f waits (drop n before) (drop n out)
   feeds-now-owed c moment piece (Ok fed.Whole) waits x = ends-now-owed (Piece c moment piece) Done x
   feeds-now-owed c moment piece (Ok (fed.Asks taken)) waits x = asks-now-owed c moment (take taken piece) waits x
+  feeds-now-owed c moment piece (Ok (fed.Repeats taken)) waits x = elim x [ ]
   feeds-now-owed c moment piece (Err e) waits x = ends-now-owed (Piece c moment piece) (note_of {A = Fed} (Err e)) x
 
   pub resumes-now-owed : (c moment : ℕ) (octets written : List ℕ) (note : Note) → ResumesNow owner calls past c moment octets written note before out → ResumesNow owner calls past c moment octets written note (drop n before) (drop n out)

@@ -89,6 +89,7 @@ OnIsClosed c s t r = (t ≡ s) × (closed : Bool) × (r ≡ Ok (from_bool closed
 abbrev pub taken_of : ℕ → Result Fed ServeError → Result ℕ Refusal
 taken_of size (Ok fed.Whole) = Ok size
 taken_of size (Ok (fed.Asks taken)) = Ok taken
+taken_of size (Ok (fed.Repeats taken)) = Ok taken
 taken_of size (Err e) = Err (refusal_of_serving e)
 
 -- the engine takes octets, and what it writes is due after what was

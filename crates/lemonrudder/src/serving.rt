@@ -11,7 +11,7 @@ use crate::refusal::{Refusal, count_of};
 use crate::terms::Terms;
 use ft_log::Retention;
 use ft_objects::Interfaces;
-use ft_orb::{Engine, Fed, ServeError};
+use ft_orb::{Engine, Fed, Places, ServeError};
 use std::alloc::Global;
 use std::hash::RandomState;
 
@@ -44,6 +44,7 @@ impl Serving {
                 interfaces,
                 limits,
                 Retention { capacity, share },
+                Places::none(),
                 hasher,
             ),
             alloc,
@@ -149,6 +150,6 @@ fn taken_of(octets: &[u8], fed: Result<Fed, ServeError>) -> Result<u64, Refusal>
 {
     match fed? {
         Fed::Whole => Ok(count_of(octets)),
-        Fed::Asks(taken) => Ok(taken as u64),
+        Fed::Asks(taken) | Fed::Repeats(taken) => Ok(taken as u64),
     }
 }

@@ -1,7 +1,7 @@
 //! A log and the plain program of its definition, on the same calls.
 
 use crate::list_log::ListLog;
-use crate::minors::{minor_in, outcome_of};
+use crate::minors::{minor_held, minor_in, outcome_of};
 use ft_log::{Key, Log, LogError, Retention};
 use std::alloc::Global;
 use std::hash::RandomState;
@@ -34,7 +34,7 @@ fn key_of(alloc: Global, number: u64) -> Result<Key, LogError> {
 impl Both {
     /// Whether what both say of a key is the same.
     fn agree_on(&self, key: &Key) -> bool {
-        let found = minor_in(self.log.find(key)) == minor_in(self.list.find(key));
+        let found = minor_held(self.log.find(key)) == minor_in(self.list.find(key));
         let held = self.log.held_by(&key.client_id) as usize == self.list.held_by(&key.client_id);
         let len = self.log.len() == self.list.len();
         found && held && len && self.log.next_expiry() == self.list.next_expiry()

@@ -1,6 +1,6 @@
 //! Outcomes that are told apart by their minor codes.
 
-use ft_log::{Completion, Key, Log, LogError, Outcome, SystemName};
+use ft_log::{Completion, Held, Key, Log, LogError, Outcome, SystemName};
 use std::alloc::{AllocError, Global};
 
 /// A system exception with this minor code.
@@ -13,6 +13,14 @@ pub(crate) fn minor_in(outcome: Option<&Outcome>) -> Option<u32> {
     match outcome {
         Some(Outcome::System(_, minor, _)) => Some(*minor),
         _ => None,
+    }
+}
+
+/// The minor code of the outcome that is held, if it is there.
+pub(crate) fn minor_held(held: Option<&Held>) -> Option<u32> {
+    match held {
+        Some(held) => minor_in(held.outcome()),
+        None => None,
     }
 }
 
@@ -42,5 +50,5 @@ pub(crate) fn minor_of(
     retention_id: i32,
 ) -> Result<Option<u32>, AllocError> {
     let key = Key::new(alloc, client_id, retention_id)?;
-    Ok(minor_in(log.find(&key)))
+    Ok(minor_held(log.find(&key)))
 }

@@ -6,7 +6,7 @@ use crate::{MemoryClock, MemoryWire, Terms};
 use cdr_core::Val;
 use counter::Counter;
 use ft_log::{Outcome, Retention};
-use ft_orb::{Asked, Engine, Performer, StreamEnd, serve_engine};
+use ft_orb::{Asked, Engine, Performer, Places, StreamEnd, serve_engine};
 use giop_frames::Limits;
 use giop_run::CAPACITY;
 use std::alloc::{AllocError, Global};
@@ -69,7 +69,14 @@ fn comes_of(alloc: Global, hasher: RandomState, gift: Gift) -> Result<Course, Fa
         capacity: CAPACITY,
         share: CAPACITY,
     };
-    let mut engine = Engine::new(alloc, counter, Limits::default(), retention, hasher);
+    let mut engine = Engine::new(
+        alloc,
+        counter,
+        Limits::default(),
+        retention,
+        Places::none(),
+        hasher,
+    );
     engine.connect(1)?;
     let mut owner = Told { gift, calls: 0 };
     let mut wire = MemoryWire::new(alloc, terms);

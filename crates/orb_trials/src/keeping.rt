@@ -1,7 +1,7 @@
 //! A log that keeps one outcome more.
 
 use crate::misses::log_miss;
-use ft_log::{Completion, Key, Log, Outcome, Retention, SystemName};
+use ft_log::{Completion, Held, Key, Log, Outcome, Retention, SystemName};
 use std::alloc::Global;
 use std::hash::RandomState;
 use trials::{Miss, Sample, Trial, Wrong};
@@ -28,7 +28,7 @@ fn keep(log: &mut Log, key: Key) -> Result<(), Miss> {
 /// Whether a log keeps such an outcome for a key.
 fn is_kept(log: &Log, key: &Key) -> bool {
     match log.find(key) {
-        Some(Outcome::System(SystemName::Transient, minor, Completion::Maybe)) => {
+        Some(Held::Known(Outcome::System(SystemName::Transient, minor, Completion::Maybe))) => {
             *minor == key.retention_id.unsigned_abs()
         }
         _ => false,

@@ -6,7 +6,7 @@ ghost use Rattle.ft_orb.specs.Engines.{waits_in};
 use cdr_core::{Ty, Val};
 use ft_log::{Completion, Outcome, Retention, SystemName};
 use ft_objects::{Catalogue, Interfaces, InterfacesError, Signature, longlong_at, string_at};
-use ft_orb::{Asked, ConnectError, Engine, Event, Fed, Performer, ServeError};
+use ft_orb::{Asked, ConnectError, Engine, Event, Fed, Performer, Places, ServeError};
 use giop_frames::Limits;
 use std::alloc::{AllocError, Global};
 use std::collections::BTreeMap;
@@ -27,6 +27,9 @@ pub enum BankingError {
     /// The owner gave a request up: nothing was done, and its connection is lost.
     #[error("given up")]
     GivenUp,
+    /// No request is parked under this number, or the outcome is none of its operation.
+    #[error("not parked")]
+    NotParked,
 }
 
 /// The repository id of `Overdrawn`.
@@ -128,7 +131,7 @@ fn balance_types(alloc: Global) -> Result<Signature, AllocError> {
 }
 
 /// The bank's key, its operations and their types.
-fn bank_interfaces(alloc: Global) -> Result<Interfaces, BankingError> {
+pub(crate) fn bank_interfaces(alloc: Global) -> Result<Interfaces, BankingError> {
     let mut interfaces = Interfaces::new(alloc);
     interfaces.add_object(b"bank")?;
     interfaces.add_operation(b"bank", b"deposit", deposit_types(alloc)?)?;
@@ -242,7 +245,14 @@ pub fn serve_bank(
         capacity: 100,
         share: 100,
     };
-    let mut engine = Engine::new(alloc, bank_interfaces(alloc)?, limits, retention, hasher);
+    let mut engine = Engine::new(
+        alloc,
+        bank_interfaces(alloc)?,
+        limits,
+        retention,
+        Places::none(),
+        hasher,
+    );
     serve_events(alloc, &mut engine, &mut bank, events, out)?;
     Ok(bank)
 }

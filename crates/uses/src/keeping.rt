@@ -1,6 +1,7 @@
 //! Keep what a request gave, once.
 
 ghost use Rattle.std.specs.Prelude.{◌≡◌, OnErr, OnOk};
+ghost use Rattle.ft_log.specs.Holding.{known};
 ghost use Rattle.ft_log.specs.Kept.{unexpired};
 ghost use Rattle.ft_log.specs.Logged.{logged};
 ghost use Rattle.ft_log.specs.View.{key_of, performed_in};
@@ -17,7 +18,7 @@ pub fn keep_once(
     expiration: u64,
     outcome: Outcome,
 ) -> Result<(), LogError>
-    ensures kept { OnOk result ((logged log.new).entries ≡ kept_once (key_of key) expiration (performed_in outcome) (unexpired now (logged log.old).entries)) }
+    ensures kept { OnOk result ((logged log.new).entries ≡ kept_once (key_of key) expiration (known (performed_in outcome)) (unexpired now (logged log.old).entries)) }
     ensures err { OnErr result ((logged log.new).entries ≡ unexpired now (logged log.old).entries) }
 {
     log.forget(now);

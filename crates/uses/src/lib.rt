@@ -1,4 +1,4 @@
-//! Seventeen uses of the libraries, as a caller writes them: each is one file with one subject, proved, and
+//! Eighteen uses of the libraries, as a caller writes them: each is one file with one subject, proved, and
 //! run by a test of `uses_tests` on octets written out by hand from the standard's layouts (CDR 9.3 and GIOP 9.4).
 //! The pages of the repository quote them.
 #![tactic(auto)]
@@ -12,6 +12,7 @@ mod forwarding;
 mod hearing;
 mod invocation;
 mod keeping;
+mod later;
 mod ledger;
 mod locating;
 mod pieces;
@@ -30,6 +31,7 @@ pub use forwarding::{ForwardError, forward_request, read_reply};
 pub use hearing::requests_heard;
 pub use invocation::{Retry, add_request, cut};
 pub use keeping::keep_once;
+pub use later::{Turn, serve_later};
 pub use ledger::Ledger;
 pub use locating::answer_locate;
 pub use pieces::{Piece, serve_pieces};

@@ -11,7 +11,7 @@ use crate::banking::{BankingError, serve_events};
 use crate::forwarding::{ForwardError, body_of, forward_request, read_reply, untold};
 use ft_log::{Completion, Outcome, Retention, SystemName};
 use ft_objects::{Interfaces, Servant};
-use ft_orb::{Asked, Engine, Event, Performer, Server};
+use ft_orb::{Asked, Engine, Event, Performer, Places, Server};
 use giop_frames::Limits;
 use std::alloc::{AllocError, Global};
 use std::hash::RandomState;
@@ -149,6 +149,6 @@ pub fn serve_relay<B: Back + Drop>(
         capacity: 100,
         share: 100,
     };
-    let mut engine = Engine::new(alloc, interfaces, limits, retention, hasher);
+    let mut engine = Engine::new(alloc, interfaces, limits, retention, Places::none(), hasher);
     serve_events(alloc, &mut engine, relay, events, out)
 }

@@ -1,6 +1,6 @@
 //! Outcomes that are kept.
 
-use ft_log::{Completion, Key, Log, LogError, Outcome, Retention, SystemName};
+use ft_log::{Completion, Held, Key, Log, LogError, Outcome, Retention, SystemName};
 use std::alloc::Global;
 use std::hash::RandomState;
 use std::test::Fail;
@@ -22,7 +22,7 @@ fn keep_minor(
 fn minor_of(alloc: Global, log: &Log, retention_id: i32) -> Result<Option<u32>, LogError> {
     let key = Key::new(alloc, b"A", retention_id)?;
     match log.find(&key) {
-        Some(Outcome::System(_, minor, _)) => Ok(Some(*minor)),
+        Some(Held::Known(Outcome::System(_, minor, _))) => Ok(Some(*minor)),
         _ => Ok(None),
     }
 }

@@ -19,6 +19,8 @@ mod invocation;
 #[cfg(test)]
 mod keeping;
 #[cfg(test)]
+mod later;
+#[cfg(test)]
 mod ledger;
 #[cfg(test)]
 mod locating;

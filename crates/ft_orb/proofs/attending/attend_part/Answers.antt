@@ -78,3 +78,11 @@ returns-in-Err-Memory-clause-table g c = (
         ),
       ),
 )
+
+-- where each outcome is known nothing repeats what is parked
+pub returns-in-Ok-Repeats-clause-table : goal.returns-in-Ok-Repeats-clause-table
+returns-in-Ok-Repeats-clause-table g c = (
+  [],
+  grows-none (g.O.Performer.answered c.args.owner.now),
+  λ o calls past rests there agrees. absurd (rw c.in-Ok-Repeats.field-0-is at (c.in-Ok-Repeats.ensures.table o calls past rests)),
+)

@@ -1,6 +1,6 @@
 use Rattle.std.proofs.Common.{option_map, ap, ◌∙◌}
 use Rattle.ft_log.specs.Logged.{logged}
-use Rattle.ft_log.specs.View.{key_of, performed_in}
+use Rattle.ft_log.specs.View.{key_of, holding_in}
 use Rattle.ft_log.proofs.Entries.{copied, kept_for-outcome}
 use Rattle.ft_log.proofs.store.Store.find.Goals as goal
 
@@ -9,4 +9,4 @@ unfolding logged
 returns c =
     let s = c.args.self.now in
     let key = key_of c.args.key.now in
-    copied c.outcome_at.result ∙ ap (option_map performed_in) (c.outcome_at.ensures ∙ s.found key) ∙ kept_for-outcome key s.story.entries
+    copied c.outcome_at.result ∙ ap (option_map holding_in) (c.outcome_at.ensures ∙ s.found key) ∙ kept_for-outcome key s.story.entries

@@ -1,0 +1,30 @@
+use Rattle.std.proofs.Common.{◌≡◌, ◌==◌, ℕ, false, None, Some, refl, sym, arith}
+use Rattle.std.proofs.lemmas.Grind.{common_steps}
+use Rattle.std.specs.BTreeMap.{get}
+use Rattle.std.specs.Ordering.{nat_cmp}
+use Rattle.giop_link.specs.Linking.{shut}
+use Rattle.ft_orb.specs.History.{Close}
+use Rattle.ft_orb.specs.declared.events.Note.TheVariants.{Done, Memory, Refused}
+use Rattle.ft_orb.proofs.Late.{closed-cut, closed-done, closed-none, ends-late}
+use Rattle.ft_orb.proofs.engine.Engine.close.Goals as goal
+
+pub returns-in_default-clause-late : goal.returns-in_default-clause-late
+returns-in_default-clause-late g c s held calls past waiting h =
+    let others : (q : ℕ) → (c.args.connection == q) ≡ false → get nat_cmp c.get_mut.follows.lender-at-none q ≡ get nat_cmp c.args.self.now.links q = λ q n. grind (arith, common_steps) in
+    let gone : get nat_cmp c.get_mut.follows.lender-at-none c.args.connection ≡ None = grind (arith, common_steps) in
+    ends-late g.C.Catalogue.offers s c.streams_are_heard.ensures.stays held calls c.args.self.now _ past waiting (Close c.args.connection) Refused c.args.out.now.items c.args.out.now.items h
+    (λ late r. closed-none g.C.Catalogue.offers s late held calls c.args.self.now _ past c.args.connection r refl refl (record { limits = refl; capacity = refl; share = refl; greatest = refl; others = others }) refl refl c.args.out.now.items (sym c.in_default.ensures.value) gone) refl refl (omega arith)
+
+pub returns-clause-late : goal.returns-clause-late
+returns-clause-late g c s held calls past waiting h =
+    let others : (q : ℕ) → (c.args.connection == q) ≡ false → get nat_cmp (c.get_mut.follows.lender c.close.new.self) q ≡ get nat_cmp c.args.self.now.links q = λ q n. grind (arith, common_steps) in
+    let next : get nat_cmp (c.get_mut.follows.lender c.close.new.self) c.args.connection ≡ Some (shut c.in-Some.link.now) = grind (arith, common_steps) in
+    ends-late g.C.Catalogue.offers s c.streams_are_heard.ensures.stays held calls c.args.self.now _ past waiting (Close c.args.connection) Done c.args.out.now.items c.close.new.out.items h
+    (λ late r. closed-done g.C.Catalogue.offers s late held calls c.args.self.now _ past c.args.connection r refl refl (record { limits = refl; capacity = refl; share = refl; greatest = refl; others = others }) refl refl c.args.out.now.items c.close.new.out.items c.in-Some.link.now (sym c.in-Some.ensures.value) next (let ok = c.close.ensures.ok in let is = c.if-is_err.false in grind (arith, common_steps))) refl refl (omega arith)
+
+pub returns-then-is_err-clause-late : goal.returns-then-is_err-clause-late
+returns-then-is_err-clause-late g c s held calls past waiting h =
+    let others : (q : ℕ) → (c.args.connection == q) ≡ false → get nat_cmp c.remove.new.self q ≡ get nat_cmp c.args.self.now.links q = λ q n. grind (arith, common_steps) in
+    let gone : get nat_cmp c.remove.new.self c.args.connection ≡ None = c.remove.ensures.updates.1 in
+    ends-late g.C.Catalogue.offers s c.streams_are_heard.ensures.stays held calls c.args.self.now _ past waiting (Close c.args.connection) (Memory 0 0) c.args.out.now.items c.close.new.out.items h
+    (λ late r. closed-cut g.C.Catalogue.offers s late held calls c.args.self.now _ past c.args.connection r refl refl (record { limits = refl; capacity = refl; share = refl; greatest = refl; others = others }) refl refl c.args.out.now.items c.close.new.out.items c.in-Some.link.now (sym c.in-Some.ensures.value) gone (let err = c.close.ensures.err in let is = c.if-is_err.true in grind (arith, common_steps)) (let err = c.close.ensures.err in let is = c.if-is_err.true in grind (arith, common_steps))) refl refl (omega arith)

@@ -1,0 +1,74 @@
+use Rattle.std.proofs.Common.{◌≡◌, ◌==◌, ℕ, [], IsSome, false, None, Some, Option, not, refl, sym, ap, ◌∙◌, arith, subst, ◌≤◌, ◌<◌, length}
+use Rattle.std.proofs.lemmas.Grind.{common_steps}
+use Rattle.std.specs.BTreeMap.{get}
+use Rattle.std.specs.Ordering.{nat_cmp}
+use Rattle.ft_log.specs.View.{performed_in}
+use Rattle.ft_orb.specs.declared.parked.Parked.{Parked}
+use Rattle.ft_log.specs.Logged.{logged}
+use Rattle.ft_orb.specs.declared.pausing.Pending.{Pending}
+use Rattle.ft_log.specs.Keys.{RequestKey}
+use Rattle.ft_log.specs.Performed.{Performed}
+use Rattle.ft_orb.specs.Pauses.{IsReadyFor}
+use Rattle.ft_orb.specs.Parking.{left_of, parked_at, told_of}
+use Rattle.ft_log.specs.declared.outcome.Outcome.{Outcome}
+use Rattle.std.specs.Option.{option_map}
+use Rattle.ft_orb.specs.Waits.{filled_with}
+use Rattle.ft_orb.proofs.Late.{due-late, nobody-is, none-left, not-at, settled-due, settled-late, some-of, told-is}
+use Rattle.ft_orb.proofs.engine.Engine.due.Goals as goal
+use Rattle.ft_orb.proofs.engine.Engine.due.Goals.{in-Some-told, in_default-told}
+
+pub returns-in-Some-clause-late : goal.returns-in-Some-clause-late
+returns-in-Some-clause-late g c s held calls past waiting h =
+    let p = c.in_ok-parked.parked.now in
+    let q = c.clear.new.self in
+    let was : parked_at c.args.self.now c.args.number ≡ Some p = grind (arith, common_steps) in
+    let is : get nat_cmp (c.get_mut.follows.lender q) c.args.number ≡ Some q = grind (arith, common_steps) in
+    let others : (m : ℕ) → (m == c.args.number) ≡ false → get nat_cmp (c.get_mut.follows.lender q) m ≡ get nat_cmp c.args.self.now.parked m = λ m apart. grind (arith, common_steps) in
+    let o = some-of p.outcome (c.is_none.ensures ∙ ap not c.if-is_none.false) in
+    due-late g.C.Catalogue.offers s held calls c.args.self.now _ past waiting h c.args.number p was (record { offer_is = h.rests.offer_is; idle = h.rests.idle; stands = h.rests.stands }) refl refl others q c.clear.ensures
+    (performed_in o.0) (told-is c.args.self.now c.args.number p o.0 was o.1) is c.in-Some.first.now (let long = c.in-Some.ensures.variant in grind (arith, common_steps)) c.in-Some.ensures.lookup
+
+pub returns-clause-late : goal.returns-clause-late
+returns-clause-late g c s held calls past waiting h =
+    let n = c.args.number in
+    let p = c.in_ok-parked.parked.now in
+    let q = c.clear.new.self in
+    let was : parked_at c.args.self.now n ≡ Some p = grind (arith, common_steps) in
+    let there : IsSome (get nat_cmp c.args.self.now.parked n) = subst (λ (o : Option Parked). IsSome o) (sym was) refl in
+    let wrote = (c.get_mut.follows.holds q).3 there in
+    let taken : Some c.in_ok-parked-2.parked ≡ Some q = grind (arith, common_steps) in
+    let others : (m : ℕ) → (m == n) ≡ false → get nat_cmp c.remove.new.self m ≡ get nat_cmp c.args.self.now.parked m = λ m apart. c.remove.ensures.updates.2 m (not-at n m apart) ∙ wrote.2 m (not-at n m apart) in
+    let gone : get nat_cmp c.remove.new.self n ≡ None = c.remove.ensures.updates.1 in
+    let empty : q.waiters.items ≡ [] = none-left q.waiters.items (let short = c.in_default.not-Some in grind (arith, common_steps)) in
+    let same : c.in_ok-parked-2.parked ≡ q = cc in
+    let request = ap (λ (x : Parked). x.pending) same ∙ c.clear.ensures.0.0 in
+    let nobody = nobody-is g.C.Catalogue.offers s held calls c.args.self.now c.args.self.now past waiting h n p was h.rests refl refl (λ m x. refl) q c.clear.ensures empty in
+    elim c.match-told.branch [
+      | in-Some-told w ↦
+          let outcome : p.outcome ≡ Some w.in-Some-told.outcome = sym c.clear.ensures.0.1 ∙ ap (λ (x : Parked). x.outcome) (sym same) ∙ w.in-Some-told.is in
+          let filled-in = w.fill.ensures.filled ∙ ap (λ (x : Pending). filled_with x.waiting.retained n (performed_in w.in-Some-told.outcome) (logged c.args.self.now.keeper.log).entries) request in
+          rw w.self-is (settled-due g.C.Catalogue.offers s held calls c.args.self.now _ past waiting h n p was (performed_in w.in-Some-told.outcome) (told-is c.args.self.now n p w.in-Some-told.outcome was outcome)
+          (settled-late g.C.Catalogue.offers s held calls c.args.self.now _ past waiting h n p was (performed_in w.in-Some-told.outcome) nobody refl refl refl refl refl w.fill.ensures.clock refl refl w.fill.ensures.capacity w.fill.ensures.share filled-in gone others))
+      | in_default-told w ↦
+          let o = some-of p.outcome (c.is_none.ensures ∙ ap not c.if-is_none.false) in
+          absurd (w.in_default-told.not-Some o.0 (ap (λ (x : Parked). x.outcome) same ∙ c.clear.ensures.0.1 ∙ o.1))
+    ]
+
+pub returns-in-Some-clause-left : goal.returns-in-Some-clause-left
+returns-in-Some-clause-left g c =
+    let n = c.args.number in
+    let p = c.in_ok-parked.parked.now in
+    let q = c.clear.new.self in
+    let was : parked_at c.args.self.now n ≡ Some p = grind (arith, common_steps) in
+    let is : get nat_cmp (c.get_mut.follows.lender q) n ≡ Some q = grind (arith, common_steps) in
+    let o = some-of p.outcome (c.is_none.ensures ∙ ap not c.if-is_none.false) in
+    let told : told_of (get nat_cmp (c.get_mut.follows.lender q) n) ≡ Some (performed_in o.0) = ap (λ (x : Option Parked). told_of x) is ∙ ap (λ (x : Option Outcome). option_map performed_in x) (c.clear.ensures.0.1 ∙ o.1) in
+    let some : 0 < length q.waiters.items = (let long = c.in-Some.ensures.variant in grind (arith, common_steps)) in
+    let few = c.clear.ensures.4 in (
+      subst (λ (x : Option Performed). IsSome x) (sym told) refl,
+      subst (λ (x : Option Parked). 0 < left_of x) (sym is) some,
+      subst (λ (x : Option Parked). left_of x ≤ left_of (parked_at c.args.self.now n)) (sym is) (subst (λ (x : Option Parked). left_of (Some q) ≤ left_of x) (sym was) few),
+    )
+
+pub invariant_of-self-in-Some-told : goal.invariant_of-self-in-Some-told
+invariant_of-self-in-Some-told g c = record { ready = subst (λ (room : Option RequestKey). IsReadyFor c.args.self.now.pending room) (sym c.fill.ensures.room) c.args.self.now.ready }

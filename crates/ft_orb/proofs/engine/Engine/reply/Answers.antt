@@ -1,0 +1,94 @@
+use Rattle.std.proofs.Common.{◌≡◌, ◌==◌, ℕ, ◌<◌, ◌++◌, [], IsSome, false, None, Some, Option, length, refl, sym, ap, ◌∙◌, arith, subst}
+use Rattle.std.proofs.lemmas.Grind.{common_steps}
+use Rattle.std.specs.BTreeMap.{get}
+use Rattle.std.specs.Ordering.{nat_cmp}
+use Rattle.ft_log.specs.View.{performed_in}
+use Rattle.ft_log.specs.Performed.{Performed}
+use Rattle.ft_orb.specs.declared.parked.Parked.{Parked}
+use Rattle.ft_orb.specs.Parking.{numbering, parked_at}
+use Rattle.ft_orb.specs.Tellings.{nothing_yet, reply_by}
+use Rattle.ft_orb.proofs.Late.{left-fewer, nobody-is, none-left, not-at, parked-same, replied-late, rests-lost, told-is, un-put, unreplied-late}
+use Rattle.ft_orb.proofs.engine.Engine.reply.Goals as goal
+
+pub returns-in_default-pop_front-clause-late : goal.returns-in_default-pop_front-clause-late
+returns-in_default-pop_front-clause-late g c s held calls past waiting outcome w rest h told waits =
+    let p = c.in-Some.parked.now in
+    let q = c.clear.new.self in
+    let was : parked_at c.args.self.now c.args.number ≡ Some p = grind (arith, common_steps) in
+    let empty : q.waiters.items ≡ [] = none-left q.waiters.items (let short = c.in_default-pop_front.not-Some in grind (arith, common_steps)) in
+    let nobody = nobody-is g.C.Catalogue.offers s held calls c.args.self.now c.args.self.now past waiting h c.args.number p was h.rests refl refl (λ m x. refl) q c.clear.ensures empty in
+    absurd (let both = sym waits ∙ nobody in cc)
+
+pub returns-in-Answered-clause-late : goal.returns-in-Answered-clause-late
+returns-in-Answered-clause-late g c s held calls past waiting outcome w rest h told waits =
+    let n = c.args.number in
+    let p = c.in-Some.parked.now in
+    let q = c.clear.new.self in
+    let was : parked_at c.args.self.now n ≡ Some p = grind (arith, common_steps) in
+    let there : IsSome (get nat_cmp c.args.self.now.parked n) = subst (λ (o : Option Parked). IsSome o) (sym was) refl in
+    let wrote = (c.get_mut.follows.holds _).3 there in
+    let same : performed_in c.in-Some-outcome.outcome ≡ outcome = (let both = sym (told-is c.args.self.now n p _ was (sym c.clear.ensures.0.1 ∙ c.in-Some-outcome.is)) ∙ told in cc) in
+    replied-late g.C.Catalogue.offers s held calls c.args.self.now _ past waiting h n p was q c.clear.ensures c.in-Some-pop_front.first _ c.in-Some-pop_front.ensures.items c.clear.ensures.0.0 wrote.1 (λ m apart. wrote.2 m (not-at n m apart)) refl refl w rest waits outcome c.args.out.now.items c.answer.new.out.items
+    (record { offer_is = h.rests.offer_is; idle = h.rests.idle; stands = h.rests.stands })
+    (c.in-Answered.ensures ∙ ap (λ (x : Performed). c.args.out.now.items ++ reply_by c.in-Some-pop_front.first.asker.wish c.in-Some-pop_front.first.asker.version c.in-Some-pop_front.first.asker.request_id x) same)
+
+pub returns : goal.returns
+returns g c = record {
+  late = λ s held calls past waiting outcome w rest h told waits.
+      let n = c.args.number in
+      let p = c.in-Some.parked.now in
+      let q = c.clear.new.self in
+      let was : parked_at c.args.self.now n ≡ Some p = grind (arith, common_steps) in
+      let there : IsSome (get nat_cmp c.args.self.now.parked n) = subst (λ (o : Option Parked). IsSome o) (sym was) refl in
+      let wrote = (c.get_mut.follows.holds _).3 there in
+      let same : performed_in c.in-Some-outcome.outcome ≡ outcome = (let both = sym (told-is c.args.self.now n p _ was (sym c.clear.ensures.0.1 ∙ c.in-Some-outcome.is)) ∙ told in cc) in
+      let others : (q : ℕ) → (c.in-Some-pop_front.first.connection == q) ≡ false → get nat_cmp c.remove.new.self q ≡ get nat_cmp c.args.self.now.links q = λ q n. grind (arith, common_steps) in
+      let gone : get nat_cmp c.remove.new.self c.in-Some-pop_front.first.connection ≡ None = c.remove.ensures.updates.1 in
+      let rests = rests-lost g.C.Catalogue.offers (numbering s nothing_yet held) calls c.args.self.now _ past c.in-Some-pop_front.first.connection h.rests refl refl (record { limits = refl; capacity = refl; share = refl; greatest = refl; others = others }) refl refl gone in
+      let put = un-put c.answer.result _ _ _ c.answer.ensures (λ is. c.in_default-answer.not-Answered is) in
+      unreplied-late g.C.Catalogue.offers s held calls c.args.self.now _ past waiting h n p was q c.clear.ensures c.in-Some-pop_front.first _ c.in-Some-pop_front.ensures.items c.clear.ensures.0.0 wrote.1 (λ m apart. wrote.2 m (not-at n m apart)) refl refl w rest waits
+      c.streams_are_heard.ensures.stays outcome c.args.out.now.items c.answer.new.out.items rests put.0 (subst (λ (o : Performed). 0 < length (reply_by c.in-Some-pop_front.first.asker.wish c.in-Some-pop_front.first.asker.version c.in-Some-pop_front.first.asker.request_id o)) same put.1);
+  parked =
+      let n = c.args.number in
+      let p = c.in-Some.parked.now in
+      let q = c.clear.new.self in
+      let was : parked_at c.args.self.now n ≡ Some p = grind (arith, common_steps) in
+      let there : IsSome (get nat_cmp c.args.self.now.parked n) = subst (λ (o : Option Parked). IsSome o) (sym was) refl in
+      let wrote = (c.get_mut.follows.holds _).3 there in
+      parked-same (get nat_cmp c.args.self.now.parked) _ n p _ was wrote.1 c.clear.ensures.0.0 c.clear.ensures.0.1 (λ m apart. wrote.2 m (not-at n m apart));
+  fewer = λ told some.
+      let n = c.args.number in
+      let p = c.in-Some.parked.now in
+      let q = c.clear.new.self in
+      let was : parked_at c.args.self.now n ≡ Some p = grind (arith, common_steps) in
+      let there : IsSome (get nat_cmp c.args.self.now.parked n) = subst (λ (o : Option Parked). IsSome o) (sym was) refl in
+      let wrote = (c.get_mut.follows.holds _).3 there in
+      let few = c.clear.ensures.4 in
+      let size = ap length c.in-Some-pop_front.ensures.items in
+      left-fewer _ _ p _ was wrote.1 (omega (arith, few, size));
+  waits = refl;
+  asks = refl;
+  catalogue = refl;
+}
+
+pub returns-in-Answered-clause-fewer : goal.returns-in-Answered-clause-fewer
+returns-in-Answered-clause-fewer g c told some =
+    let n = c.args.number in
+    let p = c.in-Some.parked.now in
+    let q = c.clear.new.self in
+    let was : parked_at c.args.self.now n ≡ Some p = grind (arith, common_steps) in
+    let there : IsSome (get nat_cmp c.args.self.now.parked n) = subst (λ (o : Option Parked). IsSome o) (sym was) refl in
+    let wrote = (c.get_mut.follows.holds _).3 there in
+    let few = c.clear.ensures.4 in
+    let size = ap length c.in-Some-pop_front.ensures.items in
+    left-fewer _ _ p _ was wrote.1 (omega (arith, few, size))
+
+pub returns-in-Answered-clause-parked : goal.returns-in-Answered-clause-parked
+returns-in-Answered-clause-parked g c =
+    let n = c.args.number in
+    let p = c.in-Some.parked.now in
+    let q = c.clear.new.self in
+    let was : parked_at c.args.self.now n ≡ Some p = grind (arith, common_steps) in
+    let there : IsSome (get nat_cmp c.args.self.now.parked n) = subst (λ (o : Option Parked). IsSome o) (sym was) refl in
+    let wrote = (c.get_mut.follows.holds _).3 there in
+    parked-same (get nat_cmp c.args.self.now.parked) _ n p _ was wrote.1 c.clear.ensures.0.0 c.clear.ensures.0.1 (λ m apart. wrote.2 m (not-at n m apart))

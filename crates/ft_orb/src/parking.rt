@@ -1,0 +1,200 @@
+//! Requests whose outcomes come later: the engine goes on while they are parked.
+
+ghost use Rattle.std.specs.Prelude.{◌≡◌, ◌==◌, ◌↔◌, ◌+◌, ◌<◌, ◌≤◌, ◌++◌, ◌∷◌, [], ℕ, Bool, List, IsTrue, IsSome, IfSome, false, IfOk, OnOk, OnErr, None, Some, Err, Option, length};
+ghost use Rattle.std.specs.Option.{option_map};
+ghost use Rattle.ft_log.specs.Holding.{Holding, known, parked};
+ghost use Rattle.ft_log.specs.Performed.{Performed};
+ghost use Rattle.ft_log.specs.View.{performed_in};
+ghost use Rattle.ft_objects.specs.Replies.{IsRenderable};
+ghost use Rattle.ft_orb.specs.ExactlyOnce.{OneExpiration, state_after, state_of};
+ghost use Rattle.ft_orb.specs.History as history;
+ghost use Rattle.ft_orb.specs.History.{arrivals};
+ghost use Rattle.ft_orb.specs.Now.{performed_now};
+ghost use Rattle.ft_orb.specs.Owners.{owned_rules};
+ghost use Rattle.ft_orb.specs.Requests.{Call};
+ghost use Rattle.ft_orb.specs.declared.parked.Waiter.{Waiter as Waiting};
+ghost use Rattle.ft_orb.specs.declared.error.ParkError.TheVariants.{Full};
+ghost use Rattle.ft_orb.specs.declared.events.Note.TheVariants.{Done};
+
+use crate::asked::{Asked, lent};
+use crate::desk::Step;
+use crate::engine::Engine;
+use crate::error::{ParkError, ServeError};
+use crate::outcomes::{is_outcome_of, is_renderable};
+use crate::parked::Parked;
+use crate::waiters::{copy_of, own_waiter};
+use ft_log::Outcome;
+use ft_objects::Catalogue;
+
+impl<C: Catalogue + Drop> Engine<C> {
+    ghost use Rattle.ft_orb.specs.Engines.{Awaited, IsOpen, asks_in, awaited_lent, waits_in};
+    ghost use Rattle.ft_orb.specs.Parked.{own_waiters};
+    ghost use Rattle.ft_orb.specs.Parking.{AreParked, AsksLate, CanSettle, IsDueLate, RepliesLate, ResumesLate, Settings, Stays, by_number, parked_at, parked_count, parked_in, places_of, put_at, left_in, told_in};
+
+    /// The request that is parked under this number, if one is.
+    pub fn parked(&self, number: u64) -> Option<Asked<'_>>
+        ensures { option_map awaited_lent result ≡ parked_in self.now number }
+    {
+        let pending = &self.parked.get(&number)?.pending;
+        Some(Asked {
+            number: pending.number,
+            connection: pending.connection,
+            ft_request: lent(&pending.waiting.retained),
+            object_key: &pending.waiting.object_key,
+            operation: &pending.waiting.operation,
+            arguments: &pending.waiting.arguments,
+        })
+    }
+
+    /// Whether an outcome can be that of the request that is parked under this number: it has none yet, and the outcome can be
+    /// sent, and fits it.
+    pub fn can_settle(&self, number: u64, outcome: &Outcome) -> bool
+        ensures { IsTrue result ↔ CanSettle (C.offers self.now.catalogue) (parked_at self.now number) (performed_in outcome.now) }
+    {
+        let Some(parked) = self.parked.get(&number) else {
+            return false;
+        };
+        let waiting = &parked.pending.waiting;
+        let lookup = self
+            .catalogue
+            .interface(&waiting.object_key, &waiting.operation);
+        parked.outcome.is_none() && is_renderable(outcome) && is_outcome_of(lookup, outcome)
+    }
+
+    /// Parks the request of this number, which waits (`is_open`): its outcome comes later, by `settle`, and the engine goes
+    /// on. An error leaves it waiting.
+    pub fn park(&mut self, number: u64) -> Result<(), ParkError>
+        requires open { IsOpen number (waits_in self.old) }
+        ensures late { (s : Settings) (held : ℕ → Holding) (calls : List Call) (past : List history.Event) (waiting : ℕ → List Waiting) (moment : ℕ) (octets written : List ℕ) (w : Awaited) → AsksLate C.offers s held calls self.old past waiting moment octets written w
+            → OnOk result ((own : List Waiting) × ResumesLate C.offers s (put_at (length calls) (parked w.number) held) (calls ++ w.call ∷ []) past (put_at w.number own waiting) w.connection moment octets written Done self.new [] []) }
+        ensures parked { OnOk result ((parked_in self.new number ≡ waits_in self.old) × (told_in self.new number ≡ None)) }
+        ensures others { OnOk result ((q : ℕ) → (q == number) ≡ false → (parked_in self.new q ≡ parked_in self.old q) × (told_in self.new q ≡ told_in self.old q)) }
+        ensures full { (result ≡ Err Full) ↔ (places_of self.old ≤ parked_count self.old) }
+        ensures idle { OnOk result (waits_in self.new ≡ None) }
+        ensures err { OnErr result ((waits_in self.new ≡ waits_in self.old) × AreParked self.old self.new) }
+        ensures asks { asks_in self.new ≡ asks_in self.old }
+        ensures catalogue { self.new.catalogue ≡ self.old.catalogue }
+    {
+        giop_link::laws::streams_are_heard::<giop_link::Server>();
+        if self.parked.len() >= self.places.parked as usize {
+            return Err(ParkError::Full);
+        }
+        let Some(pending) = &self.pending else {
+            return Ok(());
+        };
+        let alloc = self.keeper.alloc;
+        let Ok(own) = copy_of(alloc, &pending.waiting.retained) else {
+            return Err(ParkError::Memory);
+        };
+        let Ok(waiters) = own_waiter(alloc, pending) else {
+            return Err(ParkError::Memory);
+        };
+        let Some(pending) = self.pending.take() else {
+            return Ok(());
+        };
+        let parked = Parked {
+            pending,
+            waiters,
+            outcome: None,
+        };
+        if let Err(failed) = self.parked.insert(number, parked) {
+            let (_, parked) = failed.value;
+            self.pending = Some(parked.pending);
+            return Err(ParkError::Memory);
+        }
+        self.keeper.keep_parked(own, number);
+        Ok(())
+    }
+
+    /// Takes the outcome of the request that is parked under this number, as `can_settle` tests: `due` and `reply` tell it
+    /// to all who wait for it.
+    pub fn settle(&mut self, number: u64, outcome: Outcome)
+        requires can { CanSettle (C.offers self.old.catalogue) (parked_at self.old number) (performed_in outcome) }
+        ensures late { (s : Settings) (held : ℕ → Holding) (calls : List Call) (past : List history.Event) (waiting : ℕ → List Waiting) → Stays C.offers s held calls self.old past waiting → Stays C.offers s held calls self.new past waiting }
+        ensures told { told_in self.new number ≡ Some (performed_in outcome) }
+        ensures others { (q : ℕ) → (q == number) ≡ false → told_in self.new q ≡ told_in self.old q }
+        ensures parked { (q : ℕ) → parked_in self.new q ≡ parked_in self.old q }
+        ensures waits { waits_in self.new ≡ waits_in self.old }
+        ensures asks { asks_in self.new ≡ asks_in self.old }
+        ensures catalogue { self.new.catalogue ≡ self.old.catalogue }
+    {
+        if let Some(parked) = self.parked.get_mut(&number) {
+            parked.outcome = Some(outcome);
+        }
+    }
+
+    /// The connection on which the next reply is due for the request that is parked under this number, once it has its
+    /// outcome. Where none is left the outcome is kept, if it is to be, and nothing is parked under the number any more.
+    pub fn due(&mut self, number: u64) -> Option<u64>
+        ensures late { (s : Settings) (held : ℕ → Holding) (calls : List Call) (past : List history.Event) (waiting : ℕ → List Waiting) → Stays C.offers s held calls self.old past waiting
+            → IsDueLate C.offers s held calls past waiting number (told_in self.old number) result self.new }
+        ensures parked { IfSome result (λ c. AreParked self.old self.new) }
+        ensures others { (q : ℕ) → (q == number) ≡ false → (parked_in self.new q ≡ parked_in self.old q) × (told_in self.new q ≡ told_in self.old q) }
+        ensures left { IfSome result (λ c. IsSome (told_in self.new number) × (0 < left_in self.new number) × (left_in self.new number ≤ left_in self.old number)) }
+        ensures waits { waits_in self.new ≡ waits_in self.old }
+        ensures asks { asks_in self.new ≡ asks_in self.old }
+        ensures catalogue { self.new.catalogue ≡ self.old.catalogue }
+    {
+        let parked = self.parked.get_mut(&number)?;
+        if parked.outcome.is_none() {
+            return None;
+        }
+        parked.clear(&self.links);
+        if let Some(first) = parked.waiters.front() {
+            return Some(first.connection);
+        }
+        let parked = self.parked.remove(&number)?;
+        let pending = parked.pending;
+        let waiting = pending.waiting;
+        let told = parked.outcome;
+        if let Some(outcome) = told {
+            self.keeper.fill(waiting.retained, number, outcome);
+        }
+        None
+    }
+
+    /// Appends the reply that is due on the connection that `due` gave for this number. Where an allocation fails the
+    /// connection is lost.
+    pub fn reply(&mut self, number: u64, out: &mut Vec<u8>) -> Result<(), ServeError>
+        ensures late { (s : Settings) (held : ℕ → Holding) (calls : List Call) (past : List history.Event) (waiting : ℕ → List Waiting) (outcome : Performed) (w : Waiting) (rest : List Waiting) → Stays C.offers s held calls self.old past waiting
+            → told_in self.old number ≡ Some outcome → waiting number ≡ w ∷ rest → RepliesLate C.offers s held calls past waiting number outcome w rest result self.new out.old.items out.new.items }
+        ensures parked { AreParked self.old self.new }
+        ensures fewer { IsSome (told_in self.old number) → 0 < left_in self.old number → left_in self.new number < left_in self.old number }
+        ensures waits { waits_in self.new ≡ waits_in self.old }
+        ensures asks { asks_in self.new ≡ asks_in self.old }
+        ensures catalogue { self.new.catalogue ≡ self.old.catalogue }
+    {
+        giop_link::laws::streams_are_heard::<giop_link::Server>();
+        let Some(parked) = self.parked.get_mut(&number) else {
+            return Ok(());
+        };
+        parked.clear(&self.links);
+        let Some(outcome) = &parked.outcome else {
+            return Ok(());
+        };
+        let Some(first) = parked.waiters.pop_front() else {
+            return Ok(());
+        };
+        if let Step::Answered = first.asker.answer(outcome, out) {
+            return Ok(());
+        }
+        self.links.remove(&first.connection);
+        Err(ServeError::Memory {
+            handled: 0,
+            answered: 0,
+        })
+    }
+
+    /// While requests are parked too, the calls taken are those of the distinct admissible requests, each once, in the order
+    /// of their first arrivals.
+    pub fn calls_are_taken_once(&self)
+        ensures { (s : Settings) (held : ℕ → Holding) (calls : List Call) (past : List history.Event) (waiting : ℕ → List Waiting) → Stays C.offers s held calls self.now past waiting → OneExpiration (arrivals s.limits past)
+            → calls ≡ state_of (owned_rules (by_number s held)) [] (arrivals s.limits past) }
+    {}
+
+    /// .. and those that are performed with each key by itself, whatever expirations requests carry.
+    pub fn calls_are_taken_now(&self)
+        ensures { (s : Settings) (held : ℕ → Holding) (calls : List Call) (past : List history.Event) (waiting : ℕ → List Waiting) → Stays C.offers s held calls self.now past waiting
+            → calls ≡ state_after (owned_rules (by_number s held)) [] (performed_now (owned_rules (by_number s held)) (arrivals s.limits past)) }
+    {}
+}

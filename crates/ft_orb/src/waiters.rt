@@ -1,0 +1,150 @@
+//! Who waits for the outcome of a request that is parked.
+
+ghost use Rattle.std.specs.Prelude.{◌≡◌, ◌==◌, ℕ, false, IfOk};
+ghost use Rattle.std.specs.BTreeMap.{get};
+ghost use Rattle.std.specs.Ordering.{nat_cmp};
+ghost use Rattle.ft_orb.specs.Parked.{IsCleared, IsCopy, JoinsAs, JoinsBy, going_in, own_waiters};
+
+use crate::desk::Step;
+use crate::keeper::{Repeat, Retained};
+use crate::parked::{Parked, Waiter};
+use crate::pausing::Pending;
+use ft_log::{Completion, Outcome, SystemName};
+use giop_core::ReplyWish;
+use giop_link::ServerLink;
+use std::alloc::{AllocError, Global};
+use std::collections::{BTreeMap, VecDeque};
+
+/// What comes of a repeat of a parked request.
+#[derive(Clone, Copy)]
+pub(crate) enum Join {
+    /// No answer to it is wished for.
+    Silent,
+    /// It waits.
+    Waits,
+    /// So many wait that it doesn't.
+    Full,
+    /// An allocation failed.
+    Memory,
+}
+
+/// Whether what comes on a connection has a meaning, and what is written on it is read.
+pub(crate) fn is_going(links: &BTreeMap<u64, ServerLink>, connection: u64) -> bool
+    ensures { result ≡ going_in links.now connection }
+{
+    match links.get(&connection) {
+        Some(link) => !link.is_closed(),
+        None => false,
+    }
+}
+
+/// A copy of the key and the expiration under which an outcome is to be kept, if it is.
+pub(crate) fn copy_of(
+    alloc: Global,
+    retained: &Option<Retained>,
+) -> Result<Option<Retained>, AllocError>
+    ensures { IfOk result (λ copy. IsCopy retained.now copy) }
+{
+    match retained {
+        Some(retained) => {
+            Ok(Some(Retained {
+                key: retained.key.copy(alloc)?,
+                expiration: retained.expiration,
+            }))
+        }
+        None => Ok(None),
+    }
+}
+
+/// The list of the one who waits for the outcome of a request that is parked now: itself, where an answer is wished for.
+pub(crate) fn own_waiter(alloc: Global, pending: &Pending) -> Result<VecDeque<Waiter>, AllocError>
+    ensures { IfOk result (λ list. list.items ≡ own_waiters pending.now) }
+{
+    let mut waiters = VecDeque::new(alloc);
+    let asker = pending.waiting.asker;
+    match asker.wish {
+        ReplyWish::None => {}
+        ReplyWish::Empty | ReplyWish::Full => {
+            let waiter = Waiter {
+                connection: pending.connection,
+                asker,
+            };
+            if waiters.push_back(waiter).is_err() {
+                return Err(AllocError);
+            }
+        }
+    }
+    Ok(waiters)
+}
+
+/// What is said to a repeat of a request that is parked under a number: nothing, where it waits, or none is wished for.
+pub(crate) fn answer_repeat(
+    parked: &mut BTreeMap<u64, Parked>,
+    links: &BTreeMap<u64, ServerLink>,
+    most: u32,
+    connection: u64,
+    repeat: Repeat,
+    out: &mut Vec<u8>,
+) -> Step
+    ensures joins { JoinsAs (going_in links.now) most connection repeat (get nat_cmp parked.old repeat.number) result (get nat_cmp parked.new repeat.number) out.old.items out.new.items }
+    ensures others { (q : ℕ) → (q == repeat.number) ≡ false → get nat_cmp parked.new q ≡ get nat_cmp parked.old q }
+{
+    let waiter = Waiter {
+        connection,
+        asker: repeat.asker,
+    };
+    let Some(first) = parked.get_mut(&repeat.number) else {
+        return Step::Unhandled;
+    };
+    match first.join(links, most, waiter) {
+        Join::Silent | Join::Waits => Step::Answered,
+        Join::Full => {
+            let outcome = Outcome::System(SystemName::Transient, 0, Completion::Maybe);
+            match repeat.asker.answer(&outcome, out) {
+                Step::Answered => Step::Answered,
+                _ => Step::Unhandled,
+            }
+        }
+        Join::Memory => Step::Unhandled,
+    }
+}
+
+impl Parked {
+    /// Has a repeat wait too, unless more than so many wait already.
+    pub(crate) fn join(
+        &mut self,
+        links: &BTreeMap<u64, ServerLink>,
+        most: u32,
+        waiter: Waiter,
+    ) -> Join
+        ensures { JoinsBy (going_in links.now) most waiter self.old result self.new }
+    {
+        if let ReplyWish::None = waiter.asker.wish {
+            return Join::Silent;
+        }
+        if self.waiters.len() > most as usize {
+            self.waiters
+                .retain(|other| is_going(links, other.connection));
+        }
+        if self.waiters.len() > most as usize {
+            return Join::Full;
+        }
+        match self.waiters.push_back(waiter) {
+            Ok(()) => Join::Waits,
+            Err(_) => Join::Memory,
+        }
+    }
+
+    /// Drops those at the front whose connections have ended.
+    pub(crate) fn clear(&mut self, links: &BTreeMap<u64, ServerLink>)
+        ensures { IsCleared (going_in links.now) self.old self.new }
+    {
+        let Some(first) = self.waiters.front() else {
+            return;
+        };
+        if !is_going(links, first.connection) {
+            self.waiters
+                .retain(|waiter| is_going(links, waiter.connection));
+        }
+    }
+}
