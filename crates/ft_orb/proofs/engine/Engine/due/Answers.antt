@@ -13,7 +13,7 @@ use Rattle.ft_orb.specs.Parking.{left_of, parked_at, told_of}
 use Rattle.ft_log.specs.declared.outcome.Outcome.{Outcome}
 use Rattle.std.specs.Option.{option_map}
 use Rattle.ft_orb.specs.Waits.{filled_with}
-use Rattle.ft_orb.proofs.Late.{due-late, nobody-is, none-left, not-at, settled-due, settled-late, some-of, told-is}
+use Rattle.ft_orb.proofs.Settling.{due-late, nobody-is, none-left, not-at, settled-due, settled-late, some-of, told-is}
 use Rattle.ft_orb.proofs.engine.Engine.due.Goals as goal
 use Rattle.ft_orb.proofs.engine.Engine.due.Goals.{in-Some-told, in_default-told}
 

@@ -8,7 +8,8 @@ use Rattle.ft_orb.specs.declared.parked.Parked.{Parked}
 use Rattle.ft_orb.specs.Engines.{IsOpen}
 use Rattle.ft_orb.specs.Parked.{own_waiters}
 use Rattle.ft_orb.specs.Waits.{kept_with}
-use Rattle.ft_orb.proofs.Late.{copy-kept, other-way, parks-late, same-at}
+use Rattle.ft_orb.proofs.Settling.{copy-kept, other-way, parks-late}
+use Rattle.ft_orb.proofs.Unmoved.{same-at}
 use Rattle.ft_orb.proofs.Owning.{idle-by}
 use Rattle.ft_orb.proofs.engine.Engine.park.Goals as goal
 

@@ -7,7 +7,9 @@ use Rattle.ft_log.specs.Performed.{Performed}
 use Rattle.ft_orb.specs.declared.parked.Parked.{Parked}
 use Rattle.ft_orb.specs.Parking.{numbering, parked_at}
 use Rattle.ft_orb.specs.Tellings.{nothing_yet, reply_by}
-use Rattle.ft_orb.proofs.Late.{left-fewer, nobody-is, none-left, not-at, parked-same, replied-late, rests-lost, told-is, un-put, unreplied-late}
+use Rattle.ft_orb.proofs.Settling.{nobody-is, none-left, not-at, replied-late, told-is, unreplied-late}
+use Rattle.ft_orb.proofs.Meanwhile.{rests-lost, un-put}
+use Rattle.ft_orb.proofs.Unmoved.{left-fewer, parked-same}
 use Rattle.ft_orb.proofs.engine.Engine.reply.Goals as goal
 
 pub returns-in_default-pop_front-clause-late : goal.returns-in_default-pop_front-clause-late
