@@ -15,7 +15,7 @@ use Rattle.giop_link.specs.Laws.{EndingsStay, HearingGrows}
 use Rattle.giop_link.specs.Linking.{LinkStands, Linked}
 use Rattle.ft_log.specs.Holding.{Holding, parked}
 use Rattle.ft_log.specs.Keys.{RequestKey, same_key}
-use Rattle.ft_log.specs.Kept.{KeptOutcome, is_parked, kept_for, keys_of, unexpired}
+use Rattle.ft_log.specs.Kept.{KeptOutcome, kept_for, keys_of, unexpired}
 use Rattle.ft_log.specs.Logged.{logged}
 use Rattle.ft_log.specs.Performed.{Performed, system}
 use Rattle.ft_log.specs.declared.system_exception.Completion.TheVariants.{Maybe}
@@ -29,6 +29,7 @@ use Rattle.ft_orb.specs.declared.engine.Engine.{Engine}
 use Rattle.ft_orb.specs.declared.events.Note.{Note}
 use Rattle.ft_orb.specs.declared.events.Note.TheVariants.{Done, Memory}
 use Rattle.ft_orb.specs.declared.keeper.Repeat.{Repeat}
+use Rattle.ft_orb.specs.declared.lot.Lot.{Lot}
 use Rattle.ft_orb.specs.declared.parked.Parked.{Parked}
 use Rattle.ft_orb.specs.declared.parked.Waiter.{Waiter}
 use Rattle.ft_orb.specs.declared.pausing.Pause.TheVariants as pause
@@ -168,15 +169,15 @@ module _ (s : Settings) where
     pub parks-later : new.parked ≡ old.parked → Parks s held calls new Then more (still s.limits Then waiting)
     parks-later parks = record {
       places = places ∙ k.places;
-      there = λ i n less is. subst (λ (m : BTreeMap ℕ Parked). IsSome (get nat_cmp m n)) (sym parks) (k.there i n less is);
+      there = λ i n less is. subst (λ (m : Lot). IsSome (get nat_cmp m.requests n)) (sym parks) (k.there i n less is);
       call = λ n p at.
-          let x = k.call n p (ap (λ (m : BTreeMap ℕ Parked). get nat_cmp m n) (sym parks) ∙ at) in
+          let x = k.call n p (ap (λ (m : Lot). get nat_cmp m.requests n) (sym parks) ∙ at) in
           let xs = arrivals-after s.limits past e note in
           (x.0, x.1, x.2, keyed-later x.0 (key_kept p.pending.waiting.retained) past Then xs.0 xs.1 (subst (λ (l : List Call). x.0 < length l) (sym tally) x.1) x.3);
       once = k.once;
       below = λ i n less is. let low = k.below i n less is in omega (arith, low, fewer);
-      lists = λ n p at. let was = ap (λ (m : BTreeMap ℕ Parked). get nat_cmp m n) (sym parks) ∙ at in (still-later stay past e note p.waiters.items (waiting n) (k.lists n p was) (k.opened n p was)).0;
-      opened = λ n p at. let was = ap (λ (m : BTreeMap ℕ Parked). get nat_cmp m n) (sym parks) ∙ at in (still-later stay past e note p.waiters.items (waiting n) (k.lists n p was) (k.opened n p was)).1;
+      lists = λ n p at. let was = ap (λ (m : Lot). get nat_cmp m.requests n) (sym parks) ∙ at in (still-later stay past e note p.waiters.items (waiting n) (k.lists n p was) (k.opened n p was)).0;
+      opened = λ n p at. let was = ap (λ (m : Lot). get nat_cmp m.requests n) (sym parks) ∙ at in (still-later stay past e note p.waiters.items (waiting n) (k.lists n p was) (k.opened n p was)).1;
     }
 
     -- .. but a call was taken, of which this is known
@@ -207,12 +208,12 @@ module _ (s : Settings) where
     pub parks-here : new.parked ≡ old.parked → Parks s held calls new past more waiting
     parks-here parks = record {
       places = places ∙ k.places;
-      there = λ i n less is. subst (λ (m : BTreeMap ℕ Parked). IsSome (get nat_cmp m n)) (sym parks) (k.there i n less is);
-      call = λ n p at. k.call n p (ap (λ (m : BTreeMap ℕ Parked). get nat_cmp m n) (sym parks) ∙ at);
+      there = λ i n less is. subst (λ (m : Lot). IsSome (get nat_cmp m.requests n)) (sym parks) (k.there i n less is);
+      call = λ n p at. k.call n p (ap (λ (m : Lot). get nat_cmp m.requests n) (sym parks) ∙ at);
       once = k.once;
       below = λ i n less is. let low = k.below i n less is in omega (arith, low, fewer);
-      lists = λ n p at. k.lists n p (ap (λ (m : BTreeMap ℕ Parked). get nat_cmp m n) (sym parks) ∙ at);
-      opened = λ n p at. k.opened n p (ap (λ (m : BTreeMap ℕ Parked). get nat_cmp m n) (sym parks) ∙ at);
+      lists = λ n p at. k.lists n p (ap (λ (m : Lot). get nat_cmp m.requests n) (sym parks) ∙ at);
+      opened = λ n p at. k.opened n p (ap (λ (m : Lot). get nat_cmp m.requests n) (sym parks) ∙ at);
     }
 
 module _ {C : Type 0} (offers : C → Offer) (s : Settings) where

@@ -1,5 +1,5 @@
 -- Connections are opened, closed and lost, and requests answered, while others are parked.
-use Rattle.std.proofs.Common.{◌≡◌, ◌==◌, ℕ, ◌+◌, ◌≤◌, ◌<◌, Bool, true, false, not, cond, nat_lt, ◌&&◌, List, [], ◌∷◌, ◌++◌, length, map, if◌then◌else◌, Option, Some, None, is_some, flat_map, option_to_list, refl, sym, ap, subst, ◌∙◌, arith}
+use Rattle.std.proofs.Common.{◌≡◌, ◌==◌, ℕ, ◌≤◌, ◌<◌, Bool, true, false, not, cond, nat_lt, ◌&&◌, List, [], ◌∷◌, ◌++◌, length, map, if◌then◌else◌, Option, Some, None, is_some, flat_map, option_to_list, refl, sym, ap, subst, ◌∙◌, arith}
 use Rattle.std.specs.List.{list_all}
 use Rattle.std.specs.Option.{option_map_or}
 use Rattle.std.specs.Ordering.{nat_cmp}
@@ -11,11 +11,10 @@ use Rattle.giop_link.specs.Hearing.{Ending, ending, meaning_in}
 use Rattle.giop_link.specs.Laws.{EndingsStay}
 use Rattle.giop_link.specs.Linking.{Linked, close_connection}
 use Rattle.giop_link.specs.Linking.{shut as shut_link}
-use Rattle.ft_log.specs.Holding.{Holding, known, parked}
+use Rattle.ft_log.specs.Holding.{Holding, known}
 use Rattle.ft_log.specs.Kept.{unexpired}
 use Rattle.ft_log.specs.Logged.{logged}
 use Rattle.ft_log.specs.Performed.{Performed}
-use Rattle.ft_log.specs.declared.outcome.Outcome.{Outcome}
 use Rattle.ft_objects.specs.Catalogues.{Offer}
 use Rattle.ft_orb.specs.declared.desk.Step.{Step}
 use Rattle.ft_orb.specs.declared.desk.Step.TheVariants.{Answered, Quiet, Unanswered, Unhandled}

@@ -1,5 +1,5 @@
 -- What waits is parked, and its outcome is told later.
-use Rattle.std.proofs.Common.{◌≡◌, ◌==◌, ℕ, ◌+◌, ◌<◌, Bool, true, false, not, cond, nat_le, nat_lt, ◌&&◌, ◌⊎◌, inl, inr, List, [], ◌∷◌, ◌++◌, length, map, Option, Some, None, Ok, Err, IsSome, is_some, slice_index_or, refl, sym, ap, subst, ◌∙◌, arith, length-append}
+use Rattle.std.proofs.Common.{◌≡◌, ◌==◌, ℕ, ◌<◌, Bool, true, false, not, cond, nat_le, nat_lt, ◌&&◌, ◌⊎◌, inl, inr, List, [], ◌∷◌, ◌++◌, length, map, Option, Some, None, Ok, Err, IsSome, is_some, slice_index_or, refl, sym, ap, subst, ◌∙◌, arith, length-append}
 use Rattle.std.specs.List.{list_all}
 use Rattle.std.specs.Option.{option_map, option_map_or}
 use Rattle.std.specs.Ordering.{nat_cmp}
@@ -19,7 +19,7 @@ use Rattle.ft_log.specs.declared.outcome.Outcome.{Outcome}
 use Rattle.ft_objects.specs.Catalogues.{Offer}
 use Rattle.ft_orb.specs.declared.engine.Engine.{Engine}
 use Rattle.ft_orb.specs.declared.error.ServeError.TheVariants as serving
-use Rattle.ft_orb.specs.declared.events.Note.TheVariants.{Done, Memory}
+use Rattle.ft_orb.specs.declared.events.Note.TheVariants.{Done}
 use Rattle.ft_orb.specs.declared.keeper.Retained.{Retained}
 use Rattle.ft_orb.specs.declared.keeper.Waiting.{Waiting}
 use Rattle.ft_orb.specs.declared.parked.Parked.{Parked}

@@ -5,7 +5,6 @@ use Rattle.std.proofs.lemmas.Bool.{eqb-true}
 use Rattle.ft_log.specs.View.{performed_in}
 use Rattle.ft_log.specs.declared.outcome.Outcome.{Outcome}
 use Rattle.ft_orb.specs.declared.desk.Step.{Step}
-use Rattle.ft_orb.specs.declared.events.Note.TheVariants.{Memory}
 use Rattle.ft_orb.specs.declared.keeper.Repeat.{Repeat}
 use Rattle.ft_orb.specs.declared.parked.Parked.{Parked}
 use Rattle.ft_orb.specs.declared.pausing.Pending.{Pending}

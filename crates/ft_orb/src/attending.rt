@@ -17,7 +17,7 @@ ghost use Rattle.ft_orb.specs.Wires.{Act, AreNoted, AreReadInTime, AreSmall, Clo
 ghost use Rattle.ft_orb.specs.declared.events.Note.{Note};
 
 use crate::engine::{Engine, Fed};
-use crate::error::ServeError;
+use crate::error::{CloseError, ServeError};
 use crate::performer::Performer;
 use crate::streaming::{PIECE, write_all, write_farewell};
 use crate::wire::{Clock, StreamEnd, Wire, WireError};
@@ -178,10 +178,15 @@ fn bid_farewell<C: Catalogue + Drop, W: Wire>(
         × Rests C.offers o calls engine.new (after o.limits past (history.Close connection) note) }
 {
     out.clear();
-    if engine.close(connection, out).is_err() {
-        return StreamEnd::Memory;
+    match engine.close(connection, out) {
+        Ok(()) => write_farewell(wire, out),
+        Err(CloseError::Waits) => {
+            engine.lost(connection);
+            StreamEnd::Memory
+        }
+        Err(CloseError::NoConnection) => StreamEnd::LinkClosed,
+        Err(CloseError::Memory) => StreamEnd::Memory,
     }
-    write_farewell(wire, out)
 }
 
 /// Serves the pieces of at most so many reads. `None` where the connection would go on.
