@@ -164,7 +164,7 @@ fn attend_read<C: Catalogue + Drop, O: Performer, W: Wire, K: Clock>(
     None
 }
 
-/// Sends CloseConnection.
+/// Sends CloseConnection, unless somebody waits on the connection for the outcome of a request that is parked: it is lost then.
 fn bid_farewell<C: Catalogue + Drop, W: Wire>(
     engine: &mut Engine<C>,
     connection: u64,
@@ -227,7 +227,8 @@ fn attend_reads<C: Catalogue + Drop, O: Performer, W: Wire, K: Clock>(
 /// The connection is there, was not closed, and its stream has not ended (`Engine::is_closed`). A call that the
 /// owner can't perform now is given up, as is one for which an allocation fails: that ends the connection
 /// (`StreamEnd::Memory`), and nothing is written for the piece in which it came; what was performed before it stays
-/// performed, and is kept. An outcome that can't answer its call is answered INTERNAL in its place, and this is kept.
+/// performed, and is kept. So does a connection end on which somebody still waits, where CloseConnection would be sent. An
+/// outcome that can't answer its call is answered INTERNAL in its place, and this is kept.
 pub fn serve_engine<C: Catalogue + Drop, O: Performer, W: Wire, K: Clock>(
     alloc: Global,
     engine: &mut Engine<C>,
