@@ -164,7 +164,10 @@ fn a_connection_is_closed_once_nobody_waits_on_it(rt: HostRuntime) -> Result<(),
 
 /// So many requests without a key on connection 1, and one on connection 2.
 fn many(alloc: Global, count: u32) -> Result<Vec<Turn>, AllocError> {
-    let mut turns = vec![in alloc; Turn::Happens(Event::Opened(1)), Turn::Happens(Event::Opened(2))]?;
+    let mut turns = vec![in alloc;
+        Turn::Happens(Event::Opened(1)),
+        Turn::Happens(Event::Opened(2)),
+    ]?;
     for _ in 0..count {
         turns.push(piece(1, Vec::from_slice(alloc, BALANCE)?))?;
     }
