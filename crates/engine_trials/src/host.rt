@@ -2,12 +2,12 @@
 
 use crate::owner::Owner;
 use counter::Counter;
-use ft_orb::{ConnectError, Engine, Fed, ServeError};
+use ft_orb::{CloseError, ConnectError, Engine, Fed, ServeError};
 
 /// Why something that happened on a connection was not served to its end.
 #[derive(Clone, Copy, Debug)]
 pub(crate) enum Unserved {
-    /// There is no such connection, or its number is not new.
+    /// There is no such connection, or its number is not new; or it is not closed, since somebody waits on it.
     Refused,
     /// An allocation failed, and the connection is lost: the first `handled` requests and locates that were fed
     /// last count, and the first `answered` are answered.
@@ -22,6 +22,18 @@ impl From<ConnectError> for Unserved {
         match error {
             ConnectError::NotNew => Unserved::Refused,
             ConnectError::Memory => Unserved::Memory {
+                handled: 0,
+                answered: 0,
+            },
+        }
+    }
+}
+
+impl From<CloseError> for Unserved {
+    fn from(error: CloseError) -> Unserved {
+        match error {
+            CloseError::NoConnection | CloseError::Waits => Unserved::Refused,
+            CloseError::Memory => Unserved::Memory {
                 handled: 0,
                 answered: 0,
             },

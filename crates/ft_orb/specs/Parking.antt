@@ -27,12 +27,13 @@ use Rattle.ft_orb.specs.declared.keeper.Retained.{Retained}
 use Rattle.ft_orb.specs.declared.parked.Parked.{Parked}
 use Rattle.ft_orb.specs.declared.parked.Places.{Places}
 use Rattle.ft_orb.specs.declared.parked.Waiter.{Waiter}
+use Rattle.ft_orb.specs.Counts.{parked_on, waiters_on}
 use Rattle.ft_orb.specs.Engines.{AsksOf, Awaited, EndsOf, RestsOf, ResumesOf, StopsOf, asks_in, awaited_of}
 use Rattle.ft_orb.specs.ExactlyOnce.{Arrival}
 use Rattle.ft_orb.specs.History.{Event, Lost, Piece, completed, does_count, line, shortened}
 use Rattle.ft_orb.specs.Outputs.{after, is_going}
 use Rattle.ft_orb.specs.Owners.{OwnerOf, owned_rules, owned_table}
-use Rattle.ft_orb.specs.Parked.{is_wished, on_going}
+use Rattle.ft_orb.specs.Parked.{going_in, is_wished, on_going}
 use Rattle.ft_orb.specs.Requests.{Call, Wanted, asking}
 use Rattle.ft_orb.specs.Seen.{seen_answer}
 use Rattle.ft_orb.specs.Standing.{note_of}
@@ -41,7 +42,7 @@ use Rattle.ft_orb.specs.Tellings.{Later, answer_told, held_told, nothing_yet, re
 use Rattle.ft_orb.specs.Waits.{asker_of}
 
 -- an engine, as it was made: what is on offer, the limits of connections, how many outcomes may be kept, how many of each client, and
--- how many requests may be parked, and repeats wait for one outcome
+-- how many requests may be parked, in all and of one connection, and repeats wait for one outcome
 pub record Settings : Type 0 where
   pub offer : Offer
   pub limits : Limits
@@ -88,17 +89,27 @@ waiter_of c q = record { connection = c; asker = asker_of q }
 
 -- what an engine has parked under a number, as its owner sees it; how many requests it has parked; and the outcome that it tells
 abbrev pub parked_at : {C : Type 0} → Engine C → ℕ → Option Parked
-parked_at e n = get nat_cmp e.parked n
+parked_at e n = get nat_cmp e.parked.requests n
 
 abbrev pub parked_in : {C : Type 0} → Engine C → ℕ → Option Awaited
 parked_in e n = option_map (λ (p : Parked). awaited_of p.pending) (parked_at e n)
 
 abbrev pub parked_count : {C : Type 0} → Engine C → ℕ
-parked_count e = btree_map_len e.parked
+parked_count e = btree_map_len e.parked.requests
 
--- how many requests may be parked
+-- how many of these came on a connection; and how many wait on it, which goes on, for outcomes of any of them
+abbrev pub parked_of : {C : Type 0} → Engine C → ℕ → ℕ
+parked_of e c = parked_on e.parked.requests c
+
+abbrev pub waits_on : {C : Type 0} → Engine C → ℕ → ℕ
+waits_on e c = if going_in e.links c then waiters_on e.parked.requests c else 0
+
+-- how many requests may be parked, in all and of those that came on one connection
 abbrev pub places_of : {C : Type 0} → Engine C → ℕ
 places_of e = e.places.parked
+
+abbrev pub places_of_one : {C : Type 0} → Engine C → ℕ
+places_of_one e = e.places.of_one
 
 abbrev pub told_of : Option Parked → Option Performed
 told_of None = None

@@ -17,7 +17,7 @@ ghost use Rattle.ft_orb.specs.Wires.{Act, AreNoted, AreReadInTime, AreSmall, Clo
 ghost use Rattle.ft_orb.specs.declared.events.Note.{Note};
 
 use crate::engine::{Engine, Fed};
-use crate::error::ServeError;
+use crate::error::{CloseError, ServeError};
 use crate::performer::Performer;
 use crate::streaming::{PIECE, write_all, write_farewell};
 use crate::wire::{Clock, StreamEnd, Wire, WireError};
@@ -164,7 +164,7 @@ fn attend_read<C: Catalogue + Drop, O: Performer, W: Wire, K: Clock>(
     None
 }
 
-/// Sends CloseConnection.
+/// Sends CloseConnection, unless somebody waits on the connection for the outcome of a request that is parked: it is lost then.
 fn bid_farewell<C: Catalogue + Drop, W: Wire>(
     engine: &mut Engine<C>,
     connection: u64,
@@ -178,10 +178,15 @@ fn bid_farewell<C: Catalogue + Drop, W: Wire>(
         × Rests C.offers o calls engine.new (after o.limits past (history.Close connection) note) }
 {
     out.clear();
-    if engine.close(connection, out).is_err() {
-        return StreamEnd::Memory;
+    match engine.close(connection, out) {
+        Ok(()) => write_farewell(wire, out),
+        Err(CloseError::Waits) => {
+            engine.lost(connection);
+            StreamEnd::Memory
+        }
+        Err(CloseError::NoConnection) => StreamEnd::LinkClosed,
+        Err(CloseError::Memory) => StreamEnd::Memory,
     }
-    write_farewell(wire, out)
 }
 
 /// Serves the pieces of at most so many reads. `None` where the connection would go on.
@@ -222,7 +227,8 @@ fn attend_reads<C: Catalogue + Drop, O: Performer, W: Wire, K: Clock>(
 /// The connection is there, was not closed, and its stream has not ended (`Engine::is_closed`). A call that the
 /// owner can't perform now is given up, as is one for which an allocation fails: that ends the connection
 /// (`StreamEnd::Memory`), and nothing is written for the piece in which it came; what was performed before it stays
-/// performed, and is kept. An outcome that can't answer its call is answered INTERNAL in its place, and this is kept.
+/// performed, and is kept. So does a connection end on which somebody still waits, where CloseConnection would be sent. An
+/// outcome that can't answer its call is answered INTERNAL in its place, and this is kept.
 pub fn serve_engine<C: Catalogue + Drop, O: Performer, W: Wire, K: Clock>(
     alloc: Global,
     engine: &mut Engine<C>,

@@ -13,7 +13,7 @@ ghost use Rattle.ft_orb.specs.Now.{performed_now};
 ghost use Rattle.ft_orb.specs.Owners.{owned_rules};
 ghost use Rattle.ft_orb.specs.Requests.{Call};
 ghost use Rattle.ft_orb.specs.declared.parked.Waiter.{Waiter as Waiting};
-ghost use Rattle.ft_orb.specs.declared.error.ParkError.TheVariants.{Full};
+ghost use Rattle.ft_orb.specs.declared.error.ParkError.TheVariants.{Full, Share};
 ghost use Rattle.ft_orb.specs.declared.events.Note.TheVariants.{Done};
 
 use crate::asked::{Asked, lent};
@@ -22,20 +22,46 @@ use crate::engine::Engine;
 use crate::error::{ParkError, ServeError};
 use crate::outcomes::{is_outcome_of, is_renderable};
 use crate::parked::Parked;
-use crate::waiters::{copy_of, own_waiter};
+use crate::waiters::{copy_of, count_all, is_going, own_waiter};
 use ft_log::Outcome;
 use ft_objects::Catalogue;
 
 impl<C: Catalogue + Drop> Engine<C> {
     ghost use Rattle.ft_orb.specs.Engines.{Awaited, IsOpen, asks_in, awaited_lent, waits_in};
     ghost use Rattle.ft_orb.specs.Parked.{own_waiters};
-    ghost use Rattle.ft_orb.specs.Parking.{AreParked, AsksLate, CanSettle, IsDueLate, RepliesLate, ResumesLate, Settings, Stays, by_number, parked_at, parked_count, parked_in, places_of, put_at, left_in, told_in};
+    ghost use Rattle.ft_orb.specs.Parking.{AreParked, AsksLate, CanSettle, IsDueLate, RepliesLate, ResumesLate, Settings, Stays, by_number, parked_at, parked_count, parked_in, parked_of, places_of, places_of_one, put_at, left_in, told_in, waits_on};
+
+    /// How many requests are parked.
+    pub fn parked_len(&self) -> usize
+        ensures { result ≡ parked_count self.now }
+    {
+        self.parked.requests.len()
+    }
+
+    /// How many of the parked requests came on a connection, whatever became of it: an owner who reads no more from one while these
+    /// are many holds its client back.
+    pub fn parked_of(&self, connection: u64) -> usize
+        ensures { result ≡ parked_of self.now connection }
+    {
+        self.parked.count_of(connection) as usize
+    }
+
+    /// How many wait on a connection for outcomes of parked requests: nobody where it isn't connected, was closed, or has ended. It
+    /// looks at all that is parked.
+    pub fn waits_on(&self, connection: u64) -> usize
+        ensures { result ≡ waits_on self.now connection }
+    {
+        if !is_going(&self.links, connection) {
+            return 0;
+        }
+        count_all(&self.parked.requests, connection)
+    }
 
     /// The request that is parked under this number, if one is.
     pub fn parked(&self, number: u64) -> Option<Asked<'_>>
         ensures { option_map awaited_lent result ≡ parked_in self.now number }
     {
-        let pending = &self.parked.get(&number)?.pending;
+        let pending = &self.parked.requests.get(&number)?.pending;
         Some(Asked {
             number: pending.number,
             connection: pending.connection,
@@ -51,7 +77,7 @@ impl<C: Catalogue + Drop> Engine<C> {
     pub fn can_settle(&self, number: u64, outcome: &Outcome) -> bool
         ensures { IsTrue result ↔ CanSettle (C.offers self.now.catalogue) (parked_at self.now number) (performed_in outcome.now) }
     {
-        let Some(parked) = self.parked.get(&number) else {
+        let Some(parked) = self.parked.requests.get(&number) else {
             return false;
         };
         let waiting = &parked.pending.waiting;
@@ -70,18 +96,22 @@ impl<C: Catalogue + Drop> Engine<C> {
         ensures parked { OnOk result ((parked_in self.new number ≡ waits_in self.old) × (told_in self.new number ≡ None)) }
         ensures others { OnOk result ((q : ℕ) → (q == number) ≡ false → (parked_in self.new q ≡ parked_in self.old q) × (told_in self.new q ≡ told_in self.old q)) }
         ensures full { (result ≡ Err Full) ↔ (places_of self.old ≤ parked_count self.old) }
+        ensures share { (result ≡ Err Share) ↔ ((parked_count self.old < places_of self.old) × IfSome (waits_in self.old) (λ w. places_of_one self.old ≤ parked_of self.old w.connection)) }
         ensures idle { OnOk result (waits_in self.new ≡ None) }
         ensures err { OnErr result ((waits_in self.new ≡ waits_in self.old) × AreParked self.old self.new) }
         ensures asks { asks_in self.new ≡ asks_in self.old }
         ensures catalogue { self.new.catalogue ≡ self.old.catalogue }
     {
         giop_link::laws::streams_are_heard::<giop_link::Server>();
-        if self.parked.len() >= self.places.parked as usize {
+        if self.parked.requests.len() >= self.places.parked as usize {
             return Err(ParkError::Full);
         }
         let Some(pending) = &self.pending else {
             return Ok(());
         };
+        if self.parked.count_of(pending.connection) >= self.places.of_one {
+            return Err(ParkError::Share);
+        }
         let alloc = self.keeper.alloc;
         let Ok(own) = copy_of(alloc, &pending.waiting.retained) else {
             return Err(ParkError::Memory);
@@ -97,8 +127,7 @@ impl<C: Catalogue + Drop> Engine<C> {
             waiters,
             outcome: None,
         };
-        if let Err(failed) = self.parked.insert(number, parked) {
-            let (_, parked) = failed.value;
+        if let Err(parked) = self.parked.put(number, parked) {
             self.pending = Some(parked.pending);
             return Err(ParkError::Memory);
         }
@@ -118,7 +147,7 @@ impl<C: Catalogue + Drop> Engine<C> {
         ensures asks { asks_in self.new ≡ asks_in self.old }
         ensures catalogue { self.new.catalogue ≡ self.old.catalogue }
     {
-        if let Some(parked) = self.parked.get_mut(&number) {
+        if let Some(parked) = self.parked.requests.get_mut(&number) {
             parked.outcome = Some(outcome);
         }
     }
@@ -135,7 +164,7 @@ impl<C: Catalogue + Drop> Engine<C> {
         ensures asks { asks_in self.new ≡ asks_in self.old }
         ensures catalogue { self.new.catalogue ≡ self.old.catalogue }
     {
-        let parked = self.parked.get_mut(&number)?;
+        let parked = self.parked.requests.get_mut(&number)?;
         if parked.outcome.is_none() {
             return None;
         }
@@ -143,7 +172,7 @@ impl<C: Catalogue + Drop> Engine<C> {
         if let Some(first) = parked.waiters.front() {
             return Some(first.connection);
         }
-        let parked = self.parked.remove(&number)?;
+        let parked = self.parked.take(number)?;
         let pending = parked.pending;
         let waiting = pending.waiting;
         let told = parked.outcome;
@@ -165,7 +194,7 @@ impl<C: Catalogue + Drop> Engine<C> {
         ensures catalogue { self.new.catalogue ≡ self.old.catalogue }
     {
         giop_link::laws::streams_are_heard::<giop_link::Server>();
-        let Some(parked) = self.parked.get_mut(&number) else {
+        let Some(parked) = self.parked.requests.get_mut(&number) else {
             return Ok(());
         };
         parked.clear(&self.links);

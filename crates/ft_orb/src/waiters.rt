@@ -1,12 +1,14 @@
 //! Who waits for the outcome of a request that is parked.
 
-ghost use Rattle.std.specs.Prelude.{◌≡◌, ◌==◌, ℕ, false, IfOk};
-ghost use Rattle.std.specs.BTreeMap.{get};
+ghost use Rattle.std.specs.Prelude.{◌≡◌, ◌==◌, ℕ, false, ◌<◌, IfOk};
+ghost use Rattle.std.specs.BTreeMap.{btree_map_len, get};
 ghost use Rattle.std.specs.Ordering.{nat_cmp};
+ghost use Rattle.ft_orb.specs.Counts.{on_connection, waiters_on};
 ghost use Rattle.ft_orb.specs.Parked.{IsCleared, IsCopy, JoinsAs, JoinsBy, going_in, own_waiters};
 
 use crate::desk::Step;
 use crate::keeper::{Repeat, Retained};
+use crate::lot::Lot;
 use crate::parked::{Parked, Waiter};
 use crate::pausing::Pending;
 use ft_log::{Completion, Outcome, SystemName};
@@ -77,23 +79,45 @@ pub(crate) fn own_waiter(alloc: Global, pending: &Pending) -> Result<VecDeque<Wa
     Ok(waiters)
 }
 
+/// How many of them wait on a connection.
+fn count_on(waiters: &VecDeque<Waiter>, connection: u64) -> usize
+    ensures { result ≡ on_connection connection waiters.now.items }
+{
+    waiters
+        .iter()
+        .filter(|waiter| waiter.connection == connection)
+        .count()
+}
+
+/// How many wait on a connection for the outcomes of all that is parked.
+pub(crate) fn count_all(requests: &BTreeMap<u64, Parked>, connection: u64) -> usize
+    requires { btree_map_len requests.now < 4294967296 }
+    ensures { result ≡ waiters_on requests.now connection }
+{
+    let mut all: usize = 0;
+    for parked in requests.values() {
+        all = all.saturating_add(count_on(&parked.waiters, connection));
+    }
+    all
+}
+
 /// What is said to a repeat of a request that is parked under a number: nothing, where it waits, or none is wished for.
 pub(crate) fn answer_repeat(
-    parked: &mut BTreeMap<u64, Parked>,
+    parked: &mut Lot,
     links: &BTreeMap<u64, ServerLink>,
     most: u32,
     connection: u64,
     repeat: Repeat,
     out: &mut Vec<u8>,
 ) -> Step
-    ensures joins { JoinsAs (going_in links.now) most connection repeat (get nat_cmp parked.old repeat.number) result (get nat_cmp parked.new repeat.number) out.old.items out.new.items }
-    ensures others { (q : ℕ) → (q == repeat.number) ≡ false → get nat_cmp parked.new q ≡ get nat_cmp parked.old q }
+    ensures joins { JoinsAs (going_in links.now) most connection repeat (get nat_cmp parked.old.requests repeat.number) result (get nat_cmp parked.new.requests repeat.number) out.old.items out.new.items }
+    ensures others { (q : ℕ) → (q == repeat.number) ≡ false → get nat_cmp parked.new.requests q ≡ get nat_cmp parked.old.requests q }
 {
     let waiter = Waiter {
         connection,
         asker: repeat.asker,
     };
-    let Some(first) = parked.get_mut(&repeat.number) else {
+    let Some(first) = parked.requests.get_mut(&repeat.number) else {
         return Step::Unhandled;
     };
     match first.join(links, most, waiter) {

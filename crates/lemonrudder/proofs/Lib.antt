@@ -21,5 +21,6 @@ mod References
 mod Refusing
 mod Servers
 mod Telling
+mod Unparked
 mod Values
 mod Written

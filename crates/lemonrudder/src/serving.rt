@@ -1,27 +1,30 @@
 //! A server, with the octets that are due on a connection: its connections, and what it takes and writes.
 
-ghost use Rattle.std.specs.Prelude.{◌≡◌, ◌↔◌, IsTrue, length};
-ghost use Rattle.lemonrudder.specs.Serves.{taken_of};
+ghost use Rattle.std.specs.Prelude.{◌≡◌, ◌↔◌, IsTrue};
+ghost use Rattle.ft_orb.specs.Parking.{parked_count};
 
 mod outcomes;
 mod questions;
+mod taken;
 
 use crate::due::Due;
-use crate::refusal::{Refusal, count_of};
+use crate::refusal::Refusal;
 use crate::terms::Terms;
 use ft_log::Retention;
 use ft_objects::Interfaces;
-use ft_orb::{Engine, Fed, Places, ServeError};
+use ft_orb::{CloseError, Engine, Places};
 use std::alloc::Global;
 use std::hash::RandomState;
+use taken::taken_of;
 
-/// An engine, and what is due on one of its connections.
+/// An engine that parks nothing, and what is due on one of its connections.
 #[derive(Drop)]
 pub struct Serving {
     engine: Engine<Interfaces>,
     alloc: Global,
     due: Due,
     due_on: u64,
+    ghost unparked: { parked_count engine ≡ 0 },
 }
 
 impl Serving {
@@ -96,8 +99,12 @@ impl Serving {
             return Err(Refusal::Due);
         }
         self.due_on = connection;
-        self.engine.close(connection, &mut self.due.octets)?;
-        Ok(0)
+        match self.engine.close(connection, &mut self.due.octets) {
+            Ok(()) => Ok(0),
+            Err(CloseError::NoConnection) => Err(Refusal::Connection),
+            Err(CloseError::Memory) => Err(Refusal::Lost),
+            Err(CloseError::Waits) => unreachable!(),
+        }
     }
 
     /// Whether what comes on a connection has no meaning.
@@ -141,15 +148,5 @@ impl Serving {
         ensures { OnOutput room.old room.new self.old self.new (Ok result) }
     {
         self.due.output(room)
-    }
-}
-
-/// How many octets were taken.
-fn taken_of(octets: &[u8], fed: Result<Fed, ServeError>) -> Result<u64, Refusal>
-    ensures { result ≡ taken_of (length octets.now) fed }
-{
-    match fed? {
-        Fed::Whole => Ok(count_of(octets)),
-        Fed::Asks(taken) | Fed::Repeats(taken) => Ok(taken as u64),
     }
 }

@@ -6,7 +6,7 @@ ghost use Rattle.ft_orb.specs.Engines.{waits_in};
 use cdr_core::{Ty, Val};
 use ft_log::{Completion, Outcome, Retention, SystemName};
 use ft_objects::{Catalogue, Interfaces, InterfacesError, Signature, longlong_at, string_at};
-use ft_orb::{Asked, ConnectError, Engine, Event, Fed, Performer, Places, ServeError};
+use ft_orb::{Asked, CloseError, ConnectError, Engine, Event, Fed, Performer, Places, ServeError};
 use giop_frames::Limits;
 use std::alloc::{AllocError, Global};
 use std::collections::BTreeMap;
@@ -24,6 +24,8 @@ pub enum BankingError {
     Connect(#[from] ConnectError),
     #[error("{0}")]
     Serve(#[from] ServeError),
+    #[error("{0}")]
+    Close(#[from] CloseError),
     /// The owner gave a request up: nothing was done, and its connection is lost.
     #[error("given up")]
     GivenUp,

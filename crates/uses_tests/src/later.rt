@@ -3,12 +3,15 @@
 use crate::octets::{BALANCE, DEPOSIT, RETURNED, TRANSIENT};
 use cdr_core::Val;
 use ft_log::Outcome;
-use ft_orb::Event;
+use ft_orb::{CloseError, Event};
 use giop_frames::Limits;
 use std::alloc::{AllocError, Global};
 use std::hash::RandomState;
 use std::test::Fail;
 use uses::{BankingError, Turn, serve_later};
+
+/// CloseConnection of 1.0.
+const CLOSE: &[u8] = b"GIOP\x01\x00\x00\x05\x00\x00\x00\x00";
 
 /// A Request for `deposit` of 10 into the account `A`, with FT_REQUEST: the client `A`, its request 1, the expiration 100.
 fn deposit(alloc: Global) -> Result<Vec<u8>, AllocError> {
@@ -107,5 +110,77 @@ fn an_outcome_of_no_request_is_refused(rt: HostRuntime) -> Result<(), Fail> {
     let mut sent = Vec::new(alloc);
     let served = serve_later(alloc, hasher, Limits::default(), turns, &mut sent);
     assert!(rt; matches!(served, Err(BankingError::NotParked)));
+    Ok(())
+}
+
+/// What comes of these turns, and what is sent.
+fn served(
+    rt: &HostRuntime,
+    turns: Vec<Turn>,
+    sent: &mut Vec<(u64, Vec<u8>)>,
+) -> Result<Result<(), BankingError>, Fail> {
+    let hasher = RandomState::new(rt)?;
+    Ok(serve_later(rt.alloc(), hasher, Limits::default(), turns, sent))
+}
+
+#[test]
+fn no_connection_is_closed_while_a_repeat_waits_on_it(rt: HostRuntime) -> Result<(), Fail> {
+    let alloc = rt.alloc();
+    let turns = vec![in alloc;
+        Turn::Happens(Event::Opened(1)),
+        Turn::Happens(Event::Opened(2)),
+        piece(1, deposit(alloc)?),
+        piece(2, deposit(alloc)?),
+        Turn::Happens(Event::Close(2)),
+    ]?;
+    let mut sent = Vec::new(alloc);
+    let closed = served(&rt, turns, &mut sent)?;
+    assert!(rt; matches!(closed, Err(BankingError::Close(CloseError::Waits))) && sent.is_empty());
+    Ok(())
+}
+
+#[test]
+fn a_connection_is_closed_once_nobody_waits_on_it(rt: HostRuntime) -> Result<(), Fail> {
+    let alloc = rt.alloc();
+    let turns = vec![in alloc;
+        Turn::Happens(Event::Opened(1)),
+        Turn::Happens(Event::Opened(2)),
+        piece(1, deposit(alloc)?),
+        // who waits does so on another
+        Turn::Happens(Event::Close(2)),
+        Turn::Settles(0, returned(alloc, 15)?),
+        Turn::Happens(Event::Close(1)),
+    ]?;
+    let mut sent = Vec::new(alloc);
+    let closed = served(&rt, turns, &mut sent)?;
+    let expected = vec![in alloc;
+        (2, Vec::from_slice(alloc, CLOSE)?),
+        (1, reply(alloc, 15)?),
+        (1, Vec::from_slice(alloc, CLOSE)?),
+    ]?;
+    assert!(rt; closed.is_ok() && sent == expected);
+    Ok(())
+}
+
+/// So many requests without a key on connection 1, and one on connection 2.
+fn many(alloc: Global, count: u32) -> Result<Vec<Turn>, AllocError> {
+    let mut turns = vec![in alloc;
+        Turn::Happens(Event::Opened(1)),
+        Turn::Happens(Event::Opened(2)),
+    ]?;
+    for _ in 0..count {
+        turns.push(piece(1, Vec::from_slice(alloc, BALANCE)?))?;
+    }
+    turns.push(piece(2, Vec::from_slice(alloc, BALANCE)?))?;
+    Ok(turns)
+}
+
+#[test]
+fn a_connection_has_its_share_of_what_is_parked(rt: HostRuntime) -> Result<(), Fail> {
+    let alloc = rt.alloc();
+    let mut sent = Vec::new(alloc);
+    let all = served(&rt, many(alloc, 20)?, &mut sent)?;
+    let more = served(&rt, many(alloc, 21)?, &mut sent)?;
+    assert!(rt; all.is_ok() && matches!(more, Err(BankingError::GivenUp)));
     Ok(())
 }

@@ -1,21 +1,39 @@
-use Rattle.std.proofs.Common.{◌≡◌, List, ℕ, [], ◌++◌, ap, sym, refl, ◌∙◌}
+use Rattle.std.proofs.Common.{◌≡◌, List, ℕ, [], ◌++◌, Ok, Err, ap, sym, refl, subst, ◌∙◌, arith}
+use Rattle.std.proofs.lemmas.Grind.{common_steps}
 use Rattle.giop_link.specs.Linking.{close_connection}
+use Rattle.ft_orb.specs.declared.engine.Engine.{Engine}
+use Rattle.ft_orb.specs.declared.error.CloseError.TheVariants as closing
+use Rattle.ft_orb.specs.declared.events.Note.TheVariants as noting
+use Rattle.ft_orb.specs.Engines.{Rests}
 use Rattle.ft_orb.specs.Outputs.{table_says}
+use Rattle.ft_orb.specs.History.{line}
 use Rattle.ft_orb.specs.Owners.{made_of, meaning_of}
-use Rattle.ft_orb.specs.Standing.{note_of}
-use Rattle.ft_orb.proofs.Streams.{closed-by, given-up, grows-none}
+use Rattle.ft_orb.specs.Standing.{note_of_closing}
+use Rattle.ft_orb.proofs.Streams.{closed-by, closed-so, grows-none, refused-gone}
 use Rattle.ft_orb.proofs.attending.bid_farewell.Goals as goal
 
-pub returns-clause-table : goal.returns-clause-table
-returns-clause-table g c o calls past rests going =
-    let w = c.close.ensures.table o calls past rests in
-    let is = closed-by o.limits o.offer.knows (table_says (meaning_of o) (made_of o)) past c.args.connection c.close.result w.0 (sym c.is_err.ensures.value ∙ c.if-is_err.false) going w.2.0 in
+pub returns-in-Ok-clause-table : goal.returns-in-Ok-clause-table
+returns-in-Ok-clause-table g c o calls past rests going =
+    let w = closed-so c.close.result noting.Done _ (ap note_of_closing c.in-Ok.is) (c.close.ensures.table o calls past rests) in
+    let is = closed-by o.limits o.offer.knows (table_says (meaning_of o) (made_of o)) past c.args.connection (Ok (tt {0})) w.0 refl going w.2.0 in
     let octets : c.deref.result.now ≡ close_connection = c.deref.ensures.value ∙ w.1 ∙ ap (λ (xs : List ℕ). xs ++ w.0) c.clear.ensures.items ∙ is in
     let said = c.write_farewell.ensures.says octets in
-    (said.0, note_of c.close.result, said.1, c.write_farewell.ensures.sent (note_of c.close.result), said.2, w.2.1)
+    (said.0, noting.Done, said.1, c.write_farewell.ensures.sent noting.Done, said.2, w.2.1)
 
-pub returns-then-is_err-clause-table : goal.returns-then-is_err-clause-table
-returns-then-is_err-clause-table g c o calls past rests going =
-    let w = c.close.ensures.table o calls past rests in
-    let memory = given-up o.limits o.offer.knows (table_says (meaning_of o) (made_of o)) past c.args.connection c.close.result w.0 (sym c.is_err.ensures.value ∙ c.if-is_err.true) going w.2.0 in
-    ([], note_of c.close.result, refl, memory, grows-none (g.W.Wire.traffic c.args.wire.now), w.2.1)
+pub returns-in-Err-Waits-clause-table : goal.returns-in-Err-Waits-clause-table
+returns-in-Err-Waits-clause-table g c o calls past rests going =
+    let waits : c.close.result ≡ Err closing.Waits = grind (arith, common_steps) in
+    let same = c.close.ensures.unchanged waits in
+    ([], noting.Memory 0 0, refl, refl, grows-none (g.W.Wire.traffic c.args.wire.now), c.lost.ensures.table o calls past (subst (λ (e : Engine g.row.C.Denot). Rests g.C.Catalogue.offers o calls e past) (sym same.0) rests))
+
+pub returns-in-Err-NoConnection-clause-table : goal.returns-in-Err-NoConnection-clause-table
+returns-in-Err-NoConnection-clause-table g c o calls past rests going =
+    let fails : c.close.result ≡ Err closing.NoConnection = grind (arith, common_steps) in
+    let w = closed-so c.close.result noting.Refused _ (ap note_of_closing fails) (c.close.ensures.table o calls past rests) in
+    absurd (refused-gone o.limits (line past c.args.connection) going w.2.0.1)
+
+pub returns-in-Err-Memory-clause-table : goal.returns-in-Err-Memory-clause-table
+returns-in-Err-Memory-clause-table g c o calls past rests going =
+    let fails : c.close.result ≡ Err closing.Memory = grind (arith, common_steps) in
+    let w = closed-so c.close.result (noting.Memory 0 0) _ (ap note_of_closing fails) (c.close.ensures.table o calls past rests) in
+    ([], noting.Memory 0 0, refl, refl, grows-none (g.W.Wire.traffic c.args.wire.now), w.2.1)

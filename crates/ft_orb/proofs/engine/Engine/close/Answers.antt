@@ -5,7 +5,8 @@ use Rattle.std.specs.Ordering.{nat_cmp}
 use Rattle.giop_link.specs.Linking.{shut}
 use Rattle.ft_orb.specs.History.{Close}
 use Rattle.ft_orb.specs.declared.events.Note.TheVariants.{Done, Memory, Refused}
-use Rattle.ft_orb.proofs.Late.{closed-cut, closed-done, closed-none, ends-late}
+use Rattle.ft_orb.proofs.Late.{ends-late}
+use Rattle.ft_orb.proofs.Meanwhile.{closed-cut, closed-done, closed-none}
 use Rattle.ft_orb.proofs.engine.Engine.close.Goals as goal
 
 pub returns-in_default-clause-late : goal.returns-in_default-clause-late

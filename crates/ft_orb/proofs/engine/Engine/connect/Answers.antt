@@ -1,7 +1,7 @@
 use Rattle.std.proofs.Common.{rules, [], refl, arith}
 use Rattle.ft_orb.specs.History.{Opened}
 use Rattle.ft_orb.specs.declared.events.Note.TheVariants.{Done, Memory, Refused}
-use Rattle.ft_orb.proofs.Late.{counts-opened, then-late}
+use Rattle.ft_orb.proofs.Meanwhile.{counts-opened, then-late}
 use Rattle.ft_orb.proofs.engine.Engine.connect.Goals as goal
 
 pub returns-then-connection-greatest-clause-late : goal.returns-then-connection-greatest-clause-late

@@ -13,7 +13,8 @@ use Rattle.ft_orb.specs.Parking.{left_of, parked_at, told_of}
 use Rattle.ft_log.specs.declared.outcome.Outcome.{Outcome}
 use Rattle.std.specs.Option.{option_map}
 use Rattle.ft_orb.specs.Waits.{filled_with}
-use Rattle.ft_orb.proofs.Late.{due-late, nobody-is, none-left, not-at, settled-due, settled-late, some-of, told-is}
+use Rattle.ft_orb.proofs.Countings.{counted-written, few-written}
+use Rattle.ft_orb.proofs.Settling.{due-late, nobody-is, none-left, not-at, settled-due, settled-late, some-of, told-is}
 use Rattle.ft_orb.proofs.engine.Engine.due.Goals as goal
 use Rattle.ft_orb.proofs.engine.Engine.due.Goals.{in-Some-told, in_default-told}
 
@@ -23,7 +24,7 @@ returns-in-Some-clause-late g c s held calls past waiting h =
     let q = c.clear.new.self in
     let was : parked_at c.args.self.now c.args.number ≡ Some p = grind (arith, common_steps) in
     let is : get nat_cmp (c.get_mut.follows.lender q) c.args.number ≡ Some q = grind (arith, common_steps) in
-    let others : (m : ℕ) → (m == c.args.number) ≡ false → get nat_cmp (c.get_mut.follows.lender q) m ≡ get nat_cmp c.args.self.now.parked m = λ m apart. grind (arith, common_steps) in
+    let others : (m : ℕ) → (m == c.args.number) ≡ false → get nat_cmp (c.get_mut.follows.lender q) m ≡ get nat_cmp c.args.self.now.parked.requests m = λ m apart. grind (arith, common_steps) in
     let o = some-of p.outcome (c.is_none.ensures ∙ ap not c.if-is_none.false) in
     due-late g.C.Catalogue.offers s held calls c.args.self.now _ past waiting h c.args.number p was (record { offer_is = h.rests.offer_is; idle = h.rests.idle; stands = h.rests.stands }) refl refl others q c.clear.ensures
     (performed_in o.0) (told-is c.args.self.now c.args.number p o.0 was o.1) is c.in-Some.first.now (let long = c.in-Some.ensures.variant in grind (arith, common_steps)) c.in-Some.ensures.lookup
@@ -34,11 +35,11 @@ returns-clause-late g c s held calls past waiting h =
     let p = c.in_ok-parked.parked.now in
     let q = c.clear.new.self in
     let was : parked_at c.args.self.now n ≡ Some p = grind (arith, common_steps) in
-    let there : IsSome (get nat_cmp c.args.self.now.parked n) = subst (λ (o : Option Parked). IsSome o) (sym was) refl in
+    let there : IsSome (get nat_cmp c.args.self.now.parked.requests n) = subst (λ (o : Option Parked). IsSome o) (sym was) refl in
     let wrote = (c.get_mut.follows.holds q).3 there in
     let taken : Some c.in_ok-parked-2.parked ≡ Some q = grind (arith, common_steps) in
-    let others : (m : ℕ) → (m == n) ≡ false → get nat_cmp c.remove.new.self m ≡ get nat_cmp c.args.self.now.parked m = λ m apart. c.remove.ensures.updates.2 m (not-at n m apart) ∙ wrote.2 m (not-at n m apart) in
-    let gone : get nat_cmp c.remove.new.self n ≡ None = c.remove.ensures.updates.1 in
+    let others : (m : ℕ) → (m == n) ≡ false → get nat_cmp c.take.new.self.requests m ≡ get nat_cmp c.args.self.now.parked.requests m = λ m apart. c.take.ensures.others m apart ∙ wrote.2 m (not-at n m apart) in
+    let gone : get nat_cmp c.take.new.self.requests n ≡ None = c.take.ensures.gone in
     let empty : q.waiters.items ≡ [] = none-left q.waiters.items (let short = c.in_default.not-Some in grind (arith, common_steps)) in
     let same : c.in_ok-parked-2.parked ≡ q = cc in
     let request = ap (λ (x : Parked). x.pending) same ∙ c.clear.ensures.0.0 in
@@ -72,3 +73,21 @@ returns-in-Some-clause-left g c =
 
 pub invariant_of-self-in-Some-told : goal.invariant_of-self-in-Some-told
 invariant_of-self-in-Some-told g c = record { ready = subst (λ (room : Option RequestKey). IsReadyFor c.args.self.now.pending room) (sym c.fill.ensures.room) c.args.self.now.ready }
+
+pub invariant_of-self-then-is_none : goal.invariant_of-self-then-is_none
+invariant_of-self-then-is_none g c =
+    let lot = c.args.self.now.parked in
+    let was : parked_at c.args.self.now c.args.number ≡ Some c.in_ok-parked.parked.now = grind (arith, common_steps) in
+    ((few-written lot.requests (c.get_mut.follows.lender _) c.args.number _ (c.get_mut.follows.holds _) lot.few, (counted-written lot.requests (c.get_mut.follows.lender _) lot.counts c.args.number c.in_ok-parked.parked.now _ (c.get_mut.follows.holds _) was refl lot.counted, tt)), (c.args.self.now.ready, tt))
+
+pub invariant_of-self-in-Some : goal.invariant_of-self-in-Some
+invariant_of-self-in-Some g c =
+    let lot = c.args.self.now.parked in
+    let was : parked_at c.args.self.now c.args.number ≡ Some c.in_ok-parked.parked.now = grind (arith, common_steps) in
+    ((few-written lot.requests (c.get_mut.follows.lender _) c.args.number _ (c.get_mut.follows.holds _) lot.few, (counted-written lot.requests (c.get_mut.follows.lender _) lot.counts c.args.number c.in_ok-parked.parked.now _ (c.get_mut.follows.holds _) was c.clear.ensures.0.0 lot.counted, tt)), (c.args.self.now.ready, tt))
+
+pub invariant_of-self-in_default : goal.invariant_of-self-in_default
+invariant_of-self-in_default g c =
+    let lot = c.args.self.now.parked in
+    let was : parked_at c.args.self.now c.args.number ≡ Some c.in_ok-parked.parked.now = grind (arith, common_steps) in
+    (few-written lot.requests (c.get_mut.follows.lender _) c.args.number _ (c.get_mut.follows.holds _) lot.few, (counted-written lot.requests (c.get_mut.follows.lender _) lot.counts c.args.number c.in_ok-parked.parked.now _ (c.get_mut.follows.holds _) was c.clear.ensures.0.0 lot.counted, tt))

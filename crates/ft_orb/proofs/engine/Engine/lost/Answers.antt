@@ -5,7 +5,7 @@ use Rattle.std.specs.Ordering.{nat_cmp}
 use Rattle.ft_orb.specs.Owners.{owning}
 use Rattle.ft_orb.specs.Parking.{numbering}
 use Rattle.ft_orb.specs.Tellings.{nothing_yet}
-use Rattle.ft_orb.proofs.Late.{lost-late, rests-lost}
+use Rattle.ft_orb.proofs.Meanwhile.{lost-late, rests-lost}
 use Rattle.ft_orb.proofs.engine.Engine.lost.Goals as goal
 
 pub returns-clause-table : goal.returns-clause-table

@@ -7,7 +7,10 @@ use Rattle.ft_log.specs.Performed.{Performed}
 use Rattle.ft_orb.specs.declared.parked.Parked.{Parked}
 use Rattle.ft_orb.specs.Parking.{numbering, parked_at}
 use Rattle.ft_orb.specs.Tellings.{nothing_yet, reply_by}
-use Rattle.ft_orb.proofs.Late.{left-fewer, nobody-is, none-left, not-at, parked-same, replied-late, rests-lost, told-is, un-put, unreplied-late}
+use Rattle.ft_orb.proofs.Countings.{counted-written, few-written}
+use Rattle.ft_orb.proofs.Settling.{nobody-is, none-left, not-at, replied-late, told-is, unreplied-late}
+use Rattle.ft_orb.proofs.Meanwhile.{rests-lost, un-put}
+use Rattle.ft_orb.proofs.Unmoved.{left-fewer, parked-same}
 use Rattle.ft_orb.proofs.engine.Engine.reply.Goals as goal
 
 pub returns-in_default-pop_front-clause-late : goal.returns-in_default-pop_front-clause-late
@@ -25,7 +28,7 @@ returns-in-Answered-clause-late g c s held calls past waiting outcome w rest h t
     let p = c.in-Some.parked.now in
     let q = c.clear.new.self in
     let was : parked_at c.args.self.now n ≡ Some p = grind (arith, common_steps) in
-    let there : IsSome (get nat_cmp c.args.self.now.parked n) = subst (λ (o : Option Parked). IsSome o) (sym was) refl in
+    let there : IsSome (get nat_cmp c.args.self.now.parked.requests n) = subst (λ (o : Option Parked). IsSome o) (sym was) refl in
     let wrote = (c.get_mut.follows.holds _).3 there in
     let same : performed_in c.in-Some-outcome.outcome ≡ outcome = (let both = sym (told-is c.args.self.now n p _ was (sym c.clear.ensures.0.1 ∙ c.in-Some-outcome.is)) ∙ told in cc) in
     replied-late g.C.Catalogue.offers s held calls c.args.self.now _ past waiting h n p was q c.clear.ensures c.in-Some-pop_front.first _ c.in-Some-pop_front.ensures.items c.clear.ensures.0.0 wrote.1 (λ m apart. wrote.2 m (not-at n m apart)) refl refl w rest waits outcome c.args.out.now.items c.answer.new.out.items
@@ -39,7 +42,7 @@ returns g c = record {
       let p = c.in-Some.parked.now in
       let q = c.clear.new.self in
       let was : parked_at c.args.self.now n ≡ Some p = grind (arith, common_steps) in
-      let there : IsSome (get nat_cmp c.args.self.now.parked n) = subst (λ (o : Option Parked). IsSome o) (sym was) refl in
+      let there : IsSome (get nat_cmp c.args.self.now.parked.requests n) = subst (λ (o : Option Parked). IsSome o) (sym was) refl in
       let wrote = (c.get_mut.follows.holds _).3 there in
       let same : performed_in c.in-Some-outcome.outcome ≡ outcome = (let both = sym (told-is c.args.self.now n p _ was (sym c.clear.ensures.0.1 ∙ c.in-Some-outcome.is)) ∙ told in cc) in
       let others : (q : ℕ) → (c.in-Some-pop_front.first.connection == q) ≡ false → get nat_cmp c.remove.new.self q ≡ get nat_cmp c.args.self.now.links q = λ q n. grind (arith, common_steps) in
@@ -53,15 +56,15 @@ returns g c = record {
       let p = c.in-Some.parked.now in
       let q = c.clear.new.self in
       let was : parked_at c.args.self.now n ≡ Some p = grind (arith, common_steps) in
-      let there : IsSome (get nat_cmp c.args.self.now.parked n) = subst (λ (o : Option Parked). IsSome o) (sym was) refl in
+      let there : IsSome (get nat_cmp c.args.self.now.parked.requests n) = subst (λ (o : Option Parked). IsSome o) (sym was) refl in
       let wrote = (c.get_mut.follows.holds _).3 there in
-      parked-same (get nat_cmp c.args.self.now.parked) _ n p _ was wrote.1 c.clear.ensures.0.0 c.clear.ensures.0.1 (λ m apart. wrote.2 m (not-at n m apart));
+      parked-same (get nat_cmp c.args.self.now.parked.requests) _ n p _ was wrote.1 c.clear.ensures.0.0 c.clear.ensures.0.1 (λ m apart. wrote.2 m (not-at n m apart));
   fewer = λ told some.
       let n = c.args.number in
       let p = c.in-Some.parked.now in
       let q = c.clear.new.self in
       let was : parked_at c.args.self.now n ≡ Some p = grind (arith, common_steps) in
-      let there : IsSome (get nat_cmp c.args.self.now.parked n) = subst (λ (o : Option Parked). IsSome o) (sym was) refl in
+      let there : IsSome (get nat_cmp c.args.self.now.parked.requests n) = subst (λ (o : Option Parked). IsSome o) (sym was) refl in
       let wrote = (c.get_mut.follows.holds _).3 there in
       let few = c.clear.ensures.4 in
       let size = ap length c.in-Some-pop_front.ensures.items in
@@ -77,7 +80,7 @@ returns-in-Answered-clause-fewer g c told some =
     let p = c.in-Some.parked.now in
     let q = c.clear.new.self in
     let was : parked_at c.args.self.now n ≡ Some p = grind (arith, common_steps) in
-    let there : IsSome (get nat_cmp c.args.self.now.parked n) = subst (λ (o : Option Parked). IsSome o) (sym was) refl in
+    let there : IsSome (get nat_cmp c.args.self.now.parked.requests n) = subst (λ (o : Option Parked). IsSome o) (sym was) refl in
     let wrote = (c.get_mut.follows.holds _).3 there in
     let few = c.clear.ensures.4 in
     let size = ap length c.in-Some-pop_front.ensures.items in
@@ -89,6 +92,24 @@ returns-in-Answered-clause-parked g c =
     let p = c.in-Some.parked.now in
     let q = c.clear.new.self in
     let was : parked_at c.args.self.now n ≡ Some p = grind (arith, common_steps) in
-    let there : IsSome (get nat_cmp c.args.self.now.parked n) = subst (λ (o : Option Parked). IsSome o) (sym was) refl in
+    let there : IsSome (get nat_cmp c.args.self.now.parked.requests n) = subst (λ (o : Option Parked). IsSome o) (sym was) refl in
     let wrote = (c.get_mut.follows.holds _).3 there in
-    parked-same (get nat_cmp c.args.self.now.parked) _ n p _ was wrote.1 c.clear.ensures.0.0 c.clear.ensures.0.1 (λ m apart. wrote.2 m (not-at n m apart))
+    parked-same (get nat_cmp c.args.self.now.parked.requests) _ n p _ was wrote.1 c.clear.ensures.0.0 c.clear.ensures.0.1 (λ m apart. wrote.2 m (not-at n m apart))
+
+pub invariant_of-self-in_default-outcome : goal.invariant_of-self-in_default-outcome
+invariant_of-self-in_default-outcome g c =
+    let lot = c.args.self.now.parked in
+    let was : parked_at c.args.self.now c.args.number ≡ Some c.in-Some.parked.now = grind (arith, common_steps) in
+    ((few-written lot.requests (c.get_mut.follows.lender _) c.args.number _ (c.get_mut.follows.holds _) lot.few, (counted-written lot.requests (c.get_mut.follows.lender _) lot.counts c.args.number c.in-Some.parked.now _ (c.get_mut.follows.holds _) was c.clear.ensures.0.0 lot.counted, tt)), (c.args.self.now.ready, tt))
+
+pub invariant_of-self-in_default-pop_front : goal.invariant_of-self-in_default-pop_front
+invariant_of-self-in_default-pop_front g c =
+    let lot = c.args.self.now.parked in
+    let was : parked_at c.args.self.now c.args.number ≡ Some c.in-Some.parked.now = grind (arith, common_steps) in
+    ((few-written lot.requests (c.get_mut.follows.lender _) c.args.number _ (c.get_mut.follows.holds _) lot.few, (counted-written lot.requests (c.get_mut.follows.lender _) lot.counts c.args.number c.in-Some.parked.now _ (c.get_mut.follows.holds _) was c.clear.ensures.0.0 lot.counted, tt)), (c.args.self.now.ready, tt))
+
+pub invariant_of-self-2 : goal.invariant_of-self-2
+invariant_of-self-2 g c =
+    let lot = c.args.self.now.parked in
+    let was : parked_at c.args.self.now c.args.number ≡ Some c.in-Some.parked.now = grind (arith, common_steps) in
+    (few-written lot.requests (c.get_mut.follows.lender _) c.args.number _ (c.get_mut.follows.holds _) lot.few, (counted-written lot.requests (c.get_mut.follows.lender _) lot.counts c.args.number c.in-Some.parked.now _ (c.get_mut.follows.holds _) was c.clear.ensures.0.0 lot.counted, tt))

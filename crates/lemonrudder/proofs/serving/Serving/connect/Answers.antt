@@ -2,6 +2,7 @@ use Rattle.std.proofs.Common.{refl}
 use Rattle.lemonrudder.specs.Refusals.{refusal_of_connecting}
 use Rattle.lemonrudder.proofs.Ended.{err-done, ok-done}
 use Rattle.lemonrudder.proofs.Idling.{not_both, not_so}
+use Rattle.lemonrudder.proofs.Unparked.{unparked_still}
 use Rattle.lemonrudder.proofs.serving.Serving.connect.Goals as goal
 
 pub returns-then-is_asking : goal.returns-then-is_asking
@@ -32,3 +33,6 @@ returns c = (
     c.connect.ensures.table,
   ),
 )
+
+pub invariant_of-self : goal.invariant_of-self
+invariant_of-self c = record { unparked = unparked_still c.args.self.now.engine c.connect.new.self c.connect.ensures.parked c.args.self.now.unparked }

@@ -2,6 +2,7 @@ use Rattle.std.proofs.Common.{refl}
 use Rattle.ft_objects.specs.Filling.{offer_of}
 use Rattle.lemonrudder.proofs.Idling.{not_both, not_so}
 use Rattle.lemonrudder.proofs.Owing.{feeds-now-owed, feeds-once-owed, feeds-owed, feeds-stays}
+use Rattle.lemonrudder.proofs.Unparked.{unparked_still}
 use Rattle.lemonrudder.proofs.serving.Serving.feed.Goals as goal
 
 pub returns-then-is_asking : goal.returns-then-is_asking
@@ -40,3 +41,6 @@ returns c = (
     ),
   ),
 )
+
+pub invariant_of-self : goal.invariant_of-self
+invariant_of-self c = record { unparked = unparked_still c.args.self.now.engine c.feed-fed.new.self c.feed-fed.ensures.parked c.args.self.now.unparked }

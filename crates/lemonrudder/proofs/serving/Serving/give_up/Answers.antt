@@ -1,6 +1,7 @@
 use Rattle.std.proofs.Common.{refl, sym, ◌∙◌}
 use Rattle.std.proofs.lemmas.Option.{none-some}
 use Rattle.lemonrudder.proofs.Idling.{not_both}
+use Rattle.lemonrudder.proofs.Unparked.{unparked_still}
 use Rattle.lemonrudder.proofs.serving.Serving.give_up.Goals as goal
 
 pub returns-in_default : goal.returns-in_default
@@ -21,3 +22,6 @@ returns c = (
     ),
   ),
 )
+
+pub invariant_of-self : goal.invariant_of-self
+invariant_of-self c = record { unparked = unparked_still c.args.self.now.engine c.give_up.new.self c.give_up.ensures.parked c.args.self.now.unparked }

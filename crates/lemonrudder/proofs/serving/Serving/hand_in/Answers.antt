@@ -8,6 +8,7 @@ use Rattle.lemonrudder.proofs.Ended.{err-done, ok-done}
 use Rattle.lemonrudder.proofs.Handing.{can_at, none_can}
 use Rattle.lemonrudder.proofs.Idling.{not_both, not_so}
 use Rattle.lemonrudder.proofs.Owing.{resumes-now-owed, resumes-once-owed, resumes-owed, resumes-stays}
+use Rattle.lemonrudder.proofs.Unparked.{unparked_still}
 use Rattle.lemonrudder.proofs.serving.Serving.hand_in.Goals as goal
 
 pub returns-in_default : goal.returns-in_default
@@ -65,3 +66,6 @@ returns c = (
         ),
   ),
 )
+
+pub invariant_of-self : goal.invariant_of-self
+invariant_of-self c = record { unparked = unparked_still c.args.self.now.engine c.answer.new.self c.answer.ensures.parked c.args.self.now.unparked }
