@@ -200,8 +200,8 @@ impl Host {
         Ok(self.engine.close(connection, out)?)
     }
 
-    /// Performs the call that is parked under a number, and has it told. Whether it did: it does not where the owner has no
-    /// outcome of the operation, and then the request stays parked.
+    /// Performs the call that is parked under a number, and hands in its outcome. Where the owner has none of the
+    /// operation, the request stays parked.
     pub(crate) fn settle(&mut self, number: u64) -> Settled
         requires idle { waits_in self.old.engine ≡ None }
         ensures idle { waits_in self.new.engine ≡ None }

@@ -111,7 +111,8 @@ fn take_step<W: Write>(alloc: Global, host: &mut Host, line: &Line, out: &mut W)
     Ok(())
 }
 
-/// Plays the lines of a script on a host, and prints what comes of each, up to the first that answers what is not parked.
+/// Plays the lines of a script on a host, and prints what comes of each, up to the first that answers what is not
+/// parked.
 fn play_lines<W: Write>(
     alloc: Global,
     host: &mut Host,
