@@ -5,7 +5,7 @@ _giop() {
     1:*) words='play show check trace ior serve help --help --version' ;;
     2:help) words='play show check trace ior serve' ;;
     *) case ${COMP_WORDS[1]} in
-    play) words='--capacity --share --start --limit --partials --help' ;;
+    play) words='--capacity --share --start --limit --partials --engine --parked --joined --asks --help' ;;
     show) words='--raw --help' files=1 ;;
     check) words='--raw --help' files=1 ;;
     trace) words='--raw --resume --json --help' files=1 ;;

@@ -5,11 +5,9 @@ NAME.stdout and NAME.stderr. Where NAME.stderr is missing, nothing may be printe
 too, any text may be. The folders are the program's subcommands, and `words` for help, the version and words that are
 refused.
 
-A case of `play` that ends well runs once more with each piece cut into pieces of one octet, at the same moment on the
-same connection: what is printed must be the same, where lines of one connection that follow one another count as one.
-
-The program `engine_trials` plays the cases of `play` that end well on an engine whose owner keeps the counter, and must
-print the same. Its words are the numbers that a case's words set, and `giop`'s own where they set none.
+A case of `play` that ends well, but with `--engine`, runs once more with each piece cut into pieces of one octet, at
+the same moment on the same connection: what is printed must be the same, where lines of one connection that follow one
+another count as one. And each case of `play` runs with `--engine` too, and must print the same.
 """
 from __future__ import annotations
 
@@ -20,6 +18,7 @@ from collections.abc import Callable
 from tests import base, programs
 
 CASES = os.path.join(programs.HERE, "cases")
+ENGINE = "--engine"
 
 
 def content(path: str) -> bytes | None:
@@ -50,17 +49,19 @@ def cases_of(folder: str) -> list[tuple[str, Case]]:
     return [(name, Case(name)) for name in names]
 
 
+def played() -> list[tuple[str, Case]]:
+    """The cases of `play` on a server."""
+    return [(name, case) for name, case in cases_of("play") if ENGINE not in case.words]
+
+
 def played_well() -> list[tuple[str, Case]]:
-    """The cases of `play` that end well."""
-    return [(name, case) for name, case in cases_of("play") if case.status == 0]
+    """Those that end well."""
+    return [(name, case) for name, case in played() if case.status == 0]
 
 
 def engine_words(words: list[str]) -> list[str]:
-    """The words of `engine_trials` for the words of a case of `play`: CAPACITY SHARE START LIMIT PARTIALS."""
-    given = dict(zip(words[1::2], words[2::2]))
-    capacity = given.get("--capacity", "1024")
-    return [capacity, given.get("--share", capacity), given.get("--start", "0"), given.get("--limit", "1048576"),
-            given.get("--partials", "8")]
+    """The words of a case of `play`, on an engine."""
+    return ["play", ENGINE, *words[1:]]
 
 
 def in_octets(script: bytes) -> bytes:
@@ -118,21 +119,21 @@ class Cases(Program):
 
 
 class Engine(Program):
-    """The cases of `play` that end well, by `engine_trials`."""
+    """The cases of `play`, on an engine."""
 
     @classmethod
     def setUpClass(cls) -> None:
-        cls.engine = programs.program("ENGINE_TRIALS")
+        cls.giop = programs.program("GIOP")
 
-    @base.each(played_well)
+    @base.each(played)
     def test_play(self, case: Case) -> None:
-        """An owner that performs what the engine asks prints what `giop` does."""
-        self.wants(case, self.engine, *engine_words(case.words))
+        """With an owner that performs what the engine asks for it prints the same."""
+        self.wants(case, self.giop, *engine_words(case.words))
 
     @base.each(played_well)
     def test_play_in_octets(self, case: Case) -> None:
-        """So does one whose pieces come in single octets."""
-        self.wants_in_octets(case, self.engine, *engine_words(case.words))
+        """So it does where the pieces come in single octets."""
+        self.wants_in_octets(case, self.giop, *engine_words(case.words))
 
 
 def of_folder(folder: str) -> Callable:

@@ -20,7 +20,8 @@ from concurrent.futures import ThreadPoolExecutor
 from itertools import zip_longest
 
 from tests import base, programs
-from tests.engine import Maker, in_pieces, line_of, lines_of, played, smallest_script
+from tests.engine import Maker, in_pieces, played, smallest_script
+from tests.engine_model import line_of, lines_of
 
 SEED = 41
 STREAMS = 400

@@ -1,23 +1,20 @@
-"""Plays random scripts with the program `engine_trials`, and compares with a model.
+"""Plays random scripts with `giop play --engine`, and compares with a model.
 
-A script is events on connections, as `giop play` takes them, and lines that say how the owner of the engine answers
-from there on, by a seed. Each is played twice: as it is, and with each piece cut into small ones. All that is printed,
-the requests that were asked, the octets, the requests that were given up and the total, must be what the model below
-says. A script that fails is printed with as few messages and events as are found with which it still does, as the
-program takes it.
-
-The model looks back over all requests that came (`Server` of tests/ends_model.py): each distinct admissible request is
-asked once, in the order in which they came first, and again only where it was given up. It knows of each message what
-it says and where it ends, and reads no octets.
+A script is events on connections, and what the owner of the engine does: how it answers from there on, which requests
+are parked, and which of these are answered, by a seed. Each is played twice: as it is, and with each piece cut into
+small ones. All that is printed, the requests that were asked for and parked, the octets, the requests that were given
+up and the total, must be what the model says (tests/engine_model.py). A script that fails is printed with as few
+messages and events as are found with which it still does, as the program takes it.
 """
 import random
 import unittest
-from collections import namedtuple
 
 from tests import base, giop, programs
 from tests.cdr import BIG, LITTLE
-from tests.ends_model import CLOSE, ERROR, Call, Server, refused
-from tests.giop import CLOSE_CONNECTION, HEADER, MAYBE, MESSAGE_ERROR
+from tests.ends_model import CLOSE, ERROR, Call, refused
+from tests.engine_model import (
+    BAD, EMPTY, FULL, NO_PLACES, NONE, Asked, Places, Sought, Terms, answers_in, located, minor_of, play, reply_to)
+from tests.giop import CLOSE_CONNECTION, HEADER, MESSAGE_ERROR
 from tests.schedules import EDGES, LIMIT, NAMES, VERSIONS, parts_of
 from tests.smaller import smallest
 
@@ -25,145 +22,7 @@ SEED = 29
 COUNT = 300
 STEPS = 40
 PLAYERS = 4
-STATUSES = {"returned": giop.NO_EXCEPTION, "raised": giop.USER_EXCEPTION, "system": giop.SYSTEM_EXCEPTION}
-FULL, EMPTY, NONE = "full", "empty", "none"
 WISHES = {FULL: giop.FULL, EMPTY: giop.EMPTY, NONE: giop.NONE}
-BAD = "bad"
-
-# the words of a program
-Terms = namedtuple("Terms", "capacity share total limit partials")
-# what a message says: a request, whose field is its key, None or BAD; or the key of an object that is looked for
-Asked = namedtuple("Asked", "version request_id wish field call")
-Sought = namedtuple("Sought", "version request_id key")
-
-
-def minor_of(said):
-    """The minor version of what is said."""
-    return int(said.version[2])
-
-
-def reply_to(asked, outcome):
-    """The Reply that a request gets, or nothing."""
-    how, *_, body = outcome.split()
-    if asked.wish == NONE:
-        return b""
-    octets = b"" if asked.wish == EMPTY and how == "returned" else bytes.fromhex(body)
-    return giop.reply(asked.request_id, octets, status=STATUSES[how], minor=minor_of(asked))
-
-
-def located(sought):
-    """The LocateReply to what is looked for."""
-    status = giop.OBJECT_HERE if sought.key == "c" else giop.UNKNOWN_OBJECT
-    return giop.located(sought.request_id, status, minor=minor_of(sought))
-
-
-class GivenUp(Exception):
-    """The owner gave a request up."""
-
-
-class Wire:
-    """A connection: how many octets came, and whether its stream has ended or the server closed it."""
-
-    def __init__(self):
-        self.came, self.has_ended, self.is_shut = 0, False, False
-
-
-class Engine(Server):
-    """An engine and its owner, and the lines that are printed. `streams` has all messages of each connection."""
-
-    def __init__(self, terms, streams):
-        super().__init__(terms.limit, terms.capacity, terms.share, terms.total)
-        self.streams, self.wires, self.greatest = streams, {}, -1
-        self.manner, self.asks, self.lines = "performs", [], []
-
-    def apply(self, call):
-        """Asks the owner."""
-        self.asks.append(f"{call.key.decode()} {call.operation.decode()}")
-        if self.manner in ("gives_up", "mistypes"):
-            raise GivenUp
-        if self.manner == "performs":
-            return super().apply(call)
-        _, name, minor = self.manner.split(" ")
-        return refused(name, int(minor), MAYBE)
-
-    def outcome_of(self, asked):
-        """What a request gets."""
-        if asked.field == BAD:
-            return refused("MARSHAL")
-        if asked.field is None:
-            return self.refusal_of(asked.call) or self.apply(asked.call)
-        return self.answer(asked.field, asked.call)
-
-    def heard(self, number, before, after):
-        """What is heard of a stream between two places; a message over the limit ends it by its header."""
-        place = 0
-        for octets, said in self.streams.get(number, []):
-            if self.message < len(octets):
-                if before < place + HEADER <= after:
-                    yield ERROR
-                return
-            place += len(octets)
-            if before < place <= after and said is not None:
-                yield said
-
-    def feed(self, number, wire, before):
-        """Answers what came: the octets that are written, and how many requests and locates came before one that was
-        given up and after one that was asked, or None."""
-        written, since = b"", 0
-        for said in self.heard(number, before, wire.came):
-            if said in (CLOSE, ERROR):
-                wire.has_ended = True
-                return written + (MESSAGE_ERROR if said == ERROR else b""), None
-            asked, since = len(self.asks), since + 1
-            if isinstance(said, Sought):
-                written += located(said)
-                continue
-            try:
-                written += reply_to(said, self.outcome_of(said))
-            except GivenUp:
-                return written, since - 1
-            if asked < len(self.asks):
-                since = 0
-        return written, None
-
-    def take(self, name, number, moment, octets):
-        """Takes an event on a connection: what is written, and where a request was given up the number of `feed`."""
-        self.clock = max(self.clock, moment)
-        if name == "open" and self.greatest < number:
-            self.greatest, self.wires[number] = number, Wire()
-        if name == "lost":
-            self.wires.pop(number, None)
-        wire = self.wires.get(number) or Wire()
-        is_closed = number not in self.wires or wire.is_shut or wire.has_ended
-        if name == "close":
-            wire.is_shut = True
-            return b"" if is_closed else CLOSE_CONNECTION, None
-        before, wire.came = wire.came, wire.came + len(octets)
-        if name == "bytes" and not is_closed:
-            return self.feed(number, wire, before)
-        return b"", None
-
-    def step(self, name, number, moment=0, octets=b""):
-        """Takes an event on a connection, and prints its lines."""
-        asked = len(self.asks)
-        written, answered = self.take(name, number, moment, octets)
-        self.lines += [f"ask {number} {ask}" for ask in self.asks[asked:]]
-        if written:
-            self.lines.append(f"{number} {written.hex()}")
-        if answered is not None:
-            self.lines.append(f"given_up {number} {answered}")
-            del self.wires[number]
-
-
-def lines_of(terms, streams, events):
-    """What is printed for a script."""
-    engine = Engine(terms, streams)
-    for name, *words in events:
-        if name == "owner":
-            engine.manner = words[0]
-        else:
-            engine.step(name, *words)
-    return [*engine.lines, f"total {engine.total}"]
 
 
 def played(steps):
@@ -175,7 +34,7 @@ def played(steps):
     """
     streams, sent, events, greatest = {}, {}, [], -1
     for step in steps:
-        name, number = step[:2]
+        name, number = (*step, None)[:2]
         if name == "say":
             _, _, moment, messages, keep = step
             stream, begin = sum(messages, streams.get(number, [])), sent.get(number, 0)
@@ -209,8 +68,12 @@ def smallest_script(steps, fails):
     return smallest(some if fails(some) else steps, fails)
 
 
+# the kinds of steps, and how often each is taken
+KINDS = {"say": 60, "open": 12, "lost": 3, "close": 2, "owner": 8, "reopen": 1}
+
+
 class Maker:
-    """Makes a script, step by step."""
+    """Makes a script, step by step: without parked requests."""
 
     def __init__(self, dice):
         self.dice = dice
@@ -220,6 +83,7 @@ class Maker:
         capacity, share = dice.choice([(1024, 1024)] * 5 + [(2, 2), (3, 1), (1, 1), (0, 0), (5, 2), (8, 4)])
         limit = dice.choice([LIMIT, 1048576])
         self.terms = Terms(capacity, share, dice.choice([0, 0, 0, *EDGES]), limit, dice.randint(1, 16))
+        self.places, self.kinds = NO_PLACES, KINDS
 
     def moment(self):
         """A moment: mostly a little later, at times earlier, or about when a request expires."""
@@ -364,8 +228,7 @@ class Maker:
 
     def step(self):
         dice, number = self.dice, self.connection()
-        kinds = {"say": 60, "open": 12, "lost": 3, "close": 2, "owner": 8, "reopen": 1}
-        kind = dice.choices(list(kinds), kinds.values())[0]
+        kind = dice.choices(list(self.kinds), self.kinds.values())[0]
         if kind == "say":
             messages = [self.message() for _ in range(dice.choice([1, 1, 1, 2, 3, 6]))]
             self.say(number, messages, dice.choice([0, 0, 0, 0, 1, dice.randint(1, 100)]))
@@ -393,6 +256,40 @@ class Maker:
         return self.terms, *played(self.steps)
 
 
+class LateMaker(Maker):
+    """Makes a script in which requests are parked and answered, of numbers that `giop play` takes."""
+
+    def __init__(self, dice):
+        super().__init__(dice)
+        capacity, share = dice.choice([(1024, 1024)] * 5 + [(2, 2), (3, 1), (1, 1), (5, 2), (8, 4)])
+        start = dice.choice([0, 0, 0, *(edge for edge in EDGES if 0 < edge)])
+        self.terms = self.terms._replace(capacity=capacity, share=share, total=start)
+        self.places = Places(dice.choice([0, 1, 2, 3, 3, 100, 100, 65536]), dice.choice([0, 0, 1, 2, 10, 65536]))
+        late = dice.choice([{}, {"park": 10, "answer": 8}, {"park": 25, "answer": 15}, {"park": 30, "answer": 4}])
+        self.kinds = {**KINDS, **late}
+
+    def park(self):
+        """The next requests are parked; at times such a one comes, and comes again on any connections."""
+        self.steps += [("park",)] * self.dice.choice([1, 1, 1, 2, 3])
+        if self.dice.random() < 0.6:
+            self.say(self.connection(), [self.framed(self.new_request())])
+            for _ in range(self.dice.choice([0, 1, 2, 3, 4]) if self.keyed else 0):
+                again = self.repeat()._replace(field=self.keyed[-1].field, call=self.keyed[-1].call)
+                self.say(self.connection(), [self.framed(again)])
+
+    def answer(self):
+        pick = self.dice.randrange(1000)
+        self.steps.append(self.dice.choice([("any", pick)] * 4 + [("all", pick)]))
+
+    def audit(self):
+        """What is parked is answered, too, before all comes once more and after; at times there is a stray answer."""
+        for _ in range(2):
+            self.steps += [("owner", "performs"), ("all", self.dice.randrange(1000))]
+            super().audit()
+        if self.dice.random() < 0.1:
+            self.steps.append(("stray", self.dice.randrange(100)))
+
+
 def in_pieces(dice, events):
     """The events with each piece cut into small ones."""
     for event in events:
@@ -406,20 +303,11 @@ def in_pieces(dice, events):
             place += part
 
 
-def line_of(event):
-    """The line of an event."""
-    return " ".join(word.hex() if isinstance(word, bytes) else str(word) for word in event)
-
-
-def answers_in(lines):
-    """What does not depend on where pieces are cut: the requests that were asked, the octets on each connection, and
-    the total."""
-    octets = {}
-    for line in lines:
-        name, *digits = line.split(" ")
-        if name.isdigit():
-            octets[name] = octets.get(name, "") + digits[0]
-    return [line for line in lines if line.startswith("ask")], octets, lines[-1]
+def words_for(terms, places):
+    """The words after the program's name."""
+    numbers = zip(("capacity", "share", "start", "limit", "partials"), terms)
+    options = [*numbers, *zip(("parked", "joined"), places)]
+    return ["play", "--engine", "--asks", *(word for name, number in options for word in (f"--{name}", str(number)))]
 
 
 class Scripts(unittest.TestCase):
@@ -427,33 +315,33 @@ class Scripts(unittest.TestCase):
 
     @classmethod
     def setUpClass(cls):
-        cls.engine = programs.program("ENGINE_TRIALS")
+        cls.giop = programs.program("GIOP")
 
-    def fault_on(self, terms, events, wanted):
+    def fault_on(self, words, wanted):
         """What is wrong with a run, or None: the words, the lines that were given, and those that were printed."""
-        given = "".join(line_of(event) + "\n" for event in events)
-        words = [*map(str, terms), "asks"]
-        run = base.ran(self.engine, *words, given=given.encode())
+        given = "".join(line + "\n" for line in wanted.given)
+        run = base.ran(self.giop, *words, given=given.encode())
         status, got, error = run.returncode, run.stdout.decode().splitlines(), run.stderr.decode()
-        if (status, got, error) == (0, wanted, ""):
+        if (status, got, error) == (int(wanted.error != ""), wanted.printed, wanted.error):
             return None
-        return "\n".join([f"words: {' '.join(words)}", f"{given}wanted:", *wanted, "got:", *got,
+        return "\n".join([f"words: {' '.join(words)}", f"{given}wanted:", *wanted.printed, wanted.error, "got:", *got,
                           f"status {status} {error}"])
 
-    def fault_of(self, seed, terms, steps):
+    def fault_of(self, seed, maker, steps):
         """What is wrong with a script, as it is and in pieces, or None."""
         streams, events = played(steps)
-        pieces = list(in_pieces(random.Random(seed), events))
-        whole, cut = lines_of(terms, streams, events), lines_of(terms, streams, pieces)
-        if answers_in(whole) != answers_in(cut):
+        whole, cut = (play(maker.terms, streams, some, maker.places)
+                      for some in (events, list(in_pieces(random.Random(seed), events))))
+        if answers_in(whole.printed) != answers_in(cut.printed):
             return "the model says another thing of the pieces"
-        return self.fault_on(terms, events, whole) or self.fault_on(terms, pieces, cut)
+        words = words_for(maker.terms, maker.places)
+        return self.fault_on(words, whole) or self.fault_on(words, cut)
 
     @base.each_seed(SEED, COUNT, PLAYERS)
     def test_scripts(self, seed):
-        """What is asked and written is what the model says, as it is and in pieces."""
-        maker = Maker(random.Random(seed))
+        """What is asked for and written is what the model says, as it is and in pieces."""
+        maker = LateMaker(random.Random(seed))
         maker.made()
-        if self.fault_of(seed, maker.terms, maker.steps):
-            fewer = smallest_script(maker.steps, lambda some: self.fault_of(seed, maker.terms, some))
-            self.fail(f"{len(fewer)} of {len(maker.steps)} steps, {self.fault_of(seed, maker.terms, fewer)}")
+        if self.fault_of(seed, maker, maker.steps):
+            fewer = smallest_script(maker.steps, lambda some: self.fault_of(seed, maker, some))
+            self.fail(f"{len(fewer)} of {len(maker.steps)} steps, {self.fault_of(seed, maker, fewer)}")

@@ -22,7 +22,6 @@ CRATES = {
     "VALUE_PLAYER": "value_player",
     "REFERENCE_PLAYER": "reference_player",
     "SCHEDULE_PLAYER": "schedule_player",
-    "ENGINE_TRIALS": "engine_trials",
     "ECHO_SERVER": "echo_server",
     "CDR_TRIALS": "cdr_trials",
     "GIOP_TRIALS": "giop_trials",

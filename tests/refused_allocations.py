@@ -11,11 +11,10 @@ An allocation is a call of malloc or realloc. With one refused,
 - a run of `schedule_player` on a schedule must end as it does with ample memory, or with `memory` as above; or, where
   the refused allocation was one of the play, print `memory after N steps` in place of the total, and before it what it
   prints for the first N steps alone. At least one run of each schedule must do so.
-- a run of `engine_trials` on a script must end as it does with ample memory, or with `memory` as above; or, where the
-  refused allocation was one of the engine or its owner, print one line `memory` or `given_up` for a connection, write
-  whole replies alone there, and on each other connection what it writes with ample memory, with the same total. A
-  request is asked again only where it was given up. At least one run of each script must keep an outcome whose reply
-  could not be written, and at least one must give a request up.
+- a run of `giop play --engine` on a script must end as it does with ample memory, or with `memory` as above; or, where
+  the refused allocation was one of the engine or its owner, print what the model prints where memory runs out at one
+  place of the play (tests/short_model.py): a line says what was refused, nothing acts twice, and the play goes on. Each
+  way in which a script is to fail must be seen.
 
 A pair is the calls X_once/SAMPLE and X_a_hundred_times/SAMPLE. Both must take the same number of allocations, since a
 call that is repeated keeps the memory that it took. A call whose suite has one of these endings must have its other.
@@ -29,7 +28,11 @@ import unittest
 
 from tests import base, cases, giop, programs
 from tests.allocations import Counting
+from tests.ends_model import Call
+from tests.engine import played, words_for
+from tests.engine_model import FULL, Asked, Places, Terms, line_of
 from tests.giop_peers import request
+from tests.short_model import ASKED, BEFORE, DUE, KEPT, OWNED, REPEATED, UNANSWERED, outcomes
 
 ADD_SEVEN = dict(key=b"c", operation="add", body=bytes([0, 0, 0, 7]))
 REQUEST = request(5, **ADD_SEVEN, number=1, expiration=100)
@@ -96,24 +99,49 @@ SCHEDULES = [
         "down 0 5", "down 0 40", "down 0 90"]),
 ]
 
-# scripts of the engine: a name, how many requests are performed, and the lines. Each request is `add(7)` with a key,
-# and comes again on each connection, so one refused allocation changes no total
-ENGINE_WORDS = ["4", "4", "0", "4096", "1", "asks"]
-OTHER = request(6, **ADD_SEVEN, number=2, expiration=100).hex()
-REPLY_DIGITS = 64
+# scripts of an engine: a name, how they are to fail, and the events. Each request is `add(7)` with a key
+ENGINE_TERMS, ENGINE_PLACES = Terms(4, 4, 0, 4096, 1), Places(2, 1)
 
 
-def on_connections(*pieces):
-    """The lines for pieces that come on three connections, one after another."""
-    return [line for c in (1, 2, 3)
-            for line in [f"open {c}", *(f"bytes {c} 50 {piece}" for piece in pieces), f"lost {c}"]]
+def added(request_id, number, client=b"A"):
+    """A request by its octets, and what it says."""
+    octets = request(request_id, **ADD_SEVEN, client=client, number=number, expiration=100)
+    return octets, Asked("1.2", request_id, FULL, (client, number), Call("c", "add", 100, [7]))
 
 
+def says(number, *messages, cuts=()):
+    """The steps in which messages come on a new connection, in pieces that are cut at these places."""
+    yield ("open", number)
+    size = sum(len(octets) for octets, _ in messages)
+    for at, place in enumerate([*cuts, size]):
+        yield ("say", number, 50, [] if at else [[message] for message in messages], size - place)
+
+
+def on_connections(*messages, cuts=()):
+    """The steps in which messages come on three connections, one after another."""
+    for number in (1, 2, 3):
+        yield from says(number, *messages, cuts=cuts)
+        yield ("lost", number)
+
+
+FIRST, OTHER = added(5, 1), added(6, 2)
+AT_ONCE = {BEFORE, ASKED, OWNED, KEPT}
+LATE = {BEFORE, ASKED, OWNED, REPEATED, UNANSWERED, DUE}
 ENGINE_SCRIPTS = [
-    ("a request that comes three times", 1, on_connections(KEYED)),
-    ("two requests in a piece", 2, on_connections(KEYED + OTHER)),
-    ("two requests in pieces", 2, on_connections(KEYED[:30], KEYED[30:] + OTHER[:100], OTHER[100:])),
-    ("a request and its repeat in a piece", 1, on_connections(KEYED + KEYED)),
+    ("a request that comes three times", AT_ONCE, [*on_connections(FIRST)]),
+    ("two requests in a piece", AT_ONCE, [*on_connections(FIRST, OTHER)]),
+    ("two requests in pieces", AT_ONCE, [*on_connections(FIRST, OTHER, cuts=(15, 134))]),
+    ("a request and its repeat in a piece", AT_ONCE, [*on_connections(FIRST, added(7, 1))]),
+    ("a request that is parked", LATE, [
+        ("park",), *says(1, FIRST), *says(2, added(8, 1)), ("answer", 0), *says(3, FIRST), ("close", 3)]),
+    ("two that are parked and answered the last first", LATE, [
+        ("park",), ("park",), *says(1, FIRST, OTHER), *says(2, added(7, 2)), *says(3, added(8, 1)), ("answer", 1),
+        ("lost", 1), ("answer", 0), *says(4, added(9, 1), added(10, 2))]),
+    ("no place to park, and none to wait", LATE, [
+        ("park",), ("park",), ("park",), *says(1, FIRST, OTHER), *says(2, added(7, 3)), *says(3, added(8, 1)),
+        *says(4, added(9, 1)), ("answer", 0), ("answer", 1), *says(5, added(10, 3), added(11, 1))]),
+    ("a repeat in the piece of what is parked", LATE, [
+        ("park",), *says(1, FIRST, added(7, 1)), ("answer", 0), *says(2, FIRST)]),
 ]
 
 # how the names of the two suites of a pair end, and of a suite that takes no memory
@@ -167,41 +195,6 @@ def steps_before(run):
 def script_of(head, steps):
     """A schedule as it is given to the program."""
     return "\n".join([*head, *steps, "end", ""]).encode()
-
-
-class Printed:
-    """What `engine_trials` printed: the connections on which requests were asked, the digits on each connection, the
-    total, and the words of the lines that say what was not served."""
-
-    def __init__(self, run):
-        lines = [line.split(" ") for line in run.end[1].decode().splitlines()]
-        self.asks = [words[0] for name, *words in lines if name == "ask"]
-        self.total = [words for name, *words in lines if name == "total"]
-        self.unserved = [words for words in lines if words[0] in ("memory", "given_up")]
-        self.digits = {}
-        for name, *words in lines:
-            if name.isdigit():
-                self.digits[name] = self.digits.get(name, "") + words[0]
-
-    def has_kept(self):
-        """Whether an outcome was taken whose reply was not written."""
-        return any(name == "memory" and len(self.digits.get(lost, "")) < REPLY_DIGITS * self.asks.count(lost)
-                   for name, lost, *_ in self.unserved)
-
-    def is_given_up(self):
-        """Whether a request was given up."""
-        return any(words[0] == "given_up" for words in self.unserved)
-
-    def follows(self, ample, count):
-        """Whether one refused allocation led from what is printed with ample memory to this, where so many requests are
-        performed."""
-        if len(self.unserved) != 1 or self.total != ample.total:
-            return False
-        lost = self.unserved[0][1]
-        written = self.digits.get(lost, "")
-        is_whole = len(written) % REPLY_DIGITS == 0 and ample.digits[lost].startswith(written)
-        are_others = {**self.digits, lost: ""} == {**ample.digits, lost: ""}
-        return is_whole and are_others and count <= len(self.asks) <= count + self.is_given_up()
 
 
 def pairs_of(names):
@@ -348,24 +341,28 @@ class Schedules(Refusing, unittest.TestCase):
         self.assertGreater(cut, 0, "no allocation of the play was refused")
 
 
-class EngineTrials(Refusing, unittest.TestCase):
-    """The program `engine_trials`."""
+class Engines(Refusing, unittest.TestCase):
+    """An engine, by `giop play --engine`."""
 
-    NAME = "ENGINE_TRIALS"
+    NAME = "GIOP"
 
     @base.each(lambda: named(ENGINE_SCRIPTS))
-    def test_scripts(self, script):
-        """An outcome that was taken is kept, and a request is asked again only where it was given up."""
-        count, lines = script
-        given = "\n".join([*lines, ""]).encode()
-        ample = self.program.run(0, ENGINE_WORDS, given)
-        whole, kept, given_up = Printed(ample), 0, 0
-        self.assertEqual((ample.end[0], ample.end[2], whole.unserved, len(whole.asks)), (0, b"", [], count), ample.end)
-        for number, run in self.program.runs(ENGINE_WORDS, given):
-            if run.end == ample.end or (run.is_refused and run.is_out_of_memory()):
+    def test_engines(self, script):
+        """What memory runs out for is said, nothing acts twice, and the play goes on."""
+        wanted, steps = script
+        streams, events = played(steps)
+        given = "".join(line_of(event) + "\n" for event in events).encode()
+        may_end = {}
+        for failed, (status, lines, error) in outcomes(ENGINE_TERMS, streams, events, ENGINE_PLACES):
+            end = status, "".join(line + "\n" for line in lines).encode(), error.encode()
+            may_end.setdefault(end, set()).add(failed)
+        words, seen = words_for(ENGINE_TERMS, ENGINE_PLACES), set()
+        self.assertEqual(may_end.get(self.program.run(0, words, given).end), {None}, "with nothing refused")
+        for number, run in self.program.runs(words, given):
+            if run.is_refused and run.is_out_of_memory():
                 continue
-            printed = Printed(run)
-            kept, given_up = kept + printed.has_kept(), given_up + printed.is_given_up()
-            is_right = run.is_refused and run.end[0] == 0 and not run.end[2] and printed.follows(whole, count)
-            self.assertTrue(is_right, f"with allocation {number} refused it ended with {run.end!r}")
-        self.assertTrue(kept and given_up, f"{kept} outcomes kept without a reply, {given_up} requests given up")
+            ways = may_end.get(run.end)
+            self.assertTrue(ways, f"with allocation {number} refused it ended with {run.end!r}")
+            self.assertTrue(run.is_refused or ways == {None}, f"nothing was refused, and it ended with {run.end!r}")
+            seen |= ways
+        self.assertLessEqual(wanted, seen, "ways in which it is to fail")

@@ -5,7 +5,7 @@ use Rattle.std.specs.Option.{option_map, option_map_or}
 use Rattle.std.specs.Ordering.{nat_cmp}
 use Rattle.std.specs.BTreeMap.{BTreeMap, get}
 use Rattle.std.proofs.lemmas.Bool.{and_from, and_parts, eq-eqb, eqb-false, eqb-true, le-ltb, lt-ltb}
-use Rattle.std.proofs.lemmas.List.{append-nil}
+use Rattle.std.proofs.lemmas.List.{append-nil, append_cancel_left}
 use Rattle.giop_core.specs.declared.header.Version.{Version}
 use Rattle.giop_core.specs.declared.request.ReplyWish.{ReplyWish}
 use Rattle.giop_core.specs.declared.request.ReplyWish.TheVariants as wish
@@ -41,10 +41,10 @@ use Rattle.ft_orb.specs.declared.waiters.Join.TheVariants as join
 use Rattle.ft_orb.specs.Engines.{AsksOf, Awaited, EndsOf, KeepsOf, RestsOf, StandsOf, StopsOf, as_server, asks_in, awaited_of, waits_in}
 use Rattle.ft_orb.specs.ExactlyOnce.{Absent, Arrival, Bad, Field, Present, Rules}
 use Rattle.ft_orb.specs.History.{Event, Gone, Line, Piece, Shut, Up, arrivals, does_count, line}
-use Rattle.ft_orb.specs.Outputs.{after, is_gone}
-use Rattle.ft_orb.specs.Owners.{Voice, answered_so_far, owned_table, owner_rules}
+use Rattle.ft_orb.specs.Outputs.{after, is_gone, output_cut}
+use Rattle.ft_orb.specs.Owners.{Voice, answered_so_far, owned_says, owned_table, owner_rules}
 use Rattle.ft_orb.specs.Parked.{AreOf, IsSaid, IsStepOf, JoinsAs, JoinsBy, going_in, is_wished, on_going}
-use Rattle.ft_orb.specs.Parking.{AreKeyed, EndsLate, Parks, RepeatsLate, Settings, Stays, StopsLate, goes_on, key_kept, numbering, parked_at, put_at, still, unless_placed, waiter_of, was_opened}
+use Rattle.ft_orb.specs.Parking.{AreKeyed, by_number, EndsLate, Parks, RepeatsLate, Settings, Stays, StopsLate, goes_on, key_kept, numbering, parked_at, put_at, still, unless_placed, waiter_of, was_opened}
 use Rattle.ft_orb.specs.Pauses.{Reaches}
 use Rattle.ft_orb.specs.Private.{IsPut, all_answered, counted_by}
 use Rattle.ft_orb.specs.Requests.{Call, Wanted, asking}
@@ -465,6 +465,19 @@ module _ {C : Type 0} (offers : C → Offer) (s : Settings) where
     turned : (written : List ℕ) × (mid ≡ out ++ written) × Turns offers (numbering s nothing_yet held) calls past c moment (take place.taken piece) written place.handled r
     turned = turns offers (numbering s nothing_yet held) grow calls old new past c moment piece now out mid was link r place h.rests are idle same at then-at stood live some within reaches
 
+    -- whatever would be said of what is parked, what comes before it says the same
+    quiet : (late : Later) → output_cut s.limits (numbering s late held).tell (owned_says (by_number s held)) past (Piece c moment (take place.taken piece)) (length turned.2.front)
+        ≡ output_cut s.limits (by_number s held).tell (owned_says (by_number s held)) past (Piece c moment (take place.taken piece)) (length turned.2.front)
+    quiet late =
+        let other = turns offers (numbering s late held) grow calls old new past c moment piece now out mid was link r place (rests-known s offers nothing_yet late held held calls old past (λ i less. refl) h.rests) are idle same at then-at stood live some within reaches in
+        let written : other.0 ≡ turned.0 = append_cancel_left out other.0 turned.0 (sym other.1 ∙ turned.1) in
+        let ours = ap (λ (xs : List (Arrival Wanted)). length xs) turned.2.completes in
+        let theirs = ap (λ (xs : List (Arrival Wanted)). length xs) other.2.completes in
+        let a = length-append turned.2.front (turned.2.last ∷ []) in
+        let b = length-append other.2.front (other.2.last ∷ []) in
+        let many : length turned.2.front ≡ length other.2.front = omega (arith, ours, theirs, a, b) in
+        ap (λ (n : ℕ). output_cut s.limits (numbering s late held).tell (owned_says (by_number s held)) past (Piece c moment (take place.taken piece)) n) many ∙ sym other.2.out ∙ written ∙ turned.2.out
+
     whose : (i : ℕ) × ((table_step (Numbered s) (table_after (Numbered s) (Tally s past) turned.2.front) turned.2.last).1 ≡ Ok i) × (held i ≡ parked r.number)
     whose = parked-of held r.number (table_step (Numbered s) (table_after (Numbered s) (Tally s past) turned.2.front) turned.2.last).1 turned.2.says
 
@@ -523,6 +536,7 @@ module _ {C : Type 0} (offers : C → Offer) (s : Settings) where
           number = r.number;
           is_parked = whose.2;
           says = whose.1;
+          quiet = quiet;
           placed = placed;
           place_is = (let same-list : on_going goes p.waiters.items ≡ still s.limits past2 waiting r.number = ap (λ (g : ℕ → Bool). on_going g p.waiters.items) go ∙ listed.0 in λ i. not (nat_lt ((h.parks.places i).joined) (length (same-list i))));
           ends = ends;

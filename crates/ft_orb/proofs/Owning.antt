@@ -133,6 +133,7 @@ module _ {C Outcome : Type 0} (offers : C → Offer) (owner : OwnerOf Outcome) w
     pub question : Question
     pub content : last.content ≡ asking c question
     pub heard : link.inbound ≡ Some (says (hearing.asks question))
+    pub asker : w.asker ≡ asker_of question
 
   brings-at : (past : List Event) (c moment : ℕ) (octets written : List ℕ) (s : List ℕ) (link : Linked) (calls : List Call) (entries : List (KeptOutcome Holding)) (handled : ℕ) (w : Waiting) → line past c ≡ Up s
       → Paused owner.offer (voice_of owner) owner.capacity owner.share owner.limits c (max (clock past) moment) (Seen past) s octets link calls entries written handled w
@@ -144,6 +145,8 @@ module _ {C Outcome : Type 0} (offers : C → Offer) (owner : OwnerOf Outcome) w
       let one = tables-are-seen owner.hold Theirs (Folded past) p.before in
       let two = tables-are-seen owner.hold Theirs (Folded past) (p.before ++ p.a ∷ []) in
       let both = folded_step (seen_rules owner.hold Theirs) now (answered_so_far calls p.old) (Seen past) p.before p.a (subst (λ (i : ℕ). now ≤ i) (sym p.clock) (omega arith)) p.alike in
+      let here : asking c p.question ≡ asking p.waits.c p.waits.q = sym p.content ∙ p.waits.content in
+      let same : p.waits.q ≡ p.question = cc in
       record {
         front = p.before;
         last = p.a;
@@ -161,6 +164,7 @@ module _ {C Outcome : Type 0} (offers : C → Offer) (owner : OwnerOf Outcome) w
         question = p.question;
         content = p.content;
         heard = p.heard;
+        asker = (λ i. record { version = p.waits.spells.version i; request_id = p.waits.spells.id i; wish = p.waits.spells.wish i }) ∙ ap asker_of same;
       }
 
   -- .. as an engine keeps them
@@ -196,6 +200,7 @@ module _ {C Outcome : Type 0} (offers : C → Offer) (owner : OwnerOf Outcome) w
         heard = b.heard;
         pending = p;
         is = refl;
+        asker = b.asker;
         keeps = k;
       }
 

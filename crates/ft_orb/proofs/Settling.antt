@@ -1,5 +1,5 @@
 -- What waits is parked, and its outcome is told later.
-use Rattle.std.proofs.Common.{◌≡◌, ◌==◌, ℕ, ◌<◌, Bool, true, false, not, cond, nat_le, nat_lt, ◌&&◌, ◌⊎◌, inl, inr, List, [], ◌∷◌, ◌++◌, length, map, Option, Some, None, Ok, Err, IsSome, is_some, slice_index_or, refl, sym, ap, subst, ◌∙◌, arith, length-append}
+use Rattle.std.proofs.Common.{◌≡◌, ◌==◌, ℕ, ◌<◌, if◌then◌else◌, Bool, true, false, not, cond, nat_le, nat_lt, ◌&&◌, ◌⊎◌, inl, inr, List, [], ◌∷◌, ◌++◌, length, map, Option, Some, None, Ok, Err, IsSome, is_some, slice_index_or, refl, sym, ap, subst, ◌∙◌, arith, length-append}
 use Rattle.std.specs.List.{list_all}
 use Rattle.std.specs.Option.{option_map, option_map_or}
 use Rattle.std.specs.Ordering.{nat_cmp}
@@ -22,6 +22,8 @@ use Rattle.ft_orb.specs.declared.error.ServeError.TheVariants as serving
 use Rattle.ft_orb.specs.declared.events.Note.TheVariants.{Done}
 use Rattle.ft_orb.specs.declared.keeper.Retained.{Retained}
 use Rattle.ft_orb.specs.declared.keeper.Waiting.{Waiting}
+use Rattle.giop_link.specs.Hearing.{Question}
+use Rattle.ft_orb.specs.Waits.{asker_of}
 use Rattle.ft_orb.specs.declared.parked.Parked.{Parked}
 use Rattle.ft_orb.specs.declared.parked.Waiter.{Waiter}
 use Rattle.ft_orb.specs.declared.pausing.Pending.{Pending}
@@ -30,7 +32,7 @@ use Rattle.ft_orb.specs.ExactlyOnce.{Arrival, Present}
 use Rattle.ft_orb.specs.History.{Event, Lost, Piece, arrivals, does_count, line}
 use Rattle.ft_orb.specs.Outputs.{is_gone}
 use Rattle.ft_orb.specs.Parked.{IsClear, IsCleared, IsCopy, going_in, is_wished, on_going, own_waiters}
-use Rattle.ft_orb.specs.Parking.{AreKeyed, AsksLate, IsDueLate, IsSettled, Parks, RepliesLate, ResumesLate, Settings, Stays, goes_on, key_kept, numbering, parked_at, put_at, still, told_in, told_of, was_opened}
+use Rattle.ft_orb.specs.Parking.{AreKeyed, AsksLate, IsDueLate, IsSettled, Parks, RepliesLate, ResumesLate, Settings, Stays, goes_on, key_kept, numbering, own_of, parked_at, put_at, still, told_in, told_of, was_opened}
 use Rattle.ft_orb.specs.Requests.{Call, Wanted}
 use Rattle.ft_orb.specs.Seen.{seen_entry}
 use Rattle.ft_orb.specs.Standing.{IsFor, IsSameBut, held_in}
@@ -42,6 +44,10 @@ use Rattle.ft_orb.proofs.Numbers.{AreBelow, after-below, later-keyed, step-keyed
 use Rattle.ft_orb.proofs.Owning.{Brings, brings-of, kept-as, parked-done}
 use Rattle.ft_orb.proofs.GoesOn.{and-false, counts-later, was-counted}
 use Rattle.ft_orb.proofs.Late.{Numbered, Tally, asks-known, below-past, links-go, parks-later, parks-put, put-else, put-here, put-same, still-later, still-put, tally-is, there-by}
+
+-- who waits first for the outcome of a request that is parked
+own-is : (p : Pending) (c : ℕ) (q : Question) → p.connection ≡ c → p.waiting.asker ≡ asker_of q → own_waiters p ≡ own_of c q
+own-is p c q at is = λ i. if is_wished (is i).wish then record { connection = at i; asker = is i } ∷ [] else []
 
 -- What is kept under a copy of a key is kept under the key.
 pub copy-kept : (r copy : Option Retained) (h : Holding) (es : List (KeptOutcome Holding)) → IsCopy r copy → kept_with copy h es ≡ kept_with r h es
@@ -182,13 +188,15 @@ module _ {C : Type 0} (offers : C → Offer) (s : Settings) where
     -- what waited is parked
     pub parks-late : new.catalogue ≡ old.catalogue → waits_in new ≡ None → IsSameBut x.connection (as_server old calls) (as_server new (calls ++ call_of x.waiting ∷ [])) → new.keeper.clock ≡ old.keeper.clock → new.links ≡ old.links
         → (logged new.keeper.log).entries ≡ kept_with x.waiting.retained (parked w.number) (logged old.keeper.log).entries
-        → ResumesLate offers s Learnt (calls ++ w.call ∷ []) past (put_at w.number (own_waiters x) waiting) w.connection moment octets written Done new [] []
+        → ResumesLate offers s Learnt (calls ++ w.call ∷ []) past (put_at w.number (own_of w.connection a.asks.question) waiting) w.connection moment octets written Done new [] []
     parks-late are idle same clock links entries =
         let agree : (i : ℕ) → i < length calls → held i ≡ Learnt i = λ i less. sym (put-else (length calls) (parked w.number) held i (λ is. absurd (omega (arith, is, less)))) in
         let k = kept-as offers (numbering s nothing_yet Learnt) calls old past moment octets written x w was (asks-known s offers nothing_yet nothing_yet held Learnt calls old past moment octets written w agree a.asks) in
         let done = parked-done offers (numbering s nothing_yet Learnt) calls old new past moment octets written x k.0 w.number (put-here (length calls) (parked w.number) held) (λ y. refl) entries are idle same clock links in
         let resumes = subst (λ (v : Awaited). ResumesOf offers (numbering s nothing_yet Learnt) (calls ++ v.call ∷ []) past v.connection moment octets written Done new [] []) k.1 done in
-        record { resumes = resumes; stays = record { rests = resumes.rests; parks = parks-own } }
+        let same : x ≡ a.asks.pending = (let both : Some x ≡ Some a.asks.pending = sym was ∙ a.asks.keeps.waits in cc) in
+        let first : own_waiters x ≡ own_of w.connection a.asks.question = own-is x w.connection a.asks.question (ap (λ (p : Pending). p.connection) same ∙ ap (λ (v : Awaited). v.connection) a.asks.is) (ap (λ (p : Pending). p.waiting.asker) same ∙ a.asks.asker) in
+        subst (λ (l : List Waiter). ResumesLate offers s Learnt (calls ++ w.call ∷ []) past (put_at w.number l waiting) w.connection moment octets written Done new [] []) first (record { resumes = resumes; stays = record { rests = resumes.rests; parks = parks-own } })
 
 -- apart, the other way round
 pub other-way : (q n m : ℕ) → n ≡ m → (q == n) ≡ false → (m == q) ≡ false

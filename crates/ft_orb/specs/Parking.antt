@@ -31,8 +31,8 @@ use Rattle.ft_orb.specs.Counts.{parked_on, waiters_on}
 use Rattle.ft_orb.specs.Engines.{AsksOf, Awaited, EndsOf, RestsOf, ResumesOf, StopsOf, asks_in, awaited_of}
 use Rattle.ft_orb.specs.ExactlyOnce.{Arrival}
 use Rattle.ft_orb.specs.History.{Event, Lost, Piece, completed, does_count, line, shortened}
-use Rattle.ft_orb.specs.Outputs.{after, is_going}
-use Rattle.ft_orb.specs.Owners.{OwnerOf, owned_rules, owned_table}
+use Rattle.ft_orb.specs.Outputs.{after, is_going, output_cut}
+use Rattle.ft_orb.specs.Owners.{OwnerOf, owned_rules, owned_says, owned_table}
 use Rattle.ft_orb.specs.Parked.{going_in, is_wished, on_going}
 use Rattle.ft_orb.specs.Requests.{Call, Wanted, asking}
 use Rattle.ft_orb.specs.Seen.{seen_answer}
@@ -86,6 +86,10 @@ unless_placed false knows = no_place knows
 -- who asks by a question on a connection
 abbrev pub waiter_of : ℕ → Question → Waiter
 waiter_of c q = record { connection = c; asker = asker_of q }
+
+-- .. and waits first for its outcome, where an answer is wished for
+abbrev pub own_of : ℕ → Question → List Waiter
+own_of c q = if is_wished q.wish then waiter_of c q ∷ [] else []
 
 -- what an engine has parked under a number, as its owner sees it; how many requests it has parked; and the outcome that it tells
 abbrev pub parked_at : {C : Type 0} → Engine C → ℕ → Option Parked
@@ -203,6 +207,9 @@ module _ {C : Type 0} (offers : C → Offer) (s : Settings) where
     pub number : ℕ
     pub is_parked : held i ≡ parked number
     pub says : (table_step (owned_rules (by_number s held)) (table_after (owned_rules (by_number s held)) (owned_table (by_number s held) past) front) last).1 ≡ Ok i
+    -- whatever would be said to who asks for what is parked: before it nobody did
+    pub quiet : (late : Later) → output_cut s.limits (numbering s late held).tell (owned_says (by_number s held)) past (Piece c moment (take taken piece)) (length front)
+        ≡ output_cut s.limits (by_number s held).tell (owned_says (by_number s held)) past (Piece c moment (take taken piece)) (length front)
     pub placed : Bool
     pub place_is : placed ≡ not (nat_lt s.places.joined (length (still s.limits (Piece c moment (take taken piece) ∷ past) waiting number)))
     pub ends : EndsOf offers (numbering s (unless_placed placed s.offer.knows) held) calls past (Piece c moment (take taken piece)) Done engine before out

@@ -20,6 +20,9 @@ use giop_link::Inbound;
 
 impl<C: Catalogue + Drop> Engine<C> {
     ghost use Rattle.ft_orb.specs.Engines.{Asks, Awaited, CanAnswer, IsOpen, Rests, awaited_lent, waits_in};
+    ghost use Rattle.ft_orb.specs.Parking.{AsksLate, Settings, Stays};
+    ghost use Rattle.ft_orb.specs.declared.parked.Waiter.{Waiter};
+    ghost use Rattle.ft_log.specs.Holding.{Holding};
 
     /// The request that waits, if one does.
     pub fn asked(&self) -> Option<Asked<'_>>
@@ -40,6 +43,8 @@ impl<C: Catalogue + Drop> Engine<C> {
     pub fn message(&self) -> Option<Inbound<'_>>
         ensures asks { (owner : Owner) (calls : List Call) (past : List history.Event) (moment : ℕ) (octets written : List ℕ) (w : Awaited) → (a : Asks C.offers owner calls self.now past moment octets written w)
             → option_map meaning_at result ≡ Some (says (asks a.question)) }
+        ensures late { (s : Settings) (held : ℕ → Holding) (calls : List Call) (past : List history.Event) (waiting : ℕ → List Waiter) (moment : ℕ) (octets written : List ℕ) (w : Awaited) → (a : AsksLate C.offers s held calls self.now past waiting moment octets written w)
+            → option_map meaning_at result ≡ Some (says (asks a.asks.question)) }
         ensures none { waits_in self.now ≡ None → result ≡ None }
     {
         let pending = self.pending.as_ref()?;
@@ -93,6 +98,8 @@ impl<C: Catalogue + Drop> Engine<C> {
         ensures rests { (owner : Owner) (calls : List Call) (past : List history.Event) → Rests C.offers owner calls self.now past → result ≡ not (is_going owner.limits (line past connection)) }
         ensures asks { (owner : Owner) (calls : List Call) (past : List history.Event) (moment : ℕ) (octets written : List ℕ) (w : Awaited) → Asks C.offers owner calls self.now past moment octets written w
             → result ≡ not (is_going owner.limits (line (history.Piece w.connection moment octets ∷ past) connection)) }
+        // while requests are parked
+        ensures stays { (s : Settings) (held : ℕ → Holding) (calls : List Call) (past : List history.Event) (waiting : ℕ → List Waiter) → Stays C.offers s held calls self.now past waiting → result ≡ not (is_going s.limits (line past connection)) }
     {
         match self.links.get(&connection) {
             Some(link) => link.is_closed(),

@@ -29,7 +29,7 @@ use ft_objects::Catalogue;
 impl<C: Catalogue + Drop> Engine<C> {
     ghost use Rattle.ft_orb.specs.Engines.{Awaited, IsOpen, asks_in, awaited_lent, waits_in};
     ghost use Rattle.ft_orb.specs.Parked.{own_waiters};
-    ghost use Rattle.ft_orb.specs.Parking.{AreParked, AsksLate, CanSettle, IsDueLate, RepliesLate, ResumesLate, Settings, Stays, by_number, parked_at, parked_count, parked_in, parked_of, places_of, places_of_one, put_at, left_in, told_in, waits_on};
+    ghost use Rattle.ft_orb.specs.Parking.{AreParked, AsksLate, CanSettle, IsDueLate, RepliesLate, ResumesLate, Settings, Stays, by_number, own_of, parked_at, parked_count, parked_in, parked_of, places_of, places_of_one, put_at, left_in, told_in, waits_on};
 
     /// How many requests are parked.
     pub fn parked_len(&self) -> usize
@@ -91,8 +91,11 @@ impl<C: Catalogue + Drop> Engine<C> {
     /// on. An error leaves it waiting.
     pub fn park(&mut self, number: u64) -> Result<(), ParkError>
         requires open { IsOpen number (waits_in self.old) }
-        ensures late { (s : Settings) (held : ℕ → Holding) (calls : List Call) (past : List history.Event) (waiting : ℕ → List Waiting) (moment : ℕ) (octets written : List ℕ) (w : Awaited) → AsksLate C.offers s held calls self.old past waiting moment octets written w
-            → OnOk result ((own : List Waiting) × ResumesLate C.offers s (put_at (length calls) (parked w.number) held) (calls ++ w.call ∷ []) past (put_at w.number own waiting) w.connection moment octets written Done self.new [] []) }
+        ensures late { (s : Settings) (held : ℕ → Holding) (calls : List Call) (past : List history.Event) (waiting : ℕ → List Waiting) (moment : ℕ) (octets written : List ℕ) (w : Awaited) → (a : AsksLate C.offers s held calls self.old past waiting moment octets written w)
+            → OnOk result (ResumesLate C.offers s (put_at (length calls) (parked w.number) held) (calls ++ w.call ∷ []) past (put_at w.number (own_of w.connection a.asks.question) waiting) w.connection moment octets written Done self.new [] []) }
+        // .. and where it is not parked it waits on
+        ensures kept { (s : Settings) (held : ℕ → Holding) (calls : List Call) (past : List history.Event) (waiting : ℕ → List Waiting) (moment : ℕ) (octets written : List ℕ) (w : Awaited) → AsksLate C.offers s held calls self.old past waiting moment octets written w
+            → OnErr result (AsksLate C.offers s held calls self.new past waiting moment octets written w) }
         ensures parked { OnOk result ((parked_in self.new number ≡ waits_in self.old) × (told_in self.new number ≡ None)) }
         ensures others { OnOk result ((q : ℕ) → (q == number) ≡ false → (parked_in self.new q ≡ parked_in self.old q) × (told_in self.new q ≡ told_in self.old q)) }
         ensures full { (result ≡ Err Full) ↔ (places_of self.old ≤ parked_count self.old) }
@@ -138,6 +141,7 @@ impl<C: Catalogue + Drop> Engine<C> {
     /// Takes the outcome of the request that is parked under this number, as `can_settle` tests: `due` and `reply` tell it
     /// to all who wait for it.
     pub fn settle(&mut self, number: u64, outcome: Outcome)
+        requires idle { waits_in self.old ≡ None }
         requires can { CanSettle (C.offers self.old.catalogue) (parked_at self.old number) (performed_in outcome) }
         ensures late { (s : Settings) (held : ℕ → Holding) (calls : List Call) (past : List history.Event) (waiting : ℕ → List Waiting) → Stays C.offers s held calls self.old past waiting → Stays C.offers s held calls self.new past waiting }
         ensures told { told_in self.new number ≡ Some (performed_in outcome) }
@@ -155,11 +159,14 @@ impl<C: Catalogue + Drop> Engine<C> {
     /// The connection on which the next reply is due for the request that is parked under this number, once it has its
     /// outcome. Where none is left the outcome is kept, if it is to be, and nothing is parked under the number any more.
     pub fn due(&mut self, number: u64) -> Option<u64>
+        requires idle { waits_in self.old ≡ None }
         ensures late { (s : Settings) (held : ℕ → Holding) (calls : List Call) (past : List history.Event) (waiting : ℕ → List Waiting) → Stays C.offers s held calls self.old past waiting
             → IsDueLate C.offers s held calls past waiting number (told_in self.old number) result self.new }
         ensures parked { IfSome result (λ c. AreParked self.old self.new) }
         ensures others { (q : ℕ) → (q == number) ≡ false → (parked_in self.new q ≡ parked_in self.old q) × (told_in self.new q ≡ told_in self.old q) }
         ensures left { IfSome result (λ c. IsSome (told_in self.new number) × (0 < left_in self.new number) × (left_in self.new number ≤ left_in self.old number)) }
+        ensures early { told_in self.old number ≡ None → (result ≡ None) × AreParked self.old self.new }
+        ensures done { IsSome (told_in self.old number) → result ≡ None → parked_in self.new number ≡ None }
         ensures waits { waits_in self.new ≡ waits_in self.old }
         ensures asks { asks_in self.new ≡ asks_in self.old }
         ensures catalogue { self.new.catalogue ≡ self.old.catalogue }
@@ -185,6 +192,7 @@ impl<C: Catalogue + Drop> Engine<C> {
     /// Appends the reply that is due on the connection that `due` gave for this number. Where an allocation fails the
     /// connection is lost.
     pub fn reply(&mut self, number: u64, out: &mut Vec<u8>) -> Result<(), ServeError>
+        requires idle { waits_in self.old ≡ None }
         ensures late { (s : Settings) (held : ℕ → Holding) (calls : List Call) (past : List history.Event) (waiting : ℕ → List Waiting) (outcome : Performed) (w : Waiting) (rest : List Waiting) → Stays C.offers s held calls self.old past waiting
             → told_in self.old number ≡ Some outcome → waiting number ≡ w ∷ rest → RepliesLate C.offers s held calls past waiting number outcome w rest result self.new out.old.items out.new.items }
         ensures parked { AreParked self.old self.new }

@@ -1,18 +1,23 @@
 //! What the program `giop` does, over any reader and writers: it shows the messages of a stream and how
 //! the stream ends, or its end alone; it shows an object reference; and it plays a script of events on a
-//! server of one counter and prints the octets that are written on each connection. And it serves the
-//! counter over TCP.
+//! server of one counter, or on an engine whose owner keeps one and may answer later, and prints the octets that are
+//! written on each connection. And it serves the counter over TCP.
 #![tactic(auto)]
 
 mod digits;
 mod hint;
+mod host;
 mod input;
+mod journal;
+mod owner;
 mod play;
 mod program;
 mod reference;
 mod script;
 mod service;
 mod setting;
+mod stepping;
+mod steps;
 mod stop;
 mod stream;
 mod watching;
@@ -23,8 +28,9 @@ pub use input::read_octets;
 pub use program::{Streams, run};
 pub use script::{ScriptError, read_script};
 pub use setting::{
-    CAPACITY, DONE, FAILED, Form, Input, LEAST_LIMIT, LIMIT, MOST_CONNECTIONS, MOST_LIMIT,
-    MOST_OUTCOMES, MOST_PARTIALS, Numbers, PARTIALS, REFUSED, START, Service, Task,
+    CAPACITY, DONE, EnginePlay, FAILED, Form, Input, JOINED, LEAST_LIMIT, LIMIT, MOST_CONNECTIONS,
+    MOST_LIMIT, MOST_OUTCOMES, MOST_PARTIALS, MOST_PLACES, Numbers, PARKED, PARTIALS, REFUSED,
+    START, Service, Task,
 };
 pub use stop::Stop;
 

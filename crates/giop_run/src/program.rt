@@ -5,14 +5,17 @@ ghost use Rattle.giop_run.specs.Services.{AreTermsOf, HasBadShare};
 ghost use Rattle.giop_run.specs.Settings.{AreInRange, HasFile, IsInRange};
 
 use crate::hint::{Hint, hint_of};
+use crate::host::Host;
 use crate::input::{read_input, read_octets};
 use crate::play::{Terms, play_events};
 use crate::reference::reference_lines;
 use crate::script::read_script;
-use crate::setting::{DONE, FAILED, Form, Input, Numbers, REFUSED, Task};
+use crate::setting::{DONE, EnginePlay, FAILED, Form, Input, Numbers, REFUSED, Task};
+use crate::stepping::print_play;
+use crate::steps::read_steps;
 use crate::stop::Stop;
 use crate::stream::{Detail, show_octets, show_stream};
-use ft_orb::{Event, Note, Written};
+use ft_orb::{Event, Note, Places, Written};
 use giop_frames::Limits;
 use ior_core::parse_text;
 use std::alloc::Global;
@@ -76,6 +79,29 @@ fn play_script<R: Read, W: Write>(
         return Err(Stop::Memory);
     }
     print_written(alloc, played.written.as_slice(), played.total, out)
+}
+
+/// Plays the script that a reader gives on an engine whose owner keeps the counter, and prints what comes of it.
+fn play_on_engine<R: Read, W: Write>(
+    alloc: Global,
+    terms: Terms,
+    play: &EnginePlay,
+    hasher: RandomState,
+    input: &mut R,
+    out: &mut W,
+) -> Result<(), Stop> {
+    let octets = read_input(alloc, input)?;
+    let Ok(script) = str::from_utf8(&octets) else {
+        return Err(Stop::Unreadable);
+    };
+    let lines = read_steps(alloc, script)?;
+    let places = Places {
+        parked: play.parked,
+        of_one: play.parked,
+        joined: play.joined,
+    };
+    let mut host = Host::new(alloc, terms, places, play.asks, hasher)?;
+    print_play(alloc, &mut host, &lines, out)
 }
 
 /// The share of each client, which is the capacity where none is given. None where it is 0 or greater than the
@@ -205,6 +231,20 @@ fn play_input<R: Read, W: Write, E: Write>(
     Ok(true)
 }
 
+/// Plays the script on standard input on an engine, unless the share is bad.
+fn play_input_on_engine<R: Read, W: Write, E: Write>(
+    alloc: Global,
+    play: &EnginePlay,
+    hasher: RandomState,
+    streams: &mut Streams<'_, R, W, E>,
+) -> Result<bool, Stop>
+    requires { AreInRange play.now.numbers }
+{
+    let terms = terms_of(play.numbers).ok_or(Stop::BadShare)?;
+    play_on_engine(alloc, terms, play, hasher, streams.input, streams.out)?;
+    Ok(true)
+}
+
 /// Does a task.
 fn perform<F: Files, R: Read, W: Write, E: Write>(
     alloc: Global,
@@ -217,6 +257,7 @@ fn perform<F: Files, R: Read, W: Write, E: Write>(
 {
     match task {
         Task::Play(numbers) => End::plain(play_input(alloc, *numbers, hasher, streams)),
+        Task::Engine(play) => End::plain(play_input_on_engine(alloc, play, hasher, streams)),
         Task::Ior(text) => End::plain(show_reference(alloc, *text, streams)),
         Task::Show(input) => show_input(alloc, rt, input, Detail::Messages, streams),
         Task::Check(input) => show_input(alloc, rt, input, Detail::EndAlone, streams),

@@ -18,13 +18,13 @@ pub enum ScriptError {
 
 /// Why a line gave no event: it is none, or an allocation failed.
 #[derive(Clone, Copy, Debug, PartialEq, Eq)]
-enum EventError {
+pub(crate) enum EventError {
     Bad,
     Memory,
 }
 
 /// A number in decimal digits alone.
-fn decimal(word: &str) -> Result<u64, EventError> {
+pub(crate) fn decimal(word: &str) -> Result<u64, EventError> {
     if !word.bytes().all(|b| b.is_ascii_digit()) {
         return Err(EventError::Bad);
     }
@@ -53,7 +53,7 @@ fn piece_in(alloc: Global, words: &str) -> Result<Event, EventError> {
 }
 
 /// The event in a line.
-fn event_in(alloc: Global, line: &str) -> Result<Event, EventError> {
+pub(crate) fn event_in(alloc: Global, line: &str) -> Result<Event, EventError> {
     let (word, words) = line.split_once(' ').ok_or(EventError::Bad)?;
     match word {
         "open" => Ok(Event::Opened(decimal(words)?)),

@@ -1,7 +1,7 @@
 //! What the program can be asked for.
 
 ghost use Rattle.std.specs.Prelude.{◌↔◌, IsTrue};
-ghost use Rattle.giop_run.specs.Settings.{AreInRange, HasFile, IsInRange, IsServable};
+ghost use Rattle.giop_run.specs.Settings.{AreInRange, HasFile, IsInRange, IsPlayable, IsServable};
 
 /// How many outcomes a server keeps at a time, where nothing else is asked for.
 pub const CAPACITY: u32 = 1_024;
@@ -26,6 +26,15 @@ pub const PARTIALS: u8 = 8;
 
 /// The most messages of a connection that may be allowed to be partial at a time; the least is 1.
 pub const MOST_PARTIALS: u8 = 16;
+
+/// How many requests of an engine may be parked at a time, where nothing else is asked for.
+pub const PARKED: u32 = 100;
+
+/// How many repeats may wait for the outcome of one that is parked, where nothing else is asked for.
+pub const JOINED: u32 = 10;
+
+/// The most of either that may be allowed; the least is 0.
+pub const MOST_PLACES: u32 = 65_536;
 
 /// The most connections that may be served, one after another; the least is 1.
 pub const MOST_CONNECTIONS: u32 = 1_000;
@@ -66,6 +75,28 @@ impl Numbers {
     }
 }
 
+/// A play on an engine.
+#[derive(Clone, Copy, Debug, PartialEq, Eq)]
+pub struct EnginePlay {
+    /// The numbers of the engine, and of the counter that its owner keeps.
+    pub numbers: Numbers,
+    /// How many requests may be parked at a time: at most 65,536.
+    pub parked: u32,
+    /// How many repeats may wait for the outcome of one that is parked, beside the first: at most 65,536.
+    pub joined: u32,
+    /// Whether a line is printed for each request that the engine asks for.
+    pub asks: bool,
+}
+
+impl EnginePlay {
+    /// Whether its numbers lie in their ranges.
+    pub fn is_in_range(&self) -> bool
+        ensures { IsTrue result ↔ IsPlayable self.now }
+    {
+        self.parked <= MOST_PLACES && self.joined <= MOST_PLACES && self.numbers.are_in_range()
+    }
+}
+
 /// How the octets of a stream are given.
 #[derive(Clone, Copy, Debug, PartialEq, Eq)]
 pub enum Form {
@@ -89,6 +120,8 @@ pub struct Input<'a> {
 pub enum Task<'a> {
     /// Play the script on standard input, on a server of one counter.
     Play(Numbers),
+    /// Play the script on standard input, on an engine whose owner keeps the counter.
+    Engine(EnginePlay),
     /// Show the messages of a stream.
     Show(Input<'a>),
     /// Tell how a stream ends.
@@ -104,6 +137,7 @@ impl Task<'_> {
     {
         match *self {
             Task::Play(numbers) => numbers.are_in_range(),
+            Task::Engine(play) => play.is_in_range(),
             Task::Show(_) | Task::Check(_) | Task::Ior(_) => true,
         }
     }
@@ -114,7 +148,7 @@ impl Task<'_> {
     {
         match self {
             Task::Show(input) | Task::Check(input) => input.file.is_some(),
-            Task::Play(_) | Task::Ior(_) => false,
+            Task::Play(_) | Task::Engine(_) | Task::Ior(_) => false,
         }
     }
 
@@ -122,7 +156,7 @@ impl Task<'_> {
     pub fn has_input(&self) -> bool {
         match self {
             Task::Show(input) | Task::Check(input) => input.file.is_none(),
-            Task::Play(_) => true,
+            Task::Play(_) | Task::Engine(_) => true,
             Task::Ior(text) => text.is_none(),
         }
     }

@@ -29,6 +29,9 @@ pub enum Stop {
     /// The line of the script with that number is no event.
     #[error("line {0}: bad event")]
     BadLine(u64),
+    /// Nothing is parked under the number in the line of the script with that number.
+    #[error("line {0}: not parked")]
+    NotParked(u64),
     /// The text is no reference.
     #[error("ior: {0}")]
     BadText(IorError),

@@ -1,8 +1,8 @@
 //! The texts of the program's help: what each subcommand is for, what goes in, what its lines mean, and an example.
 
 use giop_run::{
-    CAPACITY, LEAST_LIMIT, LIMIT, MOST_CONNECTIONS, MOST_LIMIT, MOST_OUTCOMES, MOST_PARTIALS,
-    PARTIALS, START,
+    CAPACITY, JOINED, LEAST_LIMIT, LIMIT, MOST_CONNECTIONS, MOST_LIMIT, MOST_OUTCOMES,
+    MOST_PARTIALS, MOST_PLACES, PARKED, PARTIALS, START,
 };
 use std::alloc::{AllocError, Global};
 
@@ -54,12 +54,18 @@ pub(crate) const JSON: &str = "Prints an object of JSON a line";
 
 pub(crate) const LOG: &str = "Writes a line for each request on standard error";
 
+pub(crate) const ENGINE: &str =
+    "Plays on an engine, which asks an owner that keeps the counter, and may answer later";
+
+pub(crate) const ASKS: &str = "Prints a line for each request that the engine asks for";
+
 pub(crate) const TEXT: &str = "IOR: and hexadecimal digits, or - for standard input [default: -]";
 
 /// What the help of `giop play` says after its options.
 pub(crate) const PLAY: &str =
     "Input: a line for each event, `open C`, `bytes C M HEX`, `close C` or `lost C`, where C is the number
-of a connection, M a moment in units of 100 ns, and HEX octets in hexadecimal digits.
+of a connection, M a moment in units of 100 ns, and HEX octets in hexadecimal digits. Numbers have decimal
+digits alone. Empty lines and lines that begin with # are left out.
 
 The server has one object, a counter with the object key `c` and the operations `add(in long n)`, which
 returns the new total, and `get()`, both of a long long.
@@ -74,6 +80,30 @@ Example: the request get() of GIOP 1.2, its reply, and the total
   $ giop play --start 5 < get.script
   1 47494f5001020001000000140000001400000000000000000000000000000005
   total 5
+
+With --engine the input may also have these lines:
+  park                      The next request that is asked for is parked, and not answered. Several add up
+  answer N                  The owner performs the call that is parked under number N as it answers now, and all who
+                            wait for it get a reply. Numbers count from 0 what is asked for, parked or not
+  owner performs            From here on the owner performs; so it does where no line says otherwise
+  owner gives_up            It gives requests up
+  owner system NAME MINOR   It answers a system exception, as TRANSIENT, with COMPLETED_MAYBE
+  owner mistypes            It hands in a result of another type, and the request is given up
+What is parked takes its place among the outcomes when it comes, and acts when it is answered. A connection that was
+lost or closed, or whose stream has ended, gets nothing. A request that is given up is not performed and its connection
+is lost, so it is asked for again when it comes again. What is parked stays so where the owner has no outcome for it.
+
+These lines are printed before what an event writes:
+  ask C KEY OPERATION       With --asks: a request on connection C is asked for
+  parked N C KEY OPERATION  It is parked, under number N
+  repeat C                  What is parked comes again: it waits too, or wants no reply, or is told TRANSIENT with
+                            COMPLETED_MAYBE, where as many wait as may, on connections that go on
+and these after it; C is lost, and K and H count requests and locates on C since the last of the lines above:
+  given_up C K              A request is given up; the K before it are answered
+  full C K                  The same, since no more may be parked
+  memory C H K              An allocation failed; of what the event brought H count, and K are answered
+For `answer N` there is `C HEX` for each reply, `memory C 0 0` where one can't be written, or
+  unanswered N              The owner has no outcome for it
 
 Exit status: 0 where the script is played, else 1";
 
@@ -159,6 +189,8 @@ pub(crate) struct Texts {
     pub(crate) start: String,
     pub(crate) limit: String,
     pub(crate) partials: String,
+    pub(crate) parked: String,
+    pub(crate) joined: String,
     pub(crate) port: String,
     pub(crate) connections: String,
     pub(crate) timeout: String,
@@ -203,6 +235,10 @@ impl Texts {
             "How many octets a message may have",
             "How many messages may be partial at a time on a connection",
         );
+        let (parked, joined) = (
+            "With --engine: how many requests may be parked at a time",
+            "With --engine: how many repeats may wait for the outcome of one, beside the first",
+        );
         let most_limit = u64::from(MOST_LIMIT);
         let (least_limit, limit) = (u64::from(LEAST_LIMIT), u64::from(LIMIT));
         let most_partials = u64::from(MOST_PARTIALS);
@@ -218,6 +254,8 @@ impl Texts {
             )?,
             limit: optional(alloc, octets, least_limit, most_limit, limit)?,
             partials: optional(alloc, messages, 1, most_partials, u64::from(PARTIALS))?,
+            parked: optional(alloc, parked, 0, u64::from(MOST_PLACES), u64::from(PARKED))?,
+            joined: optional(alloc, joined, 0, u64::from(MOST_PLACES), u64::from(JOINED))?,
             port: ranged(alloc, "The TCP port to listen on", 1, u64::from(u16::MAX))?,
             connections: ranged(
                 alloc,

@@ -2,6 +2,7 @@
 #![tactic(auto)]
 
 mod help;
+mod options;
 mod settings;
 mod tracing;
 

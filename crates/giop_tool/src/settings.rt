@@ -5,14 +5,15 @@ ghost use Rattle.giop_tool.specs.Settings.{IsMeant, IsOfWords};
 
 use crate::help;
 use crate::help::Texts;
+use crate::options::{flag, with_engine, with_number, with_numbers, with_required};
 use crate::tracing::Tracing;
 use clap::builder::ValueParser;
 use clap::error::ErrorKind;
 use clap::{Arg, ArgAction, ArgMatches, Command};
 use giop_lines::Format;
 use giop_run::{
-    CAPACITY, Form, Input, LEAST_LIMIT, LIMIT, MOST_CONNECTIONS, MOST_LIMIT, MOST_OUTCOMES,
-    MOST_PARTIALS, Numbers, PARTIALS, START, Service, Task,
+    CAPACITY, EnginePlay, Form, Input, JOINED, LIMIT, MOST_CONNECTIONS, Numbers, PARKED, PARTIALS,
+    START, Service, Task,
 };
 use giop_trace::Options;
 use std::alloc::{AllocError, Global};
@@ -52,91 +53,13 @@ pub(crate) enum SettingError {
     Memory,
 }
 
-/// An option without a value.
-fn flag<'a>(alloc: Global, name: &'a str, help: &'a str) -> Arg<'a> {
-    Arg::new(alloc, name)
-        .long(name)
-        .help(help)
-        .action(ArgAction::SetTrue)
-}
-
-/// An option that takes a number.
-fn number_option<'a>(
-    alloc: Global,
-    name: &'a str,
-    help: &'a str,
-    range: ValueParser<'a>,
-) -> Arg<'a> {
-    Arg::new(alloc, name)
-        .long(name)
-        .value_name("N")
-        .help(help)
-        .value_parser(range)
-        .action(ArgAction::Set)
-}
-
-/// With an option that takes a number.
-fn with_number<'a>(
-    alloc: Global,
-    command: Command<'a>,
-    name: &'a str,
-    help: &'a str,
-    range: ValueParser<'a>,
-) -> Result<Command<'a>, AllocError> {
-    command.arg(number_option(alloc, name, help, range))
-}
-
-/// The options for what a play keeps.
-fn with_log<'a>(
-    alloc: Global,
-    texts: &'a Texts,
-    command: Command<'a>,
-) -> Result<Command<'a>, AllocError> {
-    let outcomes = ValueParser::unsigned(1, u64::from(MOST_OUTCOMES));
-    let command = with_number(alloc, command, "capacity", &texts.capacity, outcomes)?;
-    let outcomes_each = ValueParser::unsigned(0, u64::from(u32::MAX));
-    with_number(alloc, command, "share", help::SHARE, outcomes_each)
-}
-
-/// The options for the limits of a connection.
-fn with_limits<'a>(
-    alloc: Global,
-    texts: &'a Texts,
-    command: Command<'a>,
-) -> Result<Command<'a>, AllocError> {
-    let octets = ValueParser::unsigned(u64::from(LEAST_LIMIT), u64::from(MOST_LIMIT));
-    let command = with_number(alloc, command, "limit", &texts.limit, octets)?;
-    let messages = ValueParser::unsigned(1, u64::from(MOST_PARTIALS));
-    with_number(alloc, command, "partials", &texts.partials, messages)
-}
-
-/// The option for the counter.
-fn with_start<'a>(
-    alloc: Global,
-    texts: &'a Texts,
-    command: Command<'a>,
-) -> Result<Command<'a>, AllocError> {
-    let totals = ValueParser::unsigned(0, i64::MAX as u64);
-    with_number(alloc, command, "start", &texts.start, totals)
-}
-
-/// The options for a server of one counter.
-fn with_numbers<'a>(
-    alloc: Global,
-    texts: &'a Texts,
-    command: Command<'a>,
-) -> Result<Command<'a>, AllocError> {
-    let command = with_log(alloc, texts, command)?;
-    let command = with_start(alloc, texts, command)?;
-    with_limits(alloc, texts, command)
-}
-
 /// `giop play`.
 fn play_command<'a>(alloc: Global, texts: &'a Texts) -> Result<Command<'a>, AllocError> {
     let command = Command::new(alloc, "play")
         .about(help::PLAYS)
         .after_help(help::PLAY);
-    with_numbers(alloc, texts, command)
+    let command = with_numbers(alloc, texts, command)?;
+    with_engine(alloc, texts, command)
 }
 
 /// A subcommand that reads a stream.
@@ -182,17 +105,6 @@ fn ior_command<'a>(alloc: Global) -> Result<Command<'a>, AllocError> {
         .about(help::IORS)
         .after_help(help::IOR)
         .arg(text)
-}
-
-/// With an option that takes a number and has to be there.
-fn with_required<'a>(
-    alloc: Global,
-    command: Command<'a>,
-    name: &'a str,
-    help: &'a str,
-    range: ValueParser<'a>,
-) -> Result<Command<'a>, AllocError> {
-    command.arg(number_option(alloc, name, help, range).required(true))
 }
 
 /// `giop serve`.
@@ -258,6 +170,20 @@ fn numbers_of(words: &ArgMatches) -> Numbers {
     }
 }
 
+/// The play that the words of `giop play` ask for.
+fn play_of<'a>(words: &ArgMatches) -> Task<'a> {
+    let numbers = numbers_of(words);
+    if !words.get_flag("engine") {
+        return Task::Play(numbers);
+    }
+    Task::Engine(EnginePlay {
+        numbers,
+        parked: words.get_one::<u32>("parked").unwrap_or(PARKED),
+        joined: words.get_one::<u32>("joined").unwrap_or(JOINED),
+        asks: words.get_flag("asks"),
+    })
+}
+
 /// The service that the words of `giop serve` ask for. A number that is not there is out of its range.
 fn service_of(words: &ArgMatches) -> Service {
     Service {
@@ -294,7 +220,7 @@ fn task_of<'a>(matches: &ArgMatches<'a>) -> Task<'a> {
         return Task::Check(input_of(words));
     }
     if let Some(words) = matches.subcommand_matches("play") {
-        return Task::Play(numbers_of(words));
+        return play_of(words);
     }
     match matches.subcommand_matches("ior") {
         Some(words) => Task::Ior(text_of(words)),

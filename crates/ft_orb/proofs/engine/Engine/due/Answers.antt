@@ -9,12 +9,14 @@ use Rattle.ft_orb.specs.declared.pausing.Pending.{Pending}
 use Rattle.ft_log.specs.Keys.{RequestKey}
 use Rattle.ft_log.specs.Performed.{Performed}
 use Rattle.ft_orb.specs.Pauses.{IsReadyFor}
+use Rattle.ft_orb.specs.Engines.{awaited_of}
 use Rattle.ft_orb.specs.Parking.{left_of, parked_at, told_of}
 use Rattle.ft_log.specs.declared.outcome.Outcome.{Outcome}
 use Rattle.std.specs.Option.{option_map}
 use Rattle.ft_orb.specs.Waits.{filled_with}
 use Rattle.ft_orb.proofs.Countings.{counted-written, few-written}
 use Rattle.ft_orb.proofs.Settling.{due-late, nobody-is, none-left, not-at, settled-due, settled-late, some-of, told-is}
+use Rattle.ft_orb.proofs.Unmoved.{parked-same}
 use Rattle.ft_orb.proofs.engine.Engine.due.Goals as goal
 use Rattle.ft_orb.proofs.engine.Engine.due.Goals.{in-Some-told, in_default-told}
 
@@ -91,3 +93,36 @@ invariant_of-self-in_default g c =
     let lot = c.args.self.now.parked in
     let was : parked_at c.args.self.now c.args.number ≡ Some c.in_ok-parked.parked.now = grind (arith, common_steps) in
     (few-written lot.requests (c.get_mut.follows.lender _) c.args.number _ (c.get_mut.follows.holds _) lot.few, (counted-written lot.requests (c.get_mut.follows.lender _) lot.counts c.args.number c.in_ok-parked.parked.now _ (c.get_mut.follows.holds _) was c.clear.ensures.0.0 lot.counted, tt))
+
+pub returns-then-is_none-clause-early : goal.returns-then-is_none-clause-early
+returns-then-is_none-clause-early g c none =
+    let n = c.args.number in
+    let p = c.in_ok-parked.parked.now in
+    let was : parked_at c.args.self.now n ≡ Some p = grind (arith, common_steps) in
+    let there : IsSome (get nat_cmp c.args.self.now.parked.requests n) = subst (λ (o : Option Parked). IsSome o) (sym was) refl in
+    let wrote = (c.get_mut.follows.holds _).3 there in
+    (refl, parked-same (get nat_cmp c.args.self.now.parked.requests) _ n p _ was wrote.1 refl refl (λ m apart. wrote.2 m (not-at n m apart)))
+
+pub returns-in-Some-clause-early : goal.returns-in-Some-clause-early
+returns-in-Some-clause-early g c none =
+    let n = c.args.number in
+    let p = c.in_ok-parked.parked.now in
+    let was : parked_at c.args.self.now n ≡ Some p = grind (arith, common_steps) in
+    let o = some-of p.outcome (c.is_none.ensures ∙ ap not c.if-is_none.false) in
+    absurd (let both = sym (told-is c.args.self.now n p o.0 was o.1) ∙ none in cc)
+
+pub returns-clause-early : goal.returns-clause-early
+returns-clause-early g c none =
+    let n = c.args.number in
+    let p = c.in_ok-parked.parked.now in
+    let was : parked_at c.args.self.now n ≡ Some p = grind (arith, common_steps) in
+    let o = some-of p.outcome (c.is_none.ensures ∙ ap not c.if-is_none.false) in
+    absurd (let both = sym (told-is c.args.self.now n p o.0 was o.1) ∙ none in cc)
+
+pub returns-clause-done : goal.returns-clause-done
+returns-clause-done g c told none =
+    let gone : option_map (λ (x : Parked). awaited_of x.pending) (get nat_cmp c.take.new.self.requests c.args.number) ≡ None = ap (λ (o : Option Parked). option_map (λ (x : Parked). awaited_of x.pending) o) c.take.ensures.gone in
+    elim c.match-told.branch [
+      | in-Some-told w ↦ rw w.self-is gone
+      | in_default-told w ↦ rw w.self-is gone
+    ]

@@ -1,5 +1,5 @@
-use Rattle.std.proofs.Common.{◌≡◌, ◌==◌, ◌↔◌, ℕ, ◌<◌, ◌≤◌, false, Some, Option, Result, Err, IfSome, refl, sym, ap, ◌∙◌, arith, subst}
-use Rattle.std.specs.BTreeMap.{get}
+use Rattle.std.proofs.Common.{◌≡◌, ◌==◌, ◌↔◌, ℕ, ◌<◌, ◌≤◌, ◌∷◌, ◌++◌, [], List, length, false, Some, Option, Result, Err, IfSome, refl, sym, ap, ◌∙◌, arith, subst}
+use Rattle.std.specs.BTreeMap.{get, is_at}
 use Rattle.std.specs.Option.{option_map}
 use Rattle.std.specs.Ordering.{nat_cmp}
 use Rattle.ft_log.specs.Holding.{parked}
@@ -7,6 +7,8 @@ use Rattle.ft_log.specs.Logged.{logged}
 use Rattle.ft_orb.specs.declared.engine.Engine.{Engine}
 use Rattle.ft_orb.specs.declared.error.ParkError.{ParkError}
 use Rattle.ft_orb.specs.declared.error.ParkError.TheVariants.{Share}
+use Rattle.ft_orb.specs.declared.events.Note.TheVariants.{Done}
+use Rattle.ft_orb.specs.declared.parked.Waiter.{Waiter}
 use Rattle.ft_orb.specs.declared.pausing.Pending.{Pending}
 use Rattle.ft_orb.specs.Engines.{Awaited, IsOpen, awaited_of, waits_in}
 use Rattle.ft_orb.specs.Parked.{own_waiters}
@@ -16,6 +18,9 @@ use Rattle.ft_orb.proofs.Countings.{own-short}
 use Rattle.ft_orb.proofs.Settling.{copy-kept, parks-late}
 use Rattle.ft_orb.proofs.Streams.{on_ok-not}
 use Rattle.ft_orb.proofs.Unmoved.{same-at}
+use Rattle.ft_orb.proofs.Unparked.{kept-late}
+use Rattle.std.specs.Map.{lookup}
+use Rattle.ft_orb.specs.declared.parked.Parked.{Parked}
 use Rattle.ft_orb.proofs.Owning.{idle-by}
 use Rattle.ft_orb.proofs.engine.Engine.park.Goals as goal
 
@@ -26,11 +31,9 @@ returns-clause-late g c s held calls past waiting moment octets written w a =
     let first : c.in-Some.pending ≡ x = (let both : Some c.in-Some.pending ≡ Some x = sym c.in-Some.is ∙ was in cc) in
     let number : w.number ≡ c.args.number = subst (λ o. IsOpen c.args.number o) a.asks.waits c.requires.open in
     let put = on_ok-not c.put.result (λ e is. c.in_default-put.not-Err e is) c.put.ensures.put in
-    let kept = c.keep_parked.ensures.kept ∙ copy-kept x.waiting.retained c.in-Ok.own (parked c.args.number) (logged c.args.self.now.keeper.log).entries (rw first at c.in-Ok.ensures) in (
-      own_waiters x,
-      parks-late g.C.Catalogue.offers s c.streams_are_heard.ensures.stays held calls c.args.self.now _ past waiting moment octets written w x a was refl refl _ (ap (get nat_cmp c.put.new.self.requests) number ∙ put.0) (λ q n. put.1 q (subst (λ (k : ℕ). (q == k) ≡ false) number n)) refl (c.in-Ok-own_waiter.ensures ∙ ap own_waiters first)
-          refl (idle-by c.take.ensures.after) (record { limits = refl; capacity = c.keep_parked.ensures.capacity; share = c.keep_parked.ensures.share; greatest = refl; others = λ q n. refl }) c.keep_parked.ensures.clock refl (kept ∙ ap (λ (n : ℕ). kept_with x.waiting.retained (parked n) (logged c.args.self.now.keeper.log).entries) (sym number)),
-    )
+    let kept = c.keep_parked.ensures.kept ∙ copy-kept x.waiting.retained c.in-Ok.own (parked c.args.number) (logged c.args.self.now.keeper.log).entries (rw first at c.in-Ok.ensures) in
+    parks-late g.C.Catalogue.offers s c.streams_are_heard.ensures.stays held calls c.args.self.now _ past waiting moment octets written w x a was refl refl _ (ap (get nat_cmp c.put.new.self.requests) number ∙ put.0) (λ q n. put.1 q (subst (λ (k : ℕ). (q == k) ≡ false) number n)) refl (c.in-Ok-own_waiter.ensures ∙ ap own_waiters first)
+    refl (idle-by c.take.ensures.after) (record { limits = refl; capacity = c.keep_parked.ensures.capacity; share = c.keep_parked.ensures.share; greatest = refl; others = λ q n. refl }) c.keep_parked.ensures.clock refl (kept ∙ ap (λ (n : ℕ). kept_with x.waiting.retained (parked n) (logged c.args.self.now.keeper.log).entries) (sym number))
 
 pub returns-clause-others : goal.returns-clause-others
 returns-clause-others g c q apart =
@@ -59,3 +62,23 @@ returns-clause-share g c =
     let count = c.count_of.ensures in
     let room = c.if-count_of-self.false in
     within-share c.args.self.now c.in-Some.pending _ c.in-Some.is (omega (arith, count, room)) (λ is. cc)
+
+pub returns-in-Err-clause-kept : goal.returns-in-Err-clause-kept
+returns-in-Err-clause-kept g c s held calls past waiting moment octets written w a =
+    let x = c.in-Some-take.pending in
+    let was : c.args.self.now.pending ≡ Some x = sym c.take.ensures.value ∙ c.in-Some-take.is in
+    let same : Some c.in-Err.parked.pending ≡ c.args.self.now.pending = ap (λ (p : Parked). Some p.pending) c.in-Err.ensures.back ∙ sym was in
+    let parks : (q : ℕ) → get nat_cmp c.put.new.self.requests q ≡ get nat_cmp c.args.self.now.parked.requests q = λ q. ap (λ (es : List (ℕ × Parked)). lookup (is_at (nat_cmp q)) es) c.in-Err.ensures.err in
+    kept-late g.C.Catalogue.offers s held calls c.args.self.now past waiting moment octets written w a _ refl refl refl refl refl same refl refl parks
+
+pub returns-then-count_of-self-clause-kept : goal.returns-then-count_of-self-clause-kept
+returns-then-count_of-self-clause-kept g c s held calls past waiting moment octets written w a =
+    kept-late g.C.Catalogue.offers s held calls c.args.self.now past waiting moment octets written w a _ refl refl refl refl refl refl refl refl (λ q. refl)
+
+pub returns-in_default-copy_of-clause-kept : goal.returns-in_default-copy_of-clause-kept
+returns-in_default-copy_of-clause-kept g c s held calls past waiting moment octets written w a =
+    kept-late g.C.Catalogue.offers s held calls c.args.self.now past waiting moment octets written w a _ refl refl refl refl refl refl refl refl (λ q. refl)
+
+pub returns-in_default-own_waiter-clause-kept : goal.returns-in_default-own_waiter-clause-kept
+returns-in_default-own_waiter-clause-kept g c s held calls past waiting moment octets written w a =
+    kept-late g.C.Catalogue.offers s held calls c.args.self.now past waiting moment octets written w a _ refl refl refl refl refl refl refl refl (λ q. refl)

@@ -1,0 +1,52 @@
+//! What an engine asked for, in lines.
+
+use ft_orb::Asked;
+use giop_text::text_of;
+use std::alloc::{AllocError, Global};
+
+/// The lines of what was asked for and not yet printed. Where an allocation fails for a line, nothing of it is here.
+#[derive(Drop)]
+pub(crate) struct Journal {
+    pub(crate) alloc: Global,
+    /// Whether each request that is asked for has a line.
+    pub(crate) has_asks: bool,
+    pub(crate) lines: Vec<u8>,
+}
+
+impl Journal {
+    /// Without lines.
+    pub(crate) fn new(alloc: Global, has_asks: bool) -> Journal {
+        Journal {
+            alloc,
+            has_asks,
+            lines: Vec::new(alloc),
+        }
+    }
+
+    /// A request that is asked for.
+    pub(crate) fn put_asked(&mut self, asked: &Asked<'_>) -> Result<(), AllocError> {
+        if !self.has_asks {
+            return Ok(());
+        }
+        let connection = asked.connection;
+        let key = text_of(self.alloc, asked.object_key)?;
+        let operation = text_of(self.alloc, asked.operation)?;
+        let line = format!(in self.alloc; "ask {connection} {key} {operation}\n")?;
+        self.lines.extend_from_slice(line.as_bytes())
+    }
+
+    /// A request that is to be parked.
+    pub(crate) fn put_parked(&mut self, asked: &Asked<'_>) -> Result<(), AllocError> {
+        let (number, connection) = (asked.number, asked.connection);
+        let key = text_of(self.alloc, asked.object_key)?;
+        let operation = text_of(self.alloc, asked.operation)?;
+        let line = format!(in self.alloc; "parked {number} {connection} {key} {operation}\n")?;
+        self.lines.extend_from_slice(line.as_bytes())
+    }
+
+    /// A repeat of a request that is parked.
+    pub(crate) fn put_repeat(&mut self, connection: u64) -> Result<(), AllocError> {
+        let line = format!(in self.alloc; "repeat {connection}\n")?;
+        self.lines.extend_from_slice(line.as_bytes())
+    }
+}
