@@ -20,6 +20,7 @@ import unittest
 
 from tests import base, cases, giop, rows
 from tests import engine as model
+from tests import engine_model
 from tests.cdr import Octets
 from tests.programs import ROOT, library
 
@@ -379,14 +380,14 @@ class Messages(Case):
         """What a stream of requests and locates says up to its end, and what it is read as."""
         wanted = []
         for octets, said in frames:
-            if said in (model.CLOSE, model.ERROR) or terms.limit < len(octets):
+            if said in (engine_model.CLOSE, engine_model.ERROR) or terms.limit < len(octets):
                 break
-            if isinstance(said, model.Asked):
+            if isinstance(said, engine_model.Asked):
                 ft = said.field if isinstance(said.field, tuple) else None
                 ft = ft and lr.FtRequest(*ft, said.call.expiration)
                 wanted.append((int(said.version[2]), said.request_id, said.wish, said.call.key,
                                said.call.operation.decode(), ft))
-            if isinstance(said, model.Sought):
+            if isinstance(said, engine_model.Sought):
                 wanted.append((int(said.version[2]), said.request_id, None, said.key.encode(), None, None))
         found = []
         try:
@@ -972,10 +973,10 @@ class Scripts(Case):
         streams, events = model.played(steps)
         for some in (events, list(model.in_pieces(Dice(seed), events))):
             # how many requests came before one that was given up is not told here
-            wanted = [re.sub(r"^(given_up \d+) \d+$", r"\1", line) for line in model.lines_of(terms, streams, some)]
+            wanted = [re.sub(r"^(given_up \d+) \d+$", r"\1", line) for line in engine_model.lines_of(terms, streams, some)]
             got = Player(terms, Dice(seed)).play(some)
             if got != wanted:
-                return "\n".join([str(terms), *map(model.line_of, some), "wanted:", *wanted, "got:", *got])
+                return "\n".join([str(terms), *map(engine_model.line_of, some), "wanted:", *wanted, "got:", *got])
         return None
 
     @base.each_seed(SEED, SCRIPTS)
