@@ -17,7 +17,7 @@ use Rattle.ft_orb.specs.Outputs.{Made}
 use Rattle.ft_orb.specs.Requests.{Call, Wanted, rules_of}
 use Rattle.ft_orb.specs.Seen.{TablesAreSeen, seen_answer, seen_entry, seen_rules, seen_table}
 use Rattle.ft_orb.specs.Standing.{Shown, StandsBy}
-use Rattle.ft_orb.specs.Table.{AreAlike, Table, forgotten, keyed_step, performing_step, step_by_field, table_after, table_answers, table_step}
+use Rattle.ft_orb.specs.Table.{Table, forgotten, keyed_step, performing_step, step_by_field, table_after, table_answers, table_step}
 use Rattle.ft_orb.specs.Tellings.{Later, Teller, Telling, answer_told, answers_told, held_told, nothing_yet, octets_told, rendered}
 use Rattle.std.specs.List.{flat_map}
 use Rattle.ft_orb.specs.Now.{answers_now_after}
@@ -118,10 +118,6 @@ module _ {O P : Type 0} (see : O → P) where
   seen-found key (e ∷ es) =
       ap (λ (o : Option P). cond (same_key key e.key) (Some (see e.outcome)) o) (seen-found key es)
       ∙ (elim (same_key key e.key) as (λ (b : Bool). cond b (Some (see e.outcome)) (option_map see (kept_for key es)) ≡ option_map see (cond b (Some e.outcome) (kept_for key es))) [ true ↦ refl | false ↦ refl ])
-
-  -- what is alike is seen alike
-  pub alike-seen : {S : Type 0} (clock : ℕ) (t u : Table S O) → AreAlike clock t u → AreAlike clock (seen_table see t) (seen_table see u)
-  alike-seen clock t u h = record { state = h.state; entries = seen-unexpired clock t.entries ∙ ap (λ (es : List (KeptOutcome O)). map (seen_entry see) es) h.entries ∙ sym (seen-unexpired clock u.entries) }
 
   module _ {S C K : Type 0} (rules : Rules S C K O) where
     abbrev Seen : Rules S C K P

@@ -75,7 +75,7 @@ there-longer x Gone h = absurd cc
 there-longer x Shut h = refl
 there-longer x (Up s) h = refl
 
-there-still : (past : List Event) (c moment : ℕ) (x : List ℕ) → is_gone (line past c) ≡ false → is_gone (line (Piece c moment x ∷ past) c) ≡ false
+pub there-still : (past : List Event) (c moment : ℕ) (x : List ℕ) → is_gone (line past c) ≡ false → is_gone (line (Piece c moment x ∷ past) c) ≡ false
 there-still past c moment x h = subst (λ (l : Line). is_gone l ≡ false) (sym (same-by c (longer x (line past c)) (line past c))) (there-longer x (line past c) h)
 
 -- what comes on a connection that is there is not refused

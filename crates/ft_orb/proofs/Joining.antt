@@ -53,7 +53,7 @@ calm-going limits (Up s) x h = calm-by (ending limits s) (ending limits (s ++ x)
     calm-by (Some e) None h = refl
     calm-by was (Some e) h = absurd cc
 
-needs-going : (limits : Limits) (past : List Event) (c moment : ℕ) (octets : List ℕ) → needs_memory limits past (Piece c moment octets) ≡ true → (0 < length octets) × (is_going limits (line past c) ≡ true)
+pub needs-going : (limits : Limits) (past : List Event) (c moment : ℕ) (octets : List ℕ) → needs_memory limits past (Piece c moment octets) ≡ true → (0 < length octets) × (is_going limits (line past c) ≡ true)
 needs-going limits past c moment [] h = absurd cc
 needs-going limits past c moment (x ∷ xs) h = (omega arith, h)
 
@@ -336,7 +336,7 @@ module _ (limits : Limits) (past : List Event) (c moment : ℕ) (piece : List �
     abbrev Further : ℕ → ℕ
     Further n = count_to limits After c moment (drop j piece) n
 
-    count-more : (n : ℕ) → Counted (j + n) ≡ Counted j + Further n
+    pub count-more : (n : ℕ) → Counted (j + n) ≡ Counted j + Further n
     count-more n =
         ap (λ (l : List ℕ). length (completed limits past (Piece c moment l))) (take-add j n piece)
         ∙ ap (λ (l : List (Arrival Wanted)). length l) (completed-cut limits past c moment (take j piece) (take n (drop j piece)) grow)
@@ -355,7 +355,7 @@ module _ (limits : Limits) (past : List Event) (c moment : ℕ) (piece : List �
               omega (arith, few, all, at, both)
         ]) refl
 
-  up-brings : (now : ℕ) (l : Line) (xs : List ℕ) → 0 < length (arrivals_on limits c now l xs) → (s : List ℕ) × (l ≡ Up s)
+  pub up-brings : (now : ℕ) (l : Line) (xs : List ℕ) → 0 < length (arrivals_on limits c now l xs) → (s : List ℕ) × (l ≡ Up s)
   up-brings now Gone xs some = absurd (omega (arith, some))
   up-brings now Shut xs some = absurd (omega (arith, some))
   up-brings now (Up s) xs some = (s, refl)

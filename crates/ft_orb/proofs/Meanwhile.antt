@@ -21,15 +21,13 @@ use Rattle.ft_orb.specs.declared.desk.Step.TheVariants.{Answered, Quiet, Unanswe
 use Rattle.ft_orb.specs.declared.engine.Engine.{Engine}
 use Rattle.ft_orb.specs.declared.events.Note.{Note}
 use Rattle.ft_orb.specs.declared.events.Note.TheVariants.{Done, Memory, Refused}
-use Rattle.ft_orb.specs.declared.parked.Parked.{Parked}
 use Rattle.ft_orb.specs.declared.parked.Waiter.{Waiter}
 use Rattle.ft_orb.specs.Engines.{AsksOf, Awaited, EndsOf, IsThenOf, RestsOf, ResumesOf, as_server, asks_in, waits_in}
 use Rattle.ft_orb.specs.ExactlyOnce.{Arrival}
 use Rattle.ft_orb.specs.History.{Close, Event, Gone, Line, Lost, Opened, Piece, Shut, Up, arrivals, counted, does_count, line, shut}
 use Rattle.ft_orb.specs.Outputs.{close_told, close_told_on, is_going, is_gone}
 use Rattle.ft_orb.specs.Owners.{OwnerOf, owned_rules, owned_table}
-use Rattle.ft_orb.specs.Parked.{on_going}
-use Rattle.ft_orb.specs.Parking.{AsksLate, EndsLate, Parks, ResumesLate, Settings, Stays, goes_on, numbering, parked_at, put_at, still, was_opened}
+use Rattle.ft_orb.specs.Parking.{AsksLate, EndsLate, ResumesLate, Settings, Stays, numbering, put_at, still}
 use Rattle.ft_orb.specs.Private.{IsPut}
 use Rattle.ft_orb.specs.Requests.{Call, Wanted}
 use Rattle.ft_orb.specs.Seen.{seen_entry}
@@ -38,7 +36,7 @@ use Rattle.ft_orb.specs.Table.{table_after}
 use Rattle.ft_orb.specs.Tellings.{Later, nothing_yet, octets_told}
 use Rattle.ft_orb.proofs.Streams.{closed-is}
 use Rattle.ft_orb.proofs.GoesOn.{not-not}
-use Rattle.ft_orb.proofs.Late.{Tally, asks-known, ends-late, parks-later, parks-more, parks-put, put-else, put-same, tally-is}
+use Rattle.ft_orb.proofs.Late.{Tally, asks-known, ends-late, parks-later, parks-more, put-else, tally-is}
 
 -- A connection is lost.
 pub rests-lost : {C Outcome : Type 0} (offers : C → Offer) (o : OwnerOf Outcome) (calls : List Call) (old new : Engine C) (past : List Event) (c : ℕ) → RestsOf offers o calls old past → new.catalogue ≡ old.catalogue → waits_in new ≡ waits_in old → IsSameBut c (as_server old calls) (as_server new calls)
@@ -109,17 +107,6 @@ pub lost-late : {C : Type 0} (offers : C → Offer) (s : Settings) → EndingsSt
     → RestsOf offers (numbering s nothing_yet held) calls new (Lost c ∷ past) → new.parked ≡ old.parked → new.places ≡ old.places → asks_in new ≡ asks_in old → Stays offers s held calls new (Lost c ∷ past) (still s.limits (Lost c ∷ past) waiting)
 lost-late offers s stay held calls old new past waiting c h rests parks places asks =
     record { rests = rests; parks = parks-later s stay held calls old new past (Lost c) Done (asks_in old) (asks_in new) waiting (tally-is offers s nothing_yet held calls old past h.rests) h.parks places (omega (arith, asks)) parks }
-
--- the outcome of one that is parked came
-pub settles-late : {C : Type 0} (offers : C → Offer) (s : Settings) (held : ℕ → Holding) (calls : List Call) (old new : Engine C) (past : List Event) (waiting : ℕ → List Waiter) (h : Stays offers s held calls old past waiting) (n : ℕ) (p r : Parked) → parked_at old n ≡ Some p → parked_at new n ≡ Some r
-    → r.pending ≡ p.pending → r.waiters ≡ p.waiters → RestsOf offers (numbering s nothing_yet held) calls new past → new.places ≡ old.places → asks_in new ≡ asks_in old → ((m : ℕ) → (m == n) ≡ false → parked_at new m ≡ parked_at old m) → Stays offers s held calls new past waiting
-settles-late offers s held calls old new past waiting h n p r was is same list rests places asks others =
-    record {
-      rests = rests;
-      parks = subst (λ (k : ℕ). Parks s held calls new past k waiting) (sym asks)
-          (subst (λ (f : ℕ → List Waiter). Parks s held calls new past (asks_in old) f) (put-same offers s n waiting)
-          (parks-put offers s held calls old new past (asks_in old) waiting h.parks places n p r (waiting n) was is others same (ap (λ l. on_going (goes_on s.limits past) l.items) list ∙ h.parks.lists n p was) (ap (λ l. list_all (was_opened past) l.items) list ∙ h.parks.opened n p was)));
-    }
 
 -- An opening or a close, in which nothing was parked.
 pub then-late : {C : Type 0} (offers : C → Offer) (s : Settings) → EndingsStay meaning_in → (held : ℕ → Holding) (calls : List Call) (old new : Engine C) (past : List Event) (waiting : ℕ → List Waiter) (e : Event) (note : Note) (before out : List ℕ) → Stays offers s held calls old past waiting

@@ -50,7 +50,7 @@ use Rattle.ft_orb.proofs.Headline.{event-clocks, event_once_by, one-front, past_
 use Rattle.ft_orb.proofs.Images.{at-first}
 use Rattle.ft_orb.proofs.Law.{run_stands}
 use Rattle.ft_orb.proofs.Pieces.{alike-then, apart-by, fed-err, fed-ok, same-by}
-use Rattle.ft_orb.proofs.Stopping.{reach-breaks, reach-goes, reach-left, reach-parks, repeat-breaks, repeat-goes, repeat-left}
+use Rattle.ft_orb.proofs.Stopping.{reach-breaks, reach-goes, reach-left, reach-parks, repeat-goes, repeat-left}
 use Rattle.ft_log.specs.Holding.{Holding, known, parked}
 use Rattle.ft_orb.specs.Seen.{seen_answer, seen_rules, seen_table}
 use Rattle.ft_orb.proofs.Books.{book_by, rendered-seen, step-seen, tables-are-seen}
@@ -382,17 +382,6 @@ module _ {C Outcome : Type 0} (offers : C → Offer) (owner : OwnerOf Outcome) w
         (repeat-goes owner.offer (voice_of owner) (logged old.keeper.log).capacity (logged old.keeper.log).share owner.limits c now t s out Taken place n link calls (logged new.keeper.log).entries mid grown r step
         (x.0, x.1, subst (λ (l : List ℕ). Joined owner.offer (voice_of owner) (logged old.keeper.log).capacity (logged old.keeper.log).share owner.limits c now t s l link calls (logged new.keeper.log).entries x.0 place.handled r) (sym (take_all place.taken Taken (omega (arith, size)))) x.2)
         put by)))
-
-    -- .. or not, and the connection is lost
-    pub turns-cut : (grown : List ℕ) (step : Step) (cut : Cut) → get nat_cmp new.links c ≡ None
-        → ((q : Question) → r.asker ≡ asker_of q → IsPut (octets_if (owner.late (asking c q) r.number)) step mid grown) → counted_by place.handled step ≡ Err cut
-        → EndsOf offers owner calls past (Piece c moment piece) (Memory cut.handled cut.answered) new out grown
-    turns-cut grown step cut gone put by =
-        rests-ends calls past (Piece c moment piece) (Memory cut.handled cut.answered) new out grown are idle
-        (fed-err (book_by owner) (as_server old calls) (as_server new calls) past c moment piece now out grown was cut h.stands same at then-at stood gone live (omega (arith, some, within))
-        (λ s t st al.
-        repeat-breaks owner.offer (voice_of owner) (logged old.keeper.log).capacity (logged old.keeper.log).share owner.limits c now t s out piece grow place cut link calls (logged new.keeper.log).entries mid grown r step within
-        (reaches (voice_of owner) s t st al) put by))
 
     -- or nothing was done for it
     pub turns-left : get nat_cmp new.links c ≡ None → EndsOf offers owner calls past (Piece c moment piece) (Memory place.handled place.handled) new out mid

@@ -38,7 +38,7 @@ use Rattle.ft_orb.specs.Seen.{seen_entry}
 use Rattle.ft_orb.specs.Standing.{IsFor, IsSameBut, held_in}
 use Rattle.ft_orb.specs.Table.{Table, table_after, table_step}
 use Rattle.ft_orb.specs.Tellings.{nothing_yet, reply_by}
-use Rattle.ft_orb.specs.Waits.{IsReady, call_of, field_with, filled_with, kept_with}
+use Rattle.ft_orb.specs.Waits.{call_of, field_with, filled_with, kept_with}
 use Rattle.ft_orb.proofs.Folded.{same_key-self, table_after-append, table_after-push}
 use Rattle.ft_orb.proofs.Numbers.{AreBelow, after-below, later-keyed, step-keyed}
 use Rattle.ft_orb.proofs.Owning.{Brings, brings-of, kept-as, parked-done}
@@ -55,13 +55,6 @@ copy-kept None None h es is = refl
 copy-kept None (Some c) h es is = absurd is
 copy-kept (Some r) None h es is = absurd is
 copy-kept (Some r) (Some c) h es is = λ i. es ++ record { key = is.0 i; expiration = is.1 i; outcome = h } ∷ []
-
--- .. and room is made for it
-pub copy-ready : (r copy : Option Retained) (room : Option RequestKey) → IsCopy r copy → IsReady r room → IsReady copy room
-copy-ready None None room is ready = ready
-copy-ready None (Some c) room is ready = absurd is
-copy-ready (Some r) None room is ready = absurd is
-copy-ready (Some r) (Some c) room is ready = ready ∙ ap (λ (k : RequestKey). Some k) (sym is.0)
 
 key-of-field : (r : Option Retained) (key : RequestKey) (x : ℕ) → field_with r ≡ Present key x → key_kept r ≡ Some key
 key-of-field None key x h = absurd cc
@@ -197,10 +190,6 @@ module _ {C : Type 0} (offers : C → Offer) (s : Settings) where
         let same : x ≡ a.asks.pending = (let both : Some x ≡ Some a.asks.pending = sym was ∙ a.asks.keeps.waits in cc) in
         let first : own_waiters x ≡ own_of w.connection a.asks.question = own-is x w.connection a.asks.question (ap (λ (p : Pending). p.connection) same ∙ ap (λ (v : Awaited). v.connection) a.asks.is) (ap (λ (p : Pending). p.waiting.asker) same ∙ a.asks.asker) in
         subst (λ (l : List Waiter). ResumesLate offers s Learnt (calls ++ w.call ∷ []) past (put_at w.number l waiting) w.connection moment octets written Done new [] []) first (record { resumes = resumes; stays = record { rests = resumes.rests; parks = parks-own } })
-
--- apart, the other way round
-pub other-way : (q n m : ℕ) → n ≡ m → (q == n) ≡ false → (m == q) ≡ false
-other-way q n m same apart = ne_eqb m q (λ is. eqb-false q n apart (sym is ∙ sym same))
 
 -- The log once the outcome of a call is there.
 
@@ -356,7 +345,7 @@ module _ {C : Type 0} (offers : C → Offer) (s : Settings) (held : ℕ → Hold
             subst (λ (t : Option Performed). IsDueLate offers s held calls past waiting n t (Some f.connection) new) (sym told)
             (cleared-late is, w, on_going (goes_on s.limits past) tail, first-is w tail items, ap (λ (x : Waiter). x.connection) (sym at))
 
-  first-by : (q : Parked) → IsCleared (going_in old.links) p q → (f : Waiter) (tail : List Waiter) → q.waiters.items ≡ f ∷ tail → waiting n ≡ f ∷ on_going (goes_on s.limits past) tail
+  pub first-by : (q : Parked) → IsCleared (going_in old.links) p q → (f : Waiter) (tail : List Waiter) → q.waiters.items ≡ f ∷ tail → waiting n ≡ f ∷ on_going (goes_on s.limits past) tail
   first-by q cleared f tail items =
       let go : going_in old.links ≡ goes_on s.limits past = links-go offers s nothing_yet held calls old past h.rests in
       let list : on_going (goes_on s.limits past) q.waiters.items ≡ waiting n = subst (λ (g : ℕ → Bool). on_going g q.waiters.items ≡ on_going g p.waiters.items) go cleared.1 ∙ h.parks.lists n p was in

@@ -1,9 +1,9 @@
 -- A request that was not parked waits on.
-use Rattle.std.proofs.Common.{◌≡◌, ◌==◌, ℕ, ◌<◌, List, length, Option, Some, None, IsSome, refl, sym, ap, subst, ◌∙◌}
+use Rattle.std.proofs.Common.{◌≡◌, ℕ, ◌<◌, List, Option, IsSome, sym, ap, subst, ◌∙◌}
 use Rattle.std.specs.Option.{option_map}
 use Rattle.std.specs.Ordering.{nat_cmp}
-use Rattle.std.specs.BTreeMap.{BTreeMap, get}
-use Rattle.giop_link.specs.Linking.{LinkStands, Linked}
+use Rattle.std.specs.BTreeMap.{get}
+use Rattle.giop_link.specs.Linking.{LinkStands}
 use Rattle.ft_log.specs.Holding.{Holding}
 use Rattle.ft_log.specs.Logged.{logged}
 use Rattle.ft_objects.specs.Catalogues.{Offer}
@@ -12,9 +12,9 @@ use Rattle.ft_orb.specs.declared.keeper.Keeper.{Keeper}
 use Rattle.ft_orb.specs.declared.parked.Parked.{Parked}
 use Rattle.ft_orb.specs.declared.parked.Waiter.{Waiter}
 use Rattle.ft_orb.specs.declared.pausing.Pending.{Pending}
-use Rattle.ft_orb.specs.Engines.{AsksOf, Awaited, KeepsOf, as_server, asks_in, awaited_of, waits_in}
+use Rattle.ft_orb.specs.Engines.{AsksOf, Awaited, KeepsOf, as_server, asks_in, awaited_of}
 use Rattle.ft_orb.specs.History.{Event}
-use Rattle.ft_orb.specs.Owners.{OwnerOf, Voice}
+use Rattle.ft_orb.specs.Owners.{Voice}
 use Rattle.ft_orb.specs.Parking.{AsksLate, Settings, by_number, parked_at}
 use Rattle.ft_orb.specs.Pauses.{Paused}
 use Rattle.ft_orb.specs.Requests.{Call}

@@ -100,6 +100,8 @@ impl<C: Catalogue + Drop> Engine<C> {
             → result ≡ not (is_going owner.limits (line (history.Piece w.connection moment octets ∷ past) connection)) }
         // while requests are parked
         ensures stays { (s : Settings) (held : ℕ → Holding) (calls : List Call) (past : List history.Event) (waiting : ℕ → List Waiter) → Stays C.offers s held calls self.now past waiting → result ≡ not (is_going s.limits (line past connection)) }
+        ensures late { (s : Settings) (held : ℕ → Holding) (calls : List Call) (past : List history.Event) (waiting : ℕ → List Waiter) (moment : ℕ) (octets written : List ℕ) (w : Awaited) → AsksLate C.offers s held calls self.now past waiting moment octets written w
+            → result ≡ not (is_going s.limits (line (history.Piece w.connection moment octets ∷ past) connection)) }
     {
         match self.links.get(&connection) {
             Some(link) => link.is_closed(),

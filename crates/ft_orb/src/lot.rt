@@ -1,6 +1,6 @@
 //! The requests that are parked, and how many of them came on each connection.
 
-ghost use Rattle.std.specs.Prelude.{◌≡◌, ◌==◌, ◌+◌, ◌-◌, ◌<◌, ◌^◌, ℕ, false, if◌then◌else◌, IfErr, OnErr, OnOk, None, Some};
+ghost use Rattle.std.specs.Prelude.{[], ◌≡◌, ◌==◌, ◌+◌, ◌-◌, ◌<◌, ◌^◌, ℕ, false, if◌then◌else◌, IfErr, OnErr, OnOk, None, Some};
 ghost use Rattle.std.specs.BTreeMap.{btree_map_len, get};
 ghost use Rattle.std.specs.Map.{count_at};
 ghost use Rattle.std.specs.Ordering.{nat_cmp};
@@ -59,7 +59,7 @@ fn count_down(counts: &mut BTreeMap<u64, u32>, connection: u64)
 impl Lot {
     /// Nothing is parked.
     pub(crate) fn new(alloc: Global) -> Lot
-        ensures { (q : ℕ) → get nat_cmp result.requests q ≡ None }
+        ensures { result.requests.entries ≡ [] }
     {
         Lot {
             requests: BTreeMap::new(alloc),

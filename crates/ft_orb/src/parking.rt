@@ -1,6 +1,6 @@
 //! Requests whose outcomes come later: the engine goes on while they are parked.
 
-ghost use Rattle.std.specs.Prelude.{◌≡◌, ◌==◌, ◌↔◌, ◌+◌, ◌<◌, ◌≤◌, ◌++◌, ◌∷◌, [], ℕ, Bool, List, IsTrue, IsSome, IfSome, false, IfOk, OnOk, OnErr, None, Some, Err, Option, length};
+ghost use Rattle.std.specs.Prelude.{◌≡◌, ◌==◌, ◌↔◌, ◌⊎◌, ◌+◌, ◌<◌, ◌≤◌, ◌++◌, ◌∷◌, [], ℕ, Bool, List, IsTrue, IsSome, IfSome, false, IsOk, OnOk, OnErr, None, Some, Err, Option, length};
 ghost use Rattle.std.specs.Option.{option_map};
 ghost use Rattle.ft_log.specs.Holding.{Holding, known, parked};
 ghost use Rattle.ft_log.specs.Performed.{Performed};
@@ -100,6 +100,7 @@ impl<C: Catalogue + Drop> Engine<C> {
         ensures others { OnOk result ((q : ℕ) → (q == number) ≡ false → (parked_in self.new q ≡ parked_in self.old q) × (told_in self.new q ≡ told_in self.old q)) }
         ensures full { (result ≡ Err Full) ↔ (places_of self.old ≤ parked_count self.old) }
         ensures share { (result ≡ Err Share) ↔ ((parked_count self.old < places_of self.old) × IfSome (waits_in self.old) (λ w. places_of_one self.old ≤ parked_of self.old w.connection)) }
+        ensures unchanged { (result ≡ Err Full) ⊎ (result ≡ Err Share) → self.new ≡ self.old }
         ensures idle { OnOk result (waits_in self.new ≡ None) }
         ensures err { OnErr result ((waits_in self.new ≡ waits_in self.old) × AreParked self.old self.new) }
         ensures asks { asks_in self.new ≡ asks_in self.old }
@@ -146,6 +147,7 @@ impl<C: Catalogue + Drop> Engine<C> {
         ensures late { (s : Settings) (held : ℕ → Holding) (calls : List Call) (past : List history.Event) (waiting : ℕ → List Waiting) → Stays C.offers s held calls self.old past waiting → Stays C.offers s held calls self.new past waiting }
         ensures told { told_in self.new number ≡ Some (performed_in outcome) }
         ensures others { (q : ℕ) → (q == number) ≡ false → told_in self.new q ≡ told_in self.old q }
+        ensures left { (q : ℕ) → left_in self.new q ≡ left_in self.old q }
         ensures parked { (q : ℕ) → parked_in self.new q ≡ parked_in self.old q }
         ensures waits { waits_in self.new ≡ waits_in self.old }
         ensures asks { asks_in self.new ≡ asks_in self.old }
@@ -195,6 +197,9 @@ impl<C: Catalogue + Drop> Engine<C> {
         requires idle { waits_in self.old ≡ None }
         ensures late { (s : Settings) (held : ℕ → Holding) (calls : List Call) (past : List history.Event) (waiting : ℕ → List Waiting) (outcome : Performed) (w : Waiting) (rest : List Waiting) → Stays C.offers s held calls self.old past waiting
             → told_in self.old number ≡ Some outcome → waiting number ≡ w ∷ rest → RepliesLate C.offers s held calls past waiting number outcome w rest result self.new out.old.items out.new.items }
+        // .. and where none is due nothing is done
+        ensures nothing { (s : Settings) (held : ℕ → Holding) (calls : List Call) (past : List history.Event) (waiting : ℕ → List Waiting) → Stays C.offers s held calls self.old past waiting → (told_in self.old number ≡ None) ⊎ (waiting number ≡ [])
+            → IsOk result × (out.new.items ≡ out.old.items) × Stays C.offers s held calls self.new past waiting }
         ensures parked { AreParked self.old self.new }
         ensures fewer { IsSome (told_in self.old number) → 0 < left_in self.old number → left_in self.new number < left_in self.old number }
         ensures waits { waits_in self.new ≡ waits_in self.old }

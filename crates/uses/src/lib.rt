@@ -1,4 +1,4 @@
-//! Eighteen uses of the libraries, as a caller writes them: each is one file with one subject, proved, and
+//! Nineteen uses of the libraries, as a caller writes them: each is one file with one subject, proved, and
 //! run by a test of `uses_tests` on octets written out by hand from the standard's layouts (CDR 9.3 and GIOP 9.4).
 //! The pages of the repository quote them.
 #![tactic(auto)]
@@ -14,6 +14,7 @@ mod invocation;
 mod keeping;
 mod later;
 mod ledger;
+mod life;
 mod locating;
 mod pieces;
 mod relaying;
@@ -33,6 +34,7 @@ pub use invocation::{Retry, add_request, cut};
 pub use keeping::keep_once;
 pub use later::{Turn, serve_later};
 pub use ledger::Ledger;
+pub use life::{LifeError, live, live_as_bank};
 pub use locating::answer_locate;
 pub use pieces::{Piece, serve_pieces};
 pub use relaying::{Back, Behind, Relay, serve_relay};

@@ -23,6 +23,8 @@ mod later;
 #[cfg(test)]
 mod ledger;
 #[cfg(test)]
+mod life;
+#[cfg(test)]
 mod locating;
 #[cfg(test)]
 mod octets;

@@ -1,4 +1,4 @@
-use Rattle.std.proofs.Common.{◌≡◌, ◌==◌, ◌↔◌, ℕ, ◌<◌, ◌≤◌, ◌∷◌, ◌++◌, [], List, length, false, Some, Option, Result, Err, IfSome, refl, sym, ap, ◌∙◌, arith, subst}
+use Rattle.std.proofs.Common.{◌≡◌, ◌==◌, ◌↔◌, ℕ, ◌<◌, ◌≤◌, List, false, Some, Option, Result, Err, IfSome, refl, sym, ap, ◌∙◌, arith, subst}
 use Rattle.std.specs.BTreeMap.{get, is_at}
 use Rattle.std.specs.Option.{option_map}
 use Rattle.std.specs.Ordering.{nat_cmp}
@@ -7,8 +7,6 @@ use Rattle.ft_log.specs.Logged.{logged}
 use Rattle.ft_orb.specs.declared.engine.Engine.{Engine}
 use Rattle.ft_orb.specs.declared.error.ParkError.{ParkError}
 use Rattle.ft_orb.specs.declared.error.ParkError.TheVariants.{Share}
-use Rattle.ft_orb.specs.declared.events.Note.TheVariants.{Done}
-use Rattle.ft_orb.specs.declared.parked.Waiter.{Waiter}
 use Rattle.ft_orb.specs.declared.pausing.Pending.{Pending}
 use Rattle.ft_orb.specs.Engines.{Awaited, IsOpen, awaited_of, waits_in}
 use Rattle.ft_orb.specs.Parked.{own_waiters}

@@ -1,4 +1,4 @@
-use Rattle.std.proofs.Common.{◌≡◌, ◌==◌, ℕ, ◌<◌, ◌++◌, [], IsSome, false, None, Some, Option, length, refl, sym, ap, ◌∙◌, arith, subst}
+use Rattle.std.proofs.Common.{inl, inr, ◌≡◌, ◌==◌, ℕ, ◌<◌, ◌++◌, [], IsSome, false, None, Some, Option, length, refl, sym, ap, ◌∙◌, arith, subst}
 use Rattle.std.proofs.lemmas.Grind.{common_steps}
 use Rattle.std.specs.BTreeMap.{get}
 use Rattle.std.specs.Ordering.{nat_cmp}
@@ -8,7 +8,7 @@ use Rattle.ft_orb.specs.declared.parked.Parked.{Parked}
 use Rattle.ft_orb.specs.Parking.{numbering, parked_at}
 use Rattle.ft_orb.specs.Tellings.{nothing_yet, reply_by}
 use Rattle.ft_orb.proofs.Countings.{counted-written, few-written}
-use Rattle.ft_orb.proofs.Settling.{nobody-is, none-left, not-at, replied-late, told-is, unreplied-late}
+use Rattle.ft_orb.proofs.Settling.{cleared-late, first-by, nobody-is, none-left, not-at, replied-late, told-is, unreplied-late}
 use Rattle.ft_orb.proofs.Meanwhile.{rests-lost, un-put}
 use Rattle.ft_orb.proofs.Unmoved.{left-fewer, parked-same}
 use Rattle.ft_orb.proofs.engine.Engine.reply.Goals as goal
@@ -51,6 +51,15 @@ returns g c = record {
       let put = un-put c.answer.result _ _ _ c.answer.ensures (λ is. c.in_default-answer.not-Answered is) in
       unreplied-late g.C.Catalogue.offers s held calls c.args.self.now _ past waiting h n p was q c.clear.ensures c.in-Some-pop_front.first _ c.in-Some-pop_front.ensures.items c.clear.ensures.0.0 wrote.1 (λ m apart. wrote.2 m (not-at n m apart)) refl refl w rest waits
       c.streams_are_heard.ensures.stays outcome c.args.out.now.items c.answer.new.out.items rests put.0 (subst (λ (o : Performed). 0 < length (reply_by c.in-Some-pop_front.first.asker.wish c.in-Some-pop_front.first.asker.version c.in-Some-pop_front.first.asker.request_id o)) same put.1);
+  nothing = λ s held calls past waiting h none.
+      let n = c.args.number in
+      let p = c.in-Some.parked.now in
+      let q = c.clear.new.self in
+      let was : parked_at c.args.self.now n ≡ Some p = grind (arith, common_steps) in
+      elim none [
+        | inl untold ↦ absurd (let both = sym (told-is c.args.self.now n p _ was (sym c.clear.ensures.0.1 ∙ c.in-Some-outcome.is)) ∙ untold in cc)
+        | inr nobody ↦ absurd (let both = sym nobody ∙ first-by g.C.Catalogue.offers s held calls c.args.self.now c.args.self.now past waiting h n p was q c.clear.ensures c.in-Some-pop_front.first _ c.in-Some-pop_front.ensures.items in cc)
+      ];
   parked =
       let n = c.args.number in
       let p = c.in-Some.parked.now in
@@ -113,3 +122,23 @@ invariant_of-self-2 g c =
     let lot = c.args.self.now.parked in
     let was : parked_at c.args.self.now c.args.number ≡ Some c.in-Some.parked.now = grind (arith, common_steps) in
     (few-written lot.requests (c.get_mut.follows.lender _) c.args.number _ (c.get_mut.follows.holds _) lot.few, (counted-written lot.requests (c.get_mut.follows.lender _) lot.counts c.args.number c.in-Some.parked.now _ (c.get_mut.follows.holds _) was c.clear.ensures.0.0 lot.counted, tt))
+
+pub returns-in-Answered-clause-nothing : goal.returns-in-Answered-clause-nothing
+returns-in-Answered-clause-nothing g c s held calls past waiting h none =
+    let n = c.args.number in
+    let p = c.in-Some.parked.now in
+    let q = c.clear.new.self in
+    let was : parked_at c.args.self.now n ≡ Some p = grind (arith, common_steps) in
+    elim none [
+      | inl untold ↦ absurd (let both = sym (told-is c.args.self.now n p _ was (sym c.clear.ensures.0.1 ∙ c.in-Some-outcome.is)) ∙ untold in cc)
+      | inr nobody ↦ absurd (let both = sym nobody ∙ first-by g.C.Catalogue.offers s held calls c.args.self.now c.args.self.now past waiting h n p was q c.clear.ensures c.in-Some-pop_front.first _ c.in-Some-pop_front.ensures.items in cc)
+    ]
+
+pub returns-in_default-outcome-clause-nothing : goal.returns-in_default-outcome-clause-nothing
+returns-in_default-outcome-clause-nothing g c s held calls past waiting h none =
+    let n = c.args.number in
+    let p = c.in-Some.parked.now in
+    let was : parked_at c.args.self.now n ≡ Some p = grind (arith, common_steps) in
+    let there : IsSome (get nat_cmp c.args.self.now.parked.requests n) = subst (λ (o : Option Parked). IsSome o) (sym was) refl in
+    let wrote = (c.get_mut.follows.holds _).3 there in
+    (refl, refl, cleared-late g.C.Catalogue.offers s held calls c.args.self.now _ past waiting h n p was (record { offer_is = h.rests.offer_is; idle = h.rests.idle; stands = h.rests.stands }) refl refl (λ m apart. wrote.2 m (not-at n m apart)) _ c.clear.ensures wrote.1)

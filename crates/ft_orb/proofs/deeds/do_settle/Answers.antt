@@ -1,0 +1,20 @@
+use Rattle.std.proofs.Common.{List, ◌++◌, refl, ap, ◌∙◌, arith}
+use Rattle.std.proofs.lemmas.Grind.{common_steps}
+use Rattle.ft_log.specs.View.{performed_in}
+use Rattle.ft_orb.specs.declared.deeds.Deed.TheVariants as code
+use Rattle.ft_orb.specs.declared.events.Written.{Written}
+use Rattle.ft_orb.proofs.Acting.{resting, settles-deed}
+use Rattle.ft_orb.proofs.deeds.do_settle.Goals as goal
+
+pub tell_all-requires : goal.tell_all-requires
+tell_all-requires g c = record { idle = c.settle.ensures.waits ∙ c.requires.idle; room = grind (arith, common_steps) }
+
+pub returns-clause-ok : goal.returns-clause-ok
+returns-clause-ok g c s h holds =
+    let r = resting g.C.Catalogue.offers s h c.args.engine.now holds c.requires.idle in
+    let st = c.settle.ensures.late s h.held h.calls h.past h.waiting r.stays in
+    let t = c.tell_all.ensures.told s h (performed_in c.in-Ok.copy) st c.settle.ensures.told in (
+      t.written,
+      t.appended ∙ ap (λ (l : List Written). l ++ t.written) c.reserve.ensures.items,
+      settles-deed g.C.Catalogue.offers s h c.args.engine.now c.tell_all.new.engine r c.args.number (performed_in c.in-Ok.copy) c.reserve.new.self.items c.tell_all.new.out.items t (c.tell_all.ensures.asks ∙ c.settle.ensures.asks) (code.Settle c.args.number c.args.outcome.now) (refl, c.in-Ok.ensures),
+    )

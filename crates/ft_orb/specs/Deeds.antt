@@ -1,0 +1,302 @@
+-- What became of an engine, deed after deed, as data: its owner answers, parks and settles in any order, and at any time.
+use Rattle.std.specs.Prelude.{◌≡◌, ◌==◌, ℕ, ◌+◌, ◌<◌, Bool, false, not, nat_lt, ◌&&◌, ◌⊎◌, if◌then◌else◌, List, [], ◌∷◌, ◌++◌, flat_map, length, map, take, Option, Some, None, Ok}
+use Rattle.std.specs.List.{list_any}
+use Rattle.giop_link.specs.Hearing.{Question}
+use Rattle.ft_log.specs.Holding.{Holding, known, parked}
+use Rattle.ft_log.specs.Performed.{Performed}
+use Rattle.ft_orb.specs.declared.events.Note.{Note}
+use Rattle.ft_orb.specs.declared.events.Note.TheVariants.{Done, Memory}
+use Rattle.ft_orb.specs.declared.parked.Waiter.{Waiter}
+use Rattle.ft_orb.specs.Engines.{Awaited}
+use Rattle.ft_orb.specs.ExactlyOnce.{Arrival, OneExpiration}
+use Rattle.ft_orb.specs.History.{Event, Lost, Piece, arrivals, completed, connection_of, shortened}
+use Rattle.ft_orb.specs.Outputs.{Noted, WritesBy, after, output_cut}
+use Rattle.ft_orb.specs.Owners.{owned_law, owned_now, owned_rules, owned_says, owned_table}
+use Rattle.ft_orb.specs.Parked.{is_wished, on_going}
+use Rattle.ft_orb.specs.Parking.{Settings, by_number, goes_on, numbering, put_at, still, unless_placed, waiter_of, own_of}
+use Rattle.ft_orb.specs.Requests.{Call, Wanted, asked_of, asking}
+use Rattle.ft_orb.specs.Table.{table_after, table_step}
+use Rattle.ft_orb.specs.Tellings.{Later, nothing_yet, reply_by}
+
+-- a request that waits for its outcome: the octets that it came in, at this moment, what was written for those before it in them, and
+-- how it asks
+pub record Asking : Type 0 where
+  pub moment : ℕ
+  pub octets : List ℕ
+  pub written : List ℕ
+  pub request : Awaited
+  pub question : Question
+
+-- What is known of an engine: of each call the outcome, or the number under which it is parked; the calls that were taken; what
+-- happened; who waits under each number; and the request that waits, if one does.
+pub record Ledger : Type 0 where
+  pub held : ℕ → Holding
+  pub calls : List Call
+  pub past : List Event
+  pub waiting : ℕ → List Waiter
+  pub asking : Option Asking
+
+-- that of a new engine
+abbrev pub opening : (ℕ → Holding) → Ledger
+opening held = record { held = held; calls = []; past = []; waiting = λ n. []; asking = None }
+
+-- so many octets of a piece, which comes on a connection at a moment
+pub record Part : Type 0 where
+  pub connection : ℕ
+  pub moment : ℕ
+  pub piece : List ℕ
+  pub taken : ℕ
+
+-- one who waited: a reply to it was made, or an allocation failed for it and its connection is lost
+pub data Told : Type 0 where
+  Reached : Waiter → Told
+  Missed : Waiter → Told
+
+-- Something happened, to its end; a part of a piece was taken, up to a request that waits now, or to a repeat of one that is parked
+-- under a number, which these joined; the request that waits was answered, or parked, and these wait for it, or it was given up; or
+-- call i, which was parked under number n, has its outcome, and these were told.
+pub data Deed : Type 0 where
+  Happened : Event → (written : List ℕ) → Note → Deed
+  Stopped : Part → (written : List ℕ) → Awaited → Question → Deed
+  Joined : Part → (written : List ℕ) → (number : ℕ) → List Waiter → Deed
+  Answered : Asking → Performed → (written : List ℕ) → Note → Deed
+  Parked : Asking → List Waiter → Deed
+  GivenUp : Asking → (handled : ℕ) → Deed
+  Settled : (i n : ℕ) → Performed → List Told → Deed
+
+-- what happened in them
+abbrev pub part_of : Part → Event
+part_of p = Piece p.connection p.moment (take p.taken p.piece)
+
+abbrev pub piece_of : Asking → Event
+piece_of a = Piece a.request.connection a.moment a.octets
+
+-- the reply to one who waited
+abbrev pub reply_to : Performed → Waiter → List ℕ
+reply_to outcome w = reply_by w.asker.wish w.asker.version w.asker.request_id outcome
+
+-- what was written, on which connection
+abbrev pub note_told : Performed → Told → Noted
+note_told outcome (Reached w) = record { connection = w.connection; octets = reply_to outcome w; note = Done }
+note_told outcome (Missed w) = record { connection = w.connection; octets = []; note = Memory 0 0 }
+
+abbrev pub notes_of : Deed → List Noted
+notes_of (Happened e written note) = record { connection = connection_of e; octets = written; note = note } ∷ []
+notes_of (Stopped p written w q) = record { connection = p.connection; octets = written; note = Done } ∷ []
+notes_of (Joined p written n joined) = record { connection = p.connection; octets = written; note = Done } ∷ []
+notes_of (Answered a outcome written note) = record { connection = a.request.connection; octets = written; note = note } ∷ []
+notes_of (Parked a own) = []
+notes_of (GivenUp a handled) = record { connection = a.request.connection; octets = []; note = Memory handled handled } ∷ []
+notes_of (Settled i n outcome told) = map (note_told outcome) told
+
+-- who came to wait under number n, and to whom a reply was made that waited under it
+abbrev pub came_to : ℕ → Deed → List Waiter
+came_to n (Happened e written note) = []
+came_to n (Stopped p written w q) = []
+came_to n (Joined p written m joined) = if n == m then joined else []
+came_to n (Answered a outcome written note) = []
+came_to n (Parked a own) = if n == a.request.number then own else []
+came_to n (GivenUp a handled) = []
+came_to n (Settled i m outcome told) = []
+
+abbrev pub reached : List Told → List Waiter
+reached [] = []
+reached (Reached w ∷ later) = w ∷ reached later
+reached (Missed w ∷ later) = reached later
+
+abbrev pub told_of : ℕ → Deed → List Waiter
+told_of n (Happened e written note) = []
+told_of n (Stopped p written w q) = []
+told_of n (Joined p written m joined) = []
+told_of n (Answered a outcome written note) = []
+told_of n (Parked a own) = []
+told_of n (GivenUp a handled) = []
+told_of n (Settled i m outcome told) = if n == m then reached told else []
+
+-- something was settled under number n
+abbrev pub settles : ℕ → Deed → Bool
+settles n (Happened e written note) = false
+settles n (Stopped p written w q) = false
+settles n (Joined p written m joined) = false
+settles n (Answered a outcome written note) = false
+settles n (Parked a own) = false
+settles n (GivenUp a handled) = false
+settles n (Settled i m outcome told) = n == m
+
+-- all but the first
+abbrev pub rest_of : List Waiter → List Waiter
+rest_of [] = []
+rest_of (w ∷ ws) = ws
+
+-- The second list is the first, in its order, without some whose connections don't go on.
+abbrev pub IsLeftOf : (ℕ → Bool) → List Waiter → List Waiter → Type 0
+IsLeftOf goes [] left = left ≡ []
+IsLeftOf goes (w ∷ ws) left = ((goes w.connection ≡ false) × IsLeftOf goes ws left) ⊎ ((rest : List Waiter) × (left ≡ w ∷ rest) × IsLeftOf goes ws rest)
+
+-- no two calls are parked under one number
+abbrev pub AreApart : Ledger → Type 0
+AreApart g = (i j n : ℕ) → i < length g.calls → j < length g.calls → g.held i ≡ parked n → g.held j ≡ parked n → i ≡ j
+
+module _ (s : Settings) where
+  -- these octets may be written for an event, where so much is known, and this is said of what is parked
+  abbrev pub Wrote : Later → (ℕ → Holding) → List Event → Event → List ℕ → Note → Type 0
+  Wrote late held past e written note = WritesBy s.limits (numbering s late held).tell (owned_says (numbering s late held)) past e written note
+
+  -- the ledger with this past, in which those still wait whose connections go on, and no request
+  abbrev pub rested : (ℕ → Holding) → List Call → List Event → (ℕ → List Waiter) → Ledger
+  rested held calls past waiting = record { held = held; calls = calls; past = past; waiting = still s.limits past waiting; asking = None }
+
+  -- the first who waits under number n was told
+  abbrev pub told_one : ℕ → Ledger → Told → Ledger
+  told_one n g (Reached w) = record g { waiting = put_at n (rest_of (g.waiting n)) g.waiting }
+  told_one n g (Missed w) = rested g.held g.calls (Lost w.connection ∷ g.past) (put_at n (rest_of (g.waiting n)) g.waiting)
+
+  abbrev pub told_all : ℕ → Ledger → List Told → Ledger
+  told_all n g [] = g
+  told_all n g (t ∷ later) = told_all n (told_one n g t) later
+
+  -- the ledger after a deed
+  abbrev pub after_deed : Ledger → Deed → Ledger
+  after_deed g (Happened e written note) = rested g.held g.calls (after s.limits g.past e note) g.waiting
+  after_deed g (Stopped p written w q) = record g { asking = Some (record { moment = p.moment; octets = take p.taken p.piece; written = written; request = w; question = q }) }
+  after_deed g (Joined p written n joined) = rested g.held g.calls (part_of p ∷ g.past) (put_at n (g.waiting n ++ joined) g.waiting)
+  after_deed g (Answered a outcome written note) = rested (put_at (length g.calls) (known outcome) g.held) (g.calls ++ a.request.call ∷ []) (after s.limits g.past (piece_of a) note) g.waiting
+  after_deed g (Parked a own) = rested (put_at (length g.calls) (parked a.request.number) g.held) (g.calls ++ a.request.call ∷ []) (piece_of a ∷ g.past) (put_at a.request.number own g.waiting)
+  after_deed g (GivenUp a handled) = rested g.held g.calls (after s.limits g.past (piece_of a) (Memory handled handled)) g.waiting
+  after_deed g (Settled i n outcome told) = record { held = put_at i (known outcome) g.held; calls = g.calls; past = (told_all n g told).past; waiting = (told_all n g told).waiting; asking = None }
+
+  abbrev pub after_deeds : Ledger → List Deed → Ledger
+  after_deeds g [] = g
+  after_deeds g (d ∷ later) = after_deeds (after_deed g d) later
+
+  -- the calls that were taken are those that were performed for what happened
+  abbrev pub AreTaken : Ledger → Type 0
+  AreTaken g = g.calls ≡ (owned_table (by_number s g.held) g.past).state
+
+  -- The part is the shortest front of its piece that completes this request, which is a call. What was written are the answers to those
+  -- before it, which are no calls, and repeat nothing that is parked: whatever would be said of that, nobody was told.
+  pub record Stops (g : Ledger) (p : Part) (written : List ℕ) (w : Awaited) (question : Question) : Type 0 where
+    pub connection : w.connection ≡ p.connection
+    pub front : List (Arrival Wanted)
+    pub last : Arrival Wanted
+    pub completes : completed s.limits g.past (part_of p) ≡ front ++ last ∷ []
+    pub short : shortened s.limits g.past (Piece p.connection p.moment p.piece) (length front + 1) ≡ part_of p
+    pub content : last.content ≡ asking p.connection question
+    pub asks : asked_of s.offer.interface last.content ≡ Ok w.call
+    pub field : last.field ≡ w.field
+    pub out : (late : Later) → written ≡ output_cut s.limits (numbering s late g.held).tell (owned_says (numbering s late g.held)) g.past (part_of p) (length front)
+    pub before : (table_after (owned_rules (by_number s g.held)) (owned_table (by_number s g.held) g.past) front).state ≡ g.calls
+    pub acts : (table_step (owned_rules (by_number s g.held)) (table_after (owned_rules (by_number s g.held)) (owned_table (by_number s g.held) g.past) front) last).0.state ≡ g.calls ++ w.call ∷ []
+
+  -- The part ends with a repeat of call i, which is parked under this number, and is the first such in it. It waits, where an answer is
+  -- wished for and there is a place; where there is none it is told so.
+  pub record Joins (g : Ledger) (p : Part) (written : List ℕ) (number : ℕ) (joined : List Waiter) : Type 0 where
+    pub front : List (Arrival Wanted)
+    pub last : Arrival Wanted
+    pub completes : completed s.limits g.past (part_of p) ≡ front ++ last ∷ []
+    pub short : shortened s.limits g.past (Piece p.connection p.moment p.piece) (length front + 1) ≡ part_of p
+    pub question : Question
+    pub content : last.content ≡ asking p.connection question
+    pub i : ℕ
+    pub taken : i < length g.calls
+    pub is_parked : g.held i ≡ parked number
+    pub says : (table_step (owned_rules (by_number s g.held)) (table_after (owned_rules (by_number s g.held)) (owned_table (by_number s g.held) g.past) front) last).1 ≡ Ok i
+    pub quiet : (late : Later) → output_cut s.limits (numbering s late g.held).tell (owned_says (by_number s g.held)) g.past (part_of p) (length front)
+        ≡ output_cut s.limits (by_number s g.held).tell (owned_says (by_number s g.held)) g.past (part_of p) (length front)
+    pub placed : Bool
+    pub place_is : placed ≡ not (nat_lt s.places.joined (length (still s.limits (part_of p ∷ g.past) g.waiting number)))
+    pub joined_are : joined ≡ (if is_wished question.wish && placed then waiter_of p.connection question ∷ [] else [])
+    pub wrote : Wrote (unless_placed placed s.offer.knows) g.held g.past (part_of p) written Done
+
+  -- These waited under number n, one after another, and were told this. No memory is taken for a reply without octets.
+  abbrev pub AreTold : ℕ → Performed → Ledger → List Told → Type 0
+  AreTold n outcome g [] = Unit {0}
+  AreTold n outcome g (Reached w ∷ later) = ((rest : List Waiter) × (g.waiting n ≡ w ∷ rest)) × AreTold n outcome (told_one n g (Reached w)) later
+  AreTold n outcome g (Missed w ∷ later) = ((rest : List Waiter) × (g.waiting n ≡ w ∷ rest)) × (0 < length (reply_to outcome w)) × AreTold n outcome (told_one n g (Missed w)) later
+
+  -- no call is parked under this number, and nobody waits under it
+  pub record IsFree (g : Ledger) (n : ℕ) : Type 0 where
+    pub call : (i : ℕ) → i < length g.calls → g.held i ≡ parked n → ⊥
+    pub nobody : g.waiting n ≡ []
+
+  -- A deed is one of an engine of which this is known: what was written is what its rules say, which see no outcome; what is parked
+  -- keeps nobody from going on; and the calls that are taken by then are those that were performed.
+  abbrev pub IsDeed : Ledger → Deed → Type 0
+  IsDeed g (Happened e written note) = (g.asking ≡ None) × ((late : Later) → Wrote late g.held g.past e written note) × AreTaken (after_deed g (Happened e written note))
+  IsDeed g (Stopped p written w q) = (g.asking ≡ None) × Stops g p written w q
+  IsDeed g (Joined p written n joined) = (g.asking ≡ None) × Joins g p written n joined × AreTaken (after_deed g (Joined p written n joined))
+  IsDeed g (Answered a outcome written note) = (g.asking ≡ Some a) × Wrote nothing_yet (put_at (length g.calls) (known outcome) g.held) g.past (piece_of a) (a.written ++ written) note
+      × AreTaken (after_deed g (Answered a outcome written note))
+  IsDeed g (Parked a own) = (g.asking ≡ Some a) × IsFree g a.request.number × (own ≡ on_going (goes_on s.limits (piece_of a ∷ g.past)) (own_of a.request.connection a.question))
+      × Wrote nothing_yet (put_at (length g.calls) (parked a.request.number) g.held) g.past (piece_of a) a.written Done × AreTaken (after_deed g (Parked a own))
+  IsDeed g (GivenUp a handled) = (g.asking ≡ Some a) × Wrote nothing_yet g.held g.past (piece_of a) a.written (Memory handled handled) × AreTaken (after_deed g (GivenUp a handled))
+  IsDeed g (Settled i n outcome told) = (g.asking ≡ None) × (i < length g.calls) × (g.held i ≡ parked n) × AreTold n outcome g told × ((told_all n g told).waiting n ≡ []) × AreTaken (after_deed g (Settled i n outcome told))
+
+  -- deeds one after another, from a ledger on
+  abbrev pub Runs : Ledger → List Deed → Type 0
+  Runs g [] = Unit {0}
+  Runs g (d ∷ later) = IsDeed g d × Runs (after_deed g d) later
+
+  -- One deed is a run ..
+  abbrev pub DeedsAreRuns : Type 0
+  DeedsAreRuns = (g : Ledger) (d : Deed) → IsDeed g d → Runs g (d ∷ [])
+
+  -- .. and runs join.
+  abbrev pub RunsJoin : Type 0
+  RunsJoin = (g : Ledger) (xs ys : List Deed) → Runs g xs → Runs (after_deeds g xs) ys → Runs g (xs ++ ys) × (after_deeds g (xs ++ ys) ≡ after_deeds (after_deeds g xs) ys)
+
+  -- Calls that were taken stay so ..
+  abbrev pub CallsGrow : Type 0
+  CallsGrow = (g : Ledger) (ds : List Deed) → Runs g ds → (more : List Call) × ((after_deeds g ds).calls ≡ g.calls ++ more)
+
+  -- .. and are those that were performed for what happened ..
+  abbrev pub CallsAreTaken : Type 0
+  CallsAreTaken = (g : Ledger) (ds : List Deed) → Runs g ds → AreTaken g → AreTaken (after_deeds g ds)
+
+  -- .. and what is known of one stays known: it has one outcome, for ever.
+  abbrev pub KnownGrows : Type 0
+  KnownGrows = (g : Ledger) (ds : List Deed) (i : ℕ) (outcome : Performed) → Runs g ds → i < length g.calls → g.held i ≡ known outcome → (after_deeds g ds).held i ≡ known outcome
+
+  -- So the outcome that is known of a call at the end is the one that was written when it was answered at once ..
+  abbrev pub AnsweredAreKnown : Type 0
+  AnsweredAreKnown = (g : Ledger) (xs ys : List Deed) (a : Asking) (outcome : Performed) (written : List ℕ) (note : Note) → Runs g (xs ++ Answered a outcome written note ∷ ys)
+      → (after_deeds g (xs ++ Answered a outcome written note ∷ ys)).held (length (after_deeds g xs).calls) ≡ known outcome
+
+  -- .. and the one that was told to all who waited for it.
+  abbrev pub ToldAreKnown : Type 0
+  ToldAreKnown = (g : Ledger) (xs ys : List Deed) (i n : ℕ) (outcome : Performed) (told : List Told) → Runs g (xs ++ Settled i n outcome told ∷ ys) → (after_deeds g (xs ++ Settled i n outcome told ∷ ys)).held i ≡ known outcome
+
+  -- What was written is what looking back over all arrivals says, each key by itself and whatever expirations requests carry ..
+  abbrev pub WrittenNow : Type 0
+  WrittenNow = (late : Later) (held : ℕ → Holding) (past : List Event) (e : Event) (written : List ℕ) (note : Note) → Wrote late held past e written note
+      → WritesBy s.limits (numbering s late held).tell (owned_now (numbering s late held)) past e written note
+
+  -- .. and where requests with one key carry one expiration, what the fold that remembers all says.
+  abbrev pub WrittenOnce : Type 0
+  WrittenOnce = (late : Later) (held : ℕ → Holding) (past : List Event) (e : Event) (written : List ℕ) (note : Note) → OneExpiration (arrivals s.limits (after s.limits past e note)) → Wrote late held past e written note
+      → WritesBy s.limits (numbering s late held).tell (owned_law (numbering s late held)) past e written note
+
+  -- those who wait do so on connections that go on
+  abbrev pub AreGoing : Ledger → Type 0
+  AreGoing g = (n : ℕ) → still s.limits g.past g.waiting n ≡ g.waiting n
+
+  -- Who was told, and who waits at the end, are those who came to wait under the number, each once and in the order in which they came,
+  -- without some whose connections have ended by then. So nobody is told twice, and who is told nothing waits on, or has gone.
+  abbrev pub ToldOnce : Type 0
+  ToldOnce = (g : Ledger) (ds : List Deed) (n : ℕ) → Runs g ds → AreGoing g
+      → IsLeftOf (goes_on s.limits (after_deeds g ds).past) (g.waiting n ++ flat_map (came_to n) ds) (flat_map (told_of n) ds ++ (after_deeds g ds).waiting n)
+
+  -- What is settled under a number is the call that is parked under it, if nothing was settled under it in between: whoever joined call
+  -- i is told the outcome of call i.
+  abbrev pub SettledAreTheirs : Type 0
+  SettledAreTheirs = (g : Ledger) (ds : List Deed) (i j n : ℕ) (outcome : Performed) (told : List Told) → AreApart g → Runs g (ds ++ Settled j n outcome told ∷ [])
+      → i < length g.calls → g.held i ≡ parked n → list_any (settles n) ds ≡ false → i ≡ j
+
+  -- When a call is settled nobody waits for it any more.
+  abbrev pub SettledAreTold : Type 0
+  SettledAreTold = (g : Ledger) (i n : ℕ) (outcome : Performed) (told : List Told) → IsDeed g (Settled i n outcome told) → (after_deed g (Settled i n outcome told)).waiting n ≡ []
+
+  -- A repeat that joins is no call, and makes nothing known.
+  abbrev pub JoinedAreNoCalls : Type 0
+  JoinedAreNoCalls = (g : Ledger) (p : Part) (written : List ℕ) (n : ℕ) (joined : List Waiter) → IsDeed g (Joined p written n joined)
+      → ((after_deed g (Joined p written n joined)).calls ≡ g.calls) × ((after_deed g (Joined p written n joined)).held ≡ g.held)

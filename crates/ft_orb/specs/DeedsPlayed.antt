@@ -1,0 +1,148 @@
+-- What a list of deeds makes of an engine, and what it says of it.
+use Rattle.std.specs.Prelude.{◌≡◌, ◌+◌, ◌≤◌, ◌<◌, ℕ, nat_lt, if◌then◌else◌, List, [], ◌∷◌, ◌++◌, flat_map, length, map, take, Option, Some, None, IsSome, IfSome, Result, Ok, Err}
+use Rattle.ft_log.specs.Holding.{Holding, known, parked}
+use Rattle.ft_log.specs.Performed.{Performed}
+use Rattle.ft_log.specs.View.{performed_in}
+use Rattle.ft_objects.specs.Catalogues.{Offer}
+use Rattle.ft_orb.specs.declared.deeds.Deed.{Deed as CodeDeed}
+use Rattle.ft_orb.specs.declared.deeds.Deed.TheVariants as code
+use Rattle.ft_orb.specs.declared.deeds.DeedError.{DeedError}
+use Rattle.ft_orb.specs.declared.deeds.DeedError.TheVariants as refused
+use Rattle.ft_orb.specs.declared.deeds.DeedsError.{DeedsError}
+use Rattle.ft_orb.specs.declared.deeds.DeedsError.TheVariants as deeds
+use Rattle.ft_orb.specs.declared.engine.Engine.{Engine}
+use Rattle.ft_orb.specs.declared.engine.Fed.{Fed}
+use Rattle.ft_orb.specs.declared.engine.Fed.TheVariants as fed
+use Rattle.ft_orb.specs.declared.error.ServeError.{ServeError}
+use Rattle.ft_orb.specs.declared.error.ParkError.TheVariants as unparked
+use Rattle.ft_orb.specs.declared.events.Event.TheVariants as happening
+use Rattle.ft_orb.specs.declared.events.Written.{Written}
+use Rattle.ft_orb.specs.Deeds.{AreTold, Answered, Asking, Deed, GivenUp, Happened, IsDeed, IsLeftOf, Joined, Ledger, Parked, Runs, Settled, Stopped, Told, after_deed, after_deeds, came_to, note_told, notes_of, opening, told_all, told_of}
+use Rattle.ft_orb.specs.Engines.{Awaited, CanAnswer, asks_in, waits_in}
+use Rattle.ft_orb.specs.ExactlyOnce.{OneExpiration, state_after, state_of}
+use Rattle.ft_orb.specs.History.{Piece, arrivals, event_of}
+use Rattle.ft_orb.specs.Now.{performed_now}
+use Rattle.ft_orb.specs.Outputs.{Noted, noted}
+use Rattle.ft_orb.specs.Owners.{owned_rules}
+use Rattle.ft_orb.specs.Parking.{AsksLate, CanSettle, Settings, Stays, by_number, goes_on, parked_at, parked_count, parked_of, places_of, places_of_one, put_at, waits_on}
+
+-- A deed is one of what the code was told to do: a part is one of its piece.
+abbrev pub IsOf : CodeDeed → Deed → Type 0
+IsOf (code.Event e) (Happened happened written note) = happened ≡ event_of e
+IsOf (code.Event e) (Stopped p written w q) = event_of e ≡ Piece p.connection p.moment p.piece
+IsOf (code.Event e) (Joined p written n joined) = event_of e ≡ Piece p.connection p.moment p.piece
+IsOf (code.Answer o) (Answered a outcome written note) = outcome ≡ performed_in o
+IsOf code.Park (Parked a own) = Unit {0}
+IsOf code.GiveUp (GivenUp a handled) = Unit {0}
+IsOf (code.Settle n o) (Settled i number outcome told) = (number ≡ n) × (outcome ≡ performed_in o)
+IsOf _ _ = ⊥
+
+abbrev pub AreOf : List CodeDeed → List Deed → Type 0
+AreOf [] [] = Unit {0}
+AreOf (c ∷ cs) (d ∷ ds) = IsOf c d × AreOf cs ds
+AreOf [] (d ∷ ds) = ⊥
+AreOf (c ∷ cs) [] = ⊥
+
+-- how many octets of its piece were taken, where some are left
+abbrev pub left_after : (taken size : ℕ) → Option ℕ
+left_after taken size = if nat_lt taken size then Some taken else None
+
+abbrev pub left_of : Deed → Option ℕ
+left_of (Happened e written note) = None
+left_of (Stopped p written w q) = left_after p.taken (length p.piece)
+left_of (Joined p written n joined) = left_after p.taken (length p.piece)
+left_of (Answered a outcome written note) = None
+left_of (Parked a own) = None
+left_of (GivenUp a handled) = None
+left_of (Settled i n outcome told) = None
+
+abbrev pub left_fed : (size : ℕ) → Result Fed ServeError → Option ℕ
+left_fed size (Ok fed.Whole) = None
+left_fed size (Ok (fed.Asks taken)) = left_after taken size
+left_fed size (Ok (fed.Repeats taken)) = left_after taken size
+left_fed size (Err e) = None
+
+-- Why an engine did not do what the code was told: a request waits, or none does; the outcome is none of its operation, or can't be sent;
+-- no more may be parked, in all or of its connection; somebody waits on the connection that is to be closed. An allocation may fail for
+-- each deed.
+abbrev pub IsRefused : {C : Type 0} → (C → Offer) → Engine C → CodeDeed → DeedError → Type 0
+IsRefused offers e (code.Event happening) refused.Asking = IsSome (waits_in e)
+IsRefused offers e (code.Event (happening.Close c)) refused.Waits = 0 < waits_on e c
+IsRefused offers e (code.Settle n o) refused.Asking = IsSome (waits_in e)
+IsRefused offers e (code.Settle n o) refused.NotParked = CanSettle (offers e.catalogue) (parked_at e n) (performed_in o) → ⊥
+IsRefused offers e (code.Answer o) refused.NothingAsked = waits_in e ≡ None
+IsRefused offers e code.Park refused.NothingAsked = waits_in e ≡ None
+IsRefused offers e code.GiveUp refused.NothingAsked = waits_in e ≡ None
+IsRefused offers e (code.Answer o) refused.NotFit = (w : Awaited) × (waits_in e ≡ Some w) × (CanAnswer (offers e.catalogue) (waits_in e) w.number (performed_in o) → ⊥)
+IsRefused offers e code.Park (refused.Unparked unparked.Full) = IsSome (waits_in e) × (places_of e ≤ parked_count e)
+IsRefused offers e code.Park (refused.Unparked unparked.Share) = IsSome (waits_in e) × (parked_count e < places_of e) × IfSome (waits_in e) (λ w. places_of_one e ≤ parked_of e w.connection)
+IsRefused offers e code.Park (refused.Unparked unparked.Memory) = IsSome (waits_in e)
+IsRefused offers e told refused.Memory = Unit {0}
+IsRefused offers e told why = ⊥
+
+-- the deed that was not done, if one was not
+abbrev pub IsRefusedIn : {C A : Type 0} → (C → Offer) → Engine C → List CodeDeed → Result A DeedsError → Type 0
+IsRefusedIn offers e all (Ok x) = Unit {0}
+IsRefusedIn offers e all (Err (deeds.Left done taken)) = Unit {0}
+IsRefusedIn offers e all (Err (deeds.Refused done why)) = (told : CodeDeed) × (take (done + 1) all ≡ take done all ++ told ∷ []) × IsRefused offers e told why
+
+-- how many of the deeds were done, and how many octets were taken of the piece of the last, where some are left
+abbrev pub deeds_done : {A : Type 0} → ℕ → Result A DeedsError → ℕ
+deeds_done all (Ok x) = all
+deeds_done all (Err (deeds.Left done taken)) = done
+deeds_done all (Err (deeds.Refused done why)) = done
+
+abbrev pub left_in : {A : Type 0} → Result A DeedsError → Option ℕ
+left_in (Ok x) = None
+left_in (Err (deeds.Left done taken)) = Some taken
+left_in (Err (deeds.Refused done why)) = None
+
+module _ {C : Type 0} (offers : C → Offer) (s : Settings) where
+  -- The engine is one of which so much is known: it rests, or a request waits ..
+  abbrev pub StandsAt : Ledger → Option Asking → Engine C → Type 0
+  StandsAt g None engine = Stays offers s g.held g.calls engine g.past g.waiting
+  StandsAt g (Some a) engine = (x : AsksLate offers s g.held g.calls engine g.past g.waiting a.moment a.octets a.written a.request) × (x.asks.question ≡ a.question)
+
+  abbrev pub next_number : Option Asking → Engine C → ℕ
+  next_number None engine = asks_in engine
+  next_number (Some a) engine = a.request.number
+
+  -- .. and nobody waits under a number that comes later.
+  pub record Holds (g : Ledger) (engine : Engine C) : Type 0 where
+    pub stands : StandsAt g g.asking engine
+    pub fresh : (n : ℕ) → next_number g.asking engine ≤ n → g.waiting n ≡ []
+
+  -- a deed was done, which wrote this, and left so much of its piece
+  abbrev pub IsDone : Ledger → CodeDeed → Option ℕ → List Noted → Engine C → Type 0
+  IsDone g told left notes new = (d : Deed) × IsOf told d × IsDeed s g d × (notes_of d ≡ notes) × (left_of d ≡ left) × Holds (after_deed s g d) new
+
+  -- All who waited under a number were told its outcome, so much was written, and the outcome is known of its call.
+  pub record IsTold (g : Ledger) (n : ℕ) (outcome : Performed) (new : Engine C) (before out : List Written) : Type 0 where
+    pub written : List Written
+    pub appended : out ≡ before ++ written
+    pub told : List Told
+    pub are_told : AreTold s n outcome g told
+    pub notes : map (note_told outcome) told ≡ map noted written
+    pub none : (told_all s n g told).waiting n ≡ []
+    pub i : ℕ
+    pub taken : i < length g.calls
+    pub was : g.held i ≡ parked n
+    pub stays : Stays offers s (put_at i (known outcome) g.held) g.calls new (told_all s n g told).past (told_all s n g told).waiting
+
+-- over every ledger: a deed was done, or none was
+abbrev pub Becomes : {C : Type 0} → (C → Offer) → CodeDeed → Option ℕ → List Noted → Engine C → Engine C → Type 0
+Becomes {C} offers told left notes old new = (s : Settings) (g : Ledger) → Holds offers s g old → IsDone offers s g told left notes new
+
+abbrev pub Remains : {C : Type 0} → (C → Offer) → Engine C → Engine C → Type 0
+Remains {C} offers old new = (s : Settings) (g : Ledger) → Holds offers s g old → Holds offers s g new
+
+-- What holds of a run from a new engine on: what is told of a call is the outcome that is known of it at the end; the calls that were taken are those of the distinct admissible requests, each once, in the
+-- order of their first arrivals, where requests with one key carry one expiration, and those that are performed with each key by itself,
+-- whatever they carry; and of those who came to wait under a number each is told once, waits on, or its connection has ended.
+pub record IsAnsweredLate (s : Settings) (held : ℕ → Holding) (ds : List Deed) : Type 0 where
+  pub runs : Runs s (opening held) ds
+  pub known : (xs ys : List Deed) (i n : ℕ) (outcome : Performed) (told : List Told) → ds ≡ xs ++ Settled i n outcome told ∷ ys → (after_deeds s (opening held) ds).held i ≡ known outcome
+  pub once : OneExpiration (arrivals s.limits (after_deeds s (opening held) ds).past)
+      → (after_deeds s (opening held) ds).calls ≡ state_of (owned_rules (by_number s held)) [] (arrivals s.limits (after_deeds s (opening held) ds).past)
+  pub now : (after_deeds s (opening held) ds).calls ≡ state_after (owned_rules (by_number s held)) [] (performed_now (owned_rules (by_number s held)) (arrivals s.limits (after_deeds s (opening held) ds).past))
+  pub told : (n : ℕ) → IsLeftOf (goes_on s.limits (after_deeds s (opening held) ds).past) (flat_map (came_to n) ds) (flat_map (told_of n) ds ++ (after_deeds s (opening held) ds).waiting n)
