@@ -17,6 +17,9 @@ outcome expires with each message, in the order in which they were kept, or in a
 one message (`together`), whose time is taken by itself. Memory is the most that is resident, less that of the same program
 where it only makes the messages; of 1,024 outcomes it is too little to be told.
 
+Last it counts the instructions of an engine that is answered at once and of one whose owner parks each request, one or 64 at a
+time, and what a request takes in memory that is parked.
+
 The status is 1 where the servers write other octets or end with another total; where a server doesn't answer each message,
 or has another total than that of what it performed; where a figure can't be; and where 1,000,000 requests of as many
 clients leave more memory in use than 5,000 do, in a server that keeps 1,024 outcomes.
@@ -39,6 +42,9 @@ KEYED = [(kind, entries, entries) for kind in ("rising", "scattered") for entrie
 KEYED += [("clients", entries, entries - less) for entries in (1024, LARGE) for less in (0, 1)]
 # messages whose instructions are counted
 MORE = 10_000
+# requests that are parked at a time, and of which the memory is told
+PARKED = [1, 64]
+MANY_PARKED = 131_072
 # what the most memory of two runs of one program may differ by, in octets
 APART = 1_000_000
 
@@ -142,6 +148,22 @@ def all_at_once(engines, timed, given):
         print(f"    instructions for each outcome   {pair(title, net(more, full, LARGE), '8.0f')}", flush=True)
 
 
+def parked(ours):
+    """Prints what a request costs that is parked and performed later, beside one that is answered at once."""
+    owners = {"at once": [ours, "engine"], **{f"{most} parked": [ours, "later", str(most)] for most in PARKED}}
+    print("an engine: instructions a request, answered at once; where so many are parked at a time, and the ratio to at once")
+    for kind, *kept in (("add", 1024, 1024), ("rising", 1024, 1024)):
+        cost = {}
+        for size in (84, 0):
+            less, more = (counted(owners, count, size, kind, *kept) for count in (MORE // 64 * 64, 2 * (MORE // 64 * 64)))
+            cost[size] = net(more, less, MORE // 64 * 64)
+        took = {name: cost[84][name] - cost[0][name] for name in owners}
+        once = took["at once"]
+        print(f"{kind:>9}   {once:8.0f}" + "".join(f"   {most:3} {took[f'{most} parked']:8.0f} {took[f'{most} parked'] / once:5.2f}" for most in PARKED), flush=True)
+    once, later = (peak(words_of(owner, MANY_PARKED, 84, "add")) for owner in ([ours, "engine"], [ours, "later", str(MANY_PARKED)]))
+    print(f"    a parked request without a key takes {(later - once) / MANY_PARKED:.0f} octets")
+
+
 def memory(engines):
     """Ends with status 1 where memory grows with the number of requests."""
     for name, engine in engines.items():
@@ -176,6 +198,8 @@ def main():
     streams(engines, timed, given)
     keyed(engines, timed, given)
     all_at_once(engines, timed, given)
+    if not given.no_instructions:
+        parked(given.ours)
 
 
 main()

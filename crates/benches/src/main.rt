@@ -1,8 +1,8 @@
 //! The program `benches`: does a kind of work again and again, to be timed, and prints a line.
 //!
-//! The first word is `frames`, `values`, `server`, `engine`, `log` or `script`, and the modules of these names say what the
-//! others are (of `engine` that of `server`, of `log` `keeping`). The word `all` does each of the first five once, on a small
-//! input, and a script. Where the words are wrong the program says in a line on standard error how they go, and ends with
+//! The first word is `frames`, `values`, `server`, `engine`, `later`, `log` or `script`, and the modules of these names say what
+//! the others are (of `engine` and `later` that of `server`, of `log` `keeping`). The word `all` does each of the first six once,
+//! on a small input, and a script. Where the words are wrong the program says in a line on standard error how they go, and ends with
 //! status 2.
 #![tactic(auto)]
 
@@ -26,14 +26,15 @@ use stop::Stop;
 use words::texts_of;
 
 /// How the words go.
-const USAGE: &str = "usage: benches frames|values|server|engine|log|script WORD.. | all";
+const USAGE: &str = "usage: benches frames|values|server|engine|later|log|script WORD.. | all";
 
 /// What `all` does.
-const ALL: [(&str, &[&str]); 6] = [
+const ALL: [(&str, &[&str]); 7] = [
     ("frames", &["10000", "84"]),
     ("values", &["read", "structs", "1"]),
     ("server", &["1000", "4096", "add"]),
     ("engine", &["1000", "4096", "add"]),
+    ("later", &["1", "1000", "4096", "add"]),
     ("log", &["2000", "1024", "1024", "rising"]),
     (
         "script",
@@ -56,6 +57,7 @@ fn work(rt: &HostRuntime, name: &str, words: &[&str]) -> Result<Report, Stop> {
         "values" => values::run(rt.alloc(), words),
         "server" => server::run(rt, RandomState::new(rt)?, words),
         "engine" => server::run_owned(rt, RandomState::new(rt)?, words),
+        "later" => server::run_later(rt, RandomState::new(rt)?, words),
         "log" => keeping::run(rt.alloc(), RandomState::new(rt)?, words),
         _ => Err(Stop::Words(USAGE)),
     }

@@ -1,4 +1,5 @@
-//! A server of one counter that is fed with a stream of messages, or an engine whose owner keeps the counter.
+//! A server of one counter that is fed with a stream of messages, or an engine whose owner keeps the counter, and with `later`
+//! parks each request, and performs those that are parked once they are as many as the first word says.
 //!
 //! The words are how many messages the stream has, how many octets a piece has, and of what kind the messages
 //! are: `add` without FT_REQUEST (the one where no word is), `repeat` with one key, or `locate`. What it gives is
@@ -13,7 +14,7 @@
 use crate::expiry::{Expiry, moments};
 use crate::messages::{ADD, CLIENT_REQUEST, LOCATE, REQUEST};
 use crate::report::{Report, mixed};
-use crate::serving::{Owned, Serving};
+use crate::serving::{Deferred, Owned, Serving};
 use crate::stop::Stop;
 use crate::words::number;
 use counter::Counter;
@@ -27,7 +28,7 @@ use std::time::Instant;
 
 /// How the words go.
 const USAGE: &str =
-    "usage: benches server|engine COUNT PIECE [add|repeat|locate|rising|scattered|clients|together [ENTRIES [SHARE]]]";
+    "usage: benches server|engine|(later PARKED) COUNT PIECE [add|repeat|locate|rising|scattered|clients|together [ENTRIES [SHARE]]]";
 
 /// A kind of messages.
 #[derive(Clone, Copy)]
@@ -285,8 +286,13 @@ fn new_server(alloc: Global, hasher: RandomState, task: Task) -> Result<Server<C
     }
 }
 
-/// An engine that keeps so many outcomes, whose connection 1 is open, and whose owner counts from 0.
-fn new_engine(alloc: Global, hasher: RandomState, task: Task) -> Result<Owned, Stop> {
+/// An engine that keeps so many outcomes, with so many places, whose connection 1 is open, and whose owner counts from 0.
+fn new_engine(
+    alloc: Global,
+    hasher: RandomState,
+    task: Task,
+    places: Places,
+) -> Result<Owned, Stop> {
     let catalogue = Counter::new(alloc, 0)?;
     let retention = Retention {
         capacity: task.entries,
@@ -297,7 +303,7 @@ fn new_engine(alloc: Global, hasher: RandomState, task: Task) -> Result<Owned, S
         catalogue,
         Limits::default(),
         retention,
-        Places::none(),
+        places,
         hasher,
     );
     match engine.connect(1) {
@@ -318,8 +324,23 @@ fn serve(rt: &HostRuntime, hasher: RandomState, task: Task) -> Result<Report, St
 
 /// What a task gives on a new engine.
 fn own(rt: &HostRuntime, hasher: RandomState, task: Task) -> Result<Report, Stop> {
-    let mut owned = new_engine(rt.alloc(), hasher, task)?;
+    let mut owned = new_engine(rt.alloc(), hasher, task, Places::none())?;
     work(rt, &mut owned, task)
+}
+
+/// The same, where so many requests are parked at a time.
+fn defer(rt: &HostRuntime, hasher: RandomState, task: Task, most: u32) -> Result<Report, Stop> {
+    let places = Places {
+        parked: most,
+        of_one: most,
+        joined: 0,
+    };
+    let mut deferred = Deferred {
+        owned: new_engine(rt.alloc(), hasher, task, places)?,
+        parked: Vec::new(rt.alloc()),
+        most: most as usize,
+    };
+    work(rt, &mut deferred, task)
 }
 
 /// Does what the words ask for, on a server.
@@ -339,5 +360,20 @@ pub(crate) fn run_owned(
     match task_of(words) {
         Some(task) => own(rt, hasher, task),
         None => Err(Stop::Words(USAGE)),
+    }
+}
+
+/// The same on an engine whose owner parks as many requests as the first word says before it performs them.
+pub(crate) fn run_later(
+    rt: &HostRuntime,
+    hasher: RandomState,
+    words: &[&str],
+) -> Result<Report, Stop> {
+    let [parked, others @ ..] = words else {
+        return Err(Stop::Words(USAGE));
+    };
+    match (number(parked), task_of(others)) {
+        (Some(most), Some(task)) => defer(rt, hasher, task, most),
+        _ => Err(Stop::Words(USAGE)),
     }
 }

@@ -1,4 +1,4 @@
-//! What messages are fed to: a server that performs them, or an engine whose owner does.
+//! What messages are fed to: a server that performs them, an engine whose owner does, or one whose owner does later.
 
 use cdr_core::Val;
 use counter::Counter;
@@ -34,15 +34,20 @@ pub(crate) struct Owned {
 }
 
 impl Owned {
-    /// Performs the call that waits: `add` or `get`.
+    /// Performs the call that waits.
     fn perform(&mut self) -> Option<Outcome> {
         let asked = self.engine.asked()?;
-        if let [Val::Long(n)] = asked.arguments {
-            self.total = self.total.checked_add(i64::from(*n))?;
-        }
-        let results = vec![in self.alloc; Val::LongLong(self.total)].ok()?;
-        Some(Outcome::Returned(results))
+        outcome_of(self.alloc, asked.arguments, &mut self.total)
     }
+}
+
+/// The outcome of `add` or `get`, and the total after it.
+fn outcome_of(alloc: Global, arguments: &[Val], total: &mut i64) -> Option<Outcome> {
+    if let [Val::Long(n)] = arguments {
+        *total = total.checked_add(i64::from(*n))?;
+    }
+    let results = vec![in alloc; Val::LongLong(*total)].ok()?;
+    Some(Outcome::Returned(results))
 }
 
 impl Serving for Owned {
@@ -69,5 +74,77 @@ impl Serving for Owned {
 
     fn total(&self) -> i64 {
         self.total
+    }
+}
+
+/// An engine whose owner parks each request, and performs those that are parked once they are so many.
+#[derive(Drop)]
+pub(crate) struct Deferred {
+    pub(crate) owned: Owned,
+    pub(crate) parked: Vec<u64>,
+    pub(crate) most: usize,
+}
+
+impl Deferred {
+    /// Parks the request that waits.
+    fn park(&mut self) -> Option<()> {
+        let number = self.owned.engine.asked()?.number;
+        self.owned.engine.park(number).ok()?;
+        self.parked.push(number).ok()
+    }
+
+    /// Performs the request that is parked under a number, and tells it to the one that waits for it.
+    fn settle(&mut self, number: u64, out: &mut Vec<u8>) -> Option<()> {
+        let engine = &mut self.owned.engine;
+        let parked = engine.parked(number)?;
+        let outcome = outcome_of(self.owned.alloc, parked.arguments, &mut self.owned.total)?;
+        if engine.is_asking() || !engine.can_settle(number, &outcome) {
+            return None;
+        }
+        engine.settle(number, outcome);
+        engine.due(number)?;
+        engine.reply(number, out).ok()?;
+        match engine.due(number) {
+            Some(_) => None,
+            None => Some(()),
+        }
+    }
+
+    /// Performs all that is parked.
+    fn settle_all(&mut self, out: &mut Vec<u8>) -> Option<()> {
+        for i in 0..self.parked.len() {
+            let number = *self.parked.get(i)?;
+            self.settle(number, out)?;
+        }
+        self.parked.clear();
+        Some(())
+    }
+}
+
+impl Serving for Deferred {
+    fn feed(&mut self, moment: u64, piece: &[u8], out: &mut Vec<u8>) -> Option<()> {
+        let mut left = piece;
+        // (each call that is asked for takes an octet at least)
+        for _ in 0..=piece.len() {
+            if self.owned.engine.is_asking() {
+                return None;
+            }
+            match self.owned.engine.feed(1, moment, left, out).ok()? {
+                Fed::Whole => return Some(()),
+                Fed::Repeats(taken) => left = left.get(taken..)?,
+                Fed::Asks(taken) => {
+                    self.park()?;
+                    if self.parked.len() >= self.most {
+                        self.settle_all(out)?;
+                    }
+                    left = left.get(taken..)?;
+                }
+            }
+        }
+        None
+    }
+
+    fn total(&self) -> i64 {
+        self.owned.total
     }
 }
