@@ -3,26 +3,21 @@
 use crate::octets::{BALANCE, DEPOSIT, RETURNED};
 use cdr_core::Val;
 use ft_log::Outcome;
-use ft_orb::{Deed, DeedError, DeedsError, Event, Note, ParkError, Written};
+use ft_orb::{Deed, DeedError, DeedsError, Event, Note, Written};
 use giop_frames::Limits;
 use std::alloc::{AllocError, Global};
 use std::hash::RandomState;
 use std::test::Fail;
 use uses::{LifeError, live_as_bank};
 
-/// A Request for `deposit` of 10 into the account `A`, with FT_REQUEST: the client `A`, its request `id`, the expiration 100.
-fn deposit_as(alloc: Global, id: u8) -> Result<Vec<u8>, AllocError> {
+/// A Request for `deposit` of 10 into the account `A`, with FT_REQUEST: the client `A`, its request 1, the expiration 100.
+fn deposit(alloc: Global) -> Result<Vec<u8>, AllocError> {
     let (before, after) = DEPOSIT;
     let mut octets = Vec::from_slice(alloc, before)?;
-    octets.extend_from_slice(&[0, 0, 0, id])?;
+    octets.extend_from_slice(&[0, 0, 0, 1])?;
     octets.extend_from_slice(after)?;
     octets.extend_from_slice(&[0, 0, 0, 0, 0, 0, 0, 10])?;
     Ok(octets)
-}
-
-/// Its request 1.
-fn deposit(alloc: Global) -> Result<Vec<u8>, AllocError> {
-    deposit_as(alloc, 1)
 }
 
 /// The Reply that returns an amount below 256.
@@ -86,31 +81,6 @@ fn an_owner_answers_parks_and_settles(rt: HostRuntime) -> Result<(), Fail> {
     Ok(())
 }
 
-#[test]
-fn a_request_that_is_given_up_is_asked_again(rt: HostRuntime) -> Result<(), Fail> {
-    let alloc = rt.alloc();
-    let deeds = vec![in alloc;
-        Deed::Event(Event::Opened(1)),
-        Deed::Event(Event::Opened(2)),
-        piece(1, deposit(alloc)?),
-        Deed::GiveUp,
-        piece(2, deposit(alloc)?),
-        Deed::Answer(returned(alloc, 10)?),
-    ]?;
-    let hasher = RandomState::new(&rt)?;
-    let mut out = Vec::new(alloc);
-    live_as_bank(alloc, hasher, Limits::default(), &deeds, &mut out)?;
-    let expected = vec![in alloc; (2, reply(alloc, 10)?)]?;
-    let written = sent(alloc, &out)?;
-    assert!(rt; written == expected);
-    let lost = Note::Memory {
-        handled: 0,
-        answered: 0,
-    };
-    assert!(rt; out[3].note == lost);
-    Ok(())
-}
-
 /// How deeds end of which the last can't be done.
 fn refused(rt: &HostRuntime, deeds: &[Deed]) -> Result<Option<(u64, DeedError)>, Fail> {
     let hasher = RandomState::new(rt)?;
@@ -119,35 +89,6 @@ fn refused(rt: &HostRuntime, deeds: &[Deed]) -> Result<Option<(u64, DeedError)>,
         Err(LifeError::Deeds(DeedsError::Refused { deeds, why })) => Ok(Some((deeds, why))),
         _ => Ok(None),
     }
-}
-
-#[test]
-fn deeds_are_refused_by_name(rt: HostRuntime) -> Result<(), Fail> {
-    let alloc = rt.alloc();
-    let settles = vec![in alloc; Deed::Settle(0, returned(alloc, 5)?)]?;
-    let why = refused(&rt, &settles)?;
-    assert!(rt; why == Some((0, DeedError::NotParked)));
-    let answers = vec![in alloc;
-        Deed::Event(Event::Opened(1)),
-        Deed::Answer(returned(alloc, 5)?),
-    ]?;
-    let why = refused(&rt, &answers)?;
-    assert!(rt; why == Some((1, DeedError::NothingAsked)));
-    let feeds = vec![in alloc;
-        Deed::Event(Event::Opened(1)),
-        piece(1, deposit(alloc)?),
-        piece(1, deposit(alloc)?),
-    ]?;
-    let why = refused(&rt, &feeds)?;
-    assert!(rt; why == Some((2, DeedError::Asking)));
-    let unfit = vec![in alloc;
-        Deed::Event(Event::Opened(1)),
-        piece(1, deposit(alloc)?),
-        Deed::Answer(Outcome::Returned(Vec::new(alloc))),
-    ]?;
-    let why = refused(&rt, &unfit)?;
-    assert!(rt; why == Some((2, DeedError::NotFit)));
-    Ok(())
 }
 
 #[test]
@@ -174,19 +115,6 @@ fn a_connection_is_not_closed_while_one_waits(rt: HostRuntime) -> Result<(), Fai
     assert!(rt; out.len() == 4);
     assert!(rt; out[3].note == Note::Done);
     assert!(rt; !out[3].octets.is_empty());
-    Ok(())
-}
-
-#[test]
-fn a_connection_has_its_share_of_what_is_parked(rt: HostRuntime) -> Result<(), Fail> {
-    let alloc = rt.alloc();
-    let mut deeds = vec![in alloc; Deed::Event(Event::Opened(1))]?;
-    for id in 1..22u8 {
-        deeds.push(piece(1, deposit_as(alloc, id)?))?;
-        deeds.push(Deed::Park)?;
-    }
-    let why = refused(&rt, &deeds)?;
-    assert!(rt; why == Some((42, DeedError::Unparked(ParkError::Share))));
     Ok(())
 }
 
