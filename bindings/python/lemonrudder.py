@@ -53,12 +53,19 @@ import operator
 import os
 import re
 import secrets
+import sys
 import time
 import weakref
 from ctypes import c_int16, c_int32, c_int64, c_size_t, c_uint8, c_uint16, c_uint32, c_uint64, c_void_p
 from dataclasses import dataclass, field
 from functools import lru_cache
 from typing import Any, Callable, Dict, Iterator, List, Mapping, NamedTuple, Optional, Sequence, Tuple, Union
+
+try:
+    import fcntl
+    import termios
+except ImportError:  # (Windows has neither)
+    fcntl = termios = None  # type: ignore[assignment]
 
 __all__ = [
     "BIG", "LITTLE", "FT_REQUEST", "LIMIT", "PARTIALS", "Asked", "Assembler", "Body", "Catalogue", "Client",
@@ -1819,12 +1826,23 @@ class _Connection(asyncio.Protocol):
         self._is_full = False
         self._go_on()
 
+    def _left(self) -> int:
+        """The octets that the peer has not taken, those that the system holds among them where it tells."""
+        left = int(self.transport.get_write_buffer_size())
+        if not left or termios is None:
+            return left
+        try:
+            held = fcntl.ioctl(self.transport.get_extra_info("socket"), termios.TIOCOUTQ, bytes(4))
+        except (OSError, ValueError):
+            return left
+        return left + int.from_bytes(held, sys.byteorder)
+
     def _drop_if_stuck(self, before: Optional[int] = None) -> None:
         """Drops the connection once its peer has taken nothing for as long as the server waits, of so much before."""
         if self._watch is not None:
             self._watch.cancel()
             self._watch = None
-        left = self.transport.get_write_buffer_size()
+        left = self._left()
         if not left or not (self._is_full or self.transport.is_closing()):
             return
         if left == before:

@@ -1467,17 +1467,19 @@ class Turns(Case):
     def test_a_peer_that_is_slow_gets_all(self):
         async def main():
             big = bytes(1000000)
-            server, client = await self.pair({"big": ("", "o", lambda: big)}, write_timeout=1)
+            server, client = await self.pair({"big": ("", "o", lambda: big)}, write_timeout=2)
             async with server:
-                reader, writer = await asyncio.open_connection(client.host, client.port)
-                writer.write(b"".join(lr.write_request(number, "k", "big") for number in range(10)))
+                reader, writer = await asyncio.open_connection(client.host, client.port, limit=1 << 20)
+                writer.write(b"".join(lr.write_request(number, "k", "big") for number in range(20)))
                 answers = bytearray()
-                while len(answers) < 10 * (28 + len(big)):
-                    answers += await reader.read(100000)
+                while len(answers) < 20 * (28 + len(big)):
+                    some = await reader.read(100000)
+                    self.assertTrue(some, "the connection was dropped")
+                    answers += some
                     await asyncio.sleep(0.02)
                 writer.close()
             found = [(message.request_id, *message.body.unpack("o")) for message in lr.messages(answers)]
-            self.assertEqual(found, [(number, big) for number in range(10)])
+            self.assertEqual(found, [(number, big) for number in range(20)])
         self.run_async(main())
 
     def test_a_peer_that_goes_leaves_no_lines(self):
