@@ -97,8 +97,11 @@ def groups_of_items(crate: str) -> list[tuple[str, list[Item]]]:
 
 
 def impls_of(crate: str, item: Item) -> list[Item]:
-    """The impls of a type, those of its own file first; and of a trait those for any type."""
-    found = [i for i in top_items(crate) if i.kind == "impl" and i.name == item.name]
+    """The impls of a type, those of its own file first, but for those of a trait that is not public; and of a trait those
+    for any type."""
+    inner = "|".join(i.name for i in top_items(crate) if i.kind == "trait" and not i.is_public)
+    found = [i for i in top_items(crate) if i.kind == "impl" and i.name == item.name
+             and not (inner and re.search(rf"\b({inner})(<[^<>]*>)? for ", i.head))]
     if item.kind == "trait":
         whole = [i for i in top_items(crate) if i.kind == "impl" and len(i.name) == 1]
         found = [i for i in whole if re.search(rf"\b{item.name} for {i.name}$", i.head)]

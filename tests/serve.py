@@ -441,7 +441,7 @@ class Serve(unittest.TestCase):
             exchange(port, get(20), total(20, 0))
 
     def test_log(self):
-        """A line for each request."""
+        """A line for each request, also where no reply is wished for."""
         bad = giop.request(7, KEY, "add", SEVEN, contexts=[CUT_OFF])
         first, third = (f"ft client A retention {n} expiration {NEVER}" for n in (1, 3))
         late = "ft client A retention 2 expiration 100"
@@ -453,7 +453,9 @@ class Serve(unittest.TestCase):
 1 Request id 7 key 63 operation add ft bad refused IDL:omg.org/CORBA/MARSHAL:1.0
 2 Request id 11 key 63 operation add {first} repeat
 2 Request id 12 key 63 operation add {third} performed
-2 Request id 13 key 63 operation add {third} not performed
+2 Request id 13 key 63 operation add {third} repeat
+2 Request id 14 key 63 operation add {late} refused IDL:omg.org/CORBA/BAD_CONTEXT:1.0
+2 Request id 15 key 63 operation sub refused IDL:omg.org/CORBA/BAD_OPERATION:1.0
 2 Request id 20 key 63 operation get performed
 """
         with serving(2, options=["--log"], error=lines) as port:
@@ -462,7 +464,9 @@ class Serve(unittest.TestCase):
                      total(5, 7) + HERE + total(9, 7) + raised(6, "BAD_OPERATION") + raised(6, "OBJECT_NOT_EXIST")
                      + raised(10, "BAD_CONTEXT") + raised(7, "MARSHAL"))
             exchange(port, None, total(11, 7) + total(20, 14),
-                     singly(keyed(11) + keyed(12, number=3, wish=NONE) + keyed(13, number=3, wish=NONE) + get(20)))
+                     singly(keyed(11) + keyed(12, number=3, wish=NONE) + keyed(13, number=3, wish=NONE)
+                            + keyed(14, number=2, expiration=100, wish=NONE)
+                            + giop.request(15, KEY, "sub", wish=NONE) + get(20)))
 
     def test_log_of_faults(self):
         """A request in fragments has one line; after a fault there is none."""

@@ -4,7 +4,7 @@
 -- Servants: what a servant means and promises. Catalogues: what is on offer, whoever performs. Sound: which types can be added to a
 -- catalogue. Filling: what a catalogue offers that is filled in call by call, and why a call adds nothing. Accessors: the arguments of
 -- an operation, by index. Ranges: which numbers a type has, as a test. Sizes: the most octets that values of types take. Objects: a
--- servant of one object by a table of its operations.
+-- servant of one object by a table of its operations. Decisions: what answers a request that is refused.
 pub mod Interfaces
 pub mod Replies
 pub mod Servants
@@ -15,6 +15,7 @@ pub mod Accessors
 pub mod Ranges
 pub mod Sizes
 pub mod Objects
+pub mod Decisions
 -- proofs, which nobody has to read: `facts.antt` says who cites them
 pub mod facts
 -- words of private functions: nothing public rests on them

@@ -4,8 +4,10 @@ ghost use Rattle.std.specs.Prelude.{◌≡◌};
 ghost use Rattle.ft_objects.specs.Catalogues.{IsOffer, Offer};
 ghost use Rattle.ft_objects.specs.Interfaces.{interface_of};
 
+use crate::decided::Decision;
 use crate::servant::Servant;
 use crate::signature::Lookup;
+use giop_core::{Request, Version};
 
 /// The objects that are served, and the types of their operations; not what they do.
 pub trait Catalogue {
@@ -22,6 +24,16 @@ pub trait Catalogue {
     /// Whether a key names an object.
     fn has_object(&self, object_key: &[u8]) -> bool
         ensures { result ≡ (offers self.now).knows object_key.now };
+
+    /// Hears what becomes of a request that came on a connection, before anything is sent for it. Each is told once, which
+    /// is tested and no clause. Who wants to note it keeps a cell; left out, it does nothing.
+    fn decided(
+        &self,
+        _connection: u64,
+        _version: Version,
+        _request: &Request<'_>,
+        _decision: Decision,
+    ) {}
 }
 
 /// A servant offers what it performs.
@@ -36,5 +48,15 @@ impl<S: Servant> Catalogue for S {
 
     fn has_object(&self, object_key: &[u8]) -> bool {
         Servant::has_object(self, object_key)
+    }
+
+    fn decided(
+        &self,
+        connection: u64,
+        version: Version,
+        request: &Request<'_>,
+        decision: Decision,
+    ) {
+        Servant::decided(self, connection, version, request, decision);
     }
 }

@@ -8,6 +8,7 @@
 
 mod accessors;
 mod catalogue;
+mod decided;
 mod error;
 mod interfaces;
 mod keyed;
@@ -18,6 +19,7 @@ mod typed;
 
 // what an application implements
 pub use catalogue::Catalogue;
+pub use decided::Decision;
 pub use servant::Servant;
 pub use signature::{Lookup, Signature};
 

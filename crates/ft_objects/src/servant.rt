@@ -6,9 +6,11 @@ ghost use Rattle.ft_log.specs.View.{performed_in};
 ghost use Rattle.ft_objects.specs.Interfaces.{AreArgumentsOf, interface_of};
 ghost use Rattle.ft_objects.specs.Servants.{IsServant, Meaning};
 
+use crate::decided::Decision;
 use crate::signature::Lookup;
 use cdr_core::Val;
 use ft_log::Outcome;
+use giop_core::{Request, Version};
 use std::alloc::{AllocError, Global};
 
 /// The objects that a server serves, and what they do.
@@ -45,4 +47,14 @@ pub trait Servant {
         requires { AreArgumentsOf (meaning.interface object_key.now operation.now) (values_of arguments.now) }
         ensures ok { IfOk result (λ outcome. meaning.apply self.old object_key.now operation.now (values_of arguments.now) ≡ (self.new, performed_in outcome)) }
         ensures err { OnErr result (self.new ≡ self.old) };
+
+    /// Hears what becomes of a request that came on a connection, before anything is sent for it, and before it is performed.
+    /// Each is told once, which is tested and no clause. Who wants to note it keeps a cell; left out, it does nothing.
+    fn decided(
+        &self,
+        _connection: u64,
+        _version: Version,
+        _request: &Request<'_>,
+        _decision: Decision,
+    ) {}
 }

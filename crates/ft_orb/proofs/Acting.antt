@@ -1,11 +1,10 @@
 -- What an engine does is a deed: each call takes it from a ledger to the next.
-use Rattle.std.proofs.Common.{◌≡◌, ◌==◌, ℕ, ◌<◌, ◌≤◌, nat_lt, Bool, true, false, cond, ◌&&◌, List, [], ◌∷◌, ◌++◌, filter_map, flat_map, length, map, option_to_list, take, if◌then◌else◌, Option, Some, None, Result, Ok, Err, refl, sym, ap, subst, ◌∙◌, arith, append_assoc, length-append}
-use Rattle.std.specs.List.{cons_option}
+use Rattle.std.proofs.Common.{◌≡◌, ◌==◌, ℕ, ◌+◌, ◌<◌, ◌≤◌, nat_lt, Bool, true, false, cond, ◌&&◌, List, [], ◌∷◌, ◌++◌, flat_map, length, map, take, if◌then◌else◌, Option, Some, None, IsSome, Result, Ok, Err, refl, sym, ap, subst, ◌∙◌, arith, append_assoc, length-append}
+use Rattle.std.specs.List.{list_any}
 use Rattle.std.specs.Option.{option_map}
-use Rattle.std.proofs.lemmas.Bool.{eqb-true}
+use Rattle.std.proofs.lemmas.Bool.{eqb-true, ne_eqb}
 use Rattle.std.proofs.lemmas.Grind.{flat_map-append}
 use Rattle.std.proofs.lemmas.List.{append-nil, map-append}
-use Rattle.std.proofs.lemmas.List.Elements.{filter_map-append}
 use Rattle.giop_link.specs.Hearing.{Question, meaning_in}
 use Rattle.giop_link.specs.Laws.{EndingsStay}
 use Rattle.ft_log.specs.Holding.{Holding, known, parked}
@@ -15,7 +14,7 @@ use Rattle.ft_log.specs.Performed.{Performed}
 use Rattle.ft_log.specs.declared.system_exception.SystemName.{SystemName}
 use Rattle.ft_log.specs.declared.system_exception.SystemName.TheVariants.{BadContext}
 use Rattle.ft_objects.specs.Catalogues.{Offer}
-use Rattle.ft_objects.specs.Interfaces.{Interface}
+use Rattle.ft_objects.specs.Interfaces.{Interface, IsOutcomeOf}
 use Rattle.ft_orb.specs.declared.deeds.Deed.{Deed as CodeDeed}
 use Rattle.ft_orb.specs.declared.deeds.Deed.TheVariants as code
 use Rattle.ft_orb.specs.declared.engine.Engine.{Engine}
@@ -27,17 +26,20 @@ use Rattle.ft_orb.specs.declared.events.Event.{Event as CodeEvent}
 use Rattle.ft_orb.specs.declared.events.Note.{Note}
 use Rattle.ft_orb.specs.declared.events.Note.TheVariants.{Done, Memory}
 use Rattle.ft_orb.specs.declared.events.Written.{Written}
+use Rattle.ft_orb.specs.declared.parked.Parked.{Parked as CodeParked}
+use Rattle.ft_orb.specs.declared.parked.Places.{Places}
 use Rattle.ft_orb.specs.declared.parked.Waiter.{Waiter}
-use Rattle.ft_orb.specs.Deeds.{AreTold, Answered, Asking, Deed, GivenUp, Happened, IsFree, Joined, Ledger, Missed, Parked, Reached, Runs, Settled, Stopped, Told, Wrote, after_deeds, note_told, notes_of, opening, piece_of, reply_to, rest_of, told_all, told_one}
-use Rattle.ft_orb.specs.DeedsPlayed.{AreOf, Holds, IsAnsweredLate, IsDone, IsOf, IsTold, StandsAt, left_after, left_fed, left_of, next_number}
-use Rattle.ft_orb.specs.Engines.{Awaited, IsNumbered, asks_in, waits_in}
+use Rattle.ft_orb.specs.Deeds.{AreTaken, AreTold, Answered, Asking, Deed, GivenUp, Happened, HasPlace, IsFor, IsFree, IsUnawaited, Joined, Ledger, Missed, Parked, Reached, Runs, Settled, Stopped, Told, Wrote, after_deeds, note_told, notes_of, opening, piece_of, reply_to, rest_of, told_all, told_one}
+use Rattle.ft_orb.specs.DeedsPlayed.{AreOf, Holds, LeaveAtLast, RunsAreAnsweredLate, IsDone, IsOf, IsTold, Shows, StandsAt, left_after, left_fed, left_of}
+use Rattle.ft_orb.specs.Counts.{waiters_on}
+use Rattle.ft_orb.specs.Engines.{Awaited, CanAnswer, IsNumbered, asks_in, awaited_of, waits_in}
 use Rattle.ft_orb.specs.ExactlyOnce.{Absent, Arrival, Bad, Field, OneExpiration, Present, Rules, state_after, state_of}
-use Rattle.ft_orb.specs.History.{Event, Lost, Piece, arrivals, connection_of, event_of}
+use Rattle.ft_orb.specs.History.{Close, Event, Lost, Piece, arrivals, completed, connection_of, event_of}
 use Rattle.ft_orb.specs.Now.{performed_now}
 use Rattle.ft_orb.specs.Outputs.{Noted, after, noted, output_cut}
 use Rattle.ft_orb.specs.Owners.{owned_rules, owned_says, owned_table, owner_rules}
-use Rattle.ft_orb.specs.Parked.{is_wished, on_going}
-use Rattle.ft_orb.specs.Parking.{AsksLate, EndsLate, FeedsLate, IsDueLate, IsSettled, Parks, RepeatsLate, RepliesLate, ResumesLate, Settings, Stays, StopsLate, by_number, goes_on, numbering, put_at, still, told_in, waiter_of, own_of}
+use Rattle.ft_orb.specs.Parked.{going_in, is_wished, on_going}
+use Rattle.ft_orb.specs.Parking.{AreParked, AsksLate, CanSettle, EndsLate, FeedsLate, IsDueLate, IsSettled, Parks, RepeatsLate, RepliesLate, ResumesLate, Settings, Stays, StopsLate, by_number, goes_on, numbering, parked_at, parked_in, parked_count, parked_of, places_of, places_of_one, put_at, still, told_in, told_of as outcome_of, waiter_of, waits_on, own_of}
 use Rattle.ft_orb.specs.Requests.{Call, Wanted}
 use Rattle.ft_orb.specs.Standing.{note_of}
 use Rattle.ft_orb.specs.Table.{Table, forgotten, keyed_step, performing_step, step_by_field, table_after, table_step}
@@ -45,9 +47,10 @@ use Rattle.ft_orb.specs.Tellings.{Later, nothing_yet}
 use Rattle.ft_orb.proofs.Books.{book_by}
 use Rattle.ft_orb.proofs.Folded.{table_after-append}
 use Rattle.ft_orb.proofs.Headline.{past_stands_by}
-use Rattle.ft_orb.proofs.Late.{below-past, tally-is}
-use Rattle.ft_orb.proofs.Ledgers.{runs-join, told-are-known, told-once, twice}
+use Rattle.ft_orb.proofs.Late.{below-past, links-go, tally-is}
+use Rattle.ft_orb.proofs.Ledgers.{answered-are-known, calls-are-taken, runs-join, theirs-later, told-are-known, told-once, twice}
 use Rattle.ft_orb.proofs.Acts.{asks-acts, one-question, same-front}
+use Rattle.ft_orb.proofs.Placed.{all-within, came-within, count-same, nobody-under}
 use Rattle.ft_orb.proofs.Numbers.{AreBelow, after-below, all-filter}
 use Rattle.ft_orb.proofs.Said.{past_now_by}
 
@@ -88,41 +91,47 @@ module _ (interface : List ℕ → List ℕ → Interface) (capacity share : ℕ
   step-below : (t : Table (List Call) ℕ) (a : Arrival Wanted) (i : ℕ) → AreBelow (length t.state) t.entries → (table_step Numbered t a).1 ≡ Ok i → i < length (table_step Numbered t a).0.state
   step-below t a i h is = field-below t a.clock (Numbered.asked a.content) a.field i h is
 
-less-or-apart : (n m bound : ℕ) → m < bound → bound ≤ n → (n == m) ≡ false
-less-or-apart n m bound low high = by (n == m) refl
-  where
-    by : (b : Bool) → (n == m) ≡ b → b ≡ false
-    by true is = absurd (let same = eqb-true n m is in omega (arith, same, low, high))
-    by false is = refl
-
 module _ {C : Type 0} (offers : C → Offer) (s : Settings) where
+  -- so it is after what changes none of it
+  shows-on : (asked : ℕ) (there : ℕ → Option Awaited) (old new : Engine C) → Shows offers s asked there old → AreParked old new → asks_in new ≡ asks_in old → Shows offers s asked there new
+  shows-on asked there old new x are same = record { asked = same ∙ x.asked; there = λ n. (are n).0 ∙ x.there n; told = λ n. (are n).1 ∙ x.told n }
+
+  untold : (e : Engine C) (n : ℕ) → parked_in e n ≡ None → told_in e n ≡ None
+  untold e n = by (parked_at e n)
+    where
+      by : (o : Option CodeParked) → option_map (λ (p : CodeParked). awaited_of p.pending) o ≡ None → outcome_of o ≡ None
+      by None is = refl
+      by (Some p) is = absurd cc
+
   -- no request waits
   pub record Resting (g : Ledger) (e : Engine C) : Type 0 where
+    pub shows : Shows offers s g.asked g.there e
     pub none : g.asking ≡ None
     pub stays : Stays offers s g.held g.calls e g.past g.waiting
-    pub fresh : (n : ℕ) → asks_in e ≤ n → g.waiting n ≡ []
+    pub nobody : (n : ℕ) → g.there n ≡ None → g.waiting n ≡ []
 
   pub resting : (g : Ledger) (e : Engine C) → Holds offers s g e → waits_in e ≡ None → Resting g e
-  resting g e h idle = by g.asking refl h.stands h.fresh
+  resting g e h idle = by g.asking refl h.stands
     where
-      by : (o : Option Asking) → g.asking ≡ o → StandsAt offers s g o e → ((n : ℕ) → next_number offers s o e ≤ n → g.waiting n ≡ []) → Resting g e
-      by None is st fresh = record { none = is; stays = st; fresh = fresh }
-      by (Some a) is st fresh = absurd (let both : Some a.request ≡ None = sym st.0.asks.waits ∙ idle in cc)
+      by : (o : Option Asking) → g.asking ≡ o → StandsAt offers s g o e → Resting g e
+      by None is st = record { shows = h.shows; none = is; stays = st; nobody = h.nobody }
+      by (Some a) is st = absurd (let both : Some a.request ≡ None = sym st.0.asks.waits ∙ idle in cc)
 
   -- a request waits
   pub record Awaiting (g : Ledger) (e : Engine C) : Type 0 where
+    pub shows : Shows offers s g.asked g.there e
     pub a : Asking
     pub is : g.asking ≡ Some a
     pub asks : AsksLate offers s g.held g.calls e g.past g.waiting a.moment a.octets a.written a.request
     pub question : asks.asks.question ≡ a.question
-    pub fresh : (n : ℕ) → a.request.number ≤ n → g.waiting n ≡ []
+    pub nobody : (n : ℕ) → g.there n ≡ None → g.waiting n ≡ []
 
   pub awaiting : (g : Ledger) (e : Engine C) (w : Awaited) → Holds offers s g e → waits_in e ≡ Some w → (x : Awaiting g e) × (x.a.request ≡ w)
-  awaiting g e w h waits = by g.asking refl h.stands h.fresh
+  awaiting g e w h waits = by g.asking refl h.stands
     where
-      by : (o : Option Asking) → g.asking ≡ o → StandsAt offers s g o e → ((n : ℕ) → next_number offers s o e ≤ n → g.waiting n ≡ []) → (x : Awaiting g e) × (x.a.request ≡ w)
-      by None is st fresh = absurd (let both : Some w ≡ None = sym waits ∙ st.rests.idle in cc)
-      by (Some a) is st fresh = (record { a = a; is = is; asks = st.0; question = st.1; fresh = fresh }, let both : Some a.request ≡ Some w = sym st.0.asks.waits ∙ waits in cc)
+      by : (o : Option Asking) → g.asking ≡ o → StandsAt offers s g o e → (x : Awaiting g e) × (x.a.request ≡ w)
+      by None is st = absurd (let both : Some w ≡ None = sym waits ∙ st.rests.idle in cc)
+      by (Some a) is st = (record { shows = h.shows; a = a; is = is; asks = st.0; question = st.1; nobody = h.nobody }, let both : Some a.request ≡ Some w = sym st.0.asks.waits ∙ waits in cc)
 
   still-none : (past : List Event) (waiting : ℕ → List Waiter) (n : ℕ) → waiting n ≡ [] → still s.limits past waiting n ≡ []
   still-none past waiting n is = ap (on_going (goes_on s.limits past)) is
@@ -130,34 +139,74 @@ module _ {C : Type 0} (offers : C → Offer) (s : Settings) where
   put-none : (m : ℕ) (list : List Waiter) (waiting : ℕ → List Waiter) (n : ℕ) → (n == m) ≡ false → waiting n ≡ [] → put_at m list waiting n ≡ []
   put-none m list waiting n apart is = ap (λ (b : Bool). cond b list (waiting n)) apart ∙ is
 
+  -- nobody waits under a number that no request had before
+  under-later : (g : Ledger) (e : Engine C) (bound : ℕ) → Shows offers s g.asked g.there e → Parks s g.held g.calls e g.past bound g.waiting → ((n : ℕ) → g.there n ≡ None → g.waiting n ≡ []) → (n : ℕ) → bound ≤ n → g.waiting n ≡ []
+  under-later g e bound shows parks nobody n late = by (parked_at e n) refl
+    where
+      by : (o : Option CodeParked) → parked_at e n ≡ o → g.waiting n ≡ []
+      by None is = nobody n (sym (shows.there n) ∙ ap (λ (o : Option CodeParked). option_map (λ (p : CodeParked). awaited_of p.pending) o) is)
+      by (Some p) is = absurd (let x = parks.call n p is in let low = parks.below x.0 n x.1 x.2 in omega (arith, low, late))
+
+  -- what is parked lies under its number
+  there-is : (g : Ledger) (e : Engine C) → Resting g e → (i n : ℕ) → i < length g.calls → g.held i ≡ parked n → g.there n ≡ None → ⊥
+  there-is g e r i n less is none = by (parked_at e n) (r.stays.parks.there i n less is) (r.shows.there n ∙ none)
+    where
+      by : (o : Option CodeParked) → IsSome o → option_map (λ (p : CodeParked). awaited_of p.pending) o ≡ None → ⊥
+      by None some none = absurd (let no : false ≡ true = some in cc)
+      by (Some p) some none = absurd cc
+
+  apart-from : (g : Ledger) (m n : ℕ) → (g.there m ≡ None → ⊥) → g.there n ≡ None → (n == m) ≡ false
+  apart-from g m n some none = ne_eqb n m (λ same. some (subst (λ (k : ℕ). g.there k ≡ None) same none))
+
+  -- nobody waits on a connection where none is counted
+  pub unawaited : (g : Ledger) (e : Engine C) → Resting g e → (c : ℕ) → waits_on e c ≡ 0 → IsUnawaited (Close c) g.waiting
+  unawaited g e r c none n = by (parked_at e n) refl
+    where
+      by : (o : Option CodeParked) → parked_at e n ≡ o → list_any (λ (w : Waiter). w.connection == c) (g.waiting n) ≡ false
+      by None is = ap (λ (l : List Waiter). list_any (λ (w : Waiter). w.connection == c) l) (r.nobody n (sym (r.shows.there n) ∙ ap (λ (o : Option CodeParked). option_map (λ (p : CodeParked). awaited_of p.pending) o) is))
+      by (Some p) is = subst (λ (l : List Waiter). list_any (λ (w : Waiter). w.connection == c) l ≡ false) (r.stays.parks.lists n p is)
+          (nobody-under c e.parked.requests (goes_on s.limits g.past) (ap (λ (f : ℕ → Bool). cond (f c) (waiters_on e.parked.requests c) 0) (sym (links-go offers s nothing_yet g.held g.calls e g.past r.stays.rests)) ∙ none) n p is)
+
+  -- there is a place for a request where the engine counts so
+  placed : (g : Ledger) (e : Engine C) (x : Awaiting g e) → parked_count e < places_of e → parked_of e x.a.request.connection < places_of_one e → HasPlace s g x.a.request
+  placed g e x few fair =
+      let all = count-same (λ w. true) g.there (λ q. parked_in e q) g.asked (λ q less. sym (x.shows.there q)) in
+      let ours = count-same (λ (w : Awaited). w.connection == x.a.request.connection) g.there (λ q. parked_in e q) g.asked (λ q less. sym (x.shows.there q)) in
+      let in_all = all-within e.parked.requests.entries g.asked in
+      let of_one = came-within e.parked.requests x.a.request.connection g.asked in
+      let most : places_of e ≡ s.places.parked = ap (λ (p : Places). p.parked) x.asks.parks.places in
+      let most_of_one : places_of_one e ≡ s.places.of_one = ap (λ (p : Places). p.of_one) x.asks.parks.places in
+      (omega (arith, all, in_all, most, few), omega (arith, ours, of_one, most_of_one, fair))
+
   -- An event, to its end.
-  pub ends-deed : (g : Ledger) (old new : Engine C) → Resting g old → (e : Event) (note : Note) (before out : List ℕ) → before ≡ [] → EndsLate offers s g.held g.calls g.past g.waiting e note new before out → asks_in new ≡ asks_in old
+  pub ends-deed : (g : Ledger) (old new : Engine C) → Resting g old → (e : Event) (note : Note) (before out : List ℕ) → before ≡ [] → EndsLate offers s g.held g.calls g.past g.waiting e note new before out → AreParked old new → asks_in new ≡ asks_in old → IsUnawaited e g.waiting
       → (told : CodeDeed) → IsOf told (Happened e out note) → IsDone offers s g told None (record { connection = connection_of e; octets = out; note = note } ∷ []) new
-  ends-deed g old new r e note before out none x asks told of = (
+  ends-deed g old new r e note before out none x are asks free told of = (
     Happened e out note,
     of,
-    (r.none, λ late. let y = x.ends late in subst (λ (l : List ℕ). Wrote s late g.held g.past e l note) (sym (y.appended ∙ ap (λ (l : List ℕ). l ++ y.written) none)) y.writes, x.stays.rests.stands.table.state),
+    (r.none, λ late. let y = x.ends late in subst (λ (l : List ℕ). Wrote s late g.held g.past e l note) (sym (y.appended ∙ ap (λ (l : List ℕ). l ++ y.written) none)) y.writes, x.stays.rests.stands.table.state, free),
     refl,
     refl,
-    record { stands = x.stays; fresh = λ n less. still-none (after s.limits g.past e note) g.waiting n (r.fresh n (omega (arith, less, asks))) },
+    record { stands = x.stays; nobody = λ n is. still-none (after s.limits g.past e note) g.waiting n (r.nobody n is); shows = shows-on g.asked g.there old new r.shows are asks },
   )
 
-  pub lost-deed : (g : Ledger) (old new : Engine C) → Resting g old → (c : ℕ) → Stays offers s g.held g.calls new (Lost c ∷ g.past) (still s.limits (Lost c ∷ g.past) g.waiting) → asks_in new ≡ asks_in old
+  pub lost-deed : (g : Ledger) (old new : Engine C) → Resting g old → (c : ℕ) → Stays offers s g.held g.calls new (Lost c ∷ g.past) (still s.limits (Lost c ∷ g.past) g.waiting) → AreParked old new → asks_in new ≡ asks_in old
       → (told : CodeDeed) → IsOf told (Happened (Lost c) [] Done) → IsDone offers s g told None (record { connection = c; octets = []; note = Done } ∷ []) new
-  lost-deed g old new r c x asks told of = (
+  lost-deed g old new r c x are asks told of = (
     Happened (Lost c) [] Done,
     of,
-    (r.none, λ late. (refl, refl), x.rests.stands.table.state),
+    (r.none, λ late. (refl, refl), x.rests.stands.table.state, tt),
     refl,
     refl,
-    record { stands = x; fresh = λ n less. still-none (Lost c ∷ g.past) g.waiting n (r.fresh n (omega (arith, less, asks))) },
+    record { stands = x; nobody = λ n is. still-none (Lost c ∷ g.past) g.waiting n (r.nobody n is); shows = shows-on g.asked g.there old new r.shows are asks },
   )
 
   -- A part of a piece, up to a request that waits now, ..
   stops-deed : (g : Ledger) (old new : Engine C) → Resting g old → (c moment : ℕ) (piece : List ℕ) (taken : ℕ) (before out : List ℕ) → before ≡ [] → StopsLate offers s g.held g.calls g.past g.waiting c moment piece taken new before out
-      → option_map (λ (w : Awaited). w.number) (waits_in new) ≡ Some (asks_in old) → (e : CodeEvent) → event_of e ≡ Piece c moment piece
+      → AreParked old new → (asks_in new ≡ asks_in old + 1) × (option_map (λ (w : Awaited). w.number) (waits_in new) ≡ Some (asks_in old)) → (e : CodeEvent) → event_of e ≡ Piece c moment piece
       → IsDone offers s g (code.Event e) (left_after taken (length piece)) (record { connection = c; octets = out; note = Done } ∷ []) new
-  stops-deed g old new r c moment piece taken before out none x number e of =
+  stops-deed g old new r c moment piece taken before out none x are numbered e of =
+      let number = numbered.1 in
       let y = x.stops nothing_yet in
       let z = x.asks in
       let w : Awaited = record { number = y.number; connection = c; call = y.call; field = y.field } in
@@ -172,7 +221,7 @@ module _ {C : Type 0} (offers : C → Offer) (s : Settings) where
       wrote ∙ sym same ∙ z.asks.out ∙ ap (λ (l : List (Arrival Wanted)). output_cut s.limits (numbering s late g.held).tell (owned_says (numbering s late g.held)) g.past (Piece c moment (take taken piece)) (length l)) fronts) in (
         Stopped (record { connection = c; moment = moment; piece = piece; taken = taken }) y.written w y.asks.question,
         of,
-        (r.none, record { connection = refl; front = y.asks.front; last = y.asks.last; completes = y.asks.completes; short = y.short; content = y.asks.content; asks = y.asks.asks; field = y.asks.field; out = octets-of; before = acts.0; acts = acts.1 }),
+        (r.none, record { connection = refl; number = first ∙ r.shows.asked; front = y.asks.front; last = y.asks.last; completes = y.asks.completes; short = y.short; content = y.asks.content; asks = y.asks.asks; field = y.asks.field; out = octets-of; before = acts.0; acts = acts.1 }),
         ap (λ (l : List ℕ). record { connection = c; octets = l; note = Done } ∷ []) wrote,
         refl,
         record {
@@ -184,15 +233,16 @@ module _ {C : Type 0} (offers : C → Offer) (s : Settings) where
             },
             refl,
           );
-          fresh = λ n less. r.fresh n (omega (arith, less, first));
+          nobody = r.nobody;
+          shows = record { asked = numbered.0 ∙ ap (λ (k : ℕ). k + 1) r.shows.asked; there = λ n. (are n).0 ∙ r.shows.there n; told = λ n. (are n).1 ∙ r.shows.told n };
         },
       )
 
   -- .. or to a repeat of one that is parked.
   repeats-deed : (g : Ledger) (old new : Engine C) → Resting g old → (c moment : ℕ) (piece : List ℕ) (taken : ℕ) (before out : List ℕ) → before ≡ [] → RepeatsLate offers s g.held g.calls g.past g.waiting c moment piece taken new before out
-      → asks_in new ≡ asks_in old → (e : CodeEvent) → event_of e ≡ Piece c moment piece
+      → AreParked old new → asks_in new ≡ asks_in old → (e : CodeEvent) → event_of e ≡ Piece c moment piece
       → IsDone offers s g (code.Event e) (left_after taken (length piece)) (record { connection = c; octets = out; note = Done } ∷ []) new
-  repeats-deed g old new r c moment piece taken before out none x asks e of =
+  repeats-deed g old new r c moment piece taken before out none x are asks e of =
       let joined = if is_wished x.question.wish && x.placed then waiter_of c x.question ∷ [] else [] in
       let now : List Event = Piece c moment (take taken piece) ∷ g.past in
       let wrote : x.ends.written ≡ out = sym (x.ends.appended ∙ ap (λ (l : List ℕ). l ++ x.ends.written) none) in
@@ -204,7 +254,7 @@ module _ {C : Type 0} (offers : C → Offer) (s : Settings) where
       ∙ table_after-append rules (owned_table (by_number s g.held) g.past) x.front (x.last ∷ []) in
       let low : x.i < length (table_step rules mid x.last).0.state = step-below s.offer.interface s.capacity s.share mid x.last x.i (after-below s.offer.interface s.capacity s.share (owned_table (by_number s g.held) g.past) x.front (below-past s g.past)) x.says in
       let count : length (table_step rules mid x.last).0.state ≡ length g.calls = ap (λ (t : Table (List Call) ℕ). length t.state) (sym all) ∙ ap (λ (l : List Call). length l) (tally-is offers s nothing_yet g.held g.calls new now x.stays.rests) in
-      let below : x.number < asks_in new = x.stays.parks.below x.i x.number (omega (arith, low, count)) x.is_parked in (
+      let there = there-is g old r x.i x.number (omega (arith, low, count)) x.is_parked in (
         Joined (record { connection = c; moment = moment; piece = piece; taken = taken }) x.ends.written x.number joined,
         of,
         (
@@ -232,52 +282,59 @@ module _ {C : Type 0} (offers : C → Offer) (s : Settings) where
         refl,
         record {
           stands = x.stays;
-          fresh = λ n less. still-none now (put_at x.number (g.waiting x.number ++ joined) g.waiting) n (put-none x.number (g.waiting x.number ++ joined) g.waiting n (less-or-apart n x.number (asks_in new) below less) (r.fresh n (omega (arith, less, asks))));
+          nobody = λ n is. still-none now (put_at x.number (g.waiting x.number ++ joined) g.waiting) n (put-none x.number (g.waiting x.number ++ joined) g.waiting n (apart-from g x.number n there is) (r.nobody n is));
+          shows = shows-on g.asked g.there old new r.shows are asks;
         },
       )
 
   pub feeds-deed : (g : Ledger) (old new : Engine C) → Resting g old → (c moment : ℕ) (piece : List ℕ) (result : Result Fed ServeError) (before out : List ℕ) → before ≡ []
-      → FeedsLate offers s g.held g.calls g.past g.waiting c moment piece result new before out → IsNumbered (asks_in old) (asks_in new) result (waits_in new) → (e : CodeEvent) → event_of e ≡ Piece c moment piece
+      → FeedsLate offers s g.held g.calls g.past g.waiting c moment piece result new before out → AreParked old new → IsNumbered (asks_in old) (asks_in new) result (waits_in new) → (e : CodeEvent) → event_of e ≡ Piece c moment piece
       → IsDone offers s g (code.Event e) (left_fed (length piece) result) (record { connection = c; octets = out; note = note_of result } ∷ []) new
-  feeds-deed g old new r c moment piece (Ok fed.Whole) before out none x number e of = ends-deed g old new r (Piece c moment piece) Done before out none x number (code.Event e) (sym of)
-  feeds-deed g old new r c moment piece (Ok (fed.Asks taken)) before out none x number e of = stops-deed g old new r c moment piece taken before out none x number.1 e of
-  feeds-deed g old new r c moment piece (Ok (fed.Repeats taken)) before out none x number e of = repeats-deed g old new r c moment piece taken before out none x number e of
-  feeds-deed g old new r c moment piece (Err error) before out none x number e of = ends-deed g old new r (Piece c moment piece) (note_of {A = Fed} (Err error)) before out none x number (code.Event e) (sym of)
+  feeds-deed g old new r c moment piece (Ok fed.Whole) before out none x are number e of = ends-deed g old new r (Piece c moment piece) Done before out none x are number tt (code.Event e) (sym of)
+  feeds-deed g old new r c moment piece (Ok (fed.Asks taken)) before out none x are number e of = stops-deed g old new r c moment piece taken before out none x are number e of
+  feeds-deed g old new r c moment piece (Ok (fed.Repeats taken)) before out none x are number e of = repeats-deed g old new r c moment piece taken before out none x are number e of
+  feeds-deed g old new r c moment piece (Err error) before out none x are number e of = ends-deed g old new r (Piece c moment piece) (note_of {A = Fed} (Err error)) before out none x are number tt (code.Event e) (sym of)
+
+  fits-here : (g : Ledger) (old : Engine C) (x : Awaiting g old) (o : Performed) → CanAnswer (offers old.catalogue) (waits_in old) x.a.request.number o → IsFor s (Some x.a.request) o
+  fits-here g old x o can =
+      let y = subst (λ (w : Option Awaited). CanAnswer (offers old.catalogue) w x.a.request.number o) x.asks.asks.waits can in
+      (y.1, subst (λ (f : Offer). IsOutcomeOf (f.interface x.a.request.call.object_key x.a.request.call.operation) o) x.asks.asks.keeps.offer_is y.2)
 
   -- The request that waits is answered, parked or given up.
   pub answers-deed : (g : Ledger) (old new : Engine C) (x : Awaiting g old) (o : Performed) (note : Note) (before out : List ℕ) → before ≡ []
-      → ResumesLate offers s (put_at (length g.calls) (known o) g.held) (g.calls ++ x.a.request.call ∷ []) g.past g.waiting x.a.request.connection x.a.moment x.a.octets x.a.written note new before out → asks_in new ≡ asks_in old
+      → ResumesLate offers s (put_at (length g.calls) (known o) g.held) (g.calls ++ x.a.request.call ∷ []) g.past g.waiting x.a.request.connection x.a.moment x.a.octets x.a.written note new before out → AreParked old new → asks_in new ≡ asks_in old → CanAnswer (offers old.catalogue) (waits_in old) x.a.request.number o
       → (c : ℕ) → c ≡ x.a.request.connection → (told : CodeDeed) → IsOf told (Answered x.a o out note) → IsDone offers s g told None (record { connection = c; octets = out; note = note } ∷ []) new
-  answers-deed g old new x o note before out none y asks c at told of =
-      let low = x.asks.below in
+  answers-deed g old new x o note before out none y are asks can c at told of =
       let wrote : out ≡ y.resumes.more = y.resumes.appended ∙ ap (λ (l : List ℕ). l ++ y.resumes.more) none in (
         Answered x.a o out note,
         of,
-        (x.is, subst (λ (l : List ℕ). Wrote s nothing_yet (put_at (length g.calls) (known o) g.held) g.past (piece_of x.a) (x.a.written ++ l) note) (sym wrote) y.resumes.writes, y.stays.rests.stands.table.state),
+        (x.is, subst (λ (l : List ℕ). Wrote s nothing_yet (put_at (length g.calls) (known o) g.held) g.past (piece_of x.a) (x.a.written ++ l) note) (sym wrote) y.resumes.writes, y.stays.rests.stands.table.state, fits-here g old x o can),
         ap (λ (k : ℕ). record { connection = k; octets = out; note = note } ∷ []) (sym at),
         refl,
-        record { stands = y.stays; fresh = λ n less. still-none (after s.limits g.past (piece_of x.a) note) g.waiting n (x.fresh n (omega (arith, less, asks, low))) },
+        record { stands = y.stays; nobody = λ n is. still-none (after s.limits g.past (piece_of x.a) note) g.waiting n (x.nobody n is); shows = shows-on g.asked g.there old new x.shows are asks },
       )
 
-  pub gives-up-deed : (g : Ledger) (old new : Engine C) (x : Awaiting g old) (handled : ℕ) → ResumesLate offers s g.held g.calls g.past g.waiting x.a.request.connection x.a.moment x.a.octets x.a.written (Memory handled handled) new [] [] → asks_in new ≡ asks_in old
+  pub gives-up-deed : (g : Ledger) (old new : Engine C) (x : Awaiting g old) (handled : ℕ) → ResumesLate offers s g.held g.calls g.past g.waiting x.a.request.connection x.a.moment x.a.octets x.a.written (Memory handled handled) new [] [] → AreParked old new → asks_in new ≡ asks_in old
+      → handled + 1 ≡ length (completed s.limits g.past (piece_of x.a))
       → (c : ℕ) → c ≡ x.a.request.connection → IsDone offers s g code.GiveUp None (record { connection = c; octets = []; note = Memory handled handled } ∷ []) new
-  gives-up-deed g old new x handled y asks c at =
-      let low = x.asks.below in
+  gives-up-deed g old new x handled y are asks counts c at =
       let wrote : x.a.written ++ y.resumes.more ≡ x.a.written = ap (λ (l : List ℕ). x.a.written ++ l) (sym y.resumes.appended) ∙ append-nil x.a.written in (
         GivenUp x.a handled,
         tt,
-        (x.is, subst (λ (l : List ℕ). Wrote s nothing_yet g.held g.past (piece_of x.a) l (Memory handled handled)) wrote y.resumes.writes, y.stays.rests.stands.table.state),
+        (x.is, subst (λ (l : List ℕ). Wrote s nothing_yet g.held g.past (piece_of x.a) l (Memory handled handled)) wrote y.resumes.writes, y.stays.rests.stands.table.state, counts),
         ap (λ (k : ℕ). record { connection = k; octets = []; note = Memory handled handled } ∷ []) (sym at),
         refl,
-        record { stands = y.stays; fresh = λ n less. still-none (after s.limits g.past (piece_of x.a) (Memory handled handled)) g.waiting n (x.fresh n (omega (arith, less, asks, low))) },
+        record { stands = y.stays; nobody = λ n is. still-none (after s.limits g.past (piece_of x.a) (Memory handled handled)) g.waiting n (x.nobody n is); shows = shows-on g.asked g.there old new x.shows are asks },
       )
 
   pub parks-deed : (g : Ledger) (old new : Engine C) (x : Awaiting g old)
       → ResumesLate offers s (put_at (length g.calls) (parked x.a.request.number) g.held) (g.calls ++ x.a.request.call ∷ []) g.past (put_at x.a.request.number (own_of x.a.request.connection x.asks.asks.question) g.waiting) x.a.request.connection x.a.moment x.a.octets x.a.written Done new [] [] → asks_in new ≡ asks_in old
+      → (parked_in new x.a.request.number ≡ waits_in old) × (told_in new x.a.request.number ≡ None)
+      → ((q : ℕ) → (q == x.a.request.number) ≡ false → (parked_in new q ≡ parked_in old q) × (told_in new q ≡ told_in old q))
+      → parked_count old < places_of old → parked_of old x.a.request.connection < places_of_one old
       → IsDone offers s g code.Park None [] new
-  parks-deed g old new x y asks =
+  parks-deed g old new x y asks here others few fair =
       let own = own_of x.a.request.connection x.asks.asks.question in
-      let low = x.asks.below in
       let n0 = x.a.request.number in
       let now : List Event = piece_of x.a ∷ g.past in
       let goes = goes_on s.limits now in
@@ -285,25 +342,43 @@ module _ {C : Type 0} (offers : C → Offer) (s : Settings) where
       let wrote : x.a.written ++ y.resumes.more ≡ x.a.written = ap (λ (l : List ℕ). x.a.written ++ l) (sym y.resumes.appended) ∙ append-nil x.a.written in
       let each : (m : ℕ) → still s.limits now (put_at n0 own g.waiting) m ≡ still s.limits now (put_at n0 those g.waiting) m = λ m.
       (elim (m == n0) as (λ (b : Bool). on_going goes (cond b own (g.waiting m)) ≡ on_going goes (cond b those (g.waiting m))) [ true ↦ sym (twice goes own) | false ↦ refl ]) in
-      let free : IsFree s g n0 = record { call = λ i less is. let other = x.asks.parks.below i n0 less is in absurd (omega (arith, other)); nobody = x.fresh n0 (omega arith) } in
+      let free : IsFree s g n0 = record { call = λ i less is. let other = x.asks.parks.below i n0 less is in absurd (omega (arith, other)); nobody = under-later g old n0 x.shows x.asks.parks x.nobody n0 (omega arith) } in
       let same : still s.limits now (put_at n0 own g.waiting) ≡ still s.limits now (put_at n0 those g.waiting) = λ i m. each m i in (
         Parked x.a those,
         tt,
-        (x.is, free, ap (λ (q : Question). on_going goes (own_of x.a.request.connection q)) x.question, subst (λ (l : List ℕ). Wrote s nothing_yet (put_at (length g.calls) (parked n0) g.held) g.past (piece_of x.a) l Done) wrote y.resumes.writes, y.stays.rests.stands.table.state),
+        (x.is, free, ap (λ (q : Question). on_going goes (own_of x.a.request.connection q)) x.question, subst (λ (l : List ℕ). Wrote s nothing_yet (put_at (length g.calls) (parked n0) g.held) g.past (piece_of x.a) l Done) wrote y.resumes.writes, y.stays.rests.stands.table.state, placed g old x few fair),
         refl,
         refl,
         record {
           stands = subst (λ (f : ℕ → List Waiter). Stays offers s (put_at (length g.calls) (parked n0) g.held) (g.calls ++ x.a.request.call ∷ []) new now f) same y.stays;
-          fresh = λ n less. still-none now (put_at n0 those g.waiting) n (put-none n0 those g.waiting n (less-or-apart n n0 (asks_in new) (omega (arith, asks, low)) less) (x.fresh n (omega (arith, less, asks, low))));
+          nobody = λ n.
+              (elim (n == n0) as (λ (b : Bool). (n == n0) ≡ b → cond b (Some x.a.request) (g.there n) ≡ None → still s.limits now (put_at n0 those g.waiting) n ≡ []) [
+                | true ↦ λ is none. absurd cc
+                | false ↦ λ is none. still-none now (put_at n0 those g.waiting) n (put-none n0 those g.waiting n is (x.nobody n none))
+              ]) refl;
+          shows = record {
+            asked = asks ∙ x.shows.asked;
+            there = λ q.
+                (elim (q == n0) as (λ (b : Bool). (q == n0) ≡ b → parked_in new q ≡ cond b (Some x.a.request) (g.there q)) [
+                  | true ↦ λ is. subst (λ (k : ℕ). parked_in new k ≡ Some x.a.request) (sym (eqb-true q n0 is)) (here.0 ∙ x.asks.asks.waits)
+                  | false ↦ λ is. (others q is).0 ∙ x.shows.there q
+                ]) refl;
+            told = λ q.
+                (elim (q == n0) as (λ (b : Bool). (q == n0) ≡ b → told_in new q ≡ None) [
+                  | true ↦ λ is. subst (λ (k : ℕ). told_in new k ≡ None) (sym (eqb-true q n0 is)) here.1
+                  | false ↦ λ is. (others q is).1 ∙ x.shows.told q
+                ]) refl;
+          };
         },
       )
 
   -- it was not parked, and waits on
-  pub waits-on : (g : Ledger) (old new : Engine C) (x : Awaiting g old) → AsksLate offers s g.held g.calls new g.past g.waiting x.a.moment x.a.octets x.a.written x.a.request → Holds offers s g new
-  waits-on g old new x y = record {
+  pub waits-on : (g : Ledger) (old new : Engine C) (x : Awaiting g old) → AsksLate offers s g.held g.calls new g.past g.waiting x.a.moment x.a.octets x.a.written x.a.request → AreParked old new → asks_in new ≡ asks_in old → Holds offers s g new
+  waits-on g old new x y are asks = record {
     stands = subst (λ (o : Option Asking). StandsAt offers s g o new) (sym x.is)
         (y, one-question offers (by_number s g.held) g.calls old new g.past x.a.moment x.a.octets x.a.written x.a.request x.asks.asks y.asks ∙ x.question);
-    fresh = λ n less. x.fresh n (subst (λ (o : Option Asking). next_number offers s o new ≤ n) x.is less);
+    nobody = x.nobody;
+    shows = shows-on g.asked g.there old new x.shows are asks;
   }
 
   -- The outcome of one that is parked is told.
@@ -323,15 +398,47 @@ module _ {C : Type 0} (offers : C → Offer) (s : Settings) where
       one (Reached w) = here
       one (Missed w) = ap (on_going (goes_on s.limits (Lost w.connection ∷ g.past))) here
 
-  pub settles-deed : (g : Ledger) (old new : Engine C) → Resting g old → (n : ℕ) (outcome : Performed) (before out : List Written) (t : IsTold offers s g n outcome new before out) → asks_in new ≡ asks_in old → (told : CodeDeed) → IsOf told (Settled t.i n outcome t.told)
+  fits-there : (g : Ledger) (old : Engine C) (r : Resting g old) (n : ℕ) (o : Performed) → CanSettle (offers old.catalogue) (parked_at old n) o → IsFor s (g.there n) o
+  fits-there g old r n o can = subst (λ (w : Option Awaited). IsFor s w o) (r.shows.there n) (by (parked_at old n) can)
+    where
+      by : (p : Option CodeParked) → CanSettle (offers old.catalogue) p o → IsFor s (option_map (λ (p : CodeParked). awaited_of p.pending) p) o
+      by None can = absurd can
+      by (Some p) can = (can.1, subst (λ (f : Offer). IsOutcomeOf (f.interface (awaited_of p.pending).call.object_key (awaited_of p.pending).call.operation) o) r.stays.rests.offer_is can.2)
+
+  shows-without : (g : Ledger) (old new : Engine C) → Shows offers s g.asked g.there old → (n : ℕ) → asks_in new ≡ asks_in old → parked_in new n ≡ None
+      → ((q : ℕ) → (q == n) ≡ false → (parked_in new q ≡ parked_in old q) × (told_in new q ≡ told_in old q)) → Shows offers s g.asked (put_at n None g.there) new
+  shows-without g old new x n asks gone others = record {
+    asked = asks ∙ x.asked;
+    there = λ q.
+        (elim (q == n) as (λ (b : Bool). (q == n) ≡ b → parked_in new q ≡ cond b None (g.there q)) [
+          | true ↦ λ is. subst (λ (k : ℕ). parked_in new k ≡ None) (sym (eqb-true q n is)) gone
+          | false ↦ λ is. (others q is).0 ∙ x.there q
+        ]) refl;
+    told = λ q.
+        (elim (q == n) as (λ (b : Bool). (q == n) ≡ b → told_in new q ≡ None) [
+          | true ↦ λ is. untold new q (subst (λ (k : ℕ). parked_in new k ≡ None) (sym (eqb-true q n is)) gone)
+          | false ↦ λ is. (others q is).1 ∙ x.told q
+        ]) refl;
+  }
+
+  pub settles-deed : (g : Ledger) (old new : Engine C) → Resting g old → (n : ℕ) (outcome : Performed) (before out : List Written) (t : IsTold offers s g n outcome new before out) → asks_in new ≡ asks_in old
+      → CanSettle (offers old.catalogue) (parked_at old n) outcome → parked_in new n ≡ None → ((q : ℕ) → (q == n) ≡ false → (parked_in new q ≡ parked_in old q) × (told_in new q ≡ told_in old q)) → (told : CodeDeed) → IsOf told (Settled t.i n outcome t.told)
       → IsDone offers s g told None (map noted t.written) new
-  settles-deed g old new r n outcome before out t asks told of = (
+  settles-deed g old new r n outcome before out t asks can gone others told of = (
     Settled t.i n outcome t.told,
     of,
-    (r.none, t.taken, t.was, t.are_told, t.none, t.stays.rests.stands.table.state),
+    (r.none, t.taken, t.was, t.are_told, t.none, t.stays.rests.stands.table.state, fits-there g old r n outcome can),
     t.notes,
     refl,
-    record { stands = t.stays; fresh = λ m less. told-none m n g t.told (r.fresh m (omega (arith, less, asks))) },
+    record {
+      stands = t.stays;
+      nobody = λ m.
+          (elim (m == n) as (λ (b : Bool). (m == n) ≡ b → cond b None (g.there m) ≡ None → (told_all s n g t.told).waiting m ≡ []) [
+            | true ↦ λ is none. subst (λ (k : ℕ). (told_all s n g t.told).waiting k ≡ []) (sym (eqb-true m n is)) t.none
+            | false ↦ λ is none. told-none m n g t.told (r.nobody m none)
+          ]) refl;
+      shows = shows-without g old new r.shows n asks gone others;
+    },
   )
 
   -- so far
@@ -440,7 +547,7 @@ module _ {C : Type 0} (offers : C → Offer) (s : Settings) where
     pub are : AreOf told ds
     pub runs : Runs s g ds
     pub notes : flat_map notes_of ds ≡ map noted written
-    pub left : filter_map left_of ds ≡ option_to_list part
+    pub left : LeaveAtLast ds part
     pub holds : Holds offers s (after_deeds s g ds) new
 
   are-push : (told : List CodeDeed) (ds : List Deed) (c : CodeDeed) (d : Deed) → AreOf told ds → IsOf c d → AreOf (told ++ c ∷ []) (ds ++ d ∷ [])
@@ -453,9 +560,10 @@ module _ {C : Type 0} (offers : C → Offer) (s : Settings) where
   pub done-none : (g : Ledger) (e : Engine C) (before : List Written) → Holds offers s g e → AreDone g [] None e before before
   done-none g e before h = record { ds = []; written = []; appended = sym (append-nil before); are = tt; runs = tt; notes = refl; left = refl; holds = h }
 
-  last-left : (a b : Option ℕ) → a ≡ b → cons_option a [] ≡ option_to_list b
-  last-left None b is = subst (λ (o : Option ℕ). [] ≡ option_to_list o) is refl
-  last-left (Some n) b is = subst (λ (o : Option ℕ). n ∷ [] ≡ option_to_list o) is refl
+  leave-push : (ds : List Deed) (d : Deed) (part : Option ℕ) → LeaveAtLast ds None → left_of d ≡ part → LeaveAtLast (ds ++ d ∷ []) part
+  leave-push [] d part h is = is
+  leave-push (x ∷ []) d part h is = (h, is)
+  leave-push (x ∷ y ∷ ds) d part h is = (h.0, leave-push (y ∷ ds) d part h.1 is)
 
   -- .. and one more
   pub done-more : (g : Ledger) (told grown : List CodeDeed) (e new : Engine C) (before mid out : List Written) → AreDone g told None e before mid → (c : CodeDeed) → grown ≡ told ++ c ∷ [] → (part : Option ℕ)
@@ -471,32 +579,29 @@ module _ {C : Type 0} (offers : C → Offer) (s : Settings) where
         are = subst (λ (l : List CodeDeed). AreOf l (x.ds ++ d ∷ [])) (sym all) (are-push told x.ds c d x.are y.2.1);
         runs = r.0;
         notes = flat_map-append notes_of x.ds (d ∷ []) ∙ ap (λ (l : List Noted). l ++ (notes_of d ++ [])) x.notes ∙ ap (λ (l : List Noted). map noted x.written ++ l) (append-nil (notes_of d) ∙ y.2.3) ∙ sym (map-append noted x.written y.0);
-        left = filter_map-append left_of x.ds (d ∷ []) ∙ ap (λ (l : List ℕ). l ++ filter_map left_of (d ∷ [])) x.left ∙ last-left (left_of d) part y.2.4;
+        left = leave-push x.ds d part x.left y.2.4;
         holds = subst (λ (h : Ledger). Holds offers s h new) (sym r.1) y.2.5;
       }
 
+module _ (s : Settings) where
   -- The calls that were taken, by all that came.
 
-  pub calls-now : (g : Ledger) (e : Engine C) → Holds offers s g e → g.calls ≡ state_after (owned_rules (by_number s g.held)) [] (performed_now (owned_rules (by_number s g.held)) (arrivals s.limits g.past))
-  calls-now g e h = by g.asking h.stands
-    where
-      by : (o : Option Asking) → StandsAt offers s g o e → g.calls ≡ state_after (owned_rules (by_number s g.held)) [] (performed_now (owned_rules (by_number s g.held)) (arrivals s.limits g.past))
-      by None st = st.rests.stands.table.state ∙ (past_now_by (book_by (by_number s g.held)) g.past).state
-      by (Some a) st = sym st.0.asks.keeps.answered ∙ st.0.asks.keeps.stands.table.state ∙ (past_now_by (book_by (by_number s g.held)) g.past).state
+  pub calls-now : (g : Ledger) → AreTaken s g → g.calls ≡ state_after (owned_rules (by_number s g.held)) [] (performed_now (owned_rules (by_number s g.held)) (arrivals s.limits g.past))
+  calls-now g taken = taken ∙ (past_now_by (book_by (by_number s g.held)) g.past).state
 
-  pub calls-once : (g : Ledger) (e : Engine C) → Holds offers s g e → OneExpiration (arrivals s.limits g.past) → g.calls ≡ state_of (owned_rules (by_number s g.held)) [] (arrivals s.limits g.past)
-  calls-once g e h one = by g.asking h.stands
-    where
-      by : (o : Option Asking) → StandsAt offers s g o e → g.calls ≡ state_of (owned_rules (by_number s g.held)) [] (arrivals s.limits g.past)
-      by None st = st.rests.stands.table.state ∙ (past_stands_by (book_by (by_number s g.held)) g.past one).state
-      by (Some a) st = sym st.0.asks.keeps.answered ∙ st.0.asks.keeps.stands.table.state ∙ (past_stands_by (book_by (by_number s g.held)) g.past one).state
+  pub calls-once : (g : Ledger) → AreTaken s g → OneExpiration (arrivals s.limits g.past) → g.calls ≡ state_of (owned_rules (by_number s g.held)) [] (arrivals s.limits g.past)
+  calls-once g taken one = taken ∙ (past_stands_by (book_by (by_number s g.held)) g.past one).state
 
-  pub answered-late : EndingsStay meaning_in → (held : ℕ → Holding) (ds : List Deed) (e : Engine C) → Runs s (opening held) ds → Holds offers s (after_deeds s (opening held) ds) e → IsAnsweredLate s held ds
-  answered-late stay held ds e runs h = record {
+  pub answered-late : EndingsStay meaning_in → RunsAreAnsweredLate s
+  answered-late stay held ds runs = record {
     runs = runs;
     known = λ xs ys i n outcome told is.
         subst (λ (l : List Deed). (after_deeds s (opening held) l).held i ≡ known outcome) (sym is) (told-are-known s (opening held) xs ys i n outcome told (subst (λ (l : List Deed). Runs s (opening held) l) is runs));
-    once = calls-once (after_deeds s (opening held) ds) e h;
-    now = calls-now (after_deeds s (opening held) ds) e h;
+    answered = λ xs ys a outcome written note is.
+        subst (λ (l : List Deed). (after_deeds s (opening held) l).held (length (after_deeds s (opening held) xs).calls) ≡ known outcome) (sym is) (answered-are-known s (opening held) xs ys a outcome written note (subst (λ (l : List Deed). Runs s (opening held) l) is runs));
+    once = calls-once (after_deeds s (opening held) ds) (calls-are-taken s (opening held) ds runs refl);
+    now = calls-now (after_deeds s (opening held) ds) (calls-are-taken s (opening held) ds runs refl);
     told = λ n. told-once s stay (opening held) ds n runs (λ m. refl);
+    theirs = λ xs ms ys i j n outcome told is low held-there none.
+        theirs-later s (opening held) xs ms ys i j n outcome told (λ i j n less. absurd (omega (arith, less))) (subst (λ (l : List Deed). Runs s (opening held) l) is runs) low held-there none;
   }

@@ -10,7 +10,7 @@ use Rattle.std.proofs.lemmas.Map.Entries.{sum_by-insert_entry, sum_by-remove_ent
 use Rattle.std.proofs.lemmas.List.Sums.{count_by-le-length, sum_by-cons}
 use Rattle.ft_orb.specs.declared.parked.Parked.{Parked}
 use Rattle.ft_orb.specs.declared.parked.Waiter.{Waiter}
-use Rattle.ft_orb.specs.declared.pausing.Pending.{Pending}
+use Rattle.ft_orb.specs.declared.answering.Asker.{Asker}
 use Rattle.ft_orb.specs.declared.waiters.Join.{Join}
 use Rattle.ft_orb.specs.declared.waiters.Join.TheVariants as join
 use Rattle.ft_orb.specs.Counts.{AreCounted, on_connection, parked_on}
@@ -69,8 +69,8 @@ at-most-one : (w : Waiter) (b : Bool) → length (cond b (w ∷ []) []) ≤ 1
 at-most-one w true = omega arith
 at-most-one w false = omega arith
 
-pub own-short : (p : Pending) (l : List Waiter) → l ≡ own_waiters p → length l ≤ 4294967296
-own-short p l is =
-    let one : length (own_waiters p) ≤ 1 = at-most-one (record { connection = p.connection; asker = p.waiting.asker }) (is_wished p.waiting.asker.wish) in
+pub own-short : (c : ℕ) (asker : Asker) (l : List Waiter) → l ≡ own_waiters c asker → length l ≤ 4294967296
+own-short c asker l is =
+    let one : length (own_waiters c asker) ≤ 1 = at-most-one (record { connection = c; asker = asker }) (is_wished asker.wish) in
     let size = ap (λ (x : List Waiter). length x) is in
     omega (arith, one, size)

@@ -1,5 +1,5 @@
 -- A piece that an engine serves in parts, and what its owner answers in them.
-use Rattle.std.proofs.Common.{◌≡◌, ◌⊎◌, ℕ, ◌+◌, ◌≤◌, ◌<◌, Bool, true, false, if◌then◌else◌, List, [], ◌∷◌, ◌++◌, drop, length, take, Option, Some, None, Ok, Err, inl, inr, refl, sym, ap, subst, ◌∙◌, arith, append_assoc, length-append}
+use Rattle.std.proofs.Common.{◌≡◌, ◌⊎◌, ℕ, ◌+◌, ◌≤◌, ◌<◌, Bool, true, false, if◌then◌else◌, List, [], ◌∷◌, ◌++◌, drop, length, take, Option, Some, None, Result, Ok, Err, inl, inr, refl, sym, ap, subst, ◌∙◌, arith, append_assoc, length-append}
 use Rattle.std.proofs.Math.Seq.{take-add, take-length}
 use Rattle.std.proofs.lemmas.List.{append-nil, length-drop, map-append, take_all}
 use Rattle.giop_frames.specs.declared.limits.Limits.{Limits}
@@ -20,14 +20,19 @@ use Rattle.ft_orb.specs.ExactlyOnce.{Arrival}
 use Rattle.ft_orb.specs.Handovers.{AreHandedIn, Handover, IsHandedIn, OwnerSays, given_in, handed_in}
 use Rattle.ft_orb.specs.History.{Event, Gone, Line, Piece, Shut, Up, line, longer}
 use Rattle.ft_orb.specs.Laws.{is_memory}
-use Rattle.ft_orb.specs.Outputs.{after, is_going, is_gone}
+use Rattle.ft_orb.specs.Outputs.{after, is_going, is_gone, table_says}
 use Rattle.ft_orb.specs.Owners.{Owner, made_of, meaning_of}
 use Rattle.ft_orb.specs.Requests.{Call, Wanted}
 use Rattle.ft_orb.specs.Standing.{note_of}
-use Rattle.ft_orb.specs.Visits.{HandsIn, IsEnded, IsShortest, IsTakenTo, TakesPart, calls_with, count_to}
+use Rattle.ft_orb.specs.Sessions.{Attends, EndsSo, IsEnded, StayParked, calls_with}
+use Rattle.ft_orb.specs.Visits.{HandsIn, IsShortest, IsTakenTo, TakesPart, count_to}
 use Rattle.ft_orb.proofs.Joining.{cut-joined, cut-stands, cut-within, cut-within-stands, shortest-by, shortest-more, stands-joined, writes-joined}
 use Rattle.ft_orb.proofs.Pieces.{same-by}
-use Rattle.ft_orb.proofs.Streams.{all-append, grows-then}
+use Rattle.ft_orb.proofs.Streams.{all-append, grows-none, grows-then}
+
+-- what is parked stays, and stays
+pub stay-then : {H A B : Type 0} (parked : H → ℕ → A) (told : H → ℕ → B) (old mid new : H) → StayParked parked told old mid → StayParked parked told mid new → StayParked parked told old new
+stay-then parked told old mid new x y q = ((y q).0 ∙ (x q).0, (y q).1 ∙ (x q).1)
 
 -- Logs, one after the other.
 
@@ -53,6 +58,44 @@ agrees-parts rule calls (a ∷ xs) ys h =
 
 pub agrees-joined : (rule : List Call → Call → Performed) (calls : List Call) (xs ys : List Handover) → Agrees rule calls (handed_in (xs ++ ys)) → Agrees rule calls (handed_in xs) × Agrees rule (calls_with calls xs) (handed_in ys)
 agrees-joined rule calls xs ys h = agrees-parts rule calls (handed_in xs) (handed_in ys) (subst (λ (l : List Answer). Agrees rule calls l) (handed-joined xs ys) h)
+
+-- What was performed, and what follows.
+module _ {W : Type 0} {old new : W → List Call → List Event → Type 0} (owner : W → Owner) where
+  -- nothing was performed ..
+  pub attends-none : (now : Option (List Answer)) → ((w : W) (calls : List Call) (past : List Event) → old w calls past → new w calls past) → Attends owner now now old new
+  attends-none now h = record { log = []; said = grows-none now; so = λ w calls past x agrees. (tt, subst (λ (l : List Call). new w l past) (sym (append-nil calls)) (h w calls past x)) }
+
+  module _ {before mid : Option (List Answer)} {made : W → List Call → List Event → Type 0} (x : Attends owner before mid old made) where
+    -- .. this was ..
+    pub attends-so : ((w : W) (calls later : List Call) (past : List Event) → old w calls past → made w later past → new w later past) → Attends owner before mid old new
+    attends-so h = record { log = x.log; said = x.said; so = λ w calls past at agrees. let y = x.so w calls past at agrees in (y.0, h w calls (calls_with calls x.log) past at y.1) }
+
+    -- .. and more after it
+    pub attends-then : {now : Option (List Answer)} {on next : W → List Call → List Event → Type 0} → Attends owner mid now on next
+        → ((w : W) (calls since : List Call) (past : List Event) → old w calls past → made w since past → (q : List Event) × on w since q × ((later : List Call) → next w later q → new w later past)) → Attends owner before now old new
+    attends-then {now} y h = record {
+      log = x.log ++ y.log;
+      said = says-joined x.log y.log before mid now x.said y.said;
+      so = λ w calls past at agrees.
+          let both = agrees-joined (owner w).answers calls x.log y.log agrees in
+          let m = x.so w calls past at both.0 in
+          let n = h w calls (calls_with calls x.log) past at m.1 in
+          let z = y.so w (calls_with calls x.log) n.0 n.1 both.1 in
+          (are-joined (owner w).offer x.log y.log m.0 z.0, subst (λ (l : List Call). new w l past) (calls-joined calls x.log y.log) (n.2 (calls_with (calls_with calls x.log) y.log) z.1));
+    }
+
+-- .. by who is known to have performed nothing
+pub attends-alone : {W : Type 0} {old new : W → List Call → List Event → Type 0} (owner : W → Owner) → Attends owner (Some []) (Some []) old new → (w : W) (calls : List Call) (past : List Event) → old w calls past → new w (calls_with calls []) past
+attends-alone {W} {old} {new} owner x w calls past at = alone x.log x.so (x.said [] refl)
+  where
+    nil-cons : (xs : List Answer) (y : Answer) (ys : List Answer) → [] ≡ xs ++ y ∷ ys → ⊥
+    nil-cons [] y ys is = cc
+    nil-cons (x ∷ xs) y ys is = cc
+
+    alone : (log : List Handover) → ((w : W) (calls : List Call) (past : List Event) → old w calls past → Agrees (owner w).answers calls (handed_in log) → AreHandedIn (owner w).offer log × new w (calls_with calls log) past)
+        → ((before : List Answer) × (Some [] ≡ Some before) × ([] ≡ before ++ given_in log)) → new w (calls_with calls []) past
+    alone [] so is = (so w calls past at tt).1
+    alone (h ∷ log) so is = absurd (nil-cons is.0 (record { call = h.call; outcome = h.gave }) (given_in log) is.2)
 
 -- how a piece ended that was not taken
 pub memory-ended : (A B : Type 0) (end : StreamEnd) (note : Note) → IsEnded {A = A} (Err end) note → (is_memory note ≡ true) × ((n : Note) → is_memory n ≡ true → IsEnded {A = B} (Err end) n)
@@ -120,14 +163,9 @@ module _ {C : Type 0} (offers : C → Offer) (owner : Owner) where
     rests = subst (λ (l : List Call). Rests offers owner l engine (after owner.limits past (Piece c moment octets) note)) (sym (append-nil calls)) r.rests;
   }
 
-  -- nothing was asked for
-  pub ends-unasked : (calls : List Call) (past : List Event) (e : Event) (note : Note) (engine : Engine C) (before out : List ℕ) → Ends offers owner calls past e note engine before out → Ends offers owner (calls_with calls []) past e note engine before out
-  ends-unasked calls past e note engine before out x = subst (λ (l : List Call). Ends offers owner l past e note engine before out) (sym (append-nil calls)) x
-
   pub part-whole : (calls : List Call) (past : List Event) (c moment : ℕ) (piece : List ℕ) (engine : Engine C) (before out : List ℕ) → Ends offers owner calls past (Piece c moment piece) Done engine before out
-      → TakesPart offers owner (calls_with calls []) past c moment piece (Ok (length piece)) engine before out
-  part-whole calls past c moment piece engine before out x =
-      (subst (λ (l : List ℕ). Ends offers owner (calls_with calls []) past (Piece c moment l) Done engine before out) (sym (take-length piece)) (ends-unasked calls past (Piece c moment piece) Done engine before out x), inl refl)
+      → TakesPart offers owner calls past c moment piece (Ok (length piece)) engine before out
+  part-whole calls past c moment piece engine before out x = (subst (λ (l : List ℕ). Ends offers owner calls past (Piece c moment l) Done engine before out) (sym (take-length piece)) x, inl refl)
 
   -- an answer that failed is a failed allocation
   pub resumed-memory : (calls : List Call) (past : List Event) (c moment : ℕ) (octets written : List ℕ) (note : Note) (engine : Engine C) (before out : List ℕ) → is_gone (line past c) ≡ false
@@ -153,6 +191,11 @@ module _ {C : Type 0} (offers : C → Offer) (owner : Owner) where
     rests = r.rests;
   }
 
+  -- what was served to its end, as every host says it
+  pub ends-so : (calls : List Call) (past : List Event) (e : Event) (note : Note) (engine : Engine C) (before out : List ℕ) → Ends offers owner calls past e note engine before out
+      → EndsSo owner (table_says (meaning_of owner) (made_of owner)) past (Rests offers owner calls engine) e note before out
+  ends-so calls past e note engine before out x = (x.written, x.appended, x.writes, x.rests)
+
   -- all octets of a piece were taken
   pub all-taken : (calls : List Call) (past : List Event) (c moment : ℕ) (piece : List ℕ) (j : ℕ) (engine : Engine C) (before out : List ℕ) → 0 < length piece → length piece ≤ j → IsTakenTo offers owner calls past c moment piece j engine before out
       → Ends offers owner calls past (Piece c moment piece) Done engine before out
@@ -160,13 +203,6 @@ module _ {C : Type 0} (offers : C → Offer) (owner : Owner) where
     | inl z ↦ absurd (let nothing = z.0 in omega (arith, some, all, nothing))
     | inr e ↦ subst (λ (l : List ℕ). Ends offers owner calls past (Piece c moment l) Done engine before out) (take_all j piece all) e
   ]
-
-  -- what the engine stands for then
-  pub rests-then : (calls : List Call) (past : List Event) (c moment : ℕ) (piece : List ℕ) (j : ℕ) (engine : Engine C) (before out : List ℕ) → is_going owner.limits (line past c) ≡ true → IsTakenTo offers owner calls past c moment piece j engine before out
-      → (q : List Event) × Rests offers owner calls engine q × (is_gone (line q c) ≡ false)
-  rests-then calls past c moment piece j engine before out going so =
-      let there = there-going owner.limits (line past c) going in
-      elim so [ inl z ↦ (past, z.1, there) | inr e ↦ (Piece c moment (take j piece) ∷ past, e.rests, there-still past c moment (take j piece) there) ]
 
   module _ (grow : HearingGrows meaning_in) (stays : EndingsStay meaning_in) (silent : EndsAreSilent meaning_in) (past : List Event) (c moment : ℕ) where
     ends-within : (calls : List Call) (piece : List ℕ) (n : ℕ) (note : Note) (engine : Engine C) (before out : List ℕ) → n ≤ length piece → is_memory note ≡ true
@@ -224,7 +260,7 @@ module _ {C : Type 0} (offers : C → Offer) (owner : Owner) where
         )
 
     -- Of a piece the first j octets were taken, and then a part of what is left.
-    module _ (calls later : List Call) (piece : List ℕ) (j : ℕ) (old new : Engine C) (before mid out : List ℕ) (going : is_going owner.limits (line past c) ≡ true) (some : j < length piece)
+    module _ (calls : List Call) (piece : List ℕ) (j : ℕ) (old new : Engine C) (before mid out : List ℕ) (going : is_going owner.limits (line past c) ≡ true) (some : j < length piece)
         (so : IsTakenTo offers owner calls past c moment piece j old before mid) (at : (j ≡ length piece) ⊎ IsShortest owner.limits past c moment piece j) where
       there : is_gone (line past c) ≡ false
       there = there-going owner.limits (line past c) going
@@ -235,47 +271,63 @@ module _ {C : Type 0} (offers : C → Offer) (owner : Owner) where
       none : (n : ℕ) → j ≡ 0 → take n (drop j piece) ≡ take (j + n) piece
       none n z = ap (λ (i : ℕ). take n (drop i piece)) z ∙ ap (λ (i : ℕ). take i piece) (omega (arith, z))
 
-      pub part-taken : (n : ℕ) → n ≤ length (drop j piece) → ((q : List Event) → Rests offers owner calls old q → is_gone (line q c) ≡ false → TakesPart offers owner later q c moment (drop j piece) (Ok n) new mid out)
-          → IsTakenTo offers owner later past c moment piece (j + n) new before out × ((j + n ≡ length piece) ⊎ IsShortest owner.limits past c moment piece (j + n))
-      part-taken n within takes =
+      -- what the engine stood for before the part, and what follows of it where the part ended so
+      abbrev pub Follows : Result ℕ StreamEnd → (List Call → Type 0) → Type 0
+      Follows r Then = (q : List Event) × (Rests offers owner calls old q × (is_gone (line q c) ≡ false)) × ((later : List Call) → TakesPart offers owner later q c moment (drop j piece) r new mid out → Then later)
+
+      pub part-taken : (n : ℕ) → n ≤ length (drop j piece)
+          → Follows (Ok n) (λ later. IsTakenTo offers owner later past c moment piece (j + n) new before out × ((j + n ≡ length piece) ⊎ IsShortest owner.limits past c moment piece (j + n)))
+      part-taken n within =
           let size = length-drop j piece in
           elim so [
-            | inl z ↦
-                let t = takes past z.1 there in
-                let nothing = z.0 in
-                let all : drop j piece ≡ piece = ap (λ (i : ℕ). drop i piece) nothing in (
-                  inr (subst (λ (b : List ℕ). Ends offers owner later past (Piece c moment (take (j + n) piece)) Done new b out) z.2
-                      (subst (λ (l : List ℕ). Ends offers owner later past (Piece c moment l) Done new mid out) (none n nothing) t.0)),
-                  elim t.1 [
-                    | inl whole ↦ inl (omega (arith, whole, size, some))
-                    | inr s ↦ inr (subst (λ (i : ℕ). IsShortest owner.limits past c moment piece i) (omega (arith, nothing)) (subst (λ (l : List ℕ). IsShortest owner.limits past c moment l n) all s))
-                  ],
-                )
-            | inr e ↦
-                let t = takes (Piece c moment (take j piece) ∷ past) e.rests (there-still past c moment (take j piece) there) in (
-                  inr (subst (λ (l : List ℕ). Ends offers owner later past (Piece c moment l) Done new before out) (sym (take-add j n piece)) (ends-more calls later (take j piece) (take n (drop j piece)) old new before mid out e t.0)),
-                  elim t.1 [
-                    | inl whole ↦ inl (omega (arith, whole, size, some))
-                    | inr s ↦ inr (shortest-more owner.limits past c moment piece grow j n shortest s)
-                  ],
-                )
+            | inl z ↦ (
+              past,
+              (z.1, there),
+              λ later t.
+                  let nothing = z.0 in
+                  let all : drop j piece ≡ piece = ap (λ (i : ℕ). drop i piece) nothing in (
+                    inr (subst (λ (b : List ℕ). Ends offers owner later past (Piece c moment (take (j + n) piece)) Done new b out) z.2
+                        (subst (λ (l : List ℕ). Ends offers owner later past (Piece c moment l) Done new mid out) (none n nothing) t.0)),
+                    elim t.1 [
+                      | inl whole ↦ inl (omega (arith, whole, size, some))
+                      | inr s ↦ inr (subst (λ (i : ℕ). IsShortest owner.limits past c moment piece i) (omega (arith, nothing)) (subst (λ (l : List ℕ). IsShortest owner.limits past c moment l n) all s))
+                    ],
+                  ),
+            )
+            | inr e ↦ (
+              Piece c moment (take j piece) ∷ past,
+              (e.rests, there-still past c moment (take j piece) there),
+              λ later t. (
+                inr (subst (λ (l : List ℕ). Ends offers owner later past (Piece c moment l) Done new before out) (sym (take-add j n piece)) (ends-more calls later (take j piece) (take n (drop j piece)) old new before mid out e t.0)),
+                elim t.1 [
+                  | inl whole ↦ inl (omega (arith, whole, size, some))
+                  | inr s ↦ inr (shortest-more owner.limits past c moment piece grow j n shortest s)
+                ],
+              ),
+            )
           ]
 
-      pub part-ended : (end : StreamEnd) → ((q : List Event) → Rests offers owner calls old q → is_gone (line q c) ≡ false → TakesPart offers owner later q c moment (drop j piece) (Err end) new mid out)
-          → (note : Note) × IsEnded {A = Unit {0}} (Err end) note × Ends offers owner later past (Piece c moment piece) note new before out
-      part-ended end takes =
+      pub part-ended : (end : StreamEnd) → Follows (Err end) (λ later. (note : Note) × IsEnded {A = Unit {0}} (Err end) note × EndsSo owner (table_says (meaning_of owner) (made_of owner)) past (Rests offers owner later new) (Piece c moment piece) note before out)
+      part-ended end =
           elim so [
-            | inl z ↦
-                let t = takes past z.1 there in
-                let nothing = z.0 in (
-                  t.0,
-                  (memory-ended ℕ (Unit {0}) end t.0 t.1).1 t.0 (memory-ended ℕ (Unit {0}) end t.0 t.1).0,
-                  subst (λ (b : List ℕ). Ends offers owner later past (Piece c moment piece) t.0 new b out) z.2
-                      (subst (λ (l : List ℕ). Ends offers owner later past (Piece c moment l) t.0 new mid out) (ap (λ (i : ℕ). drop i piece) nothing) t.2),
-                )
-            | inr e ↦
-                let t = takes (Piece c moment (take j piece) ∷ past) e.rests (there-still past c moment (take j piece) there) in
-                let m = memory-ended ℕ (Unit {0}) end t.0 t.1 in
-                let x = ends-cut calls later piece j old new before mid out t.0 (omega (arith, some)) shortest going m.0 e t.2 in
-                (x.0, m.1 x.0 x.1, x.2)
+            | inl z ↦ (
+              past,
+              (z.1, there),
+              λ later t.
+                  let m = memory-ended ℕ (Unit {0}) end t.0 t.1 in (
+                    t.0,
+                    m.1 t.0 m.0,
+                    ends-so later past (Piece c moment piece) t.0 new before out
+                        (subst (λ (b : List ℕ). Ends offers owner later past (Piece c moment piece) t.0 new b out) z.2
+                        (subst (λ (l : List ℕ). Ends offers owner later past (Piece c moment l) t.0 new mid out) (ap (λ (i : ℕ). drop i piece) z.0) t.2)),
+                  ),
+            )
+            | inr e ↦ (
+              Piece c moment (take j piece) ∷ past,
+              (e.rests, there-still past c moment (take j piece) there),
+              λ later t.
+                  let m = memory-ended ℕ (Unit {0}) end t.0 t.1 in
+                  let x = ends-cut calls later piece j old new before mid out t.0 (omega (arith, some)) shortest going m.0 e t.2 in
+                  (x.0, m.1 x.0 x.1, ends-so later past (Piece c moment piece) x.0 new before out x.2),
+            )
           ]

@@ -32,13 +32,13 @@ use Rattle.ft_orb.specs.declared.keeper.Repeat.{Repeat}
 use Rattle.ft_orb.specs.declared.lot.Lot.{Lot}
 use Rattle.ft_orb.specs.declared.parked.Parked.{Parked}
 use Rattle.ft_orb.specs.declared.parked.Waiter.{Waiter}
-use Rattle.ft_orb.specs.declared.pausing.Pause.TheVariants as pause
+use Rattle.ft_orb.specs.Pause as pause
 use Rattle.ft_orb.specs.declared.pausing.Pending.{Pending}
 use Rattle.ft_orb.specs.declared.pausing.Place.{Place}
 use Rattle.ft_orb.specs.declared.serving.Cut.{Cut}
 use Rattle.ft_orb.specs.declared.waiters.Join.{Join}
 use Rattle.ft_orb.specs.declared.waiters.Join.TheVariants as join
-use Rattle.ft_orb.specs.Engines.{AsksOf, Awaited, EndsOf, KeepsOf, RestsOf, StandsOf, StopsOf, as_server, asks_in, awaited_of, waits_in}
+use Rattle.ft_orb.specs.Engines.{AsksOf, Awaited, EndsOf, KeepsOf, RestsOf, StandsOf, StopsOf, as_server, asks_in, awaited_of, waits_in, pending_in}
 use Rattle.ft_orb.specs.ExactlyOnce.{Absent, Arrival, Bad, Field, Present, Rules}
 use Rattle.ft_orb.specs.History.{Event, Gone, Line, Piece, Shut, Up, arrivals, does_count, line}
 use Rattle.ft_orb.specs.Outputs.{after, is_gone, output_cut}
@@ -232,7 +232,7 @@ module _ {C : Type 0} (offers : C → Offer) (s : Settings) where
       }
 
   pub stops-late : EndingsStay meaning_in → (held : ℕ → Holding) (calls : List Call) (old new : Engine C) (past : List Event) (waiting : ℕ → List Waiter) (c moment : ℕ) (piece : List ℕ) (taken : ℕ) (before out : List ℕ) (p : Pending) → Stays offers s held calls old past waiting
-      → ((late : Later) → RestsOf offers (numbering s late held) calls old past → StopsOf offers (numbering s late held) calls past c moment piece taken new before out) → new.pending ≡ Some p → p.number ≡ asks_in old → asks_in new ≡ asks_in old + 1
+      → ((late : Later) → RestsOf offers (numbering s late held) calls old past → StopsOf offers (numbering s late held) calls past c moment piece taken new before out) → pending_in new ≡ Some p → p.number ≡ asks_in old → asks_in new ≡ asks_in old + 1
       → new.parked ≡ old.parked → new.places ≡ old.places → StopsLate offers s held calls past waiting c moment piece taken new before out
   stops-late stay held calls old new past waiting c moment piece taken before out p h stops waits number asks parks places =
       let each : (late : Later) → StopsOf offers (numbering s late held) calls past c moment piece taken new before out = λ late. stops late (rests-known s offers nothing_yet late held held calls old past (λ i less. refl) h.rests) in

@@ -12,7 +12,7 @@ use Rattle.ft_log.specs.declared.system_exception.SystemName.{SystemName}
 use Rattle.ft_orb.specs.declared.events.Note.{Note}
 use Rattle.ft_orb.specs.declared.events.Note.TheVariants.{Memory}
 use Rattle.ft_orb.specs.declared.parked.Waiter.{Waiter}
-use Rattle.ft_orb.specs.Deeds.{AnsweredAreKnown, AreApart, AreTaken, AreTold, Answered, CallsAreTaken, CallsGrow, Deed, DeedsAreRuns, GivenUp, Happened, IsDeed, IsLeftOf, Joined, JoinedAreNoCalls, KnownGrows, Ledger, Missed, Parked, Reached, Runs, RunsJoin, Settled, SettledAreTheirs, SettledAreTold, Stopped, Told, ToldAreKnown, ToldOnce, WrittenNow, WrittenOnce, after_deed, after_deeds, came_to, part_of, piece_of, reached, rest_of, settles, told_all, told_of, told_one}
+use Rattle.ft_orb.specs.Deeds.{AnsweredAreKnown, AreApart, AreTaken, AreTold, Answered, CallsAreTaken, CallsGrow, Deed, DeedsAreRuns, GivenUp, Happened, IsDeed, IsLeftOf, Joined, JoinedAreNoCalls, KnownGrows, Ledger, Missed, Parked, Reached, Runs, RunsJoin, Settled, SettledAreTheirs, Stopped, Told, ToldAreKnown, ToldOnce, WrittenNow, WrittenOnce, after_deed, after_deeds, came_to, part_of, piece_of, reached, rest_of, settles, told_all, told_of, told_one}
 use Rattle.ft_orb.specs.ExactlyOnce.{Arrival}
 use Rattle.ft_orb.specs.History.{Event, Gone, Line, Lost, Shut, Up, arrivals_on, does_count, line}
 use Rattle.ft_orb.specs.Outputs.{WritesBy, after, is_going, is_gone}
@@ -434,13 +434,16 @@ module _ (s : Settings) where
       cc)) ∙ is
 
   pub settled-are-theirs : SettledAreTheirs s
-  settled-are-theirs g [] i j n o told apart h less is none = apart i j n less h.0.1 is h.0.2
-  settled-are-theirs g (d ∷ ds) i j n o told apart h less is none =
+  settled-are-theirs g [] ys i j n o told apart h less is none = apart i j n less h.0.1 is h.0.2
+  settled-are-theirs g (d ∷ ds) ys i j n o told apart h less is none =
       let parts = or_parts (settles n d) (list_any (settles n) ds) none in
-      settled-are-theirs (after_deed s g d) ds i j n o told (apart-deed g d h.0 apart) h.1 (less-deed g d i less) (parked-deed g d i n h.0 parts.0 less is) parts.1
+      settled-are-theirs (after_deed s g d) ds ys i j n o told (apart-deed g d h.0 apart) h.1 (less-deed g d i less) (parked-deed g d i n h.0 parts.0 less is) parts.1
 
-  pub settled-are-told : SettledAreTold s
-  settled-are-told g i n o told h = h.4
+  -- .. from any deed of a run on
+  pub theirs-later : (g : Ledger) (xs ms ys : List Deed) (i j n : ℕ) (outcome : Performed) (told : List Told) → AreApart g → Runs s g (xs ++ (ms ++ Settled j n outcome told ∷ ys))
+      → i < length (after_deeds s g xs).calls → (after_deeds s g xs).held i ≡ parked n → list_any (settles n) ms ≡ false → i ≡ j
+  theirs-later g [] ms ys i j n outcome told apart runs = settled-are-theirs g ms ys i j n outcome told apart runs
+  theirs-later g (x ∷ xs) ms ys i j n outcome told apart runs = theirs-later (after_deed s g x) xs ms ys i j n outcome told (apart-deed g x runs.0 apart) runs.1
 
   pub joined-are-no-calls : JoinedAreNoCalls s
-  joined-are-no-calls g p written n joined h = (refl, refl)
+  joined-are-no-calls g p written n joined taken h = (sym h.2 ∙ taken, refl)

@@ -24,13 +24,15 @@ use Rattle.ft_orb.specs.declared.events.Note.TheVariants.{Done, Memory}
 use Rattle.ft_orb.specs.declared.keeper.Keeper.{Keeper}
 use Rattle.ft_orb.specs.declared.keeper.Repeat.{Repeat}
 use Rattle.ft_orb.specs.declared.keeper.Waiting.{Waiting}
-use Rattle.ft_orb.specs.declared.pausing.Pause.{Pause}
-use Rattle.ft_orb.specs.declared.pausing.Pause.TheVariants as pause
+use Rattle.ft_orb.specs.Pause.{Pause}
+use Rattle.ft_orb.specs.Pause as pause
+use Rattle.ft_orb.specs.declared.pausing.Ask.{Ask}
 use Rattle.ft_orb.specs.declared.pausing.Pending.{Pending}
+use Rattle.ft_orb.specs.Pause.{pending_of}
 use Rattle.ft_orb.specs.declared.pausing.Place.{Place}
 use Rattle.ft_orb.specs.declared.serving.Cut.{Cut}
 use Rattle.ft_objects.specs.Catalogues.{Offer}
-use Rattle.ft_orb.specs.Engines.{AsksOf, AsksOnceOf, Awaited, EndsOf, EndsOnceOf, IsDueOf, IsOnceOf, KeepsOf, RestsOf, ResumesOf, ResumesOnceOf, StandsOf, StopsOf, as_server, awaited_of, waits_in}
+use Rattle.ft_orb.specs.Engines.{AsksOf, AsksOnceOf, Awaited, EndsOf, EndsOnceOf, IsDueOf, IsOnceOf, KeepsOf, RestsOf, ResumesOf, ResumesOnceOf, StandsOf, StopsOf, as_server, awaited_of, waits_in, pending_in}
 use Rattle.ft_orb.specs.ExactlyOnce.{Arrival, ClocksGrow, OneExpiration, Rules, state_of}
 use Rattle.ft_orb.specs.History.{Event, Gone, Line, Piece, Shut, Up, arrivals, arrivals_in, arrivals_on, clock, completed, front_on, line, longer, shortened}
 use Rattle.ft_objects.specs.Interfaces.{AreArgumentsOf}
@@ -89,6 +91,11 @@ breaks-is offer given voice capacity share limits c now t s start piece calls at
     subst (λ (o : Offer). Breaks o voice capacity share limits c now t s start piece calls at entries out) are h
 
 -- nothing is pending, so nothing waits
+-- .. whatever is in the slot
+pub still-idle : (o : Option Ask) (w v : Waiting) → option_map awaited_of (pending_of w o) ≡ None → option_map awaited_of (pending_of v o) ≡ None
+still-idle None w v h = refl
+still-idle (Some a) w v h = absurd cc
+
 pub idle-by : {o : Option Pending} → o ≡ None → option_map awaited_of o ≡ None
 idle-by is = ap (λ (p : Option Pending). option_map awaited_of p) is
 
@@ -224,7 +231,7 @@ module _ {C Outcome : Type 0} (offers : C → Offer) (owner : OwnerOf Outcome) w
       ap (λ (l : Line). Piece c moment (front_on owner.limits c now l piece k)) up ∙ ap (λ (l : List ℕ). Piece c moment l) exact
 
   -- a request waits
-  pub stops-now : (calls : List Call) (old new : Engine C) (past : List Event) (c moment : ℕ) (piece : List ℕ) (now : ℕ) (out grown : List ℕ) (was link : Linked) (w : Waiting) (place : Place) (number : ℕ) (p : Pending) → RestsOf offers owner calls old past → offers new.catalogue ≡ owner.offer → new.pending ≡ Some p
+  pub stops-now : (calls : List Call) (old new : Engine C) (past : List Event) (c moment : ℕ) (piece : List ℕ) (now : ℕ) (out grown : List ℕ) (was link : Linked) (w : Waiting) (place : Place) (number : ℕ) (p : Pending) → RestsOf offers owner calls old past → offers new.catalogue ≡ owner.offer → pending_in new ≡ Some p
       → p ≡ record { number = number; connection = c; waiting = w; place = place } → IsSameBut c (as_server old calls) (as_server new calls) → now ≡ max old.keeper.clock moment → new.keeper.clock ≡ now → get nat_cmp old.links c ≡ Some was → get nat_cmp new.links c ≡ Some link → was.is_closed ≡ false
       → 0 < place.taken → place.taken ≤ length piece
       → ((voice : Voice) (s : List ℕ) (t : Table (List Call) Holding) → LinkStands owner.limits was s → AreAlike now (answered_so_far calls (logged old.keeper.log).entries) t
@@ -463,16 +470,16 @@ module _ {C Outcome : Type 0} (offers : C → Offer) (owner : OwnerOf Outcome) w
         (omega (arith, size)) (reached s t st al) gave more-written.2 by is))
 
   -- what waits is what the engine keeps
-  kept-is : (calls : List Call) (old : Engine C) (past : List Event) (moment : ℕ) (octets written : List ℕ) (x : Pending) (w : Awaited) → old.pending ≡ Some x → (a : AsksOf offers owner calls old past moment octets written w) → a.pending ≡ x
+  kept-is : (calls : List Call) (old : Engine C) (past : List Event) (moment : ℕ) (octets written : List ℕ) (x : Pending) (w : Awaited) → pending_in old ≡ Some x → (a : AsksOf offers owner calls old past moment octets written w) → a.pending ≡ x
   kept-is calls old past moment octets written x w is a = let both : Some a.pending ≡ Some x = sym a.keeps.waits ∙ is in cc
 
-  pub kept-as : (calls : List Call) (old : Engine C) (past : List Event) (moment : ℕ) (octets written : List ℕ) (x : Pending) (w : Awaited) → old.pending ≡ Some x → AsksOf offers owner calls old past moment octets written w
+  pub kept-as : (calls : List Call) (old : Engine C) (past : List Event) (moment : ℕ) (octets written : List ℕ) (x : Pending) (w : Awaited) → pending_in old ≡ Some x → AsksOf offers owner calls old past moment octets written w
       → KeepsOf offers owner calls old past moment octets written x × (awaited_of x ≡ w)
   kept-as calls old past moment octets written x w is a =
       let one = kept-is calls old past moment octets written x w is a in
       (subst (λ (y : Pending). KeepsOf offers owner calls old past moment octets written y) one a.keeps, ap awaited_of (sym one) ∙ a.is)
 
-  pub answered-done : HearingGrows meaning_in → (calls : List Call) (old new : Engine C) (past : List Event) (moment : ℕ) (octets written : List ℕ) (x : Pending) (w : Awaited) → old.pending ≡ Some x → AsksOf offers owner calls old past moment octets written w
+  pub answered-done : HearingGrows meaning_in → (calls : List Call) (old new : Engine C) (past : List Event) (moment : ℕ) (octets written : List ℕ) (x : Pending) (w : Awaited) → pending_in old ≡ Some x → AsksOf offers owner calls old past moment octets written w
       → (outcome : Performed) → kept_of owner calls w.call ≡ known outcome → (step : Step) (out grown : List ℕ) (r : Result ℕ Cut)
       → Finishes x.waiting outcome (logged old.keeper.log).entries step (logged new.keeper.log).entries out grown → r ≡ counted_by x.place.handled step
       → new.catalogue ≡ old.catalogue → waits_in new ≡ None → IsSameBut x.connection (as_server old calls) (as_server new (calls ++ call_of x.waiting ∷ [])) → new.keeper.clock ≡ old.keeper.clock
@@ -483,7 +490,7 @@ module _ {C Outcome : Type 0} (offers : C → Offer) (owner : OwnerOf Outcome) w
       subst (λ (v : Awaited). ResumesOf offers owner (calls ++ v.call ∷ []) past v.connection moment octets written Done new out grown) k.1
       (resumes-done grow calls old new past moment octets written x k.0 outcome gives step out grown r done by are idle same clock h ok (ap (λ e. get nat_cmp e x.connection) held ∙ k.0.held))
 
-  pub answered-cut : HearingGrows meaning_in → (calls : List Call) (old new : Engine C) (past : List Event) (moment : ℕ) (octets written : List ℕ) (x : Pending) (w : Awaited) → old.pending ≡ Some x → AsksOf offers owner calls old past moment octets written w
+  pub answered-cut : HearingGrows meaning_in → (calls : List Call) (old new : Engine C) (past : List Event) (moment : ℕ) (octets written : List ℕ) (x : Pending) (w : Awaited) → pending_in old ≡ Some x → AsksOf offers owner calls old past moment octets written w
       → (outcome : Performed) → kept_of owner calls w.call ≡ known outcome → (step : Step) (out grown : List ℕ) (r : Result ℕ Cut)
       → Finishes x.waiting outcome (logged old.keeper.log).entries step (logged new.keeper.log).entries out grown → r ≡ counted_by x.place.handled step
       → new.catalogue ≡ old.catalogue → waits_in new ≡ None → IsSameBut x.connection (as_server old calls) (as_server new (calls ++ call_of x.waiting ∷ [])) → new.keeper.clock ≡ old.keeper.clock
@@ -580,13 +587,13 @@ module _ {C Outcome : Type 0} (offers : C → Offer) (owner : OwnerOf Outcome) w
 
   -- what waited is given up: it counts as not handled, and the connection is lost
   give-up-cut : HearingGrows meaning_in → (calls : List Call) (old new : Engine C) (past : List Event) (moment : ℕ) (octets written : List ℕ) (x : Pending) (b : KeepsOf offers owner calls old past moment octets written x)
-      → IsSameBut x.connection b.server (as_server new calls) → new.keeper ≡ old.keeper → get nat_cmp new.links x.connection ≡ None
+      → IsSameBut x.connection b.server (as_server new calls) → new.keeper.clock ≡ old.keeper.clock → (logged new.keeper.log).entries ≡ (logged old.keeper.log).entries → get nat_cmp new.links x.connection ≡ None
       → (w : List ℕ) × (written ≡ [] ++ w) × WritesBy owner.limits owner.tell (owned_says owner) past (Piece x.connection moment octets) w (Memory x.place.handled x.place.handled)
       × StandsOf owner (as_server new calls) (after owner.limits past (Piece x.connection moment octets) (Memory x.place.handled x.place.handled))
-  give-up-cut grow calls old new past moment octets written x b same kept gone =
+  give-up-cut grow calls old new past moment octets written x b same at kept gone =
       let size = b.whole in
       fed-err (book_by owner) b.server (as_server new calls) past x.connection moment octets old.keeper.clock [] written b.was (all_answered x.place.handled) b.stands same
-      b.clock (ap (λ (k : Keeper). k.clock) kept) b.stood gone b.live b.some
+      b.clock at b.stood gone b.live b.some
       (λ s t st al.
       reach-left owner.offer (voice_of owner) (capacity_of b.server) (share_of b.server) owner.limits x.connection old.keeper.clock t s [] octets grow x.place b.link calls (logged old.keeper.log).entries (logged new.keeper.log).entries written x.waiting
       (omega (arith, size)) (
@@ -595,7 +602,7 @@ module _ {C Outcome : Type 0} (offers : C → Offer) (owner : OwnerOf Outcome) w
         subst (λ (l : List ℕ). Paused owner.offer (voice_of owner) (capacity_of b.server) (share_of b.server) owner.limits x.connection old.keeper.clock t s l b.link calls (logged old.keeper.log).entries written x.place.handled x.waiting)
             (sym (take_all x.place.taken octets (omega (arith, size)))) (b.paused (voice_of owner) s t st al),
       )
-      (ap (λ (k : Keeper). (logged k.log).entries) kept))
+      kept)
 
   gave-up : (calls : List Call) (new : Engine C) (past : List Event) (moment : ℕ) (octets written : List ℕ) (x : Pending) (note : Note) → offers new.catalogue ≡ owner.offer → waits_in new ≡ None
       → ((w : List ℕ) × (written ≡ [] ++ w) × WritesBy owner.limits owner.tell (owned_says owner) past (Piece x.connection moment octets) w note
@@ -609,21 +616,21 @@ module _ {C Outcome : Type 0} (offers : C → Offer) (owner : OwnerOf Outcome) w
   }
 
   give-up-here : HearingGrows meaning_in → (calls : List Call) (old new : Engine C) (past : List Event) (moment : ℕ) (octets written : List ℕ) (x : Pending) → KeepsOf offers owner calls old past moment octets written x
-      → new.catalogue ≡ old.catalogue → waits_in new ≡ None → IsSameBut x.connection (as_server old calls) (as_server new calls) → new.keeper ≡ old.keeper → get nat_cmp new.links x.connection ≡ None
+      → new.catalogue ≡ old.catalogue → waits_in new ≡ None → IsSameBut x.connection (as_server old calls) (as_server new calls) → new.keeper.clock ≡ old.keeper.clock → (logged new.keeper.log).entries ≡ (logged old.keeper.log).entries → get nat_cmp new.links x.connection ≡ None
       → ResumesOf offers owner calls past x.connection moment octets written (Memory x.place.handled x.place.handled) new [] []
-  give-up-here grow calls old new past moment octets written x b are idle same kept gone =
+  give-up-here grow calls old new past moment octets written x b are idle same at kept gone =
       gave-up calls new past moment octets written x (Memory x.place.handled x.place.handled) (ap offers are ∙ b.offer_is) idle
       (give-up-cut grow calls old new past moment octets written x b
       (record { limits = same.limits ∙ b.same.limits; capacity = same.capacity ∙ b.same.capacity; share = same.share ∙ b.same.share; greatest = same.greatest ∙ b.same.greatest; others = λ q n. same.others q n ∙ b.same.others q n })
-      kept gone)
+      at kept gone)
 
-  pub given-up : HearingGrows meaning_in → (calls : List Call) (old new : Engine C) (past : List Event) (moment : ℕ) (octets written : List ℕ) (x : Pending) (w : Awaited) → old.pending ≡ Some x → AsksOf offers owner calls old past moment octets written w
-      → new.catalogue ≡ old.catalogue → waits_in new ≡ None → IsSameBut x.connection (as_server old calls) (as_server new calls) → new.keeper ≡ old.keeper → get nat_cmp new.links x.connection ≡ None
+  pub given-up : HearingGrows meaning_in → (calls : List Call) (old new : Engine C) (past : List Event) (moment : ℕ) (octets written : List ℕ) (x : Pending) (w : Awaited) → pending_in old ≡ Some x → AsksOf offers owner calls old past moment octets written w
+      → new.catalogue ≡ old.catalogue → waits_in new ≡ None → IsSameBut x.connection (as_server old calls) (as_server new calls) → new.keeper.clock ≡ old.keeper.clock → (logged new.keeper.log).entries ≡ (logged old.keeper.log).entries → get nat_cmp new.links x.connection ≡ None
       → ResumesOf offers owner calls past w.connection moment octets written (Memory x.place.handled x.place.handled) new [] []
-  given-up grow calls old new past moment octets written x w is a are idle same kept gone =
+  given-up grow calls old new past moment octets written x w is a are idle same at kept gone =
       let k = kept-as calls old past moment octets written x w is a in
       subst (λ (v : Awaited). ResumesOf offers owner calls past v.connection moment octets written (Memory x.place.handled x.place.handled) new [] []) k.1
-      (give-up-here grow calls old new past moment octets written x k.0 are idle same kept gone)
+      (give-up-here grow calls old new past moment octets written x k.0 are idle same at kept gone)
 
   -- what waited is parked: its call is taken, and nothing is said of it yet
   pub parked-done : (calls : List Call) (old new : Engine C) (past : List Event) (moment : ℕ) (octets written : List ℕ) (p : Pending) (a : KeepsOf offers owner calls old past moment octets written p) (number : ℕ) → kept_of owner calls (call_of p.waiting) ≡ parked number → ((x : Wanted) → owner.late x number ≡ None)
@@ -662,7 +669,7 @@ module _ {C Outcome : Type 0} (offers : C → Offer) (owner : OwnerOf Outcome) w
   count-at calls old past moment octets written x k =
       count-of calls past x.connection moment octets written x.place.handled x.waiting k.link (brings-of calls old past moment octets written x k)
 
-  pub given-count : (calls : List Call) (old : Engine C) (past : List Event) (moment : ℕ) (octets written : List ℕ) (x : Pending) (w : Awaited) → old.pending ≡ Some x → AsksOf offers owner calls old past moment octets written w
+  pub given-count : (calls : List Call) (old : Engine C) (past : List Event) (moment : ℕ) (octets written : List ℕ) (x : Pending) (w : Awaited) → pending_in old ≡ Some x → AsksOf offers owner calls old past moment octets written w
       → x.place.handled + 1 ≡ length (completed owner.limits past (Piece w.connection moment octets))
   given-count calls old past moment octets written x w is a =
       let k = kept-as calls old past moment octets written x w is a in

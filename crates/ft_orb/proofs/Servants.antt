@@ -26,7 +26,7 @@ use Rattle.ft_orb.specs.declared.pausing.Pending.{Pending}
 use Rattle.ft_orb.specs.declared.pausing.Place.{Place}
 use Rattle.ft_orb.specs.declared.events.Note.{Note}
 use Rattle.ft_orb.specs.declared.events.Note.TheVariants.{Done, Memory, Refused}
-use Rattle.ft_orb.specs.Engines.{Asks, Awaited, Ends, IsThen, Resumes, Stops, as_server, awaited_of, shown_in, waits_in}
+use Rattle.ft_orb.specs.Engines.{Asks, Awaited, Ends, IsThen, Resumes, Stops, as_server, awaited_of, shown_in, waits_in, pending_in}
 use Rattle.ft_orb.specs.ExactlyOnce.{Arrival}
 use Rattle.ft_orb.specs.History.{Event, Gone, Line, Piece, Shut, Up, clock, completed, line, longer}
 use Rattle.ft_orb.specs.Outputs.{Made, Writes, after, is_going, is_gone, table_says}
@@ -92,7 +92,7 @@ module _ {S : Type 0} (meaning : Meaning S) (made : Made S) where
       (x.written, x.appended, writes-shown meaning made past e x.written note x.writes, rests-shown meaning made calls engine (after made.limits past e note) state x.rests)
 
   -- What waits waits still where the catalogue is another state of the servant.
-  pub asked-by : (calls : List Call) (old new : Engine S) (past : List Event) (moment : ℕ) (octets written : List ℕ) (w : Awaited) → new.keeper ≡ old.keeper → new.pending ≡ old.pending → new.links ≡ old.links → new.limits ≡ old.limits → new.greatest ≡ old.greatest
+  pub asked-by : (calls : List Call) (old new : Engine S) (past : List Event) (moment : ℕ) (octets written : List ℕ) (w : Awaited) → new.keeper ≡ old.keeper → pending_in new ≡ pending_in old → new.links ≡ old.links → new.limits ≡ old.limits → new.greatest ≡ old.greatest
       → Asks (offer_by meaning) (owner_by meaning made) calls old past moment octets written w → Asks (offer_by meaning) (owner_by meaning made) calls new past moment octets written w
   asked-by calls old new past moment octets written w keeper pending links limits greatest x =
       let shown : as_server new calls ≡ as_server old calls = λ i. record { servant = calls; clock = (keeper i).clock; limits = limits i; greatest = greatest i; links = (links i).entries; log = (keeper i).log } in
@@ -135,7 +135,7 @@ module _ {S : Type 0} (meaning : Meaning S) (made : Made S) where
       }
 
   -- The servant performed what waited: that is what its owner is to have answered.
-  pub performed-is : (calls : List Call) (old : Engine S) (p : Pending) (w : Awaited) (next : S) (outcome : Performed) → old.pending ≡ Some p → waits_in old ≡ Some w → old.catalogue ≡ run meaning made.opening calls
+  pub performed-is : (calls : List Call) (old : Engine S) (p : Pending) (w : Awaited) (next : S) (outcome : Performed) → pending_in old ≡ Some p → waits_in old ≡ Some w → old.catalogue ≡ run meaning made.opening calls
       → meaning.apply old.catalogue p.waiting.object_key.items p.waiting.operation.items (values_of p.waiting.arguments.items) ≡ (next, outcome)
       → (answers_by meaning made.opening calls w.call ≡ outcome) × (next ≡ run meaning made.opening (calls ++ w.call ∷ []))
   performed-is calls old p w next outcome is waits state did =

@@ -27,7 +27,7 @@ use Rattle.ft_orb.specs.Waits.{asker_of}
 use Rattle.ft_orb.specs.declared.parked.Parked.{Parked}
 use Rattle.ft_orb.specs.declared.parked.Waiter.{Waiter}
 use Rattle.ft_orb.specs.declared.pausing.Pending.{Pending}
-use Rattle.ft_orb.specs.Engines.{Awaited, KeepsOf, RestsOf, ResumesOf, as_server, asks_in, awaited_of, waits_in}
+use Rattle.ft_orb.specs.Engines.{Awaited, KeepsOf, RestsOf, ResumesOf, as_server, asks_in, awaited_of, waits_in, pending_in}
 use Rattle.ft_orb.specs.ExactlyOnce.{Arrival, Present}
 use Rattle.ft_orb.specs.History.{Event, Lost, Piece, arrivals, does_count, line}
 use Rattle.ft_orb.specs.Outputs.{is_gone}
@@ -46,7 +46,7 @@ use Rattle.ft_orb.proofs.GoesOn.{and-false, counts-later, was-counted}
 use Rattle.ft_orb.proofs.Late.{Numbered, Tally, asks-known, below-past, links-go, parks-later, parks-put, put-else, put-here, put-same, still-later, still-put, tally-is, there-by}
 
 -- who waits first for the outcome of a request that is parked
-own-is : (p : Pending) (c : ℕ) (q : Question) → p.connection ≡ c → p.waiting.asker ≡ asker_of q → own_waiters p ≡ own_of c q
+own-is : (p : Pending) (c : ℕ) (q : Question) → p.connection ≡ c → p.waiting.asker ≡ asker_of q → own_waiters p.connection p.waiting.asker ≡ own_of c q
 own-is p c q at is = λ i. if is_wished (is i).wish then record { connection = at i; asker = is i } ∷ [] else []
 
 -- What is kept under a copy of a key is kept under the key.
@@ -61,7 +61,7 @@ key-of-field None key x h = absurd cc
 key-of-field (Some r) key x h = let same : key_of r.key ≡ key = cc in ap (λ (k : RequestKey). Some k) same
 
 module _ {C : Type 0} (offers : C → Offer) (s : Settings) where
-  own-opened : (past : List Event) (x : Pending) → does_count past x.connection ≡ false → list_all (was_opened past) (own_waiters x) ≡ true
+  own-opened : (past : List Event) (x : Pending) → does_count past x.connection ≡ false → list_all (was_opened past) (own_waiters x.connection x.waiting.asker) ≡ true
   own-opened past x h =
       (elim (is_wished x.waiting.asker.wish) as (λ (b : Bool). list_all (was_opened past) (cond b (record { connection = x.connection; asker = x.waiting.asker } ∷ []) []) ≡ true) [ true ↦ and-true (not (does_count past x.connection)) (ap not h) | false ↦ refl ])
     where
@@ -83,7 +83,7 @@ module _ {C : Type 0} (offers : C → Offer) (s : Settings) where
       subst (λ (t : Table (List Call) ℕ). AreKeyed (length calls) (key_kept w.retained) t.entries) (sym all) here
 
   module _ (stay : EndingsStay meaning_in) (held : ℕ → Holding) (calls : List Call) (old new : Engine C) (past : List Event) (waiting : ℕ → List Waiter) (moment : ℕ) (octets written : List ℕ) (w : Awaited) (x : Pending) (a : AsksLate offers s held calls old past waiting moment octets written w)
-      (was : old.pending ≡ Some x) (asks : asks_in new ≡ asks_in old) (places : new.places ≡ old.places) (p0 : Parked) (at : parked_at new w.number ≡ Some p0) (others : (q : ℕ) → (q == w.number) ≡ false → parked_at new q ≡ parked_at old q) (whose : p0.pending ≡ x) (own : p0.waiters.items ≡ own_waiters x) where
+      (was : pending_in old ≡ Some x) (asks : asks_in new ≡ asks_in old) (places : new.places ≡ old.places) (p0 : Parked) (at : parked_at new w.number ≡ Some p0) (others : (q : ℕ) → (q == w.number) ≡ false → parked_at new q ≡ parked_at old q) (whose : p0.pending ≡ x) (own : p0.waiters.items ≡ own_waiters x.connection x.waiting.asker) where
     abbrev Here : Event
     Here = Piece w.connection moment octets
 
@@ -108,7 +108,7 @@ module _ {C : Type 0} (offers : C → Offer) (s : Settings) where
         by true here is = inl (eqb-true i (length calls) here, let same : w.number ≡ n = cc in sym same)
         by false here is = inr (let size = length-append calls (w.call ∷ []) in let apart = eqb-false i (length calls) here in omega (arith, size, less, apart), is)
 
-    pub parks-own : Parks s Learnt (calls ++ w.call ∷ []) new (Here ∷ past) (asks_in new) (still s.limits (Here ∷ past) (put_at w.number (own_waiters x) waiting))
+    pub parks-own : Parks s Learnt (calls ++ w.call ∷ []) new (Here ∷ past) (asks_in new) (still s.limits (Here ∷ past) (put_at w.number (own_waiters x.connection x.waiting.asker) waiting))
     parks-own =
         let between : Engine C = record new { parked = old.parked } in
         let tally : (Tally s past).state ≡ calls = sym kept.0.stands.table.state ∙ kept.0.answered in
@@ -169,7 +169,7 @@ module _ {C : Type 0} (offers : C → Offer) (s : Settings) where
             let size = length-append calls (w.call ∷ []) in
             (y.0, omega (arith, size, low), put-else (length calls) (parked w.number) held y.0 (λ is. absurd (omega (arith, is, low))) ∙ y.2, y.3)
 
-        by-lists : (n : ℕ) (p : Parked) (b : Bool) → (n == w.number) ≡ b → parked_at new n ≡ Some p → on_going (goes_on s.limits (Here ∷ past)) p.waiters.items ≡ on_going (goes_on s.limits (Here ∷ past)) (cond b (own_waiters x) (waiting n))
+        by-lists : (n : ℕ) (p : Parked) (b : Bool) → (n == w.number) ≡ b → parked_at new n ≡ Some p → on_going (goes_on s.limits (Here ∷ past)) p.waiters.items ≡ on_going (goes_on s.limits (Here ∷ past)) (cond b (own_waiters x.connection x.waiting.asker) (waiting n))
         by-lists n p true here there = ap (λ (q : Parked). on_going (goes_on s.limits (Here ∷ past)) q.waiters.items) (sym (one n p here there)) ∙ ap (on_going (goes_on s.limits (Here ∷ past))) own
         by-lists n p false here there = before.lists n p (sym (others n here) ∙ there)
 
@@ -188,7 +188,7 @@ module _ {C : Type 0} (offers : C → Offer) (s : Settings) where
         let done = parked-done offers (numbering s nothing_yet Learnt) calls old new past moment octets written x k.0 w.number (put-here (length calls) (parked w.number) held) (λ y. refl) entries are idle same clock links in
         let resumes = subst (λ (v : Awaited). ResumesOf offers (numbering s nothing_yet Learnt) (calls ++ v.call ∷ []) past v.connection moment octets written Done new [] []) k.1 done in
         let same : x ≡ a.asks.pending = (let both : Some x ≡ Some a.asks.pending = sym was ∙ a.asks.keeps.waits in cc) in
-        let first : own_waiters x ≡ own_of w.connection a.asks.question = own-is x w.connection a.asks.question (ap (λ (p : Pending). p.connection) same ∙ ap (λ (v : Awaited). v.connection) a.asks.is) (ap (λ (p : Pending). p.waiting.asker) same ∙ a.asks.asker) in
+        let first : own_waiters x.connection x.waiting.asker ≡ own_of w.connection a.asks.question = own-is x w.connection a.asks.question (ap (λ (p : Pending). p.connection) same ∙ ap (λ (v : Awaited). v.connection) a.asks.is) (ap (λ (p : Pending). p.waiting.asker) same ∙ a.asks.asker) in
         subst (λ (l : List Waiter). ResumesLate offers s Learnt (calls ++ w.call ∷ []) past (put_at w.number l waiting) w.connection moment octets written Done new [] []) first (record { resumes = resumes; stays = record { rests = resumes.rests; parks = parks-own } })
 
 -- The log once the outcome of a call is there.

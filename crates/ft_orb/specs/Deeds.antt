@@ -1,15 +1,18 @@
 -- What became of an engine, deed after deed, as data: its owner answers, parks and settles in any order, and at any time.
-use Rattle.std.specs.Prelude.{◌≡◌, ◌==◌, ℕ, ◌+◌, ◌<◌, Bool, false, not, nat_lt, ◌&&◌, ◌⊎◌, if◌then◌else◌, List, [], ◌∷◌, ◌++◌, flat_map, length, map, take, Option, Some, None, Ok}
+use Rattle.std.specs.Prelude.{◌≡◌, ◌==◌, ℕ, zero, suc, ◌+◌, ◌<◌, Bool, true, false, not, nat_lt, ◌&&◌, ◌⊎◌, if◌then◌else◌, List, [], ◌∷◌, ◌++◌, flat_map, length, map, take, Option, Some, None, Ok}
 use Rattle.std.specs.List.{list_any}
+use Rattle.std.specs.Option.{option_map_or}
 use Rattle.giop_link.specs.Hearing.{Question}
 use Rattle.ft_log.specs.Holding.{Holding, known, parked}
 use Rattle.ft_log.specs.Performed.{Performed}
+use Rattle.ft_objects.specs.Interfaces.{IsOutcomeOf}
+use Rattle.ft_objects.specs.Replies.{IsRenderable}
 use Rattle.ft_orb.specs.declared.events.Note.{Note}
 use Rattle.ft_orb.specs.declared.events.Note.TheVariants.{Done, Memory}
 use Rattle.ft_orb.specs.declared.parked.Waiter.{Waiter}
 use Rattle.ft_orb.specs.Engines.{Awaited}
 use Rattle.ft_orb.specs.ExactlyOnce.{Arrival, OneExpiration}
-use Rattle.ft_orb.specs.History.{Event, Lost, Piece, arrivals, completed, connection_of, shortened}
+use Rattle.ft_orb.specs.History.{Close, Event, Lost, Opened, Piece, arrivals, completed, connection_of, shortened}
 use Rattle.ft_orb.specs.Outputs.{Noted, WritesBy, after, output_cut}
 use Rattle.ft_orb.specs.Owners.{owned_law, owned_now, owned_rules, owned_says, owned_table}
 use Rattle.ft_orb.specs.Parked.{is_wished, on_going}
@@ -28,17 +31,20 @@ pub record Asking : Type 0 where
   pub question : Question
 
 -- What is known of an engine: of each call the outcome, or the number under which it is parked; the calls that were taken; what
--- happened; who waits under each number; and the request that waits, if one does.
+-- happened; who waits under each number; the request that waits, if one does; how many were asked for; and what is parked under each
+-- number.
 pub record Ledger : Type 0 where
   pub held : ℕ → Holding
   pub calls : List Call
   pub past : List Event
   pub waiting : ℕ → List Waiter
   pub asking : Option Asking
+  pub asked : ℕ
+  pub there : ℕ → Option Awaited
 
 -- that of a new engine
 abbrev pub opening : (ℕ → Holding) → Ledger
-opening held = record { held = held; calls = []; past = []; waiting = λ n. []; asking = None }
+opening held = record { held = held; calls = []; past = []; waiting = λ n. []; asking = None; asked = 0; there = λ n. None }
 
 -- so many octets of a piece, which comes on a connection at a moment
 pub record Part : Type 0 where
@@ -113,6 +119,18 @@ told_of n (Parked a own) = []
 told_of n (GivenUp a handled) = []
 told_of n (Settled i m outcome told) = if n == m then reached told else []
 
+-- how many of the first numbers have a request under them that passes a test
+abbrev pub count_under : (Awaited → Bool) → (ℕ → Option Awaited) → ℕ → ℕ
+count_under test there zero = 0
+count_under test there (suc n) = if option_map_or test (there n) false then count_under test there n + 1 else count_under test there n
+
+-- where a connection is closed, nobody waits on it
+abbrev pub IsUnawaited : Event → (ℕ → List Waiter) → Type 0
+IsUnawaited (Opened c) waiting = Unit {0}
+IsUnawaited (Piece c moment octets) waiting = Unit {0}
+IsUnawaited (Close c) waiting = (n : ℕ) → list_any (λ w. w.connection == c) (waiting n) ≡ false
+IsUnawaited (Lost c) waiting = Unit {0}
+
 -- something was settled under number n
 abbrev pub settles : ℕ → Deed → Bool
 settles n (Happened e written note) = false
@@ -143,13 +161,13 @@ module _ (s : Settings) where
   Wrote late held past e written note = WritesBy s.limits (numbering s late held).tell (owned_says (numbering s late held)) past e written note
 
   -- the ledger with this past, in which those still wait whose connections go on, and no request
-  abbrev pub rested : (ℕ → Holding) → List Call → List Event → (ℕ → List Waiter) → Ledger
-  rested held calls past waiting = record { held = held; calls = calls; past = past; waiting = still s.limits past waiting; asking = None }
+  abbrev pub rested : Ledger → (ℕ → Holding) → List Call → List Event → (ℕ → List Waiter) → Ledger
+  rested g held calls past waiting = record g { held = held; calls = calls; past = past; waiting = still s.limits past waiting; asking = None }
 
   -- the first who waits under number n was told
   abbrev pub told_one : ℕ → Ledger → Told → Ledger
   told_one n g (Reached w) = record g { waiting = put_at n (rest_of (g.waiting n)) g.waiting }
-  told_one n g (Missed w) = rested g.held g.calls (Lost w.connection ∷ g.past) (put_at n (rest_of (g.waiting n)) g.waiting)
+  told_one n g (Missed w) = rested g g.held g.calls (Lost w.connection ∷ g.past) (put_at n (rest_of (g.waiting n)) g.waiting)
 
   abbrev pub told_all : ℕ → Ledger → List Told → Ledger
   told_all n g [] = g
@@ -157,13 +175,13 @@ module _ (s : Settings) where
 
   -- the ledger after a deed
   abbrev pub after_deed : Ledger → Deed → Ledger
-  after_deed g (Happened e written note) = rested g.held g.calls (after s.limits g.past e note) g.waiting
-  after_deed g (Stopped p written w q) = record g { asking = Some (record { moment = p.moment; octets = take p.taken p.piece; written = written; request = w; question = q }) }
-  after_deed g (Joined p written n joined) = rested g.held g.calls (part_of p ∷ g.past) (put_at n (g.waiting n ++ joined) g.waiting)
-  after_deed g (Answered a outcome written note) = rested (put_at (length g.calls) (known outcome) g.held) (g.calls ++ a.request.call ∷ []) (after s.limits g.past (piece_of a) note) g.waiting
-  after_deed g (Parked a own) = rested (put_at (length g.calls) (parked a.request.number) g.held) (g.calls ++ a.request.call ∷ []) (piece_of a ∷ g.past) (put_at a.request.number own g.waiting)
-  after_deed g (GivenUp a handled) = rested g.held g.calls (after s.limits g.past (piece_of a) (Memory handled handled)) g.waiting
-  after_deed g (Settled i n outcome told) = record { held = put_at i (known outcome) g.held; calls = g.calls; past = (told_all n g told).past; waiting = (told_all n g told).waiting; asking = None }
+  after_deed g (Happened e written note) = rested g g.held g.calls (after s.limits g.past e note) g.waiting
+  after_deed g (Stopped p written w q) = record g { asking = Some (record { moment = p.moment; octets = take p.taken p.piece; written = written; request = w; question = q }); asked = g.asked + 1 }
+  after_deed g (Joined p written n joined) = rested g g.held g.calls (part_of p ∷ g.past) (put_at n (g.waiting n ++ joined) g.waiting)
+  after_deed g (Answered a outcome written note) = rested g (put_at (length g.calls) (known outcome) g.held) (g.calls ++ a.request.call ∷ []) (after s.limits g.past (piece_of a) note) g.waiting
+  after_deed g (Parked a own) = rested (record g { there = put_at a.request.number (Some a.request) g.there }) (put_at (length g.calls) (parked a.request.number) g.held) (g.calls ++ a.request.call ∷ []) (piece_of a ∷ g.past) (put_at a.request.number own g.waiting)
+  after_deed g (GivenUp a handled) = rested g g.held g.calls (after s.limits g.past (piece_of a) (Memory handled handled)) g.waiting
+  after_deed g (Settled i n outcome told) = record (told_all n g told) { held = put_at i (known outcome) g.held; calls = g.calls; asking = None; asked = g.asked; there = put_at n None g.there }
 
   abbrev pub after_deeds : Ledger → List Deed → Ledger
   after_deeds g [] = g
@@ -177,6 +195,7 @@ module _ (s : Settings) where
   -- before it, which are no calls, and repeat nothing that is parked: whatever would be said of that, nobody was told.
   pub record Stops (g : Ledger) (p : Part) (written : List ℕ) (w : Awaited) (question : Question) : Type 0 where
     pub connection : w.connection ≡ p.connection
+    pub number : w.number ≡ g.asked
     pub front : List (Arrival Wanted)
     pub last : Arrival Wanted
     pub completes : completed s.limits g.past (part_of p) ≡ front ++ last ∷ []
@@ -188,8 +207,8 @@ module _ (s : Settings) where
     pub before : (table_after (owned_rules (by_number s g.held)) (owned_table (by_number s g.held) g.past) front).state ≡ g.calls
     pub acts : (table_step (owned_rules (by_number s g.held)) (table_after (owned_rules (by_number s g.held)) (owned_table (by_number s g.held) g.past) front) last).0.state ≡ g.calls ++ w.call ∷ []
 
-  -- The part ends with a repeat of call i, which is parked under this number, and is the first such in it. It waits, where an answer is
-  -- wished for and there is a place; where there is none it is told so.
+  -- The part ends with a repeat of call i, which is parked under this number; none before it in the part does whose answer is wished
+  -- for. It waits, where an answer is wished for and there is a place; where there is none it is told so.
   pub record Joins (g : Ledger) (p : Part) (written : List ℕ) (number : ℕ) (joined : List Waiter) : Type 0 where
     pub front : List (Arrival Wanted)
     pub last : Arrival Wanted
@@ -219,18 +238,28 @@ module _ (s : Settings) where
     pub call : (i : ℕ) → i < length g.calls → g.held i ≡ parked n → ⊥
     pub nobody : g.waiting n ≡ []
 
+  -- the outcome can be sent, and is one of the operation of the request
+  abbrev pub IsFor : Option Awaited → Performed → Type 0
+  IsFor None outcome = ⊥
+  IsFor (Some w) outcome = IsRenderable outcome × IsOutcomeOf (s.offer.interface w.call.object_key w.call.operation) outcome
+
+  -- no more are parked than there are places, in all and of the request's connection: all numbers are below that of the next
+  abbrev pub HasPlace : Ledger → Awaited → Type 0
+  HasPlace g w = (count_under (λ x. true) g.there g.asked < s.places.parked) × (count_under (λ x. x.connection == w.connection) g.there g.asked < s.places.of_one)
+
   -- A deed is one of an engine of which this is known: what was written is what its rules say, which see no outcome; what is parked
   -- keeps nobody from going on; and the calls that are taken by then are those that were performed.
   abbrev pub IsDeed : Ledger → Deed → Type 0
-  IsDeed g (Happened e written note) = (g.asking ≡ None) × ((late : Later) → Wrote late g.held g.past e written note) × AreTaken (after_deed g (Happened e written note))
+  IsDeed g (Happened e written note) = (g.asking ≡ None) × ((late : Later) → Wrote late g.held g.past e written note) × AreTaken (after_deed g (Happened e written note)) × IsUnawaited e g.waiting
   IsDeed g (Stopped p written w q) = (g.asking ≡ None) × Stops g p written w q
   IsDeed g (Joined p written n joined) = (g.asking ≡ None) × Joins g p written n joined × AreTaken (after_deed g (Joined p written n joined))
   IsDeed g (Answered a outcome written note) = (g.asking ≡ Some a) × Wrote nothing_yet (put_at (length g.calls) (known outcome) g.held) g.past (piece_of a) (a.written ++ written) note
-      × AreTaken (after_deed g (Answered a outcome written note))
+      × AreTaken (after_deed g (Answered a outcome written note)) × IsFor (Some a.request) outcome
   IsDeed g (Parked a own) = (g.asking ≡ Some a) × IsFree g a.request.number × (own ≡ on_going (goes_on s.limits (piece_of a ∷ g.past)) (own_of a.request.connection a.question))
-      × Wrote nothing_yet (put_at (length g.calls) (parked a.request.number) g.held) g.past (piece_of a) a.written Done × AreTaken (after_deed g (Parked a own))
+      × Wrote nothing_yet (put_at (length g.calls) (parked a.request.number) g.held) g.past (piece_of a) a.written Done × AreTaken (after_deed g (Parked a own)) × HasPlace g a.request
   IsDeed g (GivenUp a handled) = (g.asking ≡ Some a) × Wrote nothing_yet g.held g.past (piece_of a) a.written (Memory handled handled) × AreTaken (after_deed g (GivenUp a handled))
-  IsDeed g (Settled i n outcome told) = (g.asking ≡ None) × (i < length g.calls) × (g.held i ≡ parked n) × AreTold n outcome g told × ((told_all n g told).waiting n ≡ []) × AreTaken (after_deed g (Settled i n outcome told))
+      × (handled + 1 ≡ length (completed s.limits g.past (piece_of a)))
+  IsDeed g (Settled i n outcome told) = (g.asking ≡ None) × (i < length g.calls) × (g.held i ≡ parked n) × AreTold n outcome g told × ((told_all n g told).waiting n ≡ []) × AreTaken (after_deed g (Settled i n outcome told)) × IsFor (g.there n) outcome
 
   -- deeds one after another, from a ledger on
   abbrev pub Runs : Ledger → List Deed → Type 0
@@ -289,14 +318,10 @@ module _ (s : Settings) where
   -- What is settled under a number is the call that is parked under it, if nothing was settled under it in between: whoever joined call
   -- i is told the outcome of call i.
   abbrev pub SettledAreTheirs : Type 0
-  SettledAreTheirs = (g : Ledger) (ds : List Deed) (i j n : ℕ) (outcome : Performed) (told : List Told) → AreApart g → Runs g (ds ++ Settled j n outcome told ∷ [])
+  SettledAreTheirs = (g : Ledger) (ds : List Deed) (ys : List Deed) (i j n : ℕ) (outcome : Performed) (told : List Told) → AreApart g → Runs g (ds ++ Settled j n outcome told ∷ ys)
       → i < length g.calls → g.held i ≡ parked n → list_any (settles n) ds ≡ false → i ≡ j
 
-  -- When a call is settled nobody waits for it any more.
-  abbrev pub SettledAreTold : Type 0
-  SettledAreTold = (g : Ledger) (i n : ℕ) (outcome : Performed) (told : List Told) → IsDeed g (Settled i n outcome told) → (after_deed g (Settled i n outcome told)).waiting n ≡ []
-
-  -- A repeat that joins is no call, and makes nothing known.
+  -- For a repeat that joins nothing is performed, and it makes nothing known.
   abbrev pub JoinedAreNoCalls : Type 0
-  JoinedAreNoCalls = (g : Ledger) (p : Part) (written : List ℕ) (n : ℕ) (joined : List Waiter) → IsDeed g (Joined p written n joined)
-      → ((after_deed g (Joined p written n joined)).calls ≡ g.calls) × ((after_deed g (Joined p written n joined)).held ≡ g.held)
+  JoinedAreNoCalls = (g : Ledger) (p : Part) (written : List ℕ) (n : ℕ) (joined : List Waiter) → AreTaken g → IsDeed g (Joined p written n joined)
+      → ((owned_table (by_number s g.held) (part_of p ∷ g.past)).state ≡ (owned_table (by_number s g.held) g.past).state) × ((after_deed g (Joined p written n joined)).held ≡ g.held)

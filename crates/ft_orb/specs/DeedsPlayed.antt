@@ -1,5 +1,6 @@
 -- What a list of deeds makes of an engine, and what it says of it.
-use Rattle.std.specs.Prelude.{◌≡◌, ◌+◌, ◌≤◌, ◌<◌, ℕ, nat_lt, if◌then◌else◌, List, [], ◌∷◌, ◌++◌, flat_map, length, map, take, Option, Some, None, IsSome, IfSome, Result, Ok, Err}
+use Rattle.std.specs.Prelude.{◌≡◌, ◌+◌, ◌≤◌, ◌<◌, ℕ, nat_lt, false, if◌then◌else◌, List, [], ◌∷◌, ◌++◌, flat_map, length, map, take, Option, Some, None, IsSome, IfSome, Result, Ok, Err}
+use Rattle.std.specs.List.{list_any}
 use Rattle.ft_log.specs.Holding.{Holding, known, parked}
 use Rattle.ft_log.specs.Performed.{Performed}
 use Rattle.ft_log.specs.View.{performed_in}
@@ -16,15 +17,16 @@ use Rattle.ft_orb.specs.declared.engine.Fed.TheVariants as fed
 use Rattle.ft_orb.specs.declared.error.ServeError.{ServeError}
 use Rattle.ft_orb.specs.declared.error.ParkError.TheVariants as unparked
 use Rattle.ft_orb.specs.declared.events.Event.TheVariants as happening
+use Rattle.ft_orb.specs.declared.events.Note.{Note}
 use Rattle.ft_orb.specs.declared.events.Written.{Written}
-use Rattle.ft_orb.specs.Deeds.{AreTold, Answered, Asking, Deed, GivenUp, Happened, IsDeed, IsLeftOf, Joined, Ledger, Parked, Runs, Settled, Stopped, Told, after_deed, after_deeds, came_to, note_told, notes_of, opening, told_all, told_of}
+use Rattle.ft_orb.specs.Deeds.{AreTold, Answered, Asking, Deed, GivenUp, Happened, IsDeed, IsLeftOf, Joined, Ledger, Parked, Runs, Settled, Stopped, Told, after_deed, after_deeds, came_to, note_told, notes_of, opening, settles, told_all, told_of}
 use Rattle.ft_orb.specs.Engines.{Awaited, CanAnswer, asks_in, waits_in}
 use Rattle.ft_orb.specs.ExactlyOnce.{OneExpiration, state_after, state_of}
 use Rattle.ft_orb.specs.History.{Piece, arrivals, event_of}
 use Rattle.ft_orb.specs.Now.{performed_now}
 use Rattle.ft_orb.specs.Outputs.{Noted, noted}
 use Rattle.ft_orb.specs.Owners.{owned_rules}
-use Rattle.ft_orb.specs.Parking.{AsksLate, CanSettle, Settings, Stays, by_number, goes_on, parked_at, parked_count, parked_of, places_of, places_of_one, put_at, waits_on}
+use Rattle.ft_orb.specs.Parking.{AsksLate, CanSettle, Settings, Stays, by_number, goes_on, parked_at, parked_count, parked_in, parked_of, places_of, places_of_one, put_at, told_in, waits_on}
 
 -- A deed is one of what the code was told to do: a part is one of its piece.
 abbrev pub IsOf : CodeDeed → Deed → Type 0
@@ -55,6 +57,12 @@ left_of (Answered a outcome written note) = None
 left_of (Parked a own) = None
 left_of (GivenUp a handled) = None
 left_of (Settled i n outcome told) = None
+
+-- The deeds took all their pieces whole, but of that of the last this is left.
+abbrev pub LeaveAtLast : List Deed → Option ℕ → Type 0
+LeaveAtLast [] left = left ≡ None
+LeaveAtLast (d ∷ []) left = left_of d ≡ left
+LeaveAtLast (d ∷ e ∷ ds) left = (left_of d ≡ None) × LeaveAtLast (e ∷ ds) left
 
 abbrev pub left_fed : (size : ℕ) → Result Fed ServeError → Option ℕ
 left_fed size (Ok fed.Whole) = None
@@ -103,14 +111,17 @@ module _ {C : Type 0} (offers : C → Offer) (s : Settings) where
   StandsAt g None engine = Stays offers s g.held g.calls engine g.past g.waiting
   StandsAt g (Some a) engine = (x : AsksLate offers s g.held g.calls engine g.past g.waiting a.moment a.octets a.written a.request) × (x.asks.question ≡ a.question)
 
-  abbrev pub next_number : Option Asking → Engine C → ℕ
-  next_number None engine = asks_in engine
-  next_number (Some a) engine = a.request.number
+  -- so many requests were asked for, this is parked under each number, and none of it has an outcome that is still to be told
+  pub record Shows (count : ℕ) (lies : ℕ → Option Awaited) (engine : Engine C) : Type 0 where
+    pub asked : asks_in engine ≡ count
+    pub there : (n : ℕ) → parked_in engine n ≡ lies n
+    pub told : (n : ℕ) → told_in engine n ≡ None
 
-  -- .. and nobody waits under a number that comes later.
+  -- .. and nobody waits under a number under which nothing is parked.
   pub record Holds (g : Ledger) (engine : Engine C) : Type 0 where
     pub stands : StandsAt g g.asking engine
-    pub fresh : (n : ℕ) → next_number g.asking engine ≤ n → g.waiting n ≡ []
+    pub nobody : (n : ℕ) → g.there n ≡ None → g.waiting n ≡ []
+    pub shows : Shows g.asked g.there engine
 
   -- a deed was done, which wrote this, and left so much of its piece
   abbrev pub IsDone : Ledger → CodeDeed → Option ℕ → List Noted → Engine C → Type 0
@@ -136,13 +147,22 @@ Becomes {C} offers told left notes old new = (s : Settings) (g : Ledger) → Hol
 abbrev pub Remains : {C : Type 0} → (C → Offer) → Engine C → Engine C → Type 0
 Remains {C} offers old new = (s : Settings) (g : Ledger) → Holds offers s g old → Holds offers s g new
 
--- What holds of a run from a new engine on: what is told of a call is the outcome that is known of it at the end; the calls that were taken are those of the distinct admissible requests, each once, in the
--- order of their first arrivals, where requests with one key carry one expiration, and those that are performed with each key by itself,
--- whatever they carry; and of those who came to wait under a number each is told once, waits on, or its connection has ended.
+-- What holds of a run from a new engine on: what is answered or told of a call is the outcome that is known of it at the end; the calls that were
+-- taken are those of the distinct admissible requests, each once, in the order of their first arrivals, where requests with one key
+-- carry one expiration, and those that are performed with each key by itself, whatever they carry; of those who came to wait under a
+-- number each is told once, waits on, or its connection has ended; and what is told under it first is of the call that was parked there.
 pub record IsAnsweredLate (s : Settings) (held : ℕ → Holding) (ds : List Deed) : Type 0 where
   pub runs : Runs s (opening held) ds
+  pub answered : (xs ys : List Deed) (a : Asking) (outcome : Performed) (written : List ℕ) (note : Note) → ds ≡ xs ++ Answered a outcome written note ∷ ys
+      → (after_deeds s (opening held) ds).held (length (after_deeds s (opening held) xs).calls) ≡ known outcome
   pub known : (xs ys : List Deed) (i n : ℕ) (outcome : Performed) (told : List Told) → ds ≡ xs ++ Settled i n outcome told ∷ ys → (after_deeds s (opening held) ds).held i ≡ known outcome
   pub once : OneExpiration (arrivals s.limits (after_deeds s (opening held) ds).past)
       → (after_deeds s (opening held) ds).calls ≡ state_of (owned_rules (by_number s held)) [] (arrivals s.limits (after_deeds s (opening held) ds).past)
   pub now : (after_deeds s (opening held) ds).calls ≡ state_after (owned_rules (by_number s held)) [] (performed_now (owned_rules (by_number s held)) (arrivals s.limits (after_deeds s (opening held) ds).past))
   pub told : (n : ℕ) → IsLeftOf (goes_on s.limits (after_deeds s (opening held) ds).past) (flat_map (came_to n) ds) (flat_map (told_of n) ds ++ (after_deeds s (opening held) ds).waiting n)
+  pub theirs : (xs ms ys : List Deed) (i j n : ℕ) (outcome : Performed) (told : List Told) → ds ≡ xs ++ (ms ++ Settled j n outcome told ∷ ys)
+      → i < length (after_deeds s (opening held) xs).calls → (after_deeds s (opening held) xs).held i ≡ parked n → list_any (settles n) ms ≡ false → i ≡ j
+
+-- every run from a new engine on is so
+abbrev pub RunsAreAnsweredLate : Settings → Type 0
+RunsAreAnsweredLate s = (held : ℕ → Holding) (ds : List Deed) → Runs s (opening held) ds → IsAnsweredLate s held ds

@@ -38,8 +38,8 @@ abbrev pub on_going : (ℕ → Bool) → List Waiter → List Waiter
 on_going goes waiters = filter (λ w. goes w.connection) waiters
 
 -- the one who waits for the outcome of a request that is parked now: itself, where an answer is wished for
-abbrev pub own_waiters : Pending → List Waiter
-own_waiters p = if is_wished p.waiting.asker.wish then record { connection = p.connection; asker = p.waiting.asker } ∷ [] else []
+abbrev pub own_waiters : (c : ℕ) → Asker → List Waiter
+own_waiters c asker = if is_wished asker.wish then record { connection = c; asker = asker } ∷ [] else []
 
 -- what is kept under one is kept under the other
 abbrev pub IsCopy : Option Retained → Option Retained → Type 0

@@ -1,37 +1,23 @@
--- Words of private functions: a piece of a connection that is fed to an engine, whose owner performs. No public contract cites them.
-use Rattle.std.specs.Prelude.{◌≡◌, ◌⊎◌, ℕ, ◌<◌, true, List, ◌++◌, length, take, Option, MatchOption, None, Some, Result, Ok, Err}
+-- Words of private functions: a piece of a connection that is fed to an engine in parts, whose owner performs. No public contract cites them.
+use Rattle.std.specs.Prelude.{◌≡◌, ◌⊎◌, ℕ, ◌<◌, List, length, take, Option, None, Some, Result, Ok, Err}
 use Rattle.ft_log.specs.Performed.{Performed}
 use Rattle.ft_orb.specs.declared.engine.Engine.{Engine}
 use Rattle.ft_orb.specs.declared.events.Note.{Note}
 use Rattle.ft_orb.specs.declared.events.Note.TheVariants.{Done}
 use Rattle.ft_orb.specs.declared.wire.StreamEnd.{StreamEnd}
-use Rattle.ft_orb.specs.declared.wire.StreamEnd.TheVariants as stream
-use Rattle.ft_orb.specs.Answers.{calls_of}
 use Rattle.ft_objects.specs.Catalogues.{Offer}
-use Rattle.ft_orb.specs.Engines.{Awaited, Ends, Rests, as_server}
-use Rattle.ft_orb.specs.Handovers.{Handover, IsHandedIn, handed_in}
+use Rattle.ft_orb.specs.Engines.{Awaited, Ends, Rests}
+use Rattle.ft_orb.specs.Handovers.{IsHandedIn}
 use Rattle.ft_orb.specs.History.{Event, Piece, completed}
-use Rattle.ft_orb.specs.Laws.{is_memory}
-use Rattle.ft_orb.specs.Owners.{Owner, made_of, meaning_of}
+use Rattle.ft_orb.specs.Owners.{Owner}
 use Rattle.ft_orb.specs.Requests.{Call}
-use Rattle.ft_orb.specs.Sessions.{EndsEarly, GoesOn}
-use Rattle.ft_orb.specs.Wires.{Act, Turn}
+use Rattle.ft_orb.specs.Sessions.{IsEnded}
 use Rattle.giop_frames.specs.declared.limits.Limits.{Limits}
-
--- a piece, or a part of one, ended so: it was taken, or an allocation failed or its request was given up
-abbrev pub IsEnded : {A : Type 0} → Result A StreamEnd → Note → Type 0
-IsEnded (Ok x) note = note ≡ Done
-IsEnded (Err stream.Memory) note = is_memory note ≡ true
-IsEnded (Err end) note = ⊥
 
 -- what is handed in for what waits
 abbrev pub HandsIn : Offer → Option Awaited → (gave handed : Performed) → Type 0
 HandsIn offer None gave handed = ⊥
 HandsIn offer (Some w) gave handed = IsHandedIn offer w.call gave handed
-
--- the calls answered, with those of this log
-abbrev pub calls_with : List Call → List Handover → List Call
-calls_with calls log = calls ++ calls_of (handed_in log)
 
 module _ (limits : Limits) (past : List Event) (c moment : ℕ) (piece : List ℕ) where
   -- how many arrivals so many of its octets complete
@@ -51,10 +37,3 @@ module _ {C : Type 0} (offers : C → Offer) (owner : Owner) (calls : List Call)
   -- so many octets of a piece were taken, each part of it to its end; nothing happened where it are none
   abbrev pub IsTakenTo : (moment : ℕ) → List ℕ → ℕ → Engine C → List ℕ → List ℕ → Type 0
   IsTakenTo moment piece n engine before out = ((n ≡ 0) × Rests offers owner calls engine past × (out ≡ before)) ⊎ Ends offers owner calls past (Piece c moment (take n piece)) Done engine before out
-
-module _ {C : Type 0} (offers : C → Offer) (owner : Owner) (calls : List Call) (past : List Event) (c : ℕ) (wire : Option (List Act)) (clock : Option (List ℕ)) (engine : Engine C) (wire_now : Option (List Act)) (clock_now : Option (List ℕ)) where
-  -- so many turns were made, and the connection goes on; or it has ended
-  abbrev pub IsVisited : (turns : ℕ) → Option StreamEnd → Type 0
-  IsVisited reads end = (offers engine.catalogue ≡ owner.offer) × MatchOption end
-      ((turns : List Turn) × GoesOn (meaning_of owner) (made_of owner) past c wire clock turns (as_server engine calls) wire_now clock_now × (length turns ≡ reads))
-      (λ e. (turns : List Turn) × (last : List Act) × EndsEarly (meaning_of owner) (made_of owner) past c wire clock turns reads e last (as_server engine calls) wire_now clock_now)

@@ -20,7 +20,7 @@ pub struct FtRequest<'e> {
 /// A request that waits for its outcome.
 #[derive(Clone, Copy, Debug)]
 pub struct Asked<'e> {
-    /// By this number it is answered or given up. No other request has it.
+    /// By this number it is answered, parked or given up. No other request has it.
     pub number: u64,
     /// The connection that it came on.
     pub connection: u64,

@@ -3,24 +3,25 @@
 ghost use Rattle.std.specs.Prelude.{◌≡◌, ◌<◌, ◌≤◌, ◌∷◌, ◌++◌, ℕ, false, true, List, IfOk, IsSome, None, length};
 ghost use Rattle.ft_log.specs.View.{performed_in};
 ghost use Rattle.ft_orb.specs.Answers.{Agrees, calls_of};
-ghost use Rattle.ft_orb.specs.Engines.{Asks, Awaited, CanAnswer, Ends, IsFit, IsOpen, Rests, Resumes, waits_in};
+ghost use Rattle.ft_orb.specs.Engines.{Asks, Awaited, CanAnswer, IsFit, IsOpen, Rests, Resumes, waits_in};
 ghost use Rattle.ft_orb.specs.Handovers.{AreHandedIn, Handover, OwnerSays, handed_in};
 ghost use Rattle.ft_orb.specs.History as history;
 ghost use Rattle.ft_orb.specs.History.{line};
 ghost use Rattle.ft_orb.specs.Now.{now_says, state_now};
-ghost use Rattle.ft_orb.specs.Outputs.{Plays, after, is_going, is_gone, table_says};
+ghost use Rattle.ft_orb.specs.Outputs.{Plays, is_going, is_gone, table_says};
 ghost use Rattle.ft_orb.specs.Owners.{Owner, made_of, meaning_of};
+ghost use Rattle.ft_orb.specs.Parking.{AreParked, parked_in, told_in};
 ghost use Rattle.ft_orb.specs.Requests.{Call};
-ghost use Rattle.ft_orb.specs.Sessions.{GrowsBy, IsGivenUp};
-ghost use Rattle.ft_orb.specs.Visits.{HandsIn, IsEnded, IsVisited, TakesPart, calls_with};
-ghost use Rattle.ft_orb.specs.Wires.{Act, AreNoted, AreReadInTime, AreSmall, ClockSays, HasEnded, IsFarewell, Turn, WireSays, entries_of, events_in, past_with};
+ghost use Rattle.ft_orb.specs.Sessions.{Attends, IsEnded, calls_with};
+ghost use Rattle.ft_orb.specs.Visits.{HandsIn, TakesPart};
+ghost use Rattle.ft_orb.specs.Wires.{Act, AreNoted, AreReadInTime, AreSmall, ClockSays, HasEnded, Turn, WireSays, entries_of, events_in, past_with};
 ghost use Rattle.ft_orb.specs.declared.events.Note.{Note};
 
 use crate::engine::{Engine, Fed};
 use crate::error::{CloseError, ServeError};
+use crate::hosting::{Host, serve_host};
 use crate::performer::Performer;
-use crate::streaming::{PIECE, write_all, write_farewell};
-use crate::wire::{Clock, StreamEnd, Wire, WireError};
+use crate::wire::{Clock, StreamEnd, Wire};
 use ft_log::{Completion, Outcome, SystemName};
 use ft_objects::Catalogue;
 use std::alloc::Global;
@@ -48,6 +49,7 @@ fn attend_ask<C: Catalogue + Drop, O: Performer>(
     requires fit { IsFit (C.offers engine.old.catalogue) (waits_in engine.old) }
     requires asking { IsSome (waits_in engine.old) }
     ensures idle { waits_in engine.new ≡ None }
+    ensures parked { AreParked engine.old engine.new }
     ensures table { (log : List Handover) × OwnerSays log (O.answered owner.old) (O.answered owner.new) × ((o : Owner) (calls : List Call) (past : List history.Event) (moment : ℕ) (octets written : List ℕ) (w : Awaited) → Asks C.offers o calls engine.old past moment octets written w
         → is_gone (line past w.connection) ≡ false → Agrees o.answers calls (handed_in log) → AreHandedIn o.offer log × (note : Note) × IsEnded result note
         × Resumes C.offers o (calls_with calls log) past w.connection moment octets written note engine.new out.old.items out.new.items) }
@@ -81,10 +83,10 @@ fn attend_part<C: Catalogue + Drop, O: Performer>(
     requires idle { waits_in engine.old ≡ None }
     requires some { 0 < length piece.now }
     ensures idle { waits_in engine.new ≡ None }
+    ensures parked { AreParked engine.old engine.new }
     ensures taken { IfOk result (λ n. (0 < n) × (n ≤ length piece.now)) }
-    ensures table { (log : List Handover) × OwnerSays log (O.answered owner.old) (O.answered owner.new) × ((o : Owner) (calls : List Call) (past : List history.Event) → Rests C.offers o calls engine.old past
-        → is_gone (line past connection) ≡ false → Agrees o.answers calls (handed_in log) → AreHandedIn o.offer log
-        × TakesPart C.offers o (calls_with calls log) past connection moment piece.now result engine.new out.old.items out.new.items) }
+    ensures table { Attends (λ o. o) (O.answered owner.old) (O.answered owner.new) (λ o calls past. Rests C.offers o calls engine.old past × (is_gone (line past connection) ≡ false))
+        (λ o calls past. TakesPart C.offers o calls past connection moment piece.now result engine.new out.old.items out.new.items) }
 {
     giop_link::laws::streams_are_heard::<giop_link::Server>();
     match engine.feed(connection, moment, piece, out) {
@@ -99,124 +101,61 @@ fn attend_part<C: Catalogue + Drop, O: Performer>(
     }
 }
 
-/// Feeds a piece to its end, and lets the owner perform what it asks for.
-fn attend_piece<C: Catalogue + Drop, O: Performer>(
-    alloc: Global,
-    engine: &mut Engine<C>,
-    owner: &mut O,
-    connection: u64,
-    moment: u64,
-    piece: &[u8],
-    out: &mut Vec<u8>,
-) -> Result<(), StreamEnd>
-    requires idle { waits_in engine.old ≡ None }
-    requires some { 0 < length piece.now }
-    ensures idle { waits_in engine.new ≡ None }
-    ensures table { (log : List Handover) × OwnerSays log (O.answered owner.old) (O.answered owner.new) × ((o : Owner) (calls : List Call) (past : List history.Event) → Rests C.offers o calls engine.old past
-        → is_going o.limits (line past connection) ≡ true → Agrees o.answers calls (handed_in log) → AreHandedIn o.offer log × (note : Note) × IsEnded result note
-        × Ends C.offers o (calls_with calls log) past (history.Piece connection moment piece.now) note engine.new out.old.items out.new.items) }
-{
-    giop_link::laws::streams_are_heard::<giop_link::Server>();
-    let mut taken = 0;
-    while taken < piece.len() {
-        let (_, left) = piece.split_at(taken);
-        taken += attend_part(alloc, engine, owner, connection, moment, left, out)?;
-    }
-    Ok(())
-}
+impl<C: Catalogue + Drop, O: Performer> Host<O> for Engine<C> {
+    ghost World = { Owner };
 
-/// Makes one read, and serves the piece that it gives. `None` where the connection goes on.
-fn attend_read<C: Catalogue + Drop, O: Performer, W: Wire, K: Clock>(
-    alloc: Global,
-    engine: &mut Engine<C>,
-    owner: &mut O,
-    connection: u64,
-    wire: &mut W,
-    clock: &mut K,
-    room: &mut [u8],
-    answers: &mut Vec<u8>,
-) -> Option<StreamEnd>
-    requires idle { waits_in engine.old ≡ None }
-    requires some { 0 < length room.old }
-    requires small { length room.old ≤ 4096 }
-    ensures idle { waits_in engine.new ≡ None }
-    ensures table { (log : List Handover) × OwnerSays log (O.answered owner.old) (O.answered owner.new) × ((o : Owner) (calls : List Call) (past : List history.Event) → Rests C.offers o calls engine.old past
-        → is_going o.limits (line past connection) ≡ true → Agrees o.answers calls (handed_in log) → AreHandedIn o.offer log
-        × IsVisited C.offers o (calls_with calls log) past connection (W.traffic wire.old) (K.given clock.old) engine.new (W.traffic wire.new) (K.given clock.new) 1 result) }
-{
-    let n = match wire.read(room) {
-        Ok(0) => return Some(StreamEnd::PeerEnded),
-        Ok(n) => n,
-        Err(WireError) => return Some(StreamEnd::ReadFault),
-    };
-    let moment = clock.now();
-    let (piece, _) = room.split_at(n);
-    answers.clear();
-    if let Err(end) = attend_piece(alloc, engine, owner, connection, moment, piece, answers) {
-        return Some(end);
-    }
-    if write_all(wire, answers).is_err() {
-        return Some(StreamEnd::WriteFault);
-    }
-    if engine.is_closed(connection) {
-        return Some(StreamEnd::LinkClosed);
-    }
-    None
-}
+    ghost as_owner = { λ o. o };
 
-/// Sends CloseConnection, unless somebody waits on the connection for the outcome of a request that is parked: it is lost then.
-fn bid_farewell<C: Catalogue + Drop, W: Wire>(
-    engine: &mut Engine<C>,
-    connection: u64,
-    wire: &mut W,
-    out: &mut Vec<u8>,
-) -> StreamEnd
-    requires idle { waits_in engine.old ≡ None }
-    ensures idle { waits_in engine.new ≡ None }
-    ensures table { (o : Owner) (calls : List Call) (past : List history.Event) → Rests C.offers o calls engine.old past → is_going o.limits (line past connection) ≡ true → (acts : List Act) × (note : Note)
-        × IsFarewell result acts × IsGivenUp result note × GrowsBy acts (W.traffic wire.old) (W.traffic wire.new)
-        × Rests C.offers o calls engine.new (after o.limits past (history.Close connection) note) }
-{
-    out.clear();
-    match engine.close(connection, out) {
-        Ok(()) => write_farewell(wire, out),
-        Err(CloseError::Waits) => {
-            engine.lost(connection);
-            StreamEnd::Memory
+    ghost says = { λ o. table_says (meaning_of o) (made_of o) };
+
+    ghost Holds = { λ o calls engine past. Rests C.offers o calls engine past };
+
+    ghost IsIdle = { λ engine. waits_in engine ≡ None };
+
+    ghost parked_under = { λ engine. parked_in engine };
+
+    ghost told_under = { λ engine. told_in engine };
+
+    ghost answered = { O.answered };
+
+    fn feed_whole(
+        &mut self,
+        owner: &mut O,
+        alloc: Global,
+        connection: u64,
+        moment: u64,
+        piece: &[u8],
+        out: &mut Vec<u8>,
+    ) -> Result<(), StreamEnd> {
+        giop_link::laws::streams_are_heard::<giop_link::Server>();
+        let mut taken = 0;
+        while taken < piece.len() {
+            let (_, left) = piece.split_at(taken);
+            taken += attend_part(alloc, self, owner, connection, moment, left, out)?;
         }
-        Err(CloseError::NoConnection) => StreamEnd::LinkClosed,
-        Err(CloseError::Memory) => StreamEnd::Memory,
+        Ok(())
     }
-}
 
-/// Serves the pieces of at most so many reads. `None` where the connection would go on.
-fn attend_reads<C: Catalogue + Drop, O: Performer, W: Wire, K: Clock>(
-    alloc: Global,
-    engine: &mut Engine<C>,
-    owner: &mut O,
-    connection: u64,
-    wire: &mut W,
-    clock: &mut K,
-    max_reads: u32,
-    answers: &mut Vec<u8>,
-) -> Option<StreamEnd>
-    requires idle { waits_in engine.old ≡ None }
-    ensures idle { waits_in engine.new ≡ None }
-    ensures table { (log : List Handover) × OwnerSays log (O.answered owner.old) (O.answered owner.new) × ((o : Owner) (calls : List Call) (past : List history.Event) → Rests C.offers o calls engine.old past
-        → is_going o.limits (line past connection) ≡ true → Agrees o.answers calls (handed_in log) → AreHandedIn o.offer log
-        × IsVisited C.offers o (calls_with calls log) past connection (W.traffic wire.old) (K.given clock.old) engine.new (W.traffic wire.new) (K.given clock.new) max_reads result) }
-{
-    let mut room = [0; PIECE];
-    let mut reads = 0;
-    while reads < max_reads {
-        if let Some(end) = attend_read(
-            alloc, engine, owner, connection, wire, clock, &mut room, answers,
-        ) {
-            return Some(end);
-        }
-        reads += 1;
+    fn has_ended(&self, connection: u64) -> bool {
+        self.is_closed(connection)
     }
-    None
+
+    /// The connection is lost instead where somebody waits on it for the outcome of a request that is parked.
+    fn part(&mut self, connection: u64, out: &mut Vec<u8>) -> Result<(), StreamEnd> {
+        match self.close(connection, out) {
+            Ok(()) => Ok(()),
+            Err(CloseError::Waits) => {
+                self.lost(connection);
+                Err(StreamEnd::Memory)
+            }
+            Err(CloseError::NoConnection) => Err(StreamEnd::LinkClosed),
+            Err(CloseError::Memory) => Err(StreamEnd::Memory),
+        }
+    }
+
+    fn forget(&mut self, connection: u64) {
+        self.lost(connection);
+    }
 }
 
 /// Serves a connection over a wire to its end, as `serve_stream` does, by an engine whose owner performs: reads
@@ -225,10 +164,13 @@ fn attend_reads<C: Catalogue + Drop, O: Performer, W: Wire, K: Clock>(
 /// CloseConnection is sent (GIOP 9.4.7). In every case the connection is lost afterwards.
 ///
 /// The connection is there, was not closed, and its stream has not ended (`Engine::is_closed`). A call that the
-/// owner can't perform now is given up, as is one for which an allocation fails: that ends the connection
-/// (`StreamEnd::Memory`), and nothing is written for the piece in which it came; what was performed before it stays
-/// performed, and is kept. So does a connection end on which somebody still waits, where CloseConnection would be sent. An
-/// outcome that can't answer its call is answered INTERNAL in its place, and this is kept.
+/// owner can't perform now is given up, and does not count. That ends the connection (`StreamEnd::Memory`), as does an
+/// allocation that fails: before a call is asked for, which does not count then, or once its outcome is there, which is
+/// kept. Nothing is written for the piece in which it came; what was performed before it stays performed, and is kept. So
+/// does a connection end on which somebody still waits, where CloseConnection would be sent. An outcome that can't answer
+/// its call is answered INTERNAL in its place, and this is kept.
+///
+/// What is parked in the engine stays (`parked`).
 pub fn serve_engine<C: Catalogue + Drop, O: Performer, W: Wire, K: Clock>(
     alloc: Global,
     engine: &mut Engine<C>,
@@ -240,6 +182,7 @@ pub fn serve_engine<C: Catalogue + Drop, O: Performer, W: Wire, K: Clock>(
 ) -> StreamEnd
     requires idle { waits_in engine.old ≡ None }
     ensures idle { waits_in engine.new ≡ None }
+    ensures parked { AreParked engine.old engine.new }
     // each call that the owner performed was handed in once; in turns a piece is read and the table's answers to what it
     // completes are written, by the owner that answers as it did; and each end has its cause
     ensures table { (log : List Handover) × OwnerSays log (O.answered owner.old) (O.answered owner.new) × ((o : Owner) (calls : List Call) (past : List history.Event) → Rests C.offers o calls engine.old past
@@ -269,13 +212,5 @@ pub fn serve_engine<C: Catalogue + Drop, O: Performer, W: Wire, K: Clock>(
         × WireSays turns last (W.traffic wire.old) (W.traffic wire.new)
         × ClockSays turns (K.given clock.old) (K.given clock.new)) }
 {
-    let mut out = Vec::new(alloc);
-    let end = match attend_reads(
-        alloc, engine, owner, connection, wire, clock, max_reads, &mut out,
-    ) {
-        Some(end) => end,
-        None => bid_farewell(engine, connection, wire, &mut out),
-    };
-    engine.lost(connection);
-    end
+    serve_host(alloc, engine, owner, connection, wire, clock, max_reads)
 }

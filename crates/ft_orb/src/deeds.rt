@@ -1,15 +1,15 @@
 //! Deeds played on an engine, one after another: what happens to it, and what its owner does.
 
-ghost use Rattle.std.specs.Prelude.{◌≡◌, ◌++◌, ◌∷◌, ◌+◌, ◌≤◌, ◌<◌, ℕ, List, [], IfOk, OnOk, IfErr, None, Some, filter_map, flat_map, length, map, option_to_list, take};
+ghost use Rattle.std.specs.Prelude.{◌≡◌, ◌==◌, ◌++◌, ◌∷◌, ◌+◌, ◌≤◌, ◌<◌, ℕ, List, [], IfOk, OnOk, IfErr, IsSome, None, Some, false, flat_map, length, map, take};
 ghost use Rattle.std.specs.Vec.{vec_capacity};
 ghost use Rattle.ft_log.specs.Holding.{Holding};
 ghost use Rattle.ft_log.specs.Performed.{Performed};
 ghost use Rattle.ft_log.specs.View.{performed_in};
 ghost use Rattle.ft_orb.specs.Deeds.{Deed as History, Ledger, Runs, after_deeds, notes_of, opening};
-ghost use Rattle.ft_orb.specs.DeedsPlayed.{AreOf, Becomes, Holds, IsAnsweredLate, IsDone, IsRefused, IsRefusedIn, IsTold, Remains, deeds_done, left_after, left_fed, left_in as left_at, left_of};
+ghost use Rattle.ft_orb.specs.DeedsPlayed.{AreOf, Becomes, Holds, IsAnsweredLate, IsDone, IsRefused, IsRefusedIn, IsTold, LeaveAtLast, Remains, deeds_done, left_after, left_fed, left_in as left_at};
 ghost use Rattle.ft_orb.specs.Engines.{asks_in, waits_in};
 ghost use Rattle.ft_orb.specs.Outputs.{noted};
-ghost use Rattle.ft_orb.specs.Parking.{Settings, Stays, left_in, told_in};
+ghost use Rattle.ft_orb.specs.Parking.{Settings, Stays, left_in, parked_in, told_in};
 ghost use Rattle.ft_orb.specs.Standing.{note_of, note_of_closing};
 ghost use Rattle.ft_orb.specs.declared.deeds.Deed.TheVariants as code;
 ghost use Rattle.ft_orb.specs.declared.events.Event.TheVariants as happening;
@@ -39,7 +39,7 @@ pub enum Deed {
     Settle(u64, Outcome),
 }
 
-/// Why a deed was not done. Nothing changed.
+/// Why a deed was not done. The engine stands for what it stood for.
 #[derive(Clone, Copy, Debug, PartialEq, Eq, Error)]
 pub enum DeedError {
     /// A request waits: it is answered, parked or given up first.
@@ -69,7 +69,7 @@ pub enum DeedError {
 #[derive(Clone, Copy, Debug, PartialEq, Eq, Error)]
 pub enum DeedsError {
     /// So many were done, and of the piece of the last so many octets were taken. What is left is fed by a next deed, at the
-    /// same moment, once the request that waits is answered, parked or given up.
+    /// same moment, once the request that waits, if one does, is answered or parked. Given up, its connection is lost.
     #[error("left")]
     Left { deeds: u64, taken: usize },
     /// So many were done, and the next was not.
@@ -121,6 +121,7 @@ fn do_close<C: Catalogue + Drop>(
     requires idle { waits_in engine.old ≡ None }
     ensures ok { IfOk result (λ written. Becomes C.offers (code.Event (happening.Close connection)) None (noted written ∷ []) engine.old engine.new) }
     ensures err { IfErr result (λ why. IsRefused C.offers engine.new (code.Event (happening.Close connection)) why × Remains C.offers engine.old engine.new) }
+    ensures catalogue { engine.new.catalogue ≡ engine.old.catalogue }
 {
     let mut octets = Vec::new(alloc);
     let Some(note) = closed(engine.close(connection, &mut octets)) else {
@@ -142,6 +143,7 @@ fn do_event<C: Catalogue + Drop>(
     requires idle { waits_in engine.old ≡ None }
     ensures ok { IfOk result (λ done. Becomes C.offers (code.Event event.now) done.1 (noted done.0 ∷ []) engine.old engine.new) }
     ensures err { IfErr result (λ why. IsRefused C.offers engine.new (code.Event event.now) why × Remains C.offers engine.old engine.new) }
+    ensures catalogue { engine.new.catalogue ≡ engine.old.catalogue }
 {
     let mut octets = Vec::new(alloc);
     let (connection, note, left) = match event {
@@ -173,6 +175,7 @@ fn do_answer<C: Catalogue + Drop>(
 ) -> Result<Written, DeedError>
     ensures ok { IfOk result (λ written. Becomes C.offers (code.Answer outcome.now) None (noted written ∷ []) engine.old engine.new) }
     ensures err { IfErr result (λ why. IsRefused C.offers engine.new (code.Answer outcome.now) why × Remains C.offers engine.old engine.new) }
+    ensures catalogue { engine.new.catalogue ≡ engine.old.catalogue }
 {
     let Some(asked) = engine.asked() else {
         return Err(DeedError::NothingAsked);
@@ -198,6 +201,7 @@ fn do_answer<C: Catalogue + Drop>(
 fn do_park<C: Catalogue + Drop>(engine: &mut Engine<C>) -> Result<(), DeedError>
     ensures ok { OnOk result (Becomes C.offers code.Park None [] engine.old engine.new) }
     ensures err { IfErr result (λ why. IsRefused C.offers engine.new code.Park why × Remains C.offers engine.old engine.new) }
+    ensures catalogue { engine.new.catalogue ≡ engine.old.catalogue }
 {
     let Some(asked) = engine.asked() else {
         return Err(DeedError::NothingAsked);
@@ -216,6 +220,7 @@ fn do_give_up<C: Catalogue + Drop>(
 ) -> Result<Written, DeedError>
     ensures ok { IfOk result (λ written. Becomes C.offers code.GiveUp None (noted written ∷ []) engine.old engine.new) }
     ensures err { IfErr result (λ why. IsRefused C.offers engine.new code.GiveUp why × Remains C.offers engine.old engine.new) }
+    ensures catalogue { engine.new.catalogue ≡ engine.old.catalogue }
 {
     let Some(asked) = engine.asked() else {
         return Err(DeedError::NothingAsked);
@@ -254,8 +259,11 @@ fn tell_all<C: Catalogue + Drop>(
     requires idle { waits_in engine.old ≡ None }
     requires room { length out.old.items + left_in engine.old number ≤ vec_capacity out.old }
     ensures asks { asks_in engine.new ≡ asks_in engine.old }
+    ensures done { IsSome (told_in engine.old number) → parked_in engine.new number ≡ None }
+    ensures others { (q : ℕ) → (q == number) ≡ false → (parked_in engine.new q ≡ parked_in engine.old q) × (told_in engine.new q ≡ told_in engine.old q) }
     ensures told { (s : Settings) (g : Ledger) (outcome : Performed) → Stays C.offers s g.held g.calls engine.old g.past g.waiting → told_in engine.old number ≡ Some outcome
         → IsTold C.offers s g number outcome engine.new out.old.items out.new.items }
+    ensures catalogue { engine.new.catalogue ≡ engine.old.catalogue }
 {
     while let Some(connection) = engine.due(number) {
         let mut octets = Vec::new(alloc);
@@ -281,6 +289,7 @@ fn do_settle<C: Catalogue + Drop>(
     ensures ok { OnOk result ((s : Settings) (g : Ledger) → Holds C.offers s g engine.old → (written : List Written) × (out.new.items ≡ out.old.items ++ written)
         × IsDone C.offers s g (code.Settle number outcome.now) None (map noted written) engine.new) }
     ensures err { IfErr result (λ why. (out.new.items ≡ out.old.items) × IsRefused C.offers engine.new (code.Settle number outcome.now) why × Remains C.offers engine.old engine.new) }
+    ensures catalogue { engine.new.catalogue ≡ engine.old.catalogue }
 {
     if !engine.can_settle(number, outcome) {
         return Err(DeedError::NotParked);
@@ -306,6 +315,7 @@ fn do_deed<C: Catalogue + Drop>(
     ensures ok { IfOk result (λ left. (s : Settings) (g : Ledger) → Holds C.offers s g engine.old → (written : List Written) × (out.new.items ≡ out.old.items ++ written)
         × IsDone C.offers s g deed.now left (map noted written) engine.new) }
     ensures err { IfErr result (λ why. (out.new.items ≡ out.old.items) × IsRefused C.offers engine.new deed.now why × Remains C.offers engine.old engine.new) }
+    ensures catalogue { engine.new.catalogue ≡ engine.old.catalogue }
 {
     if out.reserve(1).is_err() {
         return Err(DeedError::Memory);
@@ -350,16 +360,20 @@ pub fn play_deeds<C: Catalogue + Drop>(
         × AreOf (take (deeds_done (length deeds.now) result) deeds.now) ds
         × Runs s g ds
         × (flat_map notes_of ds ≡ map noted written)
-        × (filter_map left_of ds ≡ option_to_list (left_at result))
+        × LeaveAtLast ds (left_at result)
         × Holds C.offers s (after_deeds s g ds) engine.new }
     // from a new engine on: each distinct admissible request is a call once, and who waits for one is told once
     ensures new { (s : Settings) (held : ℕ → Holding) → Holds C.offers s (opening held) engine.old → (ds : List History) × (written : List Written)
         × (out.new.items ≡ out.old.items ++ written)
         × AreOf (take (deeds_done (length deeds.now) result) deeds.now) ds
+        × Runs s (opening held) ds
         × (flat_map notes_of ds ≡ map noted written)
+        × LeaveAtLast ds (left_at result)
+        × Holds C.offers s (after_deeds s (opening held) ds) engine.new
         × IsAnsweredLate s held ds }
     ensures done { deeds_done (length deeds.now) result ≤ length deeds.now }
     ensures refused { IsRefusedIn C.offers engine.new deeds.now result }
+    ensures catalogue { engine.new.catalogue ≡ engine.old.catalogue }
 {
     giop_link::laws::streams_are_heard::<giop_link::Server>();
     for (i, deed) in deeds.iter().enumerate() {

@@ -12,6 +12,8 @@ ghost use Rattle.ft_orb.specs.Owners.{Owner};
 ghost use Rattle.ft_orb.specs.Requests.{Call};
 
 use crate::asked::{Asked, lent};
+use crate::counts::Counts;
+use crate::ending::{Ended, Ending};
 use crate::engine::Engine;
 use crate::outcomes::{is_outcome_of, is_renderable};
 use ft_log::Outcome;
@@ -19,7 +21,7 @@ use ft_objects::Catalogue;
 use giop_link::Inbound;
 
 impl<C: Catalogue + Drop> Engine<C> {
-    ghost use Rattle.ft_orb.specs.Engines.{Asks, Awaited, CanAnswer, IsOpen, Rests, awaited_lent, waits_in};
+    ghost use Rattle.ft_orb.specs.Engines.{Asks, Awaited, CanAnswer, IsOpen, Rests, awaited_lent, counts_in, ending_in, waits_in};
     ghost use Rattle.ft_orb.specs.Parking.{AsksLate, Settings, Stays};
     ghost use Rattle.ft_orb.specs.declared.parked.Waiter.{Waiter};
     ghost use Rattle.ft_log.specs.Holding.{Holding};
@@ -28,14 +30,16 @@ impl<C: Catalogue + Drop> Engine<C> {
     pub fn asked(&self) -> Option<Asked<'_>>
         ensures { option_map awaited_lent result ≡ waits_in self.now }
     {
-        let pending = self.pending.as_ref()?;
+        let ask = self.asking?;
+        let keeper = &self.keeper;
+        let waiting = &keeper.slot;
         Some(Asked {
-            number: pending.number,
-            connection: pending.connection,
-            ft_request: lent(&pending.waiting.retained),
-            object_key: &pending.waiting.object_key,
-            operation: &pending.waiting.operation,
-            arguments: &pending.waiting.arguments,
+            number: ask.number,
+            connection: ask.connection,
+            ft_request: lent(&waiting.retained),
+            object_key: &waiting.object_key,
+            operation: &waiting.operation,
+            arguments: &waiting.arguments,
         })
     }
 
@@ -47,8 +51,8 @@ impl<C: Catalogue + Drop> Engine<C> {
             → option_map meaning_at result ≡ Some (says (asks a.asks.question)) }
         ensures none { waits_in self.now ≡ None → result ≡ None }
     {
-        let pending = self.pending.as_ref()?;
-        self.links.get(&pending.connection)?.inbound()
+        let ask = self.asking?;
+        self.links.get(&ask.connection)?.inbound()
     }
 
     /// The catalogue, as for an answer to `_is_a` (`Interfaces::is_a`).
@@ -58,19 +62,34 @@ impl<C: Catalogue + Drop> Engine<C> {
         &self.catalogue
     }
 
+    /// What became of the requests and locates so far, counted.
+    pub fn counts(&self) -> Counts
+        ensures { result ≡ counts_in self.now }
+    {
+        self.keeper.counts
+    }
+
+    /// Why nothing more is heard of a connection, if it is the one that ended last: who asks after each call of the engine's own
+    /// hears of each.
+    pub fn ending(&self, connection: u64) -> Option<Ending>
+        ensures { result ≡ ending_in self.now connection }
+    {
+        Ended::of(self.keeper.ended, connection)
+    }
+
     /// Whether a request waits for its outcome.
     pub fn is_asking(&self) -> bool
         ensures { IsTrue result ↔ IsSome (waits_in self.now) }
     {
-        self.pending.is_some()
+        self.asking.is_some()
     }
 
     /// Whether the request of this number waits.
     pub fn is_open(&self, number: u64) -> bool
         ensures { IsTrue result ↔ IsOpen number (waits_in self.now) }
     {
-        match &self.pending {
-            Some(pending) => pending.number == number,
+        match self.asking {
+            Some(ask) => ask.number == number,
             None => false,
         }
     }
@@ -79,13 +98,14 @@ impl<C: Catalogue + Drop> Engine<C> {
     pub fn can_answer(&self, number: u64, outcome: &Outcome) -> bool
         ensures { IsTrue result ↔ CanAnswer (C.offers self.now.catalogue) (waits_in self.now) number (performed_in outcome.now) }
     {
-        let Some(pending) = &self.pending else {
+        let Some(ask) = self.asking else {
             return false;
         };
-        if pending.number != number {
+        if ask.number != number {
             return false;
         }
-        let waiting = &pending.waiting;
+        let keeper = &self.keeper;
+        let waiting = &keeper.slot;
         let lookup = self
             .catalogue
             .interface(&waiting.object_key, &waiting.operation);

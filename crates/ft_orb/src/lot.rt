@@ -35,8 +35,11 @@ fn count_up(counts: &mut BTreeMap<u64, u32>, connection: u64) -> Result<(), Allo
     ensures more { OnOk result ((c : ℕ) → count_at (get nat_cmp counts.new) c ≡ count_at (get nat_cmp counts.old) c + (if connection == c then 1 else 0)) }
     ensures err { OnErr result ((c : ℕ) → count_at (get nat_cmp counts.new) c ≡ count_at (get nat_cmp counts.old) c) }
 {
-    let count = count_in(counts, connection);
-    match counts.insert(connection, count + 1) {
+    if let Some(count) = counts.get_mut(&connection) {
+        *count += 1;
+        return Ok(());
+    }
+    match counts.insert(connection, 1) {
         Ok(_) => Ok(()),
         Err(_) => Err(AllocError),
     }
@@ -46,14 +49,13 @@ fn count_up(counts: &mut BTreeMap<u64, u32>, connection: u64) -> Result<(), Allo
 fn count_down(counts: &mut BTreeMap<u64, u32>, connection: u64)
     ensures { (c : ℕ) → count_at (get nat_cmp counts.new) c ≡ count_at (get nat_cmp counts.old) c - (if connection == c then 1 else 0) }
 {
-    let left = count_in(counts, connection).saturating_sub(1);
-    if left == 0 {
-        counts.remove(&connection);
-        return;
-    }
     if let Some(count) = counts.get_mut(&connection) {
-        *count = left;
+        if *count > 1 {
+            *count -= 1;
+            return;
+        }
     }
+    counts.remove(&connection);
 }
 
 impl Lot {

@@ -10,8 +10,8 @@ use crate::pausing::Pending;
 use ft_log::Outcome;
 use std::collections::VecDeque;
 
-/// How many requests may be parked at a time, in all and of those that came on one connection, and how many repeats may wait for
-/// the outcome of one.
+/// How many requests may be parked at a time, in all and of those that came on one connection, and how many may wait for the outcome
+/// of one beside the last who came: one more than that in all, with who asked first.
 #[derive(Clone, Copy, Debug, PartialEq, Eq)]
 pub struct Places {
     pub parked: u32,

@@ -1,6 +1,6 @@
 //! Requests whose outcomes come later: the engine goes on while they are parked.
 
-ghost use Rattle.std.specs.Prelude.{◌≡◌, ◌==◌, ◌↔◌, ◌⊎◌, ◌+◌, ◌<◌, ◌≤◌, ◌++◌, ◌∷◌, [], ℕ, Bool, List, IsTrue, IsSome, IfSome, false, IsOk, OnOk, OnErr, None, Some, Err, Option, length};
+ghost use Rattle.std.specs.Prelude.{◌≡◌, ◌==◌, ◌↔◌, ◌⊎◌, ◌+◌, ◌<◌, ◌≤◌, ◌++◌, ◌∷◌, [], ℕ, Bool, List, IsTrue, IsSome, IfErr, IfSome, false, IsOk, OnOk, OnErr, None, Some, Err, Option, length};
 ghost use Rattle.std.specs.Option.{option_map};
 ghost use Rattle.ft_log.specs.Holding.{Holding, known, parked};
 ghost use Rattle.ft_log.specs.Performed.{Performed};
@@ -17,17 +17,23 @@ ghost use Rattle.ft_orb.specs.declared.error.ParkError.TheVariants.{Full, Share}
 ghost use Rattle.ft_orb.specs.declared.events.Note.TheVariants.{Done};
 
 use crate::asked::{Asked, lent};
+use crate::counts::count;
 use crate::desk::Step;
+use crate::ending::{Ended, Ending};
 use crate::engine::Engine;
 use crate::error::{ParkError, ServeError};
+use crate::keeper;
 use crate::outcomes::{is_outcome_of, is_renderable};
 use crate::parked::Parked;
+use crate::pausing::Pending;
 use crate::waiters::{copy_of, count_all, is_going, own_waiter};
 use ft_log::Outcome;
 use ft_objects::Catalogue;
+use std::mem;
 
 impl<C: Catalogue + Drop> Engine<C> {
-    ghost use Rattle.ft_orb.specs.Engines.{Awaited, IsOpen, asks_in, awaited_lent, waits_in};
+    ghost use Rattle.ft_orb.specs.Engines.{AreEndings, Awaited, EndsShort, IsOpen, asks_in, awaited_lent, counts_in, handled_in, waits_in};
+    ghost use Rattle.ft_orb.specs.Decisions.{one_more};
     ghost use Rattle.ft_orb.specs.Parked.{own_waiters};
     ghost use Rattle.ft_orb.specs.Parking.{AreParked, AsksLate, CanSettle, IsDueLate, RepliesLate, ResumesLate, Settings, Stays, by_number, own_of, parked_at, parked_count, parked_in, parked_of, places_of, places_of_one, put_at, left_in, told_in, waits_on};
 
@@ -105,26 +111,34 @@ impl<C: Catalogue + Drop> Engine<C> {
         ensures err { OnErr result ((waits_in self.new ≡ waits_in self.old) × AreParked self.old self.new) }
         ensures asks { asks_in self.new ≡ asks_in self.old }
         ensures catalogue { self.new.catalogue ≡ self.old.catalogue }
+        ensures counted { OnOk result (counts_in self.new ≡ record (counts_in self.old) { parked = one_more (counts_in self.old).parked }) }
+        ensures uncounted { OnErr result (counts_in self.new ≡ counts_in self.old) }
+        ensures handled { OnErr result (handled_in self.new ≡ handled_in self.old) }
+        ensures ended { AreEndings self.old self.new }
     {
         giop_link::laws::streams_are_heard::<giop_link::Server>();
         if self.parked.requests.len() >= self.places.parked as usize {
             return Err(ParkError::Full);
         }
-        let Some(pending) = &self.pending else {
+        let Some(ask) = self.asking else {
             return Ok(());
         };
-        if self.parked.count_of(pending.connection) >= self.places.of_one {
+        if self.parked.count_of(ask.connection) >= self.places.of_one {
             return Err(ParkError::Share);
         }
         let alloc = self.keeper.alloc;
-        let Ok(own) = copy_of(alloc, &pending.waiting.retained) else {
+        let Ok(own) = copy_of(alloc, &self.keeper.slot.retained) else {
             return Err(ParkError::Memory);
         };
-        let Ok(waiters) = own_waiter(alloc, pending) else {
+        let Ok(waiters) = own_waiter(alloc, ask.connection, self.keeper.slot.asker) else {
             return Err(ParkError::Memory);
         };
-        let Some(pending) = self.pending.take() else {
-            return Ok(());
+        self.asking = None;
+        let pending = Pending {
+            number: ask.number,
+            connection: ask.connection,
+            waiting: mem::replace(&mut self.keeper.slot, keeper::Waiting::none(alloc)),
+            place: ask.place,
         };
         let parked = Parked {
             pending,
@@ -132,10 +146,12 @@ impl<C: Catalogue + Drop> Engine<C> {
             outcome: None,
         };
         if let Err(parked) = self.parked.put(number, parked) {
-            self.pending = Some(parked.pending);
+            self.keeper.slot = parked.pending.waiting;
+            self.asking = Some(ask);
             return Err(ParkError::Memory);
         }
         self.keeper.keep_parked(own, number);
+        count(&mut self.keeper.counts.parked);
         Ok(())
     }
 
@@ -152,9 +168,12 @@ impl<C: Catalogue + Drop> Engine<C> {
         ensures waits { waits_in self.new ≡ waits_in self.old }
         ensures asks { asks_in self.new ≡ asks_in self.old }
         ensures catalogue { self.new.catalogue ≡ self.old.catalogue }
+        ensures counted { counts_in self.new ≡ record (counts_in self.old) { settled = one_more (counts_in self.old).settled } }
+        ensures ended { AreEndings self.old self.new }
     {
         if let Some(parked) = self.parked.requests.get_mut(&number) {
             parked.outcome = Some(outcome);
+            count(&mut self.keeper.counts.settled);
         }
     }
 
@@ -172,6 +191,8 @@ impl<C: Catalogue + Drop> Engine<C> {
         ensures waits { waits_in self.new ≡ waits_in self.old }
         ensures asks { asks_in self.new ≡ asks_in self.old }
         ensures catalogue { self.new.catalogue ≡ self.old.catalogue }
+        ensures counts { counts_in self.new ≡ counts_in self.old }
+        ensures ended { AreEndings self.old self.new }
     {
         let parked = self.parked.requests.get_mut(&number)?;
         if parked.outcome.is_none() {
@@ -182,12 +203,16 @@ impl<C: Catalogue + Drop> Engine<C> {
             return Some(first.connection);
         }
         let parked = self.parked.take(number)?;
-        let pending = parked.pending;
-        let waiting = pending.waiting;
         let told = parked.outcome;
-        if let Some(outcome) = told {
-            self.keeper.fill(waiting.retained, number, outcome);
-        }
+        let Some(outcome) = told else {
+            return None;
+        };
+        let pending = parked.pending;
+        let mut waiting = pending.waiting;
+        let retained = waiting.retained.take();
+        self.keeper.fill(retained, number, outcome);
+        waiting.arguments.clear();
+        self.keeper.slot = waiting; // the next request is put into its vectors
         None
     }
 
@@ -205,6 +230,10 @@ impl<C: Catalogue + Drop> Engine<C> {
         ensures waits { waits_in self.new ≡ waits_in self.old }
         ensures asks { asks_in self.new ≡ asks_in self.old }
         ensures catalogue { self.new.catalogue ≡ self.old.catalogue }
+        ensures counts { counts_in self.new ≡ counts_in self.old }
+        ensures ended { OnOk result (AreEndings self.old self.new) }
+        ensures short { (s : Settings) (held : ℕ → Holding) (calls : List Call) (past : List history.Event) (waiting : ℕ → List Waiting) (w : Waiting) (rest : List Waiting) → Stays C.offers s held calls self.old past waiting
+            → waiting number ≡ w ∷ rest → IfErr result (λ e. EndsShort self.old self.new w.connection e) }
     {
         giop_link::laws::streams_are_heard::<giop_link::Server>();
         let Some(parked) = self.parked.requests.get_mut(&number) else {
@@ -221,6 +250,8 @@ impl<C: Catalogue + Drop> Engine<C> {
             return Ok(());
         }
         self.links.remove(&first.connection);
+        let (connection, why) = (first.connection, Ending::Memory);
+        self.keeper.ended = Some(Ended { connection, why });
         Err(ServeError::Memory {
             handled: 0,
             answered: 0,

@@ -1,16 +1,16 @@
 //! Who waits for the outcome of a request that is parked.
 
-ghost use Rattle.std.specs.Prelude.{◌≡◌, ◌==◌, ℕ, false, ◌<◌, IfOk};
+ghost use Rattle.std.specs.Prelude.{◌≡◌, ◌==◌, ◌+◌, ℕ, false, ◌<◌, ◌≤◌, IfOk, length};
 ghost use Rattle.std.specs.BTreeMap.{btree_map_len, get};
 ghost use Rattle.std.specs.Ordering.{nat_cmp};
 ghost use Rattle.ft_orb.specs.Counts.{on_connection, waiters_on};
 ghost use Rattle.ft_orb.specs.Parked.{IsCleared, IsCopy, JoinsAs, JoinsBy, going_in, own_waiters};
 
+use crate::answering::Asker;
 use crate::desk::Step;
 use crate::keeper::{Repeat, Retained};
 use crate::lot::Lot;
 use crate::parked::{Parked, Waiter};
-use crate::pausing::Pending;
 use ft_log::{Completion, Outcome, SystemName};
 use giop_core::ReplyWish;
 use giop_link::ServerLink;
@@ -59,18 +59,18 @@ pub(crate) fn copy_of(
 }
 
 /// The list of the one who waits for the outcome of a request that is parked now: itself, where an answer is wished for.
-pub(crate) fn own_waiter(alloc: Global, pending: &Pending) -> Result<VecDeque<Waiter>, AllocError>
-    ensures { IfOk result (λ list. list.items ≡ own_waiters pending.now) }
+pub(crate) fn own_waiter(
+    alloc: Global,
+    connection: u64,
+    asker: Asker,
+) -> Result<VecDeque<Waiter>, AllocError>
+    ensures { IfOk result (λ list. list.items ≡ own_waiters connection asker) }
 {
     let mut waiters = VecDeque::new(alloc);
-    let asker = pending.waiting.asker;
     match asker.wish {
         ReplyWish::None => {}
         ReplyWish::Empty | ReplyWish::Full => {
-            let waiter = Waiter {
-                connection: pending.connection,
-                asker,
-            };
+            let waiter = Waiter { connection, asker };
             if waiters.push_back(waiter).is_err() {
                 return Err(AllocError);
             }
@@ -141,7 +141,8 @@ impl Parked {
         most: u32,
         waiter: Waiter,
     ) -> Join
-        ensures { JoinsBy (going_in links.now) most waiter self.old result self.new }
+        ensures joins { JoinsBy (going_in links.now) most waiter self.old result self.new }
+        ensures few { length self.old.waiters.items ≤ most + 1 → length self.new.waiters.items ≤ most + 1 }
     {
         if let ReplyWish::None = waiter.asker.wish {
             return Join::Silent;

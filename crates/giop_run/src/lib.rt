@@ -9,6 +9,7 @@ mod hint;
 mod host;
 mod input;
 mod journal;
+mod logging;
 mod owner;
 mod play;
 mod program;
@@ -20,7 +21,6 @@ mod stepping;
 mod steps;
 mod stop;
 mod stream;
-mod watching;
 
 // what the program is asked for, and all of it over a reader and writers
 pub use hint::Hint;

@@ -2,22 +2,20 @@
 
 ghost use Rattle.std.specs.Prelude.{◌≤◌};
 ghost use Rattle.ft_orb.specs.Standing.{IsNew};
-ghost use Rattle.giop_run.specs.Services.{AreLimitsOf, IsOffered};
+ghost use Rattle.giop_run.specs.Services.{IsOffered};
 ghost use Rattle.giop_run.specs.Settings.{IsServable};
 
+use crate::logging::LoggedCounter;
 use crate::play::Terms;
 use crate::program::terms_of;
 use crate::setting::{DONE, FAILED, Service};
 use crate::stop::Stop;
-use crate::watching::{Watch, Watched};
 use counter::{Counter, reference_text};
 use ft_log::Retention;
 use ft_objects::Servant;
 use ft_orb::{Clock, Server};
-use ft_tcp::{Socket, SystemClock, serve_connection, serve_on};
-use giop_frames::Limits;
+use ft_tcp::{SystemClock, serve_on};
 use std::alloc::Global;
-use std::cell::Cell;
 use std::hash::RandomState;
 use std::io::Write;
 use std::net::{Ipv4Addr, Net, TcpListener, TcpStream};
@@ -59,31 +57,31 @@ fn timeout_of(service: &Service) -> Option<Duration> {
         .map(|seconds| Duration::from_secs(u64::from(seconds)))
 }
 
-/// Serves the connections of a listener by a new server with these limits, and prints a line for each request.
-fn serve_watched<C: Clock, E: Write>(
+/// Serves the connections of a listener by a server.
+fn serve_by<S: Servant + Drop, C: Clock>(
     alloc: Global,
     listener: &TcpListener,
     service: &Service,
-    limits: Limits,
-    performed: &Cell<u64>,
-    server: &mut Server<Watched<'_>>,
+    server: &mut Server<S>,
     clock: &mut C,
-    err: &mut E,
+) -> Result<(), Stop> {
+    let timeout = timeout_of(service);
+    serve_on(alloc, listener, service.connections, timeout, server, clock).map_err(
+        |_| Stop::CannotAccept,
+    )
+}
+
+/// Serves the connections of a listener by a new server, and prints a line for each request.
+fn serve_logged<C: Clock, L: Write + Drop>(
+    alloc: Global,
+    listener: &TcpListener,
+    service: &Service,
+    server: &mut Server<LoggedCounter<L>>,
+    clock: &mut C,
 ) -> Result<(), Stop>
-    requires offered { IsOffered service.now.numbers server.old }
-    requires limits { AreLimitsOf service.now.numbers limits }
+    requires { IsOffered service.now.numbers server.old }
 {
-    for i in 0..service.connections {
-        let Ok((stream, _)) = listener.accept() else {
-            return Err(Stop::CannotAccept);
-        };
-        let connection = u64::from(i) + 1;
-        let socket = Socket::new(stream, timeout_of(service));
-        let mut wire = Watch::new(alloc, limits, connection, performed, socket, err);
-        serve_connection(alloc, connection, &mut wire, server, clock);
-        let _ = wire.tell();
-    }
-    Ok(())
+    serve_by(alloc, listener, service, server, clock)
 }
 
 /// Serves the connections of a listener by a new server.
@@ -96,20 +94,17 @@ fn serve_plain<C: Clock>(
 ) -> Result<(), Stop>
     requires { IsOffered service.now.numbers server.old }
 {
-    let timeout = timeout_of(service);
-    serve_on(alloc, listener, service.connections, timeout, server, clock).map_err(
-        |_| Stop::CannotAccept,
-    )
+    serve_by(alloc, listener, service, server, clock)
 }
 
 /// Prints the reference, listens, and serves so many connections.
-fn offer<R: Net<Listener = TcpListener, Stream = TcpStream> + rt::Clock, W: Write, E: Write>(
+fn offer<R: Net<Listener = TcpListener, Stream = TcpStream> + rt::Clock, W: Write, L: Write + Drop>(
     alloc: Global,
     rt: &R,
     service: &Service,
     hasher: RandomState,
     out: &mut W,
-    err: &mut E,
+    log: L,
 ) -> Result<(), Stop>
     requires { IsServable service.now }
 {
@@ -121,20 +116,9 @@ fn offer<R: Net<Listener = TcpListener, Stream = TcpStream> + rt::Clock, W: Writ
     };
     let mut clock = SystemClock::new(rt);
     if service.log {
-        let performed = Cell::new(0);
-        let watched = Watched::new(counter, &performed);
-        let mut server = new_server(alloc, watched, terms, hasher);
-        let limits = terms.limits;
-        return serve_watched(
-            alloc,
-            &listener,
-            service,
-            limits,
-            &performed,
-            &mut server,
-            &mut clock,
-            err,
-        );
+        let logged = LoggedCounter::new(alloc, counter, log);
+        let mut server = new_server(alloc, logged, terms, hasher);
+        return serve_logged(alloc, &listener, service, &mut server, &mut clock);
     }
     let mut server = new_server(alloc, counter, terms, hasher);
     serve_plain(alloc, &listener, service, &mut server, &mut clock)
@@ -142,20 +126,26 @@ fn offer<R: Net<Listener = TcpListener, Stream = TcpStream> + rt::Clock, W: Writ
 
 /// Serves a counter on 127.0.0.1: prints its reference, listens on the port, serves its connections one after another
 /// as a play serves them, and returns the exit status: 0, or 1 where the share is bad, the port can't be listened on, a
-/// connection can't be accepted, the reference can't be printed or an allocation fails. Why is printed to `err`. The
-/// hasher is that of the server's log.
-pub fn serve<R: Net<Listener = TcpListener, Stream = TcpStream> + rt::Clock, W: Write, E: Write>(
+/// connection can't be accepted, the reference can't be printed or an allocation fails. Why is printed to `err`, and the
+/// lines of requests, where they are wished for, to `log`. The hasher is that of the server's log.
+pub fn serve<
+    R: Net<Listener = TcpListener, Stream = TcpStream> + rt::Clock,
+    W: Write,
+    E: Write,
+    L: Write + Drop,
+>(
     alloc: Global,
     rt: &R,
     service: &Service,
     hasher: RandomState,
     out: &mut W,
     err: &mut E,
+    log: L,
 ) -> u8
     requires { IsServable service.now }
     ensures { result ≤ FAILED }
 {
-    match offer(alloc, rt, service, hasher, out, err) {
+    match offer(alloc, rt, service, hasher, out, log) {
         Ok(()) => DONE,
         Err(stop) => {
             let _ = writeln!(err, "{stop}");

@@ -170,11 +170,11 @@ pub(crate) const SERVE: &str =
     "It listens on 127.0.0.1 once the reference is printed, serves each connection to its end, however that
 comes, and stops after the last one. The object is the counter of `giop play`.
 
-Lines: the object reference. With --log on standard error, for each request as it is answered,
+Lines: the object reference. With --log on standard error, for each request as it is decided,
   C Request id N TARGET operation TEXT[ ft client TEXT retention N expiration N] RESULT
 where C is the connection, ft what an FT_REQUEST context says (`ft bad` where it is not valid), and RESULT
-`performed`, `repeat`, `refused ID` with the repository id of the system exception, or `not performed` where no reply
-says why.
+`performed`, `repeat`, `refused ID` with the repository id of the system exception, or `not performed` where memory
+ran out.
 
 Example:
   $ giop serve --port 2809 --connections 1

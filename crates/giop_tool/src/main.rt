@@ -23,7 +23,15 @@ fn run_service(rt: &HostRuntime, service: &Service, hasher: RandomState) -> u8
     requires { IsServable service.now }
 {
     let (mut out, mut err) = (rt.stdout(), rt.stderr());
-    serve(rt.alloc(), rt, service, hasher, &mut out, &mut err)
+    serve(
+        rt.alloc(),
+        rt,
+        service,
+        hasher,
+        &mut out,
+        &mut err,
+        rt.stderr(),
+    )
 }
 
 /// Does a task on the standard streams, and returns the exit status.

@@ -146,7 +146,7 @@ pub fn serve_later(
         capacity: 100,
         share: 100,
     };
-    // at most 100 requests are parked, at most 20 of one connection, and at most 10 repeats wait with one
+    // at most 100 requests are parked, at most 20 of one connection, and at most 11 wait for one
     let places = Places {
         parked: 100,
         of_one: 20,

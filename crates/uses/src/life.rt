@@ -1,4 +1,4 @@
-//! A whole life of an engine from a list of deeds: its owner answers at once, parks and settles, in any order.
+//! A life of an engine from a list of deeds: its owner answers at once, parks and settles, in any order.
 
 ghost use Rattle.std.specs.Prelude.{◌≡◌, ◌++◌, ℕ, List, flat_map, length, map, take};
 ghost use Rattle.ft_log.specs.Holding.{Holding};
@@ -27,8 +27,9 @@ pub enum LifeError {
 /// Makes an engine, does deeds on it one after another, and appends what was written in each.
 ///
 /// Whatever they are, and whenever outcomes come: the calls that the owner took are those of the distinct admissible
-/// requests, each once, in the order in which these came; a call has one outcome, for ever, and each who waits for it is
-/// told it once.
+/// requests, each once, in the order in which these came, where requests with one key carry one expiration; a call has one
+/// outcome, for ever, and each who waits for it is told it once, waits on, or its connection has ended. Where octets of a
+/// piece are left the life ends there.
 pub fn live<C: Catalogue + Drop>(
     alloc: Global,
     hasher: RandomState,
@@ -47,7 +48,7 @@ pub fn live<C: Catalogue + Drop>(
         capacity: 100,
         share: 100,
     };
-    // at most 100 requests are parked, at most 20 of one connection, and at most 10 repeats wait with one
+    // at most 100 requests are parked, at most 20 of one connection, and at most 11 wait for one
     let places = Places {
         parked: 100,
         of_one: 20,

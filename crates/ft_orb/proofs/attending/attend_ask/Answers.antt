@@ -3,7 +3,7 @@ use Rattle.ft_log.specs.View.{performed_in}
 use Rattle.ft_orb.specs.declared.events.Note.TheVariants.{Done, Memory}
 use Rattle.ft_orb.specs.Engines.{awaited_lent}
 use Rattle.ft_orb.specs.Standing.{note_of}
-use Rattle.ft_orb.specs.Visits.{calls_with}
+use Rattle.ft_orb.specs.Sessions.{calls_with}
 use Rattle.ft_orb.proofs.Handing.{ask-answered, ask-left, ask-resumes, err-not-done, resumed-memory}
 use Rattle.ft_orb.proofs.attending.attend_ask.Goals as goal
 

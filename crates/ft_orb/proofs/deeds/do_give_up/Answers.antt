@@ -8,5 +8,6 @@ returns-clause-ok g c s h holds =
     let p = awaiting g.C.Catalogue.offers s h c.args.engine.now (awaited_lent c.in-Some.asked) holds (sym c.in-Some.ensures) in
     let x = p.0 in
     let late = c.give_up-handled.ensures.late s h.held h.calls h.past h.waiting x.a.moment x.a.octets x.a.written x.a.request x.asks in
-    let d = gives-up-deed g.C.Catalogue.offers s h c.args.engine.now c.give_up-handled.new.self x c.give_up-handled.result late c.give_up-handled.ensures.asks c.in-Some.asked.connection (ap (λ (v : Awaited). v.connection) (sym p.1)) in
+    let d = gives-up-deed g.C.Catalogue.offers s h c.args.engine.now c.give_up-handled.new.self x c.give_up-handled.result late c.give_up-handled.ensures.parked c.give_up-handled.ensures.asks
+    (c.give_up-handled.ensures.counts s h.held h.calls h.past h.waiting x.a.moment x.a.octets x.a.written x.a.request x.asks) c.in-Some.asked.connection (ap (λ (v : Awaited). v.connection) (sym p.1)) in
     rw c.new.ensures.items d

@@ -1,4 +1,5 @@
-use Rattle.std.proofs.Common.{◌≡◌, ◌≤◌, ◌<◌, ◌↔◌, ◌⊎◌, inl, inr, Option, IsSome, IfSome, Result, Err, refl, sym, subst, ◌∙◌}
+use Rattle.std.proofs.Common.{◌≡◌, ℕ, ◌≤◌, ◌<◌, ◌↔◌, ◌⊎◌, inl, inr, Option, IsSome, IfSome, Result, Err, refl, sym, subst, ◌∙◌}
+use Rattle.std.proofs.lemmas.Bool.{cases_lt}
 use Rattle.ft_objects.specs.Catalogues.{Offer}
 use Rattle.ft_orb.specs.declared.deeds.Deed.TheVariants as code
 use Rattle.ft_orb.specs.declared.deeds.DeedError.TheVariants as refused
@@ -11,12 +12,25 @@ use Rattle.ft_orb.specs.Parking.{parked_count, parked_of, places_of, places_of_o
 use Rattle.ft_orb.proofs.Acting.{awaiting, parks-deed, waits-on}
 use Rattle.ft_orb.proofs.deeds.do_park.Goals as goal
 
+less-by : (a b : ℕ) → (b ≤ a → ⊥) → a < b
+less-by a b not = by (cases_lt a b)
+  where
+    by : (a < b) ⊎ (b ≤ a) → a < b
+    by (inl less) = less
+    by (inr most) = absurd (not most)
+
 pub returns-in-Ok-clause-ok : goal.returns-in-Ok-clause-ok
 returns-in-Ok-clause-ok g c s h holds =
     let p = awaiting g.C.Catalogue.offers s h c.args.engine.now (awaited_lent c.in-Some.asked) holds (sym c.in-Some.ensures) in
     let x = p.0 in
+    let few : parked_count c.args.engine.now < places_of c.args.engine.now = less-by _ _ (λ full. let no = sym c.in-Ok.is ∙ c.park.ensures.full.1 full in cc) in
+    let fair : parked_of c.args.engine.now x.a.request.connection < places_of_one c.args.engine.now = less-by _ _ (λ most.
+    let here = subst (λ (o : Option Awaited). IfSome o (λ (w : Awaited). places_of_one c.args.engine.now ≤ parked_of c.args.engine.now w.connection)) (sym x.asks.asks.waits) most in
+    let no = sym c.in-Ok.is ∙ c.park.ensures.share.1 (few, here) in
+    cc) in
     let y = c.in-Ok.ensures.late s h.held h.calls h.past h.waiting x.a.moment x.a.octets x.a.written x.a.request x.asks in
     parks-deed g.C.Catalogue.offers s h c.args.engine.now c.park.new.self x y c.park.ensures.asks
+    (rw p.1 c.in-Ok.ensures.parked) (rw p.1 c.in-Ok.ensures.others) few fair
 
 -- why it was not parked, as the engine is then
 why-unparked : {C : Type 0} (offers : C → Offer) (old new : Engine C) (r : Result (Unit {0}) ParkError) (why : ParkError) → r ≡ Err why → IsSome (waits_in new)
@@ -36,5 +50,5 @@ returns-in-Err-clause-err g c = (
   λ s h holds.
       let p = awaiting g.C.Catalogue.offers s h c.args.engine.now (awaited_lent c.in-Some.asked) holds (sym c.in-Some.ensures) in
       let x = p.0 in
-      waits-on g.C.Catalogue.offers s h c.args.engine.now c.park.new.self x (c.in-Err.ensures.kept s h.held h.calls h.past h.waiting x.a.moment x.a.octets x.a.written x.a.request x.asks),
+      waits-on g.C.Catalogue.offers s h c.args.engine.now c.park.new.self x (c.in-Err.ensures.kept s h.held h.calls h.past h.waiting x.a.moment x.a.octets x.a.written x.a.request x.asks) c.in-Err.ensures.err.1 c.park.ensures.asks,
 )

@@ -1,4 +1,5 @@
-use Rattle.std.proofs.Common.{◌≡◌, ℕ, ◌<◌, ◌≤◌, List, [], ◌∷◌, ◌++◌, refl, ap, ◌∙◌, arith}
+use Rattle.std.proofs.Common.{◌≡◌, ℕ, ◌<◌, ◌≤◌, List, [], ◌∷◌, ◌++◌, Option, IsSome, refl, sym, ap, subst, ◌∙◌, arith}
+use Rattle.ft_log.specs.Performed.{Performed}
 use Rattle.std.proofs.lemmas.Grind.{common_steps}
 use Rattle.ft_orb.specs.declared.events.Note.{Note}
 use Rattle.ft_orb.specs.declared.events.Written.{Written}
@@ -13,6 +14,9 @@ loop-connection-init g c = record {
   idle = c.requires.idle;
   room = c.requires.room;
   asks = refl;
+  catalogue = refl;
+  telling = refl;
+  others = λ q apart. (refl, refl);
   told = λ s h outcome st told. tells-none g.C.Catalogue.offers s h c.args.number outcome c.args.engine.now c.args.out.now.items st told;
 }
 
@@ -39,6 +43,13 @@ loop-connection-preserved g c =
       idle = c.reply.ensures.waits ∙ c.due.ensures.waits ∙ c.loop-connection.invariant.idle;
       room = grind (arith, common_steps);
       asks = c.reply.ensures.asks ∙ c.due.ensures.asks ∙ c.loop-connection.invariant.asks;
+      catalogue = c.reply.ensures.catalogue ∙ c.due.ensures.catalogue ∙ c.loop-connection.invariant.catalogue;
+      telling = (c.reply.ensures.parked c.args.number).1 ∙ (c.in-Some.ensures.parked c.args.number).1 ∙ c.loop-connection.invariant.telling;
+      others = λ q apart.
+          let a = c.reply.ensures.parked q in
+          let b = c.in-Some.ensures.parked q in
+          let x = c.loop-connection.invariant.others q apart in
+          (a.0 ∙ b.0 ∙ x.0, a.1 ∙ b.1 ∙ x.1);
       told = λ s h outcome st told.
           let x = c.loop-connection.invariant.told s h outcome st told in
           let entry : Written = record { connection = c.in-Some.connection; octets = c.reply.new.out; note = c.served-note.result } in
@@ -51,3 +62,12 @@ loop-connection-preserved g c =
 pub returns-clause-told : goal.returns-clause-told
 returns-clause-told g c s h outcome st told =
     tells-all g.C.Catalogue.offers s h c.args.number outcome c.loop-connection.engine c.due.new.self c.args.out.now.items c.loop-connection.out.items (c.loop-connection.invariant.told s h outcome st told) (c.in_default.ensures.late s)
+
+pub returns-clause-done : goal.returns-clause-done
+returns-clause-done g c some = c.in_default.ensures.done (subst (λ (o : Option Performed). IsSome o) (sym c.loop-connection.invariant.telling) some) refl
+
+pub returns-clause-others : goal.returns-clause-others
+returns-clause-others g c q apart =
+    let a = c.due.ensures.others q apart in
+    let x = c.loop-connection.invariant.others q apart in
+    (a.0 ∙ x.0, a.1 ∙ x.1)

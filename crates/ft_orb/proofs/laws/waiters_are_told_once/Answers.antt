@@ -1,11 +1,8 @@
-use Rattle.ft_orb.proofs.Ledgers.{settled-are-theirs, settled-are-told, told-once}
+use Rattle.ft_orb.proofs.Ledgers.{settled-are-theirs, told-once}
 use Rattle.ft_orb.proofs.laws.waiters_are_told_once.Goals as goal
 
 pub returns-clause-once : goal.returns-clause-once
 returns-clause-once c s = told-once s c.streams_are_heard.ensures.stays
-
-pub returns-clause-settled : goal.returns-clause-settled
-returns-clause-settled c = settled-are-told
 
 pub returns-clause-theirs : goal.returns-clause-theirs
 returns-clause-theirs c = settled-are-theirs

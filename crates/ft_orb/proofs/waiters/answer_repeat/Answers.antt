@@ -9,7 +9,7 @@ pub invariant_of-parked-2 : goal.invariant_of-parked-2
 invariant_of-parked-2 c =
     let lot = c.args.parked.now in
     let was : get nat_cmp lot.requests c.args.repeat.number ≡ Some c.in-Some.first.now = grind (arith, common_steps) in
-    let same = joins-same _ c.args.most _ c.in-Some.first.now c.join.new.self c.join.result c.join.ensures in
+    let same = joins-same _ c.args.most _ c.in-Some.first.now c.join.new.self c.join.result c.join.ensures.joins in
     record {
       few = few-written lot.requests (c.get_mut.follows.lender c.join.new.self) c.args.repeat.number c.join.new.self (c.get_mut.follows.holds _) lot.few;
       counted = counted-written lot.requests (c.get_mut.follows.lender c.join.new.self) lot.counts c.args.repeat.number c.in-Some.first.now c.join.new.self (c.get_mut.follows.holds _) was same lot.counted;

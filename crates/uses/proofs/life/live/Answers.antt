@@ -5,7 +5,5 @@ use Rattle.uses.proofs.life.live.Goals as goal
 pub returns : goal.returns
 returns g c held =
     let s : Settings = record { offer = g.C.Catalogue.offers c.args.catalogue; limits = c.args.limits; capacity = 100; share = 100; places = record { parked = 100; of_one = 20; joined = 10 } } in
-    c.play_deeds.ensures.new s held (record { stands = c.new-engine.ensures.late held; fresh = λ n less. refl })
-
-pub invariant_of-engine-2 : goal.invariant_of-engine-2
-invariant_of-engine-2 g c = record { ready = c.play_deeds.new.engine.ready }
+    let x = c.play_deeds.ensures.new s held (record { stands = c.new-engine.ensures.late held; nobody = λ n none. refl; shows = record { asked = c.new-engine.ensures.asks; there = c.new-engine.ensures.parked; told = c.new-engine.ensures.told } }) in
+    (x.0, x.1, x.2, x.3, x.5, x.8)

@@ -6,19 +6,18 @@ use Rattle.ft_log.specs.View.{performed_in}
 use Rattle.ft_orb.specs.declared.parked.Parked.{Parked}
 use Rattle.ft_log.specs.Logged.{logged}
 use Rattle.ft_orb.specs.declared.pausing.Pending.{Pending}
-use Rattle.ft_log.specs.Keys.{RequestKey}
 use Rattle.ft_log.specs.Performed.{Performed}
-use Rattle.ft_orb.specs.Pauses.{IsReadyFor}
+use Rattle.ft_orb.specs.declared.keeper.Retained.{Retained}
 use Rattle.ft_orb.specs.Engines.{awaited_of}
 use Rattle.ft_orb.specs.Parking.{left_of, parked_at, told_of}
 use Rattle.ft_log.specs.declared.outcome.Outcome.{Outcome}
 use Rattle.std.specs.Option.{option_map}
 use Rattle.ft_orb.specs.Waits.{filled_with}
 use Rattle.ft_orb.proofs.Countings.{counted-written, few-written}
+use Rattle.ft_orb.proofs.Owning.{still-idle}
 use Rattle.ft_orb.proofs.Settling.{due-late, nobody-is, none-left, not-at, settled-due, settled-late, some-of, told-is}
 use Rattle.ft_orb.proofs.Unmoved.{parked-same}
 use Rattle.ft_orb.proofs.engine.Engine.due.Goals as goal
-use Rattle.ft_orb.proofs.engine.Engine.due.Goals.{in-Some-told, in_default-told}
 
 pub returns-in-Some-clause-late : goal.returns-in-Some-clause-late
 returns-in-Some-clause-late g c s held calls past waiting h =
@@ -46,16 +45,14 @@ returns-clause-late g c s held calls past waiting h =
     let same : c.in_ok-parked-2.parked ≡ q = cc in
     let request = ap (λ (x : Parked). x.pending) same ∙ c.clear.ensures.0.0 in
     let nobody = nobody-is g.C.Catalogue.offers s held calls c.args.self.now c.args.self.now past waiting h n p was h.rests refl refl (λ m x. refl) q c.clear.ensures empty in
-    elim c.match-told.branch [
-      | in-Some-told w ↦
-          let outcome : p.outcome ≡ Some w.in-Some-told.outcome = sym c.clear.ensures.0.1 ∙ ap (λ (x : Parked). x.outcome) (sym same) ∙ w.in-Some-told.is in
-          let filled-in = w.fill.ensures.filled ∙ ap (λ (x : Pending). filled_with x.waiting.retained n (performed_in w.in-Some-told.outcome) (logged c.args.self.now.keeper.log).entries) request in
-          rw w.self-is (settled-due g.C.Catalogue.offers s held calls c.args.self.now _ past waiting h n p was (performed_in w.in-Some-told.outcome) (told-is c.args.self.now n p w.in-Some-told.outcome was outcome)
-          (settled-late g.C.Catalogue.offers s held calls c.args.self.now _ past waiting h n p was (performed_in w.in-Some-told.outcome) nobody refl refl refl refl refl w.fill.ensures.clock refl refl w.fill.ensures.capacity w.fill.ensures.share filled-in gone others))
-      | in_default-told w ↦
-          let o = some-of p.outcome (c.is_none.ensures ∙ ap not c.if-is_none.false) in
-          absurd (w.in_default-told.not-Some o.0 (ap (λ (x : Parked). x.outcome) same ∙ c.clear.ensures.0.1 ∙ o.1))
-    ]
+    let outcome : p.outcome ≡ Some c.in-Some-told.outcome = sym c.clear.ensures.0.1 ∙ ap (λ (x : Parked). x.outcome) (sym same) ∙ c.in-Some-told.is in
+    let kept : c.take-retained.result ≡ p.pending.waiting.retained = c.take-retained.ensures.value ∙ ap (λ (x : Pending). x.waiting.retained) request in
+    let filled-in = c.fill.ensures.filled ∙ ap (λ (r : Option Retained). filled_with r n (performed_in c.in-Some-told.outcome) (logged c.args.self.now.keeper.log).entries) kept in
+    settled-due g.C.Catalogue.offers s held calls c.args.self.now _ past waiting h n p was (performed_in c.in-Some-told.outcome) (told-is c.args.self.now n p c.in-Some-told.outcome was outcome)
+    (settled-late g.C.Catalogue.offers s held calls c.args.self.now _ past waiting h n p was (performed_in c.in-Some-told.outcome) nobody refl (still-idle c.args.self.now.asking c.args.self.now.keeper.slot _ c.requires.idle ∙ sym c.requires.idle) refl refl refl c.fill.ensures.clock refl refl c.fill.ensures.capacity c.fill.ensures.share filled-in gone others)
+
+pub returns-clause-waits : goal.returns-clause-waits
+returns-clause-waits g c = still-idle c.args.self.now.asking c.args.self.now.keeper.slot _ c.requires.idle ∙ sym c.requires.idle
 
 pub returns-in-Some-clause-left : goal.returns-in-Some-clause-left
 returns-in-Some-clause-left g c =
@@ -72,9 +69,6 @@ returns-in-Some-clause-left g c =
       subst (λ (x : Option Parked). 0 < left_of x) (sym is) some,
       subst (λ (x : Option Parked). left_of x ≤ left_of (parked_at c.args.self.now n)) (sym is) (subst (λ (x : Option Parked). left_of (Some q) ≤ left_of x) (sym was) few),
     )
-
-pub invariant_of-self-in-Some-told : goal.invariant_of-self-in-Some-told
-invariant_of-self-in-Some-told g c = record { ready = subst (λ (room : Option RequestKey). IsReadyFor c.args.self.now.pending room) (sym c.fill.ensures.room) c.args.self.now.ready }
 
 pub invariant_of-self-then-is_none : goal.invariant_of-self-then-is_none
 invariant_of-self-then-is_none g c =
@@ -120,9 +114,4 @@ returns-clause-early g c none =
     absurd (let both = sym (told-is c.args.self.now n p o.0 was o.1) ∙ none in cc)
 
 pub returns-clause-done : goal.returns-clause-done
-returns-clause-done g c told none =
-    let gone : option_map (λ (x : Parked). awaited_of x.pending) (get nat_cmp c.take.new.self.requests c.args.number) ≡ None = ap (λ (o : Option Parked). option_map (λ (x : Parked). awaited_of x.pending) o) c.take.ensures.gone in
-    elim c.match-told.branch [
-      | in-Some-told w ↦ rw w.self-is gone
-      | in_default-told w ↦ rw w.self-is gone
-    ]
+returns-clause-done g c told none = ap (λ (o : Option Parked). option_map (λ (x : Parked). awaited_of x.pending) o) c.take.ensures.gone

@@ -5,9 +5,10 @@ use Rattle.ft_log.specs.View.{performed_in}
 use Rattle.ft_objects.specs.Interfaces.{IsOutcomeOf}
 use Rattle.ft_objects.specs.Replies.{IsRenderable}
 use Rattle.ft_orb.specs.declared.events.Note.TheVariants.{Done, Memory}
-use Rattle.ft_orb.specs.declared.pausing.Pending.{Pending}
+use Rattle.ft_orb.specs.declared.pausing.Ask.{Ask}
 use Rattle.ft_orb.specs.Engines.{CanAnswer, IsFit, awaited_of}
 use Rattle.ft_orb.specs.Owners.{owning}
+use Rattle.ft_orb.specs.Pause.{pending_by, pending_of}
 use Rattle.ft_orb.specs.Runs.{offer_by, owner_by}
 use Rattle.ft_orb.specs.Standing.{note_of}
 use Rattle.ft_orb.proofs.Owning.{given-count}
@@ -18,9 +19,9 @@ use Rattle.ft_orb.proofs.engine.Engine.perform_asked.Goals as goal
 pub answer-requires : goal.answer-requires
 answer-requires g c =
     let ok = rw (c.deref.ensures.value, c.deref-2.ensures.value, c.deref-3.ensures.value) at c.in-Ok.ensures.ok in
-    let fit = subst (λ (o : Option Pending). IsFit (offer_by g.S.Servant.meaning c.args.self.now.catalogue) (option_map awaited_of o)) c.in-Some.is c.requires.fit in
+    let fit = subst (λ (o : Option Ask). IsFit (offer_by g.S.Servant.meaning c.args.self.now.catalogue) (option_map awaited_of (pending_of c.args.self.now.keeper.slot o))) c.in-Some.is c.requires.fit in
     record {
-      can = subst (λ (o : Option Pending). CanAnswer (offer_by g.S.Servant.meaning c.args.self.now.catalogue) (option_map awaited_of o) c.in-Some.pending.number (performed_in c.in-Ok.outcome)) (sym c.in-Some.is) (
+      can = subst (λ (o : Option Ask). CanAnswer (offer_by g.S.Servant.meaning c.args.self.now.catalogue) (option_map awaited_of (pending_of c.args.self.now.keeper.slot o)) c.in-Some.ask.number (performed_in c.in-Ok.outcome)) (sym c.in-Some.is) (
         refl,
         subst IsRenderable (ap (λ x. x.1) ok) (g.S.Servant.promises.renderable c.args.self.now.catalogue _ _ _ c.known.ensures fit),
         subst (IsOutcomeOf _) (ap (λ x. x.1) ok) (g.S.Servant.promises.fits c.args.self.now.catalogue _ _ _ c.known.ensures fit),
@@ -30,9 +31,9 @@ answer-requires g c =
 pub returns-in_ok-answer-in-Ok-clause-table : goal.returns-in_ok-answer-in-Ok-clause-table
 returns-in_ok-answer-in-Ok-clause-table g c made calls past moment octets written w a state =
     let ok = rw (c.deref.ensures.value, c.deref-2.ensures.value, c.deref-3.ensures.value) at c.in-Ok.ensures.ok in
-    let gave = performed-is g.S.Servant.meaning made calls c.args.self.now c.in-Some.pending w c.perform.new.self (performed_in c.in-Ok.outcome) c.in-Some.is a.waits state ok in
+    let gave = performed-is g.S.Servant.meaning made calls c.args.self.now (pending_by c.args.self.now.keeper.slot c.in-Some.ask) w c.perform.new.self (performed_in c.in-Ok.outcome) (ap (pending_of c.args.self.now.keeper.slot) c.in-Some.is) a.waits state ok in
     let x = asked-by g.S.Servant.meaning made calls c.args.self.now _ past moment octets written w refl refl refl refl refl a in (
-      given-count (offer_by g.S.Servant.meaning) (owning (owner_by g.S.Servant.meaning made)) calls c.args.self.now past moment octets written c.in-Some.pending w c.in-Some.is a,
+      given-count (offer_by g.S.Servant.meaning) (owning (owner_by g.S.Servant.meaning made)) calls c.args.self.now past moment octets written (pending_by c.args.self.now.keeper.slot c.in-Some.ask) w (ap (pending_of c.args.self.now.keeper.slot) c.in-Some.is) a,
       resumed-by g.S.Servant.meaning made (calls ++ w.call ∷ []) past w.connection moment octets written Done c.answer.new.self c.args.out.now.items c.answer.new.out.items (c.answer.ensures.catalogue ∙ gave.1)
           (c.in_ok-answer-in-Ok.ensures.table (owner_by g.S.Servant.meaning made) calls past moment octets written w x gave.0),
     )
@@ -41,7 +42,7 @@ pub returns-in_err-answer-in-Ok-clause-table : goal.returns-in_err-answer-in-Ok-
 returns-in_err-answer-in-Ok-clause-table g c made calls past moment octets written w a state =
     let p = err_from_is_err_and c.from_residual.result c.from_residual.ensures.1 in
     let ok = rw (c.deref.ensures.value, c.deref-2.ensures.value, c.deref-3.ensures.value) at c.in-Ok.ensures.ok in
-    let gave = performed-is g.S.Servant.meaning made calls c.args.self.now c.in-Some.pending w c.perform.new.self (performed_in c.in-Ok.outcome) c.in-Some.is a.waits state ok in
+    let gave = performed-is g.S.Servant.meaning made calls c.args.self.now (pending_by c.args.self.now.keeper.slot c.in-Some.ask) w c.perform.new.self (performed_in c.in-Ok.outcome) (ap (pending_of c.args.self.now.keeper.slot) c.in-Some.is) a.waits state ok in
     let x = asked-by g.S.Servant.meaning made calls c.args.self.now _ past moment octets written w refl refl refl refl refl a in
     rw (p.1, p.2) (resumed-by g.S.Servant.meaning made (calls ++ w.call ∷ []) past w.connection moment octets written (note_of {A = ℕ} (Err c.in_err-answer-in-Ok.field-0.0)) c.answer.new.self c.args.out.now.items c.answer.new.out.items (c.answer.ensures.catalogue ∙ gave.1)
     (c.in_err-answer-in-Ok.ensures.table (owner_by g.S.Servant.meaning made) calls past moment octets written w x gave.0))

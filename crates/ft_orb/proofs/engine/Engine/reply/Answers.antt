@@ -1,10 +1,12 @@
-use Rattle.std.proofs.Common.{inl, inr, ◌≡◌, ◌==◌, ℕ, ◌<◌, ◌++◌, [], IsSome, false, None, Some, Option, length, refl, sym, ap, ◌∙◌, arith, subst}
+use Rattle.std.proofs.Common.{cond, inl, inr, ◌≡◌, ◌==◌, ℕ, ◌<◌, ◌++◌, [], IsSome, false, None, Some, Option, length, refl, sym, ap, ◌∙◌, arith, subst}
 use Rattle.std.proofs.lemmas.Grind.{common_steps}
 use Rattle.std.specs.BTreeMap.{get}
 use Rattle.std.specs.Ordering.{nat_cmp}
 use Rattle.ft_log.specs.View.{performed_in}
 use Rattle.ft_log.specs.Performed.{Performed}
+use Rattle.ft_orb.specs.declared.ending.Ending.TheVariants.{Memory as OutOfMemory}
 use Rattle.ft_orb.specs.declared.parked.Parked.{Parked}
+use Rattle.ft_orb.specs.declared.parked.Waiter.{Waiter}
 use Rattle.ft_orb.specs.Parking.{numbering, parked_at}
 use Rattle.ft_orb.specs.Tellings.{nothing_yet, reply_by}
 use Rattle.ft_orb.proofs.Countings.{counted-written, few-written}
@@ -60,6 +62,15 @@ returns g c = record {
         | inl untold ↦ absurd (let both = sym (told-is c.args.self.now n p _ was (sym c.clear.ensures.0.1 ∙ c.in-Some-outcome.is)) ∙ untold in cc)
         | inr nobody ↦ absurd (let both = sym nobody ∙ first-by g.C.Catalogue.offers s held calls c.args.self.now c.args.self.now past waiting h n p was q c.clear.ensures c.in-Some-pop_front.first _ c.in-Some-pop_front.ensures.items in cc)
       ];
+  counts = refl;
+  ended = tt;
+  short = λ s held calls past waiting w rest h waits q.
+      let n = c.args.number in
+      let p = c.in-Some.parked.now in
+      let was : parked_at c.args.self.now n ≡ Some p = grind (arith, common_steps) in
+      let first = first-by g.C.Catalogue.offers s held calls c.args.self.now c.args.self.now past waiting h n p was c.clear.new.self c.clear.ensures c.in-Some-pop_front.first _ c.in-Some-pop_front.ensures.items in
+      let same : c.in-Some-pop_front.first ≡ w = (let both = sym waits ∙ first in cc) in
+      ap (λ (x : Waiter). cond (x.connection == q) (Some OutOfMemory) None) same;
   parked =
       let n = c.args.number in
       let p = c.in-Some.parked.now in

@@ -8,4 +8,4 @@ pub invariant_of-self : goal.invariant_of-self
 invariant_of-self g c =
     let lot = c.args.self.now.parked in
     let was : parked_at c.args.self.now c.args.number ≡ Some c.in-Some.parked.now = grind (arith, common_steps) in
-    ((few-written lot.requests (c.get_mut.follows.lender _) c.args.number _ (c.get_mut.follows.holds _) lot.few, (counted-written lot.requests (c.get_mut.follows.lender _) lot.counts c.args.number c.in-Some.parked.now _ (c.get_mut.follows.holds _) was refl lot.counted, tt)), (c.args.self.now.ready, tt))
+    (few-written lot.requests (c.get_mut.follows.lender _) c.args.number _ (c.get_mut.follows.holds _) lot.few, (counted-written lot.requests (c.get_mut.follows.lender _) lot.counts c.args.number c.in-Some.parked.now _ (c.get_mut.follows.holds _) was refl lot.counted, tt))

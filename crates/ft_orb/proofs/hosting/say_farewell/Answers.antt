@@ -1,0 +1,25 @@
+use Rattle.std.proofs.Common.{◌≡◌, List, ℕ, [], ◌++◌, ap, refl, subst, ◌∙◌}
+use Rattle.giop_link.specs.Linking.{close_connection}
+use Rattle.ft_orb.specs.Sessions.{TookAll, TookFront}
+use Rattle.ft_orb.proofs.Streams.{grows-none, parted}
+use Rattle.ft_orb.proofs.hosting.say_farewell.Goals as goal
+
+pub returns-in-Err-clause-table : goal.returns-in-Err-clause-table
+returns-in-Err-clause-table g c w calls past st going =
+    let x = c.in-Err.ensures.table w calls past st going in
+    let p = parted c.in-Err.end x.0 x.1 in
+    ([], x.0, p.0, p.1, grows-none (g.W.Wire.traffic c.args.wire.now), x.3)
+
+pub returns-in-Ok-clause-table : goal.returns-in-Ok-clause-table
+returns-in-Ok-clause-table g c w calls past st going =
+    let x = c.in_default.ensures.table w calls past st going in
+    let octets : c.deref.result.now ≡ close_connection = c.deref.ensures.value ∙ x.2 ∙ ap (λ (xs : List ℕ). xs ++ close_connection) c.clear.ensures.items in
+    let took = subst (λ (xs : List ℕ). TookAll xs (g.W.Wire.traffic c.args.wire.now) (g.W.Wire.traffic c.write_all.new.wire)) octets c.in-Ok.ensures.ok in
+    (took.0, x.0, took.1, tt, took.2, x.3)
+
+pub returns-in-Err-write_all-clause-table : goal.returns-in-Err-write_all-clause-table
+returns-in-Err-write_all-clause-table g c w calls past st going =
+    let x = c.in_default.ensures.table w calls past st going in
+    let octets : c.deref.result.now ≡ close_connection = c.deref.ensures.value ∙ x.2 ∙ ap (λ (xs : List ℕ). xs ++ close_connection) c.clear.ensures.items in
+    let took = subst (λ (xs : List ℕ). TookFront xs (g.W.Wire.traffic c.args.wire.now) (g.W.Wire.traffic c.write_all.new.wire)) octets c.in-Err-write_all.ensures.err in
+    (took.0, x.0, took.1, tt, took.2, x.3)

@@ -1,0 +1,38 @@
+use Rattle.std.proofs.Common.{ap, sym, subst, ◌∙◌}
+use Rattle.ft_orb.specs.History.{Close}
+use Rattle.ft_orb.specs.Outputs.{after}
+use Rattle.ft_orb.specs.Wires.{past_with}
+use Rattle.ft_orb.proofs.Handing.{attends-so}
+use Rattle.ft_orb.proofs.Streams.{served-all, served-early}
+use Rattle.ft_orb.proofs.hosting.serve_host.Goals as goal
+use Rattle.ft_orb.proofs.hosting.serve_host.Goals.{in-Some, in-None}
+
+pub returns-clause-parked : goal.returns-clause-parked
+returns-clause-parked g c q =
+    let parked = λ (host : g.row.H.Denot). g.H.Host.parked_under host q in
+    let told = λ (host : g.row.H.Denot). g.H.Host.told_under host q in
+    let f = c.forget.ensures.parked q in
+    elim c.match-serve_pieces.branch [
+      | in-Some b ↦ let s = b.in-Some.ensures.parked q in (f.0 ∙ ap parked b.host-is ∙ s.0, f.1 ∙ ap told b.host-is ∙ s.1)
+      | in-None b ↦
+          let s = b.in-None.ensures.parked q in
+          let e = b.say_farewell-end.ensures.parked q in
+          (f.0 ∙ ap parked b.host-is ∙ e.0 ∙ s.0, f.1 ∙ ap told b.host-is ∙ e.1 ∙ s.1)
+    ]
+
+pub returns-clause-table : goal.returns-clause-table
+returns-clause-table g c =
+    elim c.match-serve_pieces.branch [
+      | in-Some b ↦
+          rw (b.end-is, b.wire-is)
+          (attends-so g.H.Host.as_owner b.in-Some.ensures.table (λ w calls later past x y.
+          served-early (g.H.Host.as_owner w) (g.H.Host.says w) past c.args.connection c.args.max_reads _ _ _ _ (g.H.Host.Holds w later c.serve_pieces.new.host) (g.H.Host.Holds w later c.forget.new.self) b.in-Some.end y
+          (λ p h. c.forget.ensures.table w later p (subst (λ (host : g.row.H.Denot). g.H.Host.Holds w later host p) (sym b.host-is) h))))
+      | in-None b ↦
+          rw (b.end-is, b.wire-is)
+          (attends-so g.H.Host.as_owner b.in-None.ensures.table (λ w calls later past x y.
+          let then = past_with (g.H.Host.as_owner w).limits past c.args.connection y.0 in
+          let f = b.say_farewell-end.ensures.table w later then y.1.turned.stands y.1.ongoing.1 in
+          served-all (g.H.Host.as_owner w) (g.H.Host.says w) past c.args.connection c.args.max_reads _ _ _ _ (g.H.Host.Holds w later c.serve_pieces.new.host) (g.H.Host.Holds w later c.forget.new.self) b.say_farewell-end.result _ y f.0 f.2 f.4
+          (c.forget.ensures.closed w later then f.1 (subst (λ (host : g.row.H.Denot). g.H.Host.Holds w later host (after (g.H.Host.as_owner w).limits then (Close c.args.connection) f.1)) (sym b.host-is) f.5))))
+    ]

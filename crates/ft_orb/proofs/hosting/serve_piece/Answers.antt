@@ -1,0 +1,57 @@
+use Rattle.std.proofs.Common.{◌≡◌, ◌<◌, ◌≤◌, ◌++◌, List, ℕ, length, ap, sym, subst, ◌∙◌, arith}
+use Rattle.ft_orb.specs.Sessions.{TookAll, TookFront}
+use Rattle.ft_orb.proofs.Handing.{attends-none, attends-so}
+use Rattle.ft_orb.proofs.Streams.{on_err-is, on_ok-is, visit-closed, visit-left, visit-on, visit-peer, visit-read, visit-write, was_none, was_read}
+use Rattle.ft_orb.proofs.hosting.serve_piece.Goals as goal
+
+pub returns-in-Ok-eq0-clause-table : goal.returns-in-Ok-eq0-clause-table
+returns-in-Ok-eq0-clause-table g c =
+    attends-none g.H.Host.as_owner _ (λ w calls past x. visit-peer (g.H.Host.as_owner w) (g.H.Host.says w) past c.args.connection _ _ (g.H.Host.Holds w calls c.args.host.now) _ x.0 x.1 (was_none _ _ c.read.new.buffer c.in-Ok-eq0.field-0 c.in-Ok-eq0.field-0-test c.in-Ok-eq0.ensures.traffic))
+
+pub returns-in-Err-clause-table : goal.returns-in-Err-clause-table
+returns-in-Err-clause-table g c =
+    attends-none g.H.Host.as_owner _ (λ w calls past x. visit-read (g.H.Host.as_owner w) (g.H.Host.says w) past c.args.connection _ _ (g.H.Host.Holds w calls c.args.host.now) _ x.0 x.1 c.in-Err.ensures.traffic)
+
+pub returns-in-Err-feed_whole-clause-table : goal.returns-in-Err-feed_whole-clause-table
+returns-in-Err-feed_whole-clause-table g c =
+    let some : 0 < c.in-Ok.n = let h = c.in-Ok.n-test in omega (arith, h) in
+    let small : length c.split_at.result.0.now ≤ 4096 = let l = c.split_at.ensures.front_len in let n = c.in-Ok.ensures.count in let r = c.requires.small in omega (arith, l, n, r) in
+    let read = was_read (g.W.Wire.traffic c.args.wire.now) (g.W.Wire.traffic c.read.new.self) c.read.new.buffer c.split_at.result.0.now c.in-Ok.n c.split_at.ensures.front some c.in-Ok.ensures.traffic in
+    attends-so g.H.Host.as_owner c.in-Err-feed_whole.ensures.table (λ w calls later past x y.
+    visit-left (g.H.Host.as_owner w) (g.H.Host.says w) past c.args.connection (g.W.Wire.traffic c.args.wire.now) (g.C.Clock.given c.args.clock.now) c.now-moment.result c.split_at.result.0.now c.clear.new.self.items c.feed_whole.new.out.items (g.W.Wire.traffic c.read.new.self) (g.C.Clock.given c.now-moment.new.self)
+    (g.H.Host.Holds w later c.feed_whole.new.self) x.1 read c.now-moment.ensures small y.0 y.2 c.in-Err-feed_whole.end y.1)
+
+pub returns-then-is_err-clause-table : goal.returns-then-is_err-clause-table
+returns-then-is_err-clause-table g c =
+    let some : 0 < c.in-Ok.n = let h = c.in-Ok.n-test in omega (arith, h) in
+    let small : length c.split_at.result.0.now ≤ 4096 = let l = c.split_at.ensures.front_len in let n = c.in-Ok.ensures.count in let r = c.requires.small in omega (arith, l, n, r) in
+    let read = was_read (g.W.Wire.traffic c.args.wire.now) (g.W.Wire.traffic c.read.new.self) c.read.new.buffer c.split_at.result.0.now c.in-Ok.n c.split_at.ensures.front some c.in-Ok.ensures.traffic in
+    let sent = on_err-is c.write_all.result (sym c.is_err.ensures.value ∙ c.if-is_err.true) c.write_all.ensures.err in
+    attends-so g.H.Host.as_owner c.in_default.ensures.table (λ w calls later past x y.
+    let is : c.deref.result.now ≡ y.2.0 = c.deref.ensures.value ∙ y.2.1 ∙ ap (λ (xs : List ℕ). xs ++ y.2.0) c.clear.ensures.items in
+    visit-write (g.H.Host.as_owner w) (g.H.Host.says w) past c.args.connection (g.W.Wire.traffic c.args.wire.now) (g.C.Clock.given c.args.clock.now) c.now-moment.result c.split_at.result.0.now c.clear.new.self.items c.feed_whole.new.out.items (g.W.Wire.traffic c.read.new.self) (g.C.Clock.given c.now-moment.new.self)
+    (g.H.Host.Holds w later c.feed_whole.new.self) x.1 read c.now-moment.ensures small y.0 y.2 (g.W.Wire.traffic c.write_all.new.wire) y.1 (subst (λ (xs : List ℕ). TookFront xs (g.W.Wire.traffic c.read.new.self) (g.W.Wire.traffic c.write_all.new.wire)) is sent))
+
+pub returns-then-has_ended-clause-table : goal.returns-then-has_ended-clause-table
+returns-then-has_ended-clause-table g c =
+    let some : 0 < c.in-Ok.n = let h = c.in-Ok.n-test in omega (arith, h) in
+    let small : length c.split_at.result.0.now ≤ 4096 = let l = c.split_at.ensures.front_len in let n = c.in-Ok.ensures.count in let r = c.requires.small in omega (arith, l, n, r) in
+    let read = was_read (g.W.Wire.traffic c.args.wire.now) (g.W.Wire.traffic c.read.new.self) c.read.new.buffer c.split_at.result.0.now c.in-Ok.n c.split_at.ensures.front some c.in-Ok.ensures.traffic in
+    let sent = on_ok-is c.write_all.result (sym c.is_err.ensures.value ∙ c.if-is_err.false) c.write_all.ensures.ok in
+    attends-so g.H.Host.as_owner c.in_default.ensures.table (λ w calls later past x y.
+    let is : c.deref.result.now ≡ y.2.0 = c.deref.ensures.value ∙ y.2.1 ∙ ap (λ (xs : List ℕ). xs ++ y.2.0) c.clear.ensures.items in
+    visit-closed (g.H.Host.as_owner w) (g.H.Host.says w) past c.args.connection (g.W.Wire.traffic c.args.wire.now) (g.C.Clock.given c.args.clock.now) c.now-moment.result c.split_at.result.0.now c.clear.new.self.items c.feed_whole.new.out.items (g.W.Wire.traffic c.read.new.self) (g.C.Clock.given c.now-moment.new.self)
+    (g.H.Host.Holds w later c.feed_whole.new.self) x.1 read c.now-moment.ensures small y.0 y.2 (g.W.Wire.traffic c.write_all.new.wire) y.1 (subst (λ (xs : List ℕ). TookAll xs (g.W.Wire.traffic c.read.new.self) (g.W.Wire.traffic c.write_all.new.wire)) is sent)
+    c.has_ended.result (c.has_ended.ensures w later) c.if-has_ended.true)
+
+pub returns-clause-table : goal.returns-clause-table
+returns-clause-table g c =
+    let some : 0 < c.in-Ok.n = let h = c.in-Ok.n-test in omega (arith, h) in
+    let small : length c.split_at.result.0.now ≤ 4096 = let l = c.split_at.ensures.front_len in let n = c.in-Ok.ensures.count in let r = c.requires.small in omega (arith, l, n, r) in
+    let read = was_read (g.W.Wire.traffic c.args.wire.now) (g.W.Wire.traffic c.read.new.self) c.read.new.buffer c.split_at.result.0.now c.in-Ok.n c.split_at.ensures.front some c.in-Ok.ensures.traffic in
+    let sent = on_ok-is c.write_all.result (sym c.is_err.ensures.value ∙ c.if-is_err.false) c.write_all.ensures.ok in
+    attends-so g.H.Host.as_owner c.in_default.ensures.table (λ w calls later past x y.
+    let is : c.deref.result.now ≡ y.2.0 = c.deref.ensures.value ∙ y.2.1 ∙ ap (λ (xs : List ℕ). xs ++ y.2.0) c.clear.ensures.items in
+    visit-on (g.H.Host.as_owner w) (g.H.Host.says w) past c.args.connection (g.W.Wire.traffic c.args.wire.now) (g.C.Clock.given c.args.clock.now) c.now-moment.result c.split_at.result.0.now c.clear.new.self.items c.feed_whole.new.out.items (g.W.Wire.traffic c.read.new.self) (g.C.Clock.given c.now-moment.new.self)
+    (g.H.Host.Holds w later c.feed_whole.new.self) x.1 read c.now-moment.ensures small y.0 y.2 (g.W.Wire.traffic c.write_all.new.wire) y.1 (subst (λ (xs : List ℕ). TookAll xs (g.W.Wire.traffic c.read.new.self) (g.W.Wire.traffic c.write_all.new.wire)) is sent)
+    c.has_ended.result (c.has_ended.ensures w later) c.if-has_ended.false)

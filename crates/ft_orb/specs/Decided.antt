@@ -1,0 +1,47 @@
+-- What one message adds to the counts, and what a piece does. Words of private functions.
+use Rattle.std.specs.Prelude.{◌≡◌, ◌⊎◌, ℕ, ◌+◌, ◌<◌, List, [], ◌∷◌, length, take}
+use Rattle.giop_frames.specs.declared.limits.Limits.{Limits}
+use Rattle.ft_log.specs.Holding.{Holding}
+use Rattle.ft_log.specs.Kept.{KeptOutcome}
+use Rattle.ft_objects.specs.Catalogues.{Offer}
+use Rattle.ft_objects.specs.declared.decided.Decision.{Decision}
+use Rattle.ft_objects.specs.declared.decided.Decision.TheVariants.{Dropped}
+use Rattle.ft_orb.specs.Begun.{Begun, Done}
+use Rattle.ft_orb.specs.Decisions.{counted_all, counted_with, decision_on}
+use Rattle.ft_orb.specs.ExactlyOnce.{Arrival}
+use Rattle.ft_orb.specs.History.{arrivals_in, front_in}
+use Rattle.ft_orb.specs.Pause.{Pause}
+use Rattle.ft_orb.specs.Pause as pause
+use Rattle.ft_orb.specs.Requests.{Call, Wanted}
+use Rattle.ft_orb.specs.Table.{Table}
+use Rattle.ft_orb.specs.declared.counts.Counts.{Counts}
+use Rattle.ft_orb.specs.declared.desk.Step.TheVariants.{Unhandled}
+
+-- this becomes of a request, or an allocation failed before that was known, and nothing was done
+abbrev pub IsDecided : Decision → Begun → Decision → Type 0
+IsDecided expected b d = (d ≡ expected) ⊎ ((d ≡ Dropped) × (b ≡ Done Unhandled))
+
+-- the counts after a message, which is an arrival or none
+abbrev pub AreTallied : Offer → (capacity share : ℕ) → List (KeptOutcome Holding) → List (Arrival Wanted) → Begun → Counts → Counts → Type 0
+AreTallied offer capacity share entries [] b old new = new ≡ old
+AreTallied offer capacity share entries (a ∷ later) b old new = (d : Decision) × IsDecided (decision_on offer capacity share entries a) b d × (new ≡ counted_with old d)
+
+-- the octets of a piece that were taken
+abbrev pub octets_to : List ℕ → Pause → List ℕ
+octets_to piece pause.Whole = piece
+octets_to piece (pause.Asks w place) = take place.taken piece
+octets_to piece (pause.Repeats r place) = take place.taken piece
+
+-- One piece after the stream s of connection c, from a table t on: the counts before it, and now.
+module _ (offer : Offer) (answers : List Call → Call → Holding) (capacity share : ℕ) (limits : Limits) (c now : ℕ) (t : Table (List Call) Holding) (s : List ℕ) where
+  -- the arrivals that these octets complete were counted
+  abbrev pub AreCountsOf : List ℕ → Counts → Counts → Type 0
+  AreCountsOf octets old new = new ≡ counted_all offer answers capacity share t (arrivals_in limits c now s octets) old
+
+  -- an allocation failed where so many were handled: they were counted; and where one more had begun, what becomes of it, or that it was
+  -- dropped
+  abbrev pub AreCountsTo : List ℕ → (handled : ℕ) → Counts → Counts → Type 0
+  AreCountsTo piece handled old new = AreCountsOf (front_in limits c now s piece handled) old new
+      ⊎ ((handled < length (arrivals_in limits c now s piece))
+      × (AreCountsOf (front_in limits c now s piece (handled + 1)) old new
+      ⊎ (new ≡ counted_with (counted_all offer answers capacity share t (arrivals_in limits c now s (front_in limits c now s piece handled)) old) Dropped)))

@@ -1,0 +1,83 @@
+//! What is kept for clients once a request is performed, or parked.
+
+ghost use Rattle.std.specs.Prelude.{◌≡◌};
+ghost use Rattle.ft_log.specs.Holding.{known, parked};
+ghost use Rattle.ft_log.specs.Logged.{logged};
+ghost use Rattle.ft_log.specs.View.{performed_in};
+ghost use Rattle.ft_objects.specs.Replies.{IsRenderable};
+ghost use Rattle.ft_orb.specs.Waits.{Finishes, IsReady, filled_with, kept_with};
+
+use crate::desk::Step;
+use crate::keeper::{Keeper, Retained};
+use ft_log::Outcome;
+
+impl Keeper {
+    /// Keeps an outcome, if it is to be kept.
+    #[inline(always)]
+    fn keep(&mut self, retained: Option<Retained>, outcome: Outcome)
+        requires ready { IsReady retained (logged self.old.log).room }
+        requires renderable { IsRenderable (performed_in outcome) }
+        ensures kept { (logged self.new.log).entries ≡ kept_with retained (known (performed_in outcome)) (logged self.old.log).entries }
+        ensures clock { self.new.clock ≡ self.old.clock }
+        ensures capacity { (logged self.new.log).capacity ≡ (logged self.old.log).capacity }
+        ensures share { (logged self.new.log).share ≡ (logged self.old.log).share }
+        ensures counts { self.new.counts ≡ self.old.counts }
+        ensures ended { self.new.ended ≡ self.old.ended }
+    {
+        if let Some(Retained { key, expiration }) = retained {
+            self.log.keep(key, expiration, outcome);
+        }
+    }
+
+    /// Keeps the place of an outcome, if it is to be kept: its call is parked under a number.
+    pub(crate) fn keep_parked(&mut self, retained: Option<Retained>, number: u64)
+        requires ready { IsReady retained (logged self.old.log).room }
+        ensures kept { (logged self.new.log).entries ≡ kept_with retained (parked number) (logged self.old.log).entries }
+        ensures slot { self.new.slot ≡ self.old.slot }
+        ensures clock { self.new.clock ≡ self.old.clock }
+        ensures capacity { (logged self.new.log).capacity ≡ (logged self.old.log).capacity }
+        ensures share { (logged self.new.log).share ≡ (logged self.old.log).share }
+        ensures counts { self.new.counts ≡ self.old.counts }
+        ensures ended { self.new.ended ≡ self.old.ended }
+    {
+        if let Some(Retained { key, expiration }) = retained {
+            self.log.keep_parked(key, expiration, number);
+        }
+    }
+
+    /// Puts an outcome in the place that is kept for it, if one is.
+    pub(crate) fn fill(&mut self, retained: Option<Retained>, number: u64, outcome: Outcome)
+        requires renderable { IsRenderable (performed_in outcome) }
+        ensures filled { (logged self.new.log).entries ≡ filled_with retained number (performed_in outcome) (logged self.old.log).entries }
+        ensures room { (logged self.new.log).room ≡ (logged self.old.log).room }
+        ensures slot { self.new.slot ≡ self.old.slot }
+        ensures clock { self.new.clock ≡ self.old.clock }
+        ensures capacity { (logged self.new.log).capacity ≡ (logged self.old.log).capacity }
+        ensures share { (logged self.new.log).share ≡ (logged self.old.log).share }
+        ensures counts { self.new.counts ≡ self.old.counts }
+        ensures ended { self.new.ended ≡ self.old.ended }
+    {
+        if let Some(Retained { key, .. }) = retained {
+            self.log.fill(key, number, outcome);
+        }
+    }
+
+    /// Keeps the outcome of the request in the slot, if it has a key, and answers with it.
+    #[inline(always)]
+    pub(crate) fn finish(&mut self, outcome: Outcome, out: &mut Vec<u8>) -> Step
+        requires ready { IsReady self.old.slot.retained (logged self.old.log).room }
+        requires renderable { IsRenderable (performed_in outcome) }
+        ensures did { Finishes self.old.slot (performed_in outcome) (logged self.old.log).entries result (logged self.new.log).entries out.old.items out.new.items }
+        ensures clock { self.new.clock ≡ self.old.clock }
+        ensures capacity { (logged self.new.log).capacity ≡ (logged self.old.log).capacity }
+        ensures share { (logged self.new.log).share ≡ (logged self.old.log).share }
+        ensures counts { self.new.counts ≡ self.old.counts }
+        ensures ended { self.new.ended ≡ self.old.ended }
+    {
+        let step = self.slot.asker.answer(&outcome, out);
+        let retained = self.slot.retained.take();
+        self.keep(retained, outcome);
+        self.slot.arguments.clear();
+        step
+    }
+}
