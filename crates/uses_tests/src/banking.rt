@@ -1,30 +1,13 @@
 //! A bank that an engine asks.
 
-use crate::octets::{BALANCE, DEPOSIT, OVERDRAWN, RETURNED};
+use crate::bank::{deposit, reply};
+use crate::octets::{BALANCE, OVERDRAWN, RETURNED};
 use ft_orb::Event;
 use giop_frames::Limits;
 use std::alloc::{AllocError, Global};
 use std::hash::RandomState;
 use std::test::Fail;
 use uses::serve_bank;
-
-/// A Request for `deposit` into the account `A`, with FT_REQUEST: the client `A`, its request of this number, the
-/// expiration 100.
-fn deposit(alloc: Global, number: i32, cents: i64) -> Result<Vec<u8>, AllocError> {
-    let (before, after) = DEPOSIT;
-    let mut octets = Vec::from_slice(alloc, before)?;
-    octets.extend_from_slice(&number.to_be_bytes())?;
-    octets.extend_from_slice(after)?;
-    octets.extend_from_slice(&cents.to_be_bytes())?;
-    Ok(octets)
-}
-
-/// The Reply that ends by an amount.
-fn reply(alloc: Global, before: &[u8], cents: i64) -> Result<Vec<u8>, AllocError> {
-    let mut octets = Vec::from_slice(alloc, before)?;
-    octets.extend_from_slice(&cents.to_be_bytes())?;
-    Ok(octets)
-}
 
 #[test]
 fn a_deposit_that_comes_again_acts_once(rt: HostRuntime) -> Result<(), Fail> {

@@ -1,8 +1,7 @@
 //! A bank whose outcomes come later.
 
-use crate::octets::{BALANCE, DEPOSIT, RETURNED, TRANSIENT};
-use cdr_core::Val;
-use ft_log::Outcome;
+use crate::bank::{deposit, reply, returned};
+use crate::octets::{BALANCE, RETURNED, TRANSIENT};
 use ft_orb::{CloseError, Event};
 use giop_frames::Limits;
 use std::alloc::{AllocError, Global};
@@ -13,31 +12,9 @@ use uses::{BankingError, Turn, serve_later};
 /// CloseConnection of 1.0.
 const CLOSE: &[u8] = b"GIOP\x01\x00\x00\x05\x00\x00\x00\x00";
 
-/// A Request for `deposit` of 10 into the account `A`, with FT_REQUEST: the client `A`, its request 1, the expiration 100.
-fn deposit(alloc: Global) -> Result<Vec<u8>, AllocError> {
-    let (before, after) = DEPOSIT;
-    let mut octets = Vec::from_slice(alloc, before)?;
-    octets.extend_from_slice(&[0, 0, 0, 1])?;
-    octets.extend_from_slice(after)?;
-    octets.extend_from_slice(&[0, 0, 0, 0, 0, 0, 0, 10])?;
-    Ok(octets)
-}
-
-/// The Reply that returns an amount below 256.
-fn reply(alloc: Global, cents: u8) -> Result<Vec<u8>, AllocError> {
-    let mut octets = Vec::from_slice(alloc, RETURNED)?;
-    octets.extend_from_slice(&[0, 0, 0, 0, 0, 0, 0, cents])?;
-    Ok(octets)
-}
-
 /// A piece on a connection.
 fn piece(connection: u64, octets: Vec<u8>) -> Turn {
     Turn::Happens(Event::Piece(connection, 50, octets))
-}
-
-/// The outcome that returns an amount.
-fn returned(alloc: Global, cents: i64) -> Result<Outcome, AllocError> {
-    Ok(Outcome::Returned(vec![in alloc; Val::LongLong(cents)]?))
 }
 
 #[test]
@@ -47,22 +24,22 @@ fn outcomes_come_in_any_order(rt: HostRuntime) -> Result<(), Fail> {
         Turn::Happens(Event::Opened(1)),
         Turn::Happens(Event::Opened(2)),
         // request 0, its repeat, and request 1, which has no key
-        piece(1, deposit(alloc)?),
-        piece(2, deposit(alloc)?),
+        piece(1, deposit(alloc, 1, 10)?),
+        piece(2, deposit(alloc, 1, 10)?),
         piece(2, Vec::from_slice(alloc, BALANCE)?),
         Turn::Settles(1, returned(alloc, 5)?),
         Turn::Settles(0, returned(alloc, 15)?),
         // what is kept answers at once
-        piece(1, deposit(alloc)?),
+        piece(1, deposit(alloc, 1, 10)?),
     ]?;
     let hasher = RandomState::new(&rt)?;
     let mut sent = Vec::new(alloc);
     serve_later(alloc, hasher, Limits::default(), turns, &mut sent)?;
     let expected = vec![in alloc;
-        (2, reply(alloc, 5)?),
-        (1, reply(alloc, 15)?),
-        (2, reply(alloc, 15)?),
-        (1, reply(alloc, 15)?),
+        (2, reply(alloc, RETURNED, 5)?),
+        (1, reply(alloc, RETURNED, 15)?),
+        (2, reply(alloc, RETURNED, 15)?),
+        (1, reply(alloc, RETURNED, 15)?),
     ]?;
     assert!(rt; sent == expected);
     Ok(())
@@ -73,16 +50,16 @@ fn who_is_lost_is_told_nothing(rt: HostRuntime) -> Result<(), Fail> {
     let alloc = rt.alloc();
     let turns = vec![in alloc;
         Turn::Happens(Event::Opened(1)),
-        piece(1, deposit(alloc)?),
+        piece(1, deposit(alloc, 1, 10)?),
         Turn::Happens(Event::Lost(1)),
         Turn::Happens(Event::Opened(2)),
-        piece(2, deposit(alloc)?),
+        piece(2, deposit(alloc, 1, 10)?),
         Turn::Settles(0, returned(alloc, 15)?),
     ]?;
     let hasher = RandomState::new(&rt)?;
     let mut sent = Vec::new(alloc);
     serve_later(alloc, hasher, Limits::default(), turns, &mut sent)?;
-    let expected = vec![in alloc; (2, reply(alloc, 15)?)]?;
+    let expected = vec![in alloc; (2, reply(alloc, RETURNED, 15)?)]?;
     assert!(rt; sent == expected);
     Ok(())
 }
@@ -92,7 +69,7 @@ fn an_eleventh_repeat_is_told_that_it_may_have_acted(rt: HostRuntime) -> Result<
     let alloc = rt.alloc();
     let mut turns = vec![in alloc; Turn::Happens(Event::Opened(1))]?;
     for _ in 0..12 {
-        turns.push(piece(1, deposit(alloc)?))?;
+        turns.push(piece(1, deposit(alloc, 1, 10)?))?;
     }
     let hasher = RandomState::new(&rt)?;
     let mut sent = Vec::new(alloc);
@@ -129,8 +106,8 @@ fn no_connection_is_closed_while_a_repeat_waits_on_it(rt: HostRuntime) -> Result
     let turns = vec![in alloc;
         Turn::Happens(Event::Opened(1)),
         Turn::Happens(Event::Opened(2)),
-        piece(1, deposit(alloc)?),
-        piece(2, deposit(alloc)?),
+        piece(1, deposit(alloc, 1, 10)?),
+        piece(2, deposit(alloc, 1, 10)?),
         Turn::Happens(Event::Close(2)),
     ]?;
     let mut sent = Vec::new(alloc);
@@ -145,7 +122,7 @@ fn a_connection_is_closed_once_nobody_waits_on_it(rt: HostRuntime) -> Result<(),
     let turns = vec![in alloc;
         Turn::Happens(Event::Opened(1)),
         Turn::Happens(Event::Opened(2)),
-        piece(1, deposit(alloc)?),
+        piece(1, deposit(alloc, 1, 10)?),
         // who waits does so on another
         Turn::Happens(Event::Close(2)),
         Turn::Settles(0, returned(alloc, 15)?),
@@ -155,7 +132,7 @@ fn a_connection_is_closed_once_nobody_waits_on_it(rt: HostRuntime) -> Result<(),
     let closed = served(&rt, turns, &mut sent)?;
     let expected = vec![in alloc;
         (2, Vec::from_slice(alloc, CLOSE)?),
-        (1, reply(alloc, 15)?),
+        (1, reply(alloc, RETURNED, 15)?),
         (1, Vec::from_slice(alloc, CLOSE)?),
     ]?;
     assert!(rt; closed.is_ok() && sent == expected);

@@ -5,6 +5,8 @@
 #[cfg(test)]
 mod arguments;
 #[cfg(test)]
+mod bank;
+#[cfg(test)]
 mod banking;
 #[cfg(test)]
 mod capture;

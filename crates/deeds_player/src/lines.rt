@@ -1,0 +1,112 @@
+//! Lists of deeds in the lines of an input.
+//!
+//! The line `engine PARKED OF_ONE JOINED CAPACITY SHARE` makes a new engine: how many requests may be parked, in all and
+//! of one connection, how many may wait with one beside the last who came, and how many outcomes are kept, in all and of
+//! one client. Each of these lines is a deed, and the line `play` plays those since the last one, by one call. C is a
+//! connection, and NOW a moment.
+//!
+//! - `opened C`, `close C`, `lost C`
+//! - `piece C NOW HEX`: octets in hexadecimal digits
+//! - `asks C NOW REQUEST,..`: requests as `requests` says, with a comma between them
+//! - `answer OUTCOME`, `park`, `give_up`, `settle NUMBER OUTCOME`: an outcome is a total, or `overflow`
+//!
+//! The line `counts` prints the engine's counts, `ending C` why a connection ended, and `heard` what became of each request
+//! since the last one.
+//!
+//! There is one space between words, and numbers are in decimal digits. Empty lines, and lines that begin with `#`, are
+//! printed as they stand.
+
+use crate::deeds::{deed_in, number};
+use crate::heard::HeardCounter;
+use crate::printing::{print_counts, print_ended, print_ending, print_written};
+use counter::Counter;
+use ft_log::Retention;
+use ft_orb::{Deed, Engine, Places, play_deeds};
+use giop_frames::Limits;
+use std::alloc::Global;
+use std::hash::RandomState;
+use std::io::{BufRead, BufReader, BufWriter, Read, Write};
+use trials::{Stop, ulong};
+
+/// An engine, and the deeds that are to be played on it.
+#[derive(Drop)]
+struct Player {
+    engine: Engine<HeardCounter>,
+    deeds: Vec<Deed>,
+}
+
+/// A new engine with the numbers of words.
+fn player_in(alloc: Global, hasher: RandomState, words: &str) -> Result<Player, Stop> {
+    let mut numbers = Vec::new(alloc);
+    for word in words.split(' ') {
+        numbers.push(ulong(word)?)?;
+    }
+    let [parked, of_one, joined, capacity, share] = *numbers.as_slice() else {
+        return Err(Stop::BadLine);
+    };
+    let places = Places {
+        parked,
+        of_one,
+        joined,
+    };
+    let retention = Retention { capacity, share };
+    let counter = HeardCounter::new(alloc, Counter::new(alloc, 0)?);
+    Ok(Player {
+        engine: Engine::new(alloc, counter, Limits::default(), retention, places, hasher),
+        deeds: Vec::new(alloc),
+    })
+}
+
+/// Plays the deeds, prints what came of them, and leaves none.
+fn play<W: Write>(alloc: Global, player: &mut Player, out: &mut W) -> Result<(), Stop> {
+    let mut written = Vec::new(alloc);
+    let ended = play_deeds(alloc, &mut player.engine, &player.deeds, &mut written);
+    player.deeds.clear();
+    print_written(alloc, &written, out)?;
+    Ok(print_ended(ended, out)?)
+}
+
+/// Takes a line.
+fn take_line<W: Write>(
+    alloc: Global,
+    hasher: RandomState,
+    line: &str,
+    player: &mut Option<Player>,
+    out: &mut W,
+) -> Result<(), Stop> {
+    if line.is_empty() || line.starts_with('#') {
+        return Ok(writeln!(out, "{line}")?);
+    }
+    if let Some(words) = line.strip_prefix("engine ") {
+        *player = Some(player_in(alloc, hasher, words)?);
+        return Ok(());
+    }
+    let Some(player) = player else {
+        return Err(Stop::BadLine);
+    };
+    if let Some(word) = line.strip_prefix("ending ") {
+        let connection = number(word)?;
+        return Ok(print_ending(player.engine.ending(connection), out)?);
+    }
+    match line {
+        "play" => play(alloc, player, out),
+        "counts" => Ok(print_counts(&player.engine.counts(), out)?),
+        "heard" => Ok(player.engine.catalogue().print(out)?),
+        _ => Ok(player.deeds.push(deed_in(alloc, line)?)?),
+    }
+}
+
+/// Plays the lists of deeds of an input, and prints what comes of each.
+pub(crate) fn play_lines<R: Read, W: Write>(
+    alloc: Global,
+    hasher: RandomState,
+    input: &mut R,
+    out: &mut W,
+) -> Result<(), Stop> {
+    let mut out = BufWriter::new(alloc, out)?;
+    let mut player = None;
+    for line in BufReader::new(alloc, input)?.lines(alloc) {
+        take_line(alloc, hasher, &line?, &mut player, &mut out)?;
+    }
+    Ok(out.flush()?)
+}
