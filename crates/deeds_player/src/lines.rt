@@ -11,7 +11,8 @@
 //! - `answer OUTCOME`, `park`, `give_up`, `settle NUMBER OUTCOME`: an outcome is a total, or `overflow`
 //!
 //! The line `counts` prints the engine's counts, `ending C` why a connection ended, and `heard` what became of each request
-//! since the last one.
+//! since the last one. `tick NOW` tells the engine a moment, and prints its moment, how many outcomes it keeps, how many of the client
+//! `A`, and the first expiration; while a request waits it is told none.
 //!
 //! There is one space between words, and numbers are in decimal digits. Empty lines, and lines that begin with `#`, are
 //! printed as they stand.
@@ -66,6 +67,20 @@ fn play<W: Write>(alloc: Global, player: &mut Player, out: &mut W) -> Result<(),
     Ok(print_ended(ended, out)?)
 }
 
+/// Tells an engine a moment, and prints what became of it.
+fn tick<W: Write>(engine: &mut Engine<HeardCounter>, now: u64, out: &mut W) -> Result<(), Stop> {
+    if engine.asked().is_some() {
+        return Ok(writeln!(out, "asking")?);
+    }
+    engine.tick(now);
+    let (moment, kept, own) = (engine.moment(), engine.kept_len(), engine.held_by(b"A"));
+    write!(out, "at {moment} keeps {kept}, {own} of A")?;
+    match engine.next_expiry() {
+        Some(least) => Ok(writeln!(out, ", till {least}")?),
+        None => Ok(writeln!(out)?),
+    }
+}
+
 /// Takes a line.
 fn take_line<W: Write>(
     alloc: Global,
@@ -87,6 +102,9 @@ fn take_line<W: Write>(
     if let Some(word) = line.strip_prefix("ending ") {
         let connection = number(word)?;
         return Ok(print_ending(player.engine.ending(connection), out)?);
+    }
+    if let Some(word) = line.strip_prefix("tick ") {
+        return tick(&mut player.engine, number(word)?, out);
     }
     match line {
         "play" => play(alloc, player, out),

@@ -14,14 +14,14 @@ use Rattle.ft_objects.specs.declared.decided.Decision.{Decision}
 use Rattle.ft_objects.specs.declared.decided.Decision.TheVariants.{Dropped}
 use Rattle.ft_orb.specs.Begun.{Begun}
 use Rattle.ft_orb.specs.Begun as begun
-use Rattle.ft_orb.specs.Decided.{AreCountsOf, AreCountsTo, AreTallied}
+use Rattle.ft_orb.specs.Decided.{AreCountsOf, AreCountsTo, AreTallied, decided_by}
 use Rattle.ft_orb.specs.Decisions.{counted_all, counted_with, decision_by, decision_for, decision_on}
 use Rattle.ft_orb.specs.Engines.{StandsOf}
 use Rattle.ft_orb.specs.ExactlyOnce.{Arrival, Rules}
 use Rattle.ft_orb.specs.History.{Event, Gone, Line, Piece, Shut, Up, arrivals_in, arrivals_on, clock, front_in, front_on, line}
 use Rattle.ft_orb.specs.Owners.{Voice, kept_of, owned_table, owner_rules}
 use Rattle.ft_orb.specs.Parking.{Settings, by_number}
-use Rattle.ft_orb.specs.Private.{IsEnd, Steps, all_answered, arrivals_at, counted_by, heard_by}
+use Rattle.ft_orb.specs.Private.{IsEnd, IsPut, Steps, all_answered, arrivals_at, counted_by, heard_by}
 use Rattle.ft_orb.specs.Requests.{Call, Wanted, asked_of}
 use Rattle.ft_orb.specs.Seen.{seen_table}
 use Rattle.ft_orb.specs.Standing.{IsFor, Shown, capacity_of, held_in, share_of, table_of}
@@ -61,6 +61,22 @@ tallied-at offer capacity capacity0 share share0 now now0 c entries o b old new 
     (subst (λ (x : ℕ). AreTallied offer capacity0 x entries (arrivals_at c now o) b old new) same_s
     (subst (λ (x : ℕ). AreTallied offer x share entries (arrivals_at c now o) b old new) same_c h))
 
+-- what becomes of a request, where no allocation failed before that was known
+pub decided-known : (b : Begun) (d : Decision) → (b ≡ begun.Done Unhandled → ⊥) → decided_by b d ≡ d
+decided-known (begun.Done Answered) d done = refl
+decided-known (begun.Done Unanswered) d done = refl
+decided-known (begun.Done Quiet) d done = refl
+decided-known (begun.Done Unhandled) d done = absurd (done refl)
+decided-known (begun.Asks w) d done = refl
+decided-known (begun.Repeats r) d done = refl
+
+-- .. as where its answer was made
+pub put-known : (octets : List ℕ) (step : Step) (before out : List ℕ) (d : Decision) → IsPut octets step before out → decided_by (begun.Done step) d ≡ d
+put-known octets Answered before out d put = refl
+put-known octets Unanswered before out d put = refl
+put-known octets Quiet before out d put = absurd put
+put-known octets Unhandled before out d put = absurd put
+
 -- where the piece goes on, or stops at a request, no allocation failed before it was known what becomes of it
 pub goes-handled : (n h : ℕ) (step : Step) (r : Result ℕ Cut) (b : Begun) → b ≡ begun.Done step → r ≡ counted_by n step → r ≡ Ok h → b ≡ begun.Done Unhandled → ⊥
 goes-handled n h step r b is by ok un =
@@ -85,8 +101,8 @@ module _ (offer : Offer) (voice : Voice) (capacity share : ℕ) (limits : Limits
   abbrev Sums : List ℕ → Counts → Counts → Type 0
   Sums p old new = AreCountsOf offer voice.answers capacity share limits c now t s p old new
 
-  abbrev SumsTo : List ℕ → ℕ → Counts → Counts → Type 0
-  SumsTo piece handled old new = AreCountsTo offer voice.answers capacity share limits c now t s piece handled old new
+  abbrev SumsTo : List ℕ → Cut → Counts → Counts → Type 0
+  SumsTo piece at old new = AreCountsTo offer voice.answers capacity share limits c now t s piece at old new
 
   -- octets that bring the same arrivals
   sums-same : (p q : List ℕ) (old new : Counts) → Here p ≡ Here q → Sums p old new → Sums q old new
@@ -117,9 +133,9 @@ module _ (offer : Offer) (voice : Voice) (capacity share : ℕ) (limits : Limits
       sums-same (take i piece) piece old new (same ∙ ap (λ (l : List ℕ). Here l) whole) sum
 
   -- an allocation failed, and nothing more was counted
-  pub sums-cut : HearingGrows meaning_in → (piece : List ℕ) (i n : ℕ) (at : Cut) (old new : Counts) → i ≤ length piece → n ≡ length (Here (take i piece)) → at ≡ all_answered n → Sums (take i piece) old new → SumsTo piece at.handled old new
+  pub sums-cut : HearingGrows meaning_in → (piece : List ℕ) (i n : ℕ) (at : Cut) (old new : Counts) → i ≤ length piece → n ≡ length (Here (take i piece)) → at ≡ all_answered n → Sums (take i piece) old new → SumsTo piece at old new
   sums-cut grow piece i n at old new within count is sum =
-      subst (λ (x : Cut). SumsTo piece x.handled old new) (sym is)
+      subst (λ (x : Cut). SumsTo piece x old new) (sym is)
       (inl (sums-same (take i piece) (front_in limits c now s piece n) old new (sym (front-is Over Tell limits c now t s grow piece i n within count)) sum))
 
   -- all of a front was counted, of which the last was begun, or is handled
@@ -135,23 +151,23 @@ module _ (offer : Offer) (voice : Voice) (capacity share : ℕ) (limits : Limits
 
   -- it stopped at an arrival, which was begun, and an allocation failed
   pub sums-left : HearingGrows meaning_in → (piece : List ℕ) (i n : ℕ) (before : List (Arrival Wanted)) (a : Arrival Wanted) (old new : Counts) → i ≤ length piece → Here (take i piece) ≡ before ++ a ∷ [] → n ≡ length before → Sums (take i piece) old new
-      → SumsTo piece n old new
+      → SumsTo piece (all_answered n) old new
   sums-left grow piece i n before a old new within last count sum =
       let x = sums-begun grow piece i n before a old new within last count sum in
       let few = x.0 in
-      inr (omega (arith, few), inl x.1)
+      inr (refl, omega (arith, few), inl x.1)
 
   -- .. or for its answer
   pub sums-off : HearingGrows meaning_in → (piece : List ℕ) (i n : ℕ) (at : Cut) (step : Step) (before : List (Arrival Wanted)) (a : Arrival Wanted) (old new : Counts) → i ≤ length piece → Here (take i piece) ≡ before ++ a ∷ [] → n ≡ length before
-      → Sums (take i piece) old new → counted_by n step ≡ Err at → SumsTo piece at.handled old new
+      → Sums (take i piece) old new → counted_by n step ≡ Err at → SumsTo piece at old new
   sums-off grow piece i n at Quiet before a old new within last count sum by = absurd cc
   sums-off grow piece i n at Answered before a old new within last count sum by = absurd cc
   sums-off grow piece i n at Unanswered before a old new within last count sum by =
       let cut : record { handled = n + 1; answered = n } ≡ at = let err : counted_by n Unanswered ≡ Err at = by in cc in
-      subst (λ (x : Cut). SumsTo piece x.handled old new) cut (inl (sums-begun grow piece i n before a old new within last count sum).1)
+      subst (λ (x : Cut). SumsTo piece x old new) cut (inl (sums-begun grow piece i n before a old new within last count sum).1)
   sums-off grow piece i n at Unhandled before a old new within last count sum by =
       let cut : all_answered n ≡ at = let err : counted_by n Unhandled ≡ Err at = by in cc in
-      subst (λ (x : Cut). SumsTo piece x.handled old new) cut (sums-left grow piece i n before a old new within last count sum)
+      subst (λ (x : Cut). SumsTo piece x old new) cut (sums-left grow piece i n before a old new within last count sum)
 
   -- One message more, which is an arrival or none.
   module _ (grow : HearingGrows meaning_in) (piece left : List ℕ) (i j : ℕ) (later : Linked) (m : Inbound) (held : Table (List Call) Holding) (b : Begun) (old mid new : Counts) (back : left ≡ drop i piece)
@@ -174,11 +190,7 @@ module _ (offer : Offer) (voice : Voice) (capacity share : ℕ) (limits : Limits
     one-push a at one by = sums-push (take (i + j) piece) (Here (take i piece)) a held old mid new (more-bring (a ∷ []) one) sum at al by
 
     one-known : (a : Arrival Wanted) → a.clock ≡ now → Brings (a ∷ []) → Tallied (a ∷ []) → (b ≡ begun.Done Unhandled → ⊥) → Sums (take (i + j) piece) old new
-    one-known a at one d done =
-        elim d.1 [
-          | inl same ↦ one-push a at one (d.2 ∙ ap (λ (x : Decision). counted_with mid x) same)
-          | inr out ↦ absurd (done out.1)
-        ]
+    one-known a at one d done = one-push a at one (d ∙ ap (λ (x : Decision). counted_with mid x) (decided-known b _ done))
 
     sums-by : (o : Option Incoming) → Brings (arrivals_at c now o) → Tallied (arrivals_at c now o) → (b ≡ begun.Done Unhandled → ⊥) → Sums (take (i + j) piece) old new
     sums-by None none d done = none-push none d
@@ -191,7 +203,7 @@ module _ (offer : Offer) (voice : Voice) (capacity share : ℕ) (limits : Limits
 
     -- an allocation failed
     one-cut : (n : ℕ) (at : Cut) (step : Step) (a : Arrival Wanted) → i + j ≤ length piece → n ≡ length (Here (take i piece)) → b ≡ begun.Done step → a.clock ≡ now → Brings (a ∷ []) → Tallied (a ∷ []) → counted_by n step ≡ Err at
-        → SumsTo piece at.handled old new
+        → SumsTo piece at old new
     one-cut n at Quiet a within count is clock one d by = absurd cc
     one-cut n at Answered a within count is clock one d by = absurd cc
     one-cut n at Unanswered a within count is clock one d by =
@@ -205,27 +217,25 @@ module _ (offer : Offer) (voice : Voice) (capacity share : ℕ) (limits : Limits
         let many : n + 1 ≡ length (Here (take (i + j) piece)) = omega (arith, size, all, count) in
         let few : n + 1 ≤ length (Here piece) = few-in Over Tell limits c now t s grow piece (i + j) (n + 1) many in
         let front = front-is Over Tell limits c now t s grow piece i n (omega (arith, within)) count in
-        subst (λ (x : Cut). SumsTo piece x.handled old new) cut
-        (elim d.1 [
-          | inl same ↦ sums-left grow piece (i + j) n (Here (take i piece)) a old new within last count (one-push a clock one (d.2 ∙ ap (λ (x : Decision). counted_with mid x) same))
-          | inr out ↦ inr (
-            omega (arith, few),
-            inr (d.2 ∙ ap (λ (x : Decision). counted_with mid x) out.0 ∙ ap (λ (n : Counts). counted_with n Dropped) (sum ∙ ap (λ (l : List (Arrival Wanted)). summed l old) (sym front))),
-          )
-        ])
+        subst (λ (x : Cut). SumsTo piece x old new) cut
+        (inr (
+          refl,
+          omega (arith, few),
+          inr (d ∙ ap (λ (x : Begun). counted_with mid (decided_by x (decision_on offer capacity share held.entries a))) is ∙ ap (λ (n : Counts). counted_with n Dropped) (sum ∙ ap (λ (l : List (Arrival Wanted)). summed l old) (sym front))),
+        ))
 
     none-cut : (n : ℕ) (at : Cut) (step : Step) → step ≡ Quiet → counted_by n step ≡ Err at → ⊥
     none-cut n at step quiet by = let no : Ok n ≡ Err at = ap (counted_by n) (sym quiet) ∙ by in cc
 
     cut-by : (n : ℕ) (at : Cut) (step : Step) (o : Option Incoming) (next : Table (List Call) Holding) (out grown : List ℕ) → i + j ≤ length piece → n ≡ length (Here (take i piece)) → b ≡ begun.Done step → Brings (arrivals_at c now o)
-        → Tallied (arrivals_at c now o) → Steps Over Tell now c o held step next out grown → counted_by n step ≡ Err at → SumsTo piece at.handled old new
+        → Tallied (arrivals_at c now o) → Steps Over Tell now c o held step next out grown → counted_by n step ≡ Err at → SumsTo piece at old new
     cut-by n at step None next out grown within count is none d did by = absurd (none-cut n at step did.0 by)
     cut-by n at step (Some (asks q)) next out grown within count is one d did by = one-cut n at step _ within count is refl one d by
     cut-by n at step (Some (locates version id to)) next out grown within count is one d did by = one-cut n at step _ within count is refl one d by
     cut-by n at step (Some (cancels id)) next out grown within count is none d did by = absurd (none-cut n at step did.0 by)
 
     pub sums-step-cut : (n : ℕ) (at x : Cut) (step : Step) (r : Result ℕ Cut) (next : Table (List Call) Holding) (out grown : List ℕ) → i + j ≤ length piece → n ≡ length (Here (take i piece)) → b ≡ begun.Done step
-        → Tallied (arrivals_at c now (heard_by (meaning_at m))) → Steps Over Tell now c (heard_by (meaning_at m)) held step next out grown → r ≡ counted_by n step → r ≡ Err x → at ≡ x → SumsTo piece at.handled old new
+        → Tallied (arrivals_at c now (heard_by (meaning_at m))) → Steps Over Tell now c (heard_by (meaning_at m)) held step next out grown → r ≡ counted_by n step → r ≡ Err x → at ≡ x → SumsTo piece at old new
     sums-step-cut n at x step r next out grown within count is d did by err same =
         cut-by n at step (heard_by (meaning_at m)) next out grown within count is (arriving-one limits c now (meaning_at m)) d did (sym by ∙ err ∙ ap (λ (y : Cut). Err y) (sym same))
 
@@ -276,15 +286,16 @@ module _ (s : Settings) (held : ℕ → Holding) (server : Shown (List Call)) (p
       counts-on (λ (o : Offer) (capacity share : ℕ) (bring : List ℕ → List (Arrival Wanted)) (front : List ℕ → ℕ → List ℕ). new ≡ counted_all o (kept_of (by_number s held)) capacity share Known (bring octets) old) live f
 
   -- an allocation failed
-  pub counts-cut : (piece : List ℕ) (handled : ℕ) (old new : Counts) → link.is_closed ≡ false
-      → ((x : List ℕ) → LinkStands s.limits link x → AreAlike now (table_of server) Known → AreCountsTo offer (kept_of (by_number s held)) (capacity_of server) (share_of server) s.limits c now Known x piece handled old new)
-      → AreCountedTo s held past (Piece c moment piece) handled old new
-  counts-cut piece handled old new live f =
+  pub counts-cut : (piece : List ℕ) (at : Cut) (old new : Counts) → link.is_closed ≡ false
+      → ((x : List ℕ) → LinkStands s.limits link x → AreAlike now (table_of server) Known → AreCountsTo offer (kept_of (by_number s held)) (capacity_of server) (share_of server) s.limits c now Known x piece at old new)
+      → AreCountedTo s held past (Piece c moment piece) at.handled at.answered old new
+  counts-cut piece at old new live f =
       counts-on (λ (o : Offer) (capacity share : ℕ) (bring : List ℕ → List (Arrival Wanted)) (front : List ℕ → ℕ → List ℕ).
-      (new ≡ counted_all o (kept_of (by_number s held)) capacity share Known (bring (front piece handled)) old)
-      ⊎ ((handled < length (bring piece))
-      × ((new ≡ counted_all o (kept_of (by_number s held)) capacity share Known (bring (front piece (handled + 1))) old)
-      ⊎ (new ≡ counted_with (counted_all o (kept_of (by_number s held)) capacity share Known (bring (front piece handled)) old) Dropped))))
+      (new ≡ counted_all o (kept_of (by_number s held)) capacity share Known (bring (front piece at.handled)) old)
+      ⊎ ((at.handled ≡ at.answered)
+      × (at.handled < length (bring piece))
+      × ((new ≡ counted_all o (kept_of (by_number s held)) capacity share Known (bring (front piece (at.handled + 1))) old)
+      ⊎ (new ≡ counted_with (counted_all o (kept_of (by_number s held)) capacity share Known (bring (front piece at.handled)) old) Dropped))))
       live f
 
   -- its connection was closed

@@ -6,7 +6,7 @@ use Rattle.ft_log.specs.Kept.{KeptOutcome}
 use Rattle.ft_objects.specs.Catalogues.{Offer}
 use Rattle.ft_objects.specs.declared.decided.Decision.{Decision}
 use Rattle.ft_objects.specs.declared.decided.Decision.TheVariants.{Dropped}
-use Rattle.ft_orb.specs.Begun.{Begun, Done}
+use Rattle.ft_orb.specs.Begun.{Asks, Begun, Done, Repeats}
 use Rattle.ft_orb.specs.Decisions.{counted_all, counted_with, decision_on}
 use Rattle.ft_orb.specs.ExactlyOnce.{Arrival}
 use Rattle.ft_orb.specs.History.{arrivals_in, front_in}
@@ -15,16 +15,22 @@ use Rattle.ft_orb.specs.Pause as pause
 use Rattle.ft_orb.specs.Requests.{Call, Wanted}
 use Rattle.ft_orb.specs.Table.{Table}
 use Rattle.ft_orb.specs.declared.counts.Counts.{Counts}
-use Rattle.ft_orb.specs.declared.desk.Step.TheVariants.{Unhandled}
+use Rattle.ft_orb.specs.declared.desk.Step.TheVariants.{Answered, Quiet, Unanswered, Unhandled}
+use Rattle.ft_orb.specs.declared.serving.Cut.{Cut}
 
--- this becomes of a request, or an allocation failed before that was known, and nothing was done
-abbrev pub IsDecided : Decision → Begun → Decision → Type 0
-IsDecided expected b d = (d ≡ expected) ⊎ ((d ≡ Dropped) × (b ≡ Done Unhandled))
+-- what becomes of a request: this; but nothing was done where an allocation failed before that was known
+abbrev pub decided_by : Begun → Decision → Decision
+decided_by (Done Answered) d = d
+decided_by (Done Unanswered) d = d
+decided_by (Done Quiet) d = d
+decided_by (Done Unhandled) d = Dropped
+decided_by (Asks w) d = d
+decided_by (Repeats r) d = d
 
 -- the counts after a message, which is an arrival or none
 abbrev pub AreTallied : Offer → (capacity share : ℕ) → List (KeptOutcome Holding) → List (Arrival Wanted) → Begun → Counts → Counts → Type 0
 AreTallied offer capacity share entries [] b old new = new ≡ old
-AreTallied offer capacity share entries (a ∷ later) b old new = (d : Decision) × IsDecided (decision_on offer capacity share entries a) b d × (new ≡ counted_with old d)
+AreTallied offer capacity share entries (a ∷ later) b old new = new ≡ counted_with old (decided_by b (decision_on offer capacity share entries a))
 
 -- the octets of a piece that were taken
 abbrev pub octets_to : List ℕ → Pause → List ℕ
@@ -38,10 +44,11 @@ module _ (offer : Offer) (answers : List Call → Call → Holding) (capacity sh
   abbrev pub AreCountsOf : List ℕ → Counts → Counts → Type 0
   AreCountsOf octets old new = new ≡ counted_all offer answers capacity share t (arrivals_in limits c now s octets) old
 
-  -- an allocation failed where so many were handled: they were counted; and where one more had begun, what becomes of it, or that it was
-  -- dropped
-  abbrev pub AreCountsTo : List ℕ → (handled : ℕ) → Counts → Counts → Type 0
-  AreCountsTo piece handled old new = AreCountsOf (front_in limits c now s piece handled) old new
-      ⊎ ((handled < length (arrivals_in limits c now s piece))
-      × (AreCountsOf (front_in limits c now s piece (handled + 1)) old new
-      ⊎ (new ≡ counted_with (counted_all offer answers capacity share t (arrivals_in limits c now s (front_in limits c now s piece handled)) old) Dropped)))
+  -- An allocation failed where so many were handled. They were counted; and where one more had begun, so was what becomes of it, or that
+  -- it was dropped.
+  abbrev pub AreCountsTo : List ℕ → Cut → Counts → Counts → Type 0
+  AreCountsTo piece at old new = AreCountsOf (front_in limits c now s piece at.handled) old new
+      ⊎ ((at.handled ≡ at.answered)
+      × (at.handled < length (arrivals_in limits c now s piece))
+      × (AreCountsOf (front_in limits c now s piece (at.handled + 1)) old new
+      ⊎ (new ≡ counted_with (counted_all offer answers capacity share t (arrivals_in limits c now s (front_in limits c now s piece at.handled)) old) Dropped)))

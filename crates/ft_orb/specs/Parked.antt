@@ -1,5 +1,5 @@
 -- Requests that are parked, and who waits for their outcomes.
-use Rattle.std.specs.Prelude.{◌≡◌, ℕ, ◌<◌, ◌≤◌, Bool, true, false, not, if◌then◌else◌, List, [], ◌∷◌, ◌++◌, length, Option, Some, None, filter}
+use Rattle.std.specs.Prelude.{◌≡◌, ◌==◌, ℕ, ◌<◌, ◌≤◌, Bool, true, false, not, if◌then◌else◌, List, [], ◌∷◌, ◌++◌, length, Option, Some, None, filter}
 use Rattle.std.specs.List.{list_all}
 use Rattle.std.specs.Option.{option_map_or}
 use Rattle.std.specs.Ordering.{nat_cmp}
@@ -13,7 +13,6 @@ use Rattle.ft_orb.specs.declared.waiters.Join.{Join}
 use Rattle.ft_orb.specs.declared.waiters.Join.TheVariants as join
 use Rattle.ft_orb.specs.declared.parked.Parked.{Parked}
 use Rattle.ft_orb.specs.declared.parked.Waiter.{Waiter}
-use Rattle.ft_orb.specs.declared.pausing.Pending.{Pending}
 use Rattle.ft_orb.specs.declared.answering.Asker.{Asker}
 use Rattle.ft_orb.specs.declared.desk.Step.{Step}
 use Rattle.ft_orb.specs.declared.desk.Step.TheVariants.{Answered, Quiet, Unanswered, Unhandled}
@@ -36,6 +35,10 @@ going_in links c = option_map_or (λ (l : Linked). not l.is_closed) (get nat_cmp
 -- those of them who wait on connections that go on
 abbrev pub on_going : (ℕ → Bool) → List Waiter → List Waiter
 on_going goes waiters = filter (λ w. goes w.connection) waiters
+
+-- those of them who wait on other connections than c
+abbrev pub elsewhere : ℕ → List Waiter → List Waiter
+elsewhere c waiters = filter (λ (w : Waiter). not (w.connection == c)) waiters
 
 -- the one who waits for the outcome of a request that is parked now: itself, where an answer is wished for
 abbrev pub own_waiters : (c : ℕ) → Asker → List Waiter

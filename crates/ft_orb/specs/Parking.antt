@@ -33,7 +33,7 @@ use Rattle.ft_orb.specs.ExactlyOnce.{Arrival}
 use Rattle.ft_orb.specs.History.{Event, Lost, Piece, completed, does_count, line, shortened}
 use Rattle.ft_orb.specs.Outputs.{after, is_going, output_cut}
 use Rattle.ft_orb.specs.Owners.{OwnerOf, owned_rules, owned_says, owned_table}
-use Rattle.ft_orb.specs.Parked.{going_in, is_wished, on_going}
+use Rattle.ft_orb.specs.Parked.{elsewhere, going_in, is_wished, on_going}
 use Rattle.ft_orb.specs.Requests.{Call, Wanted, asking}
 use Rattle.ft_orb.specs.Seen.{seen_answer}
 use Rattle.ft_orb.specs.Standing.{note_of}
@@ -133,6 +133,14 @@ left_of (Some p) = length p.waiters.items
 
 abbrev pub left_in : {C : Type 0} → Engine C → ℕ → ℕ
 left_in e n = left_of (parked_at e n)
+
+-- those who wait for it on connections that go on, other than c
+abbrev pub others_of : (goes : ℕ → Bool) → (c : ℕ) → Option Parked → List Waiter
+others_of goes c None = []
+others_of goes c (Some p) = elsewhere c (on_going goes p.waiters.items)
+
+abbrev pub others_under : {C : Type 0} → Engine C → (c n : ℕ) → List Waiter
+others_under e c n = others_of (going_in e.links) c (parked_at e n)
 
 -- an outcome can be that of the request that is parked so: it has none yet, and it can be sent, and is one of its operation
 abbrev pub CanSettle : Offer → Option Parked → Performed → Type 0

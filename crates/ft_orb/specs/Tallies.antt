@@ -19,11 +19,12 @@ module _ (s : Settings) (held : ℕ → Holding) (past : List Event) where
   abbrev pub counts_after : Event → Counts → Counts
   counts_after e n = counted_all s.offer (kept_of (by_number s held)) s.capacity s.share (seen_table held (owned_table (by_number s held) past)) (completed s.limits past e) n
 
-  -- Memory ran out where so many were handled. They are counted; and where one more had begun, so is what becomes of it, or that it was
-  -- dropped.
-  abbrev pub AreCountedTo : Event → (handled : ℕ) → Counts → Counts → Type 0
-  AreCountedTo e handled old new = (new ≡ counts_after (shortened s.limits past e handled) old)
-      ⊎ ((handled < length (completed s.limits past e))
+  -- Memory ran out where so many were handled, and so many answered. What was handled is counted. Where all of it is answered the piece may
+  -- have brought one more, which may be counted too: as what becomes of it, or as dropped.
+  abbrev pub AreCountedTo : Event → (handled answered : ℕ) → Counts → Counts → Type 0
+  AreCountedTo e handled answered old new = (new ≡ counts_after (shortened s.limits past e handled) old)
+      ⊎ ((handled ≡ answered)
+      × (handled < length (completed s.limits past e))
       × ((new ≡ counts_after (shortened s.limits past e (handled + 1)) old) ⊎ (new ≡ counted_with (counts_after (shortened s.limits past e handled) old) Dropped)))
 
   -- the counts before a piece, and after it: of what was taken all is counted, the request that waits and the repeat too
@@ -32,4 +33,4 @@ module _ (s : Settings) (held : ℕ → Holding) (past : List Event) where
   AreCounted c moment piece (Ok (fed.Asks taken)) old new = new ≡ counts_after (Piece c moment (take taken piece)) old
   AreCounted c moment piece (Ok (fed.Repeats taken)) old new = new ≡ counts_after (Piece c moment (take taken piece)) old
   AreCounted c moment piece (Err serving.NoConnection) old new = new ≡ old
-  AreCounted c moment piece (Err (serving.Memory handled answered)) old new = AreCountedTo (Piece c moment piece) handled old new
+  AreCounted c moment piece (Err (serving.Memory handled answered)) old new = AreCountedTo (Piece c moment piece) handled answered old new

@@ -1,6 +1,6 @@
 //! A connection served over a wire by an engine, whose owner performs.
 
-ghost use Rattle.std.specs.Prelude.{◌≡◌, ◌<◌, ◌≤◌, ◌∷◌, ◌++◌, ℕ, false, true, List, IfOk, IsSome, None, length};
+ghost use Rattle.std.specs.Prelude.{◌≡◌, ◌<◌, ◌≤◌, ◌∷◌, ◌++◌, ℕ, false, true, List, IfOk, IsSome, None, Some, length};
 ghost use Rattle.ft_log.specs.View.{performed_in};
 ghost use Rattle.ft_orb.specs.Answers.{Agrees, calls_of};
 ghost use Rattle.ft_orb.specs.Engines.{Asks, Awaited, CanAnswer, IsFit, IsOpen, Rests, Resumes, waits_in};
@@ -10,7 +10,7 @@ ghost use Rattle.ft_orb.specs.History.{line};
 ghost use Rattle.ft_orb.specs.Now.{now_says, state_now};
 ghost use Rattle.ft_orb.specs.Outputs.{Plays, is_going, is_gone, table_says};
 ghost use Rattle.ft_orb.specs.Owners.{Owner, made_of, meaning_of};
-ghost use Rattle.ft_orb.specs.Parking.{AreParked, parked_in, told_in};
+ghost use Rattle.ft_orb.specs.Parking.{AreParked, others_under, parked_in, told_in};
 ghost use Rattle.ft_orb.specs.Requests.{Call};
 ghost use Rattle.ft_orb.specs.Sessions.{Attends, IsEnded, calls_with};
 ghost use Rattle.ft_orb.specs.Visits.{HandsIn, TakesPart};
@@ -50,6 +50,7 @@ fn attend_ask<C: Catalogue + Drop, O: Performer>(
     requires asking { IsSome (waits_in engine.old) }
     ensures idle { waits_in engine.new ≡ None }
     ensures parked { AreParked engine.old engine.new }
+    ensures waiting { (w : Awaited) → waits_in engine.old ≡ Some w → (q : ℕ) → others_under engine.new w.connection q ≡ others_under engine.old w.connection q }
     ensures table { (log : List Handover) × OwnerSays log (O.answered owner.old) (O.answered owner.new) × ((o : Owner) (calls : List Call) (past : List history.Event) (moment : ℕ) (octets written : List ℕ) (w : Awaited) → Asks C.offers o calls engine.old past moment octets written w
         → is_gone (line past w.connection) ≡ false → Agrees o.answers calls (handed_in log) → AreHandedIn o.offer log × (note : Note) × IsEnded result note
         × Resumes C.offers o (calls_with calls log) past w.connection moment octets written note engine.new out.old.items out.new.items) }
@@ -84,6 +85,7 @@ fn attend_part<C: Catalogue + Drop, O: Performer>(
     requires some { 0 < length piece.now }
     ensures idle { waits_in engine.new ≡ None }
     ensures parked { AreParked engine.old engine.new }
+    ensures waiting { (q : ℕ) → others_under engine.new connection q ≡ others_under engine.old connection q }
     ensures taken { IfOk result (λ n. (0 < n) × (n ≤ length piece.now)) }
     ensures table { Attends (λ o. o) (O.answered owner.old) (O.answered owner.new) (λ o calls past. Rests C.offers o calls engine.old past × (is_gone (line past connection) ≡ false))
         (λ o calls past. TakesPart C.offers o calls past connection moment piece.now result engine.new out.old.items out.new.items) }
@@ -115,6 +117,8 @@ impl<C: Catalogue + Drop, O: Performer> Host<O> for Engine<C> {
     ghost parked_under = { λ engine. parked_in engine };
 
     ghost told_under = { λ engine. told_in engine };
+
+    ghost waiting_under = { λ engine. others_under engine };
 
     ghost answered = { O.answered };
 
@@ -170,7 +174,10 @@ impl<C: Catalogue + Drop, O: Performer> Host<O> for Engine<C> {
 /// does a connection end on which somebody still waits, where CloseConnection would be sent. An outcome that can't answer
 /// its call is answered INTERNAL in its place, and this is kept.
 ///
-/// What is parked in the engine stays (`parked`).
+/// What is parked in the engine stays (`parked`), and who waits for it on other connections waits on (`waiting`). While a
+/// request is parked that has a key and is not expired, the engine stands for no past in which each outcome is known
+/// (`Rests`): its log keeps a number in place of the outcome. So `table` and `now` say nothing then, and `parked`
+/// and `waiting` alone hold.
 pub fn serve_engine<C: Catalogue + Drop, O: Performer, W: Wire, K: Clock>(
     alloc: Global,
     engine: &mut Engine<C>,
@@ -183,6 +190,7 @@ pub fn serve_engine<C: Catalogue + Drop, O: Performer, W: Wire, K: Clock>(
     requires idle { waits_in engine.old ≡ None }
     ensures idle { waits_in engine.new ≡ None }
     ensures parked { AreParked engine.old engine.new }
+    ensures waiting { (q : ℕ) → others_under engine.new connection q ≡ others_under engine.old connection q }
     // each call that the owner performed was handed in once; in turns a piece is read and the table's answers to what it
     // completes are written, by the owner that answers as it did; and each end has its cause
     ensures table { (log : List Handover) × OwnerSays log (O.answered owner.old) (O.answered owner.new) × ((o : Owner) (calls : List Call) (past : List history.Event) → Rests C.offers o calls engine.old past

@@ -11,9 +11,10 @@ ghost use Rattle.ft_orb.specs.History.{line};
 ghost use Rattle.ft_orb.specs.Outputs.{after, is_going};
 ghost use Rattle.ft_orb.specs.Owners.{Owner};
 ghost use Rattle.ft_orb.specs.Requests.{Call};
-ghost use Rattle.ft_orb.specs.Sessions.{Attends, EndsSo, GrowsBy, IsEnded, IsGivenUp, IsServed, IsVisited, StayParked, TookAll, TookFront};
+ghost use Rattle.ft_orb.specs.Sessions.{Attends, EndsSo, GrowsBy, IsEnded, IsGivenUp, IsServed, IsVisited, StayParked, StayWaiting, TookAll, TookFront};
 ghost use Rattle.ft_orb.specs.Wires.{Act, IsFarewell};
 ghost use Rattle.ft_orb.specs.declared.events.Note.{Note};
+ghost use Rattle.ft_orb.specs.declared.parked.Waiter.{Waiter};
 
 use crate::wire::{Clock, StreamEnd, Wire, WireError};
 use std::alloc::Global;
@@ -44,6 +45,9 @@ pub(crate) trait Host<O> {
     /// The outcome that is told of it.
     ghost told_under: { Self → ℕ → Option Performed };
 
+    /// Who waits for it on connections that go on, other than one.
+    ghost waiting_under: { Self → (connection : ℕ) → ℕ → List Waiter };
+
     /// What its owner has answered, if that is known.
     ghost answered: { O → Option (List Answer) };
 
@@ -61,6 +65,7 @@ pub(crate) trait Host<O> {
         requires some { 0 < length piece.now }
         ensures idle { IsIdle self.new }
         ensures parked { StayParked parked_under told_under self.old self.new }
+        ensures waiting { StayWaiting waiting_under connection self.old self.new }
         ensures table { Attends as_owner (answered owner.old) (answered owner.new) (λ w calls past. Holds w calls self.old past × (is_going (as_owner w).limits (line past connection) ≡ true))
             (λ w calls past. (note : Note) × IsEnded result note × EndsSo (as_owner w) (says w) past (Holds w calls self.new) (history.Piece connection moment piece.now) note out.old.items out.new.items) };
 
@@ -73,6 +78,7 @@ pub(crate) trait Host<O> {
         requires idle { IsIdle self.old }
         ensures idle { IsIdle self.new }
         ensures parked { StayParked parked_under told_under self.old self.new }
+        ensures waiting { StayWaiting waiting_under connection self.old self.new }
         ensures table { (w : World) (calls : List Call) (past : List history.Event) → Holds w calls self.old past → is_going (as_owner w).limits (line past connection) ≡ true → (note : Note)
             × IsEnded result note
             × OnOk result (out.new.items ≡ out.old.items ++ close_connection)
@@ -83,6 +89,7 @@ pub(crate) trait Host<O> {
         requires idle { IsIdle self.old }
         ensures idle { IsIdle self.new }
         ensures parked { StayParked parked_under told_under self.old self.new }
+        ensures waiting { StayWaiting waiting_under connection self.old self.new }
         ensures table { (w : World) (calls : List Call) (past : List history.Event) → Holds w calls self.old past → Holds w calls self.new (history.Lost connection ∷ past) }
         // one that was closed, too
         ensures closed { (w : World) (calls : List Call) (past : List history.Event) (note : Note) → Holds w calls self.old (after (as_owner w).limits past (history.Close connection) note)
@@ -122,6 +129,7 @@ fn serve_piece<O, H: Host<O>, W: Wire, C: Clock>(
     requires small { length room.old ≤ 4096 }
     ensures idle { H.IsIdle host.new }
     ensures parked { StayParked H.parked_under H.told_under host.old host.new }
+    ensures waiting { StayWaiting H.waiting_under connection host.old host.new }
     ensures table { Attends H.as_owner (H.answered owner.old) (H.answered owner.new) (λ w calls past. H.Holds w calls host.old past × (is_going (H.as_owner w).limits (line past connection) ≡ true))
         (λ w calls past. IsVisited (H.as_owner w) (H.says w) past connection (W.traffic wire.old) (C.given clock.old) (H.Holds w calls host.new) (W.traffic wire.new) (C.given clock.new) 1 result) }
 {
@@ -159,6 +167,7 @@ fn serve_pieces<O, H: Host<O>, W: Wire, C: Clock>(
     requires idle { H.IsIdle host.old }
     ensures idle { H.IsIdle host.new }
     ensures parked { StayParked H.parked_under H.told_under host.old host.new }
+    ensures waiting { StayWaiting H.waiting_under connection host.old host.new }
     ensures table { Attends H.as_owner (H.answered owner.old) (H.answered owner.new) (λ w calls past. H.Holds w calls host.old past × (is_going (H.as_owner w).limits (line past connection) ≡ true))
         (λ w calls past. IsVisited (H.as_owner w) (H.says w) past connection (W.traffic wire.old) (C.given clock.old) (H.Holds w calls host.new) (W.traffic wire.new) (C.given clock.new) max_reads result) }
 {
@@ -185,6 +194,7 @@ fn say_farewell<O, H: Host<O>, W: Wire>(
     requires idle { H.IsIdle host.old }
     ensures idle { H.IsIdle host.new }
     ensures parked { StayParked H.parked_under H.told_under host.old host.new }
+    ensures waiting { StayWaiting H.waiting_under connection host.old host.new }
     ensures table { (w : H.World) (calls : List Call) (past : List history.Event) → H.Holds w calls host.old past → is_going (H.as_owner w).limits (line past connection) ≡ true → (acts : List Act) × (note : Note)
         × IsFarewell result acts × IsGivenUp result note × GrowsBy acts (W.traffic wire.old) (W.traffic wire.new)
         × H.Holds w calls host.new (after (H.as_owner w).limits past (history.Close connection) note) }
@@ -212,6 +222,7 @@ pub(crate) fn serve_host<O, H: Host<O>, W: Wire, C: Clock>(
     requires idle { H.IsIdle host.old }
     ensures idle { H.IsIdle host.new }
     ensures parked { StayParked H.parked_under H.told_under host.old host.new }
+    ensures waiting { StayWaiting H.waiting_under connection host.old host.new }
     ensures table { Attends H.as_owner (H.answered owner.old) (H.answered owner.new) (λ w calls past. H.Holds w calls host.old past × (is_going (H.as_owner w).limits (line past connection) ≡ true))
         (λ w calls past. IsServed (H.as_owner w) (H.says w) past connection (W.traffic wire.old) (C.given clock.old) (H.Holds w calls host.new) (W.traffic wire.new) (C.given clock.new) max_reads result) }
 {

@@ -1,13 +1,14 @@
 //! What is kept for clients once a request is performed, or parked.
 
-ghost use Rattle.std.specs.Prelude.{◌≡◌};
+ghost use Rattle.std.specs.Prelude.{◌≡◌, max};
 ghost use Rattle.ft_log.specs.Holding.{known, parked};
+ghost use Rattle.ft_log.specs.Kept.{unexpired};
 ghost use Rattle.ft_log.specs.Logged.{logged};
 ghost use Rattle.ft_log.specs.View.{performed_in};
 ghost use Rattle.ft_objects.specs.Replies.{IsRenderable};
 ghost use Rattle.ft_orb.specs.Waits.{Finishes, IsReady, filled_with, kept_with};
 
-use crate::desk::Step;
+use crate::desk::{Step, forget_expired};
 use crate::keeper::{Keeper, Retained};
 use ft_log::Outcome;
 
@@ -60,6 +61,18 @@ impl Keeper {
         if let Some(Retained { key, .. }) = retained {
             self.log.fill(key, number, outcome);
         }
+    }
+
+    /// A moment has come: what expired before it is forgotten.
+    pub(crate) fn tick(&mut self, moment: u64)
+        ensures clock { self.new.clock ≡ max self.old.clock moment }
+        ensures log { logged self.new.log ≡ record (logged self.old.log) { entries = unexpired self.new.clock (logged self.old.log).entries } }
+        ensures slot { self.new.slot ≡ self.old.slot }
+        ensures counts { self.new.counts ≡ self.old.counts }
+        ensures ended { self.new.ended ≡ self.old.ended }
+    {
+        self.clock = self.clock.max(moment);
+        forget_expired(&mut self.log, self.clock);
     }
 
     /// Keeps the outcome of the request in the slot, if it has a key, and answers with it.

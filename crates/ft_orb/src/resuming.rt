@@ -17,11 +17,12 @@ use ft_objects::Catalogue;
 
 impl<C: Catalogue + Drop> Engine<C> {
     ghost use Rattle.ft_orb.specs.Decisions.{one_more};
-    ghost use Rattle.ft_orb.specs.Engines.{AreEndings, AreWithin, Asks, Awaited, CanAnswer, EndsLast, EndsShort, IsOpen, Resumes, ResumesOnce, asks_in, counts_in, handled_in, waits_in};
+    ghost use Rattle.ft_orb.specs.Engines.{AreEndings, Asks, Awaited, CanAnswer, EndsLast, EndsShort, IsOpen, Resumes, ResumesOnce, asks_in, counts_in, handled_in, waits_in};
     ghost use Rattle.ft_orb.specs.EnginesNow.{ResumesNow};
-    ghost use Rattle.ft_orb.specs.Parking.{AreParked, AsksLate, ResumesLate, Settings, put_at};
+    ghost use Rattle.ft_orb.specs.Parking.{AreParked, AsksLate, ResumesLate, Settings, others_under, put_at};
     ghost use Rattle.ft_orb.specs.Standing.{note_of};
     ghost use Rattle.ft_orb.specs.declared.ending.Ending.TheVariants.{GivenUp};
+    ghost use Rattle.ft_orb.specs.declared.error.ServeError.TheVariants.{Memory as Short};
     ghost use Rattle.ft_orb.specs.declared.events.Note.TheVariants.{Memory};
     ghost use Rattle.ft_orb.specs.declared.parked.Waiter.{Waiter};
     ghost use Rattle.ft_log.specs.Holding.{Holding, known};
@@ -46,6 +47,7 @@ impl<C: Catalogue + Drop> Engine<C> {
         ensures idle { waits_in self.new ≡ None }
         ensures asks { asks_in self.new ≡ asks_in self.old }
         ensures parked { AreParked self.old self.new }
+        ensures waiting { (w : Awaited) → waits_in self.old ≡ Some w → (q : ℕ) → others_under self.new w.connection q ≡ others_under self.old w.connection q }
         ensures catalogue { self.new.catalogue ≡ self.old.catalogue }
         ensures counted { counts_in self.new ≡ record (counts_in self.old) { given_up = one_more (counts_in self.old).given_up } }
         ensures ended { (w : Awaited) → waits_in self.old ≡ Some w → EndsLast self.new w.connection GivenUp }
@@ -90,9 +92,10 @@ impl<C: Catalogue + Drop> Engine<C> {
         ensures idle { waits_in self.new ≡ None }
         ensures asks { asks_in self.new ≡ asks_in self.old }
         ensures parked { AreParked self.old self.new }
+        ensures waiting { (w : Awaited) → waits_in self.old ≡ Some w → (q : ℕ) → others_under self.new w.connection q ≡ others_under self.old w.connection q }
         ensures catalogue { self.new.catalogue ≡ self.old.catalogue }
         ensures counted { counts_in self.new ≡ record (counts_in self.old) { answered = one_more (counts_in self.old).answered } }
-        ensures few { IfErr result (λ e. AreWithin (handled_in self.old + 1) e) }
+        ensures few { IfErr result (λ e. e ≡ Short (handled_in self.old + 1) (handled_in self.old)) }
         ensures ended { OnOk result (AreEndings self.old self.new) }
         ensures short { (w : Awaited) → waits_in self.old ≡ Some w → IfErr result (λ e. EndsShort self.old self.new w.connection e) }
     {

@@ -5,6 +5,7 @@ ghost use Rattle.std.specs.BTreeMap.{btree_map_len, get};
 ghost use Rattle.std.specs.Ordering.{nat_cmp};
 ghost use Rattle.ft_orb.specs.Counts.{on_connection, waiters_on};
 ghost use Rattle.ft_orb.specs.Parked.{IsCleared, IsCopy, JoinsAs, JoinsBy, going_in, own_waiters};
+ghost use Rattle.ft_orb.specs.Parking.{left_of};
 
 use crate::answering::Asker;
 use crate::desk::Step;
@@ -112,6 +113,7 @@ pub(crate) fn answer_repeat(
 ) -> Step
     ensures joins { JoinsAs (going_in links.now) most connection repeat (get nat_cmp parked.old.requests repeat.number) result (get nat_cmp parked.new.requests repeat.number) out.old.items out.new.items }
     ensures others { (q : ℕ) → (q == repeat.number) ≡ false → get nat_cmp parked.new.requests q ≡ get nat_cmp parked.old.requests q }
+    ensures few { (q : ℕ) → left_of (get nat_cmp parked.old.requests q) ≤ most + 1 → left_of (get nat_cmp parked.new.requests q) ≤ most + 1 }
 {
     let waiter = Waiter {
         connection,

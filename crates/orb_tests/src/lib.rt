@@ -15,6 +15,8 @@ mod owners;
 mod sockets;
 mod tape;
 #[cfg(test)]
+mod ticks;
+#[cfg(test)]
 mod visits;
 mod wire;
 

@@ -1,4 +1,4 @@
-use Rattle.std.proofs.Common.{ℕ, Err, sym, subst, take}
+use Rattle.std.proofs.Common.{ℕ, Err, sym, subst, take, ◌∙◌}
 use Rattle.std.proofs.lemmas.Result.{err_from_is_err_and}
 use Rattle.ft_orb.specs.declared.engine.Fed.{Fed}
 use Rattle.ft_orb.specs.declared.wire.StreamEnd.{StreamEnd}
@@ -14,6 +14,16 @@ returns-in_err-attend_ask-in-Ok-Asks-clause-parked g c = stay-then parked_in tol
 
 pub returns-in_ok-attend_ask-in-Ok-Asks-clause-parked : goal.returns-in_ok-attend_ask-in-Ok-Asks-clause-parked
 returns-in_ok-attend_ask-in-Ok-Asks-clause-parked g c = stay-then parked_in told_in c.args.engine.now c.feed.new.self c.attend_ask.new.engine c.in-Ok-Asks.ensures.parked c.in_ok-attend_ask-in-Ok-Asks.ensures.parked
+
+pub returns-in_err-attend_ask-in-Ok-Asks-clause-waiting : goal.returns-in_err-attend_ask-in-Ok-Asks-clause-waiting
+returns-in_err-attend_ask-in-Ok-Asks-clause-waiting g c q =
+    let place = rw c.in-Ok-Asks.field-0-is at c.in-Ok-Asks.ensures.place in
+    c.in_err-attend_ask-in-Ok-Asks.ensures.waiting _ place.5 q ∙ c.in-Ok-Asks.ensures.waiting q
+
+pub returns-in_ok-attend_ask-in-Ok-Asks-clause-waiting : goal.returns-in_ok-attend_ask-in-Ok-Asks-clause-waiting
+returns-in_ok-attend_ask-in-Ok-Asks-clause-waiting g c q =
+    let place = rw c.in-Ok-Asks.field-0-is at c.in-Ok-Asks.ensures.place in
+    c.in_ok-attend_ask-in-Ok-Asks.ensures.waiting _ place.5 q ∙ c.in-Ok-Asks.ensures.waiting q
 
 pub returns-in_err-attend_ask-in-Ok-Asks-clause-table : goal.returns-in_err-attend_ask-in-Ok-Asks-clause-table
 returns-in_err-attend_ask-in-Ok-Asks-clause-table g c =

@@ -20,6 +20,15 @@ returns-clause-parked g c q =
           (f.0 ∙ ap parked b.host-is ∙ e.0 ∙ s.0, f.1 ∙ ap told b.host-is ∙ e.1 ∙ s.1)
     ]
 
+pub returns-clause-waiting : goal.returns-clause-waiting
+returns-clause-waiting g c q =
+    let waiting = λ (host : g.row.H.Denot). g.H.Host.waiting_under host c.args.connection q in
+    let f = c.forget.ensures.waiting q in
+    elim c.match-serve_pieces.branch [
+      | in-Some b ↦ f ∙ ap waiting b.host-is ∙ b.in-Some.ensures.waiting q
+      | in-None b ↦ f ∙ ap waiting b.host-is ∙ b.say_farewell-end.ensures.waiting q ∙ b.in-None.ensures.waiting q
+    ]
+
 pub returns-clause-table : goal.returns-clause-table
 returns-clause-table g c =
     elim c.match-serve_pieces.branch [

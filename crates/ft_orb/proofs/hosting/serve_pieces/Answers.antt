@@ -10,11 +10,15 @@ loop-reads-init g c = record {
   room = refl;
   idle = c.requires.idle;
   parked = λ q. (refl, refl);
+  waiting = λ q. refl;
   goes = attends-none g.H.Host.as_owner _ (λ w calls past x. visit-none (g.H.Host.as_owner w) (g.H.Host.says w) past c.args.connection _ _ (g.H.Host.Holds w calls c.args.host.now) x.0 x.1);
 }
 
 pub returns-in-Some-clause-parked : goal.returns-in-Some-clause-parked
 returns-in-Some-clause-parked g c = stay-then g.H.Host.parked_under g.H.Host.told_under c.args.host.now c.loop-reads.host c.serve_piece.new.host c.loop-reads.invariant.parked c.in-Some.ensures.parked
+
+pub returns-in-Some-clause-waiting : goal.returns-in-Some-clause-waiting
+returns-in-Some-clause-waiting g c q = c.in-Some.ensures.waiting q ∙ c.loop-reads.invariant.waiting q
 
 pub returns-in-Some-clause-table : goal.returns-in-Some-clause-table
 returns-in-Some-clause-table g c =
@@ -30,6 +34,7 @@ loop-reads-preserved g c = record {
   room = c.serve_piece.auto.room ∙ c.loop-reads.invariant.room;
   idle = c.in_default.ensures.idle;
   parked = stay-then g.H.Host.parked_under g.H.Host.told_under c.args.host.now c.loop-reads.host c.serve_piece.new.host c.loop-reads.invariant.parked c.in_default.ensures.parked;
+  waiting = λ q. c.in_default.ensures.waiting q ∙ c.loop-reads.invariant.waiting q;
   goes =
       attends-then g.H.Host.as_owner c.loop-reads.invariant.goes c.in_default.ensures.table (λ w calls then past at x. (
         past_with (g.H.Host.as_owner w).limits past c.args.connection x.0,

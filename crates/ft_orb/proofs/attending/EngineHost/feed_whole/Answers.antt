@@ -1,4 +1,4 @@
-use Rattle.std.proofs.Common.{◌≤◌, List, ℕ, Err, Ok, drop, length, inl, inr, refl, sym, subst, arith}
+use Rattle.std.proofs.Common.{◌≤◌, List, ℕ, Err, Ok, drop, length, inl, inr, refl, sym, subst, ◌∙◌, arith}
 use Rattle.std.proofs.lemmas.Result.{err_from_is_err_and}
 use Rattle.ft_orb.specs.declared.events.Note.TheVariants.{Done}
 use Rattle.ft_orb.specs.declared.wire.StreamEnd.{StreamEnd}
@@ -15,6 +15,7 @@ loop-taken-init g c = record {
   within = omega arith;
   idle = c.requires.idle;
   parked = λ q. (refl, refl);
+  waiting = λ q. refl;
   goes = attends-none (λ (o : Owner). o) _ (λ o calls past x. (inl (refl, x.0, refl), inr (λ m less. absurd (omega (arith, less)))));
 }
 
@@ -26,6 +27,7 @@ loop-taken-preserved g c =
       within = let n = c.in_ok-taken.ensures.taken.1 in let l = c.split_at.ensures.back_len in omega (arith, n, l, some);
       idle = c.in_ok-taken.ensures.idle;
       parked = stay-then parked_in told_in c.args.self.now c.loop-taken.self c.attend_part.new.engine c.loop-taken.invariant.parked c.in_ok-taken.ensures.parked;
+      waiting = λ q. c.in_ok-taken.ensures.waiting q ∙ c.loop-taken.invariant.waiting q;
       goes =
           attends-then (λ (o : Owner). o) c.loop-taken.invariant.goes c.in_ok-taken.ensures.table (λ o calls then past at x.
           let p = part-taken g.C.Catalogue.offers o c.streams_are_heard.ensures.grows c.streams_are_heard.ensures.stays c.streams_are_heard.ensures.silent past c.args.connection c.args.moment then c.args.piece.now c.loop-taken.taken
@@ -35,6 +37,9 @@ loop-taken-preserved g c =
 
 pub returns-in_err-taken-clause-parked : goal.returns-in_err-taken-clause-parked
 returns-in_err-taken-clause-parked g c = stay-then parked_in told_in c.args.self.now c.loop-taken.self c.attend_part.new.engine c.loop-taken.invariant.parked c.in_err-taken.ensures.parked
+
+pub returns-in_err-taken-clause-waiting : goal.returns-in_err-taken-clause-waiting
+returns-in_err-taken-clause-waiting g c q = c.in_err-taken.ensures.waiting q ∙ c.loop-taken.invariant.waiting q
 
 pub returns-in_err-taken-clause-table : goal.returns-in_err-taken-clause-table
 returns-in_err-taken-clause-table g c =

@@ -22,6 +22,9 @@ returns-in-Ok-clause-table g c o calls past rests going =
 pub returns-in-Err-Waits-clause-parked : goal.returns-in-Err-Waits-clause-parked
 returns-in-Err-Waits-clause-parked g c = stay-then parked_in told_in c.args.self.now c.close.new.self c.lost.new.self c.close.ensures.parked c.lost.ensures.parked
 
+pub returns-in-Err-Waits-clause-waiting : goal.returns-in-Err-Waits-clause-waiting
+returns-in-Err-Waits-clause-waiting g c q = c.lost.ensures.waiting q ∙ c.close.ensures.waiting q
+
 pub returns-in-Err-Waits-clause-table : goal.returns-in-Err-Waits-clause-table
 returns-in-Err-Waits-clause-table g c o calls past rests going =
     let waits : c.close.result ≡ Err closing.Waits = grind (arith, common_steps) in
