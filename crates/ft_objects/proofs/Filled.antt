@@ -1,9 +1,9 @@
 -- What a catalogue offers once the object under one key has changed.
 use Rattle.std.proofs.Common.{◌≡◌, ◌∙◌, ℕ, Bool, true, false, List, Option, Some, None, Result, Ok, Err, OnOk, OnErr, ap, is_some, sym}
-use Rattle.ft_objects.specs.Filling.{changed, ids_at, ids_in, is_raw, is_raw_at, offer_in, offered_at, offered_by, with_object, with_operations, with_raw_object}
+use Rattle.ft_objects.specs.Filling.{changed, ids_at, ids_in, is_raw, is_raw_at, offer_in, offered_at, offered_by, with_object, with_operations, with_raw_object, without_object}
 use Rattle.ft_objects.specs.Interfaces.{Interface, no_operation, raw_operation}
 use Rattle.ft_objects.specs.declared.object.Object.{Object}
-use Rattle.ft_objects.proofs.Named.{changed_same, changed_through}
+use Rattle.ft_objects.proofs.Named.{changed_same, changed_through, none_is}
 
 -- what holds at either end
 pub at_both : {T E P : Type 0} (r : Result T E) → OnOk r P → OnErr r P → P
@@ -64,3 +64,18 @@ module _ (f g : List ℕ → Option Object) (key : List ℕ) (w : Object) (now :
 
     pub ids_kept : ids_in w ≡ ids_in o → ids_of_objects g ≡ ids_of_objects f
     ids_kept is = ids_now ∙ changed_same (ids_of_objects f) key (ids_in w) (ap ids_at was ∙ sym is)
+
+-- the catalogue f, without an object under the key
+module _ (f g : List ℕ → Option Object) (key : List ℕ) (now : g ≡ changed key None f) where
+  pub offer_gone : offer_in g ≡ without_object key (offer_in f)
+  offer_gone = ap offer_in now ∙ (λ i. record { interface = changed_through offered_at f key None i; knows = changed_through (is_some {T = Object}) f key None i })
+
+  pub raw_gone : raw_of_objects g ≡ changed key false (raw_of_objects f)
+  raw_gone = ap raw_of_objects now ∙ changed_through is_raw_at f key None
+
+  pub ids_gone : ids_of_objects g ≡ changed key None (ids_of_objects f)
+  ids_gone = ap ids_of_objects now ∙ changed_through ids_at f key None
+
+  -- where there was none
+  pub none_gone : is_some (f key) ≡ false → g ≡ f
+  none_gone none = now ∙ changed_same f key None (none_is (f key) none)

@@ -1,3 +1,4 @@
 pub mod BasicValues
 pub mod Named
 pub mod Filled
+pub mod Fronts

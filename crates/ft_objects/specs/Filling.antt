@@ -35,6 +35,10 @@ with_object key o = record { interface = changed key (λ name. no_operation) o.i
 abbrev pub with_raw_object : List ℕ → Offer → Offer
 with_raw_object key o = record { interface = changed key (λ name. raw_operation) o.interface; knows = changed key true o.knows }
 
+-- without an object under the key
+abbrev pub without_object : List ℕ → Offer → Offer
+without_object key o = record { interface = changed key (λ name. no_object) o.interface; knows = changed key false o.knows }
+
 -- with these operations, of the object under the key, in place of those that it has
 abbrev pub with_operations : List ℕ → (List ℕ → Interface) → Offer → Offer
 with_operations key f o = record { interface = changed key f o.interface; knows = o.knows }
@@ -164,3 +168,7 @@ raw_objects i key = is_raw_at (at i.objects key)
 
 abbrev pub ids_of : Interfaces → List ℕ → Option (List (List ℕ))
 ids_of i key = ids_at (at i.objects key)
+
+-- two catalogues offer the same, the same objects are raw as a whole, and name the same ids
+abbrev pub OffersSame : Interfaces → Interfaces → Type 0
+OffersSame i j = (offer_of i ≡ offer_of j) × (raw_objects i ≡ raw_objects j) × (ids_of i ≡ ids_of j)

@@ -8,5 +8,5 @@ pub mod Sizes
 pub mod Objects
 -- that types are valid is a fact, with at most one proof: a field of `Typed` cites it
 pub mod Validity
--- that a catalogue that is filled in keeps the promises of one: the `impl` of `Interfaces` cites it
+-- that catalogues that are filled in keep the promises of one: the `impl`s of `Interfaces` and of `Families` cite it
 pub mod Promises

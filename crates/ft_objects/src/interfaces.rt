@@ -1,13 +1,14 @@
 //! A catalogue as data, which its owner fills in call by call.
 
-ghost use Rattle.std.specs.Prelude.{◌≡◌, ◌↔◌, IfErr, IsTrue, OnErr, OnOk, Some, None, false, map, true};
+ghost use Rattle.std.specs.Prelude.{◌≡◌, ◌↔◌, IfErr, IsTrue, OnErr, OnOk, Some, None, false, map, option_copied, true};
+ghost use Rattle.ft_objects.specs.Adding.{longer_front};
 ghost use Rattle.cdr_core.specs.Spelling.{IsClean};
 ghost use Rattle.ft_objects.specs.Interfaces.{operation, raw_operation, types_of};
 ghost use Rattle.ft_objects.specs.Filling.{AreClean};
 
 use crate::catalogue::Catalogue;
 use crate::error::InterfacesError;
-use crate::keyed::put;
+use crate::keyed::{put, take};
 use crate::object::{Object, Offered};
 use crate::signature::{Lookup, Signature};
 use crate::typed::Typed;
@@ -37,8 +38,24 @@ fn are_clean(ids: &[Vec<u8>]) -> bool
     true
 }
 
+/// The longer of two fronts of a key: the one so far, if there is one, and this key, if it is one.
+fn longer<'a>(key: &[u8], front: Option<&'a [u8]>, own: &'a [u8]) -> Option<&'a [u8]>
+    ensures { option_copied result ≡ longer_front key.now (option_copied front.entry) own.now }
+{
+    let is_longer = match front {
+        Some(front) => front.len() < own.len(),
+        None => true,
+    };
+    if is_longer && key.starts_with(own) {
+        Some(own)
+    } else {
+        front
+    }
+}
+
 impl Interfaces {
-    ghost use Rattle.ft_objects.specs.Filling.{AreClean, AreNoOperations, CanBeAdded, IsFree, IsNotValidOr, IsWhyNoObject, IsWhyNothing, TakesOperations, changed, ids_of, names_id, nothing, offer_of, offered_in, raw_objects, texts, with_identity, with_object, with_operation, with_raw_object};
+    ghost use Rattle.ft_objects.specs.Filling.{AreClean, AreNoOperations, CanBeAdded, IsFree, IsNotValidOr, IsWhyNoObject, IsWhyNothing, OffersSame, TakesOperations, changed, ids_of, names_id, nothing, offer_of, offered_in, raw_objects, texts, with_identity, with_object, with_operation, with_raw_object, without_object};
+    ghost use Rattle.ft_objects.specs.Families.{family};
 
     /// A catalogue without objects. It takes no memory.
     pub fn new(alloc: Global) -> Interfaces
@@ -169,6 +186,30 @@ impl Interfaces {
             Some(object) => object.is_a(id),
             None => false,
         }
+    }
+
+    /// Takes the object under the key away, with its operations and the repository ids that it names. Returns whether
+    /// there was one; where there was none, nothing changes.
+    pub fn remove(&mut self, key: &[u8]) -> bool
+        ensures was { result ≡ (offer_of self.old).knows key.now }
+        ensures offer { offer_of self.new ≡ without_object key.now (offer_of self.old) }
+        ensures raw { raw_objects self.new ≡ changed key.now false (raw_objects self.old) }
+        ensures ids { ids_of self.new ≡ changed key.now None (ids_of self.old) }
+        ensures none { result ≡ false → OffersSame self.old self.new }
+    {
+        take(&mut self.objects, key)
+    }
+
+    /// The longest key of an object that the given key begins with, octet by octet: each key begins with itself, and
+    /// with the empty key. It goes over all objects, and allocates nothing.
+    pub fn family_of(&self, key: &[u8]) -> Option<&[u8]>
+        ensures { option_copied result ≡ family (offer_of self.now).knows key.now }
+    {
+        let mut longest = None;
+        for own in self.objects.keys() {
+            longest = longer(key, longest, own);
+        }
+        longest
     }
 }
 

@@ -1,6 +1,6 @@
 //! Maps whose keys are octets.
 
-ghost use Rattle.std.specs.Prelude.{◌≡◌, Some, None, IfErr, OnErr, OnOk};
+ghost use Rattle.std.specs.Prelude.{◌≡◌, Some, None, IfErr, OnErr, OnOk, is_some};
 ghost use Rattle.ft_objects.specs.Adding.{IsWhyNotPut};
 ghost use Rattle.ft_objects.specs.Filling.{at, changed};
 
@@ -32,9 +32,10 @@ pub(crate) fn put<T: Drop>(
     }
 }
 
-/// Takes away what is under a key.
-pub(crate) fn take<T: Drop>(map: &mut BTreeMap<Vec<u8>, T>, key: &[u8])
-    ensures { at map.new ≡ changed key.now None (at map.old) }
+/// Takes away what is under a key, and says whether something was.
+pub(crate) fn take<T: Drop>(map: &mut BTreeMap<Vec<u8>, T>, key: &[u8]) -> bool
+    ensures was { result ≡ is_some (at map.old key.now) }
+    ensures gone { at map.new ≡ changed key.now None (at map.old) }
 {
-    map.remove(key);
+    map.remove(key).is_some()
 }

@@ -2,14 +2,15 @@
 //! chapter 9; GIOP 9.4.2).
 //!
 //! An application implements `Servant`, whose contract says what each operation does, or `Catalogue`, which says its
-//! types alone; `Interfaces` is a catalogue that is filled in call by call. It promises which operation a key and a name
-//! lead to, and reads arguments by their index.
+//! types alone; `Interfaces` is a catalogue that is filled in call by call, and `Families` one in which many keys lead to
+//! one object. It promises which operation a key and a name lead to, and reads arguments by their index.
 #![tactic(auto)]
 
 mod accessors;
 mod catalogue;
 mod decided;
 mod error;
+mod families;
 mod interfaces;
 mod keyed;
 mod object;
@@ -23,8 +24,9 @@ pub use decided::Decision;
 pub use servant::Servant;
 pub use signature::{Lookup, Signature};
 
-// a catalogue as data
+// catalogues as data
 pub use error::InterfacesError;
+pub use families::Families;
 pub use interfaces::Interfaces;
 
 // the arguments of an operation

@@ -13,5 +13,6 @@ pub mod Retrying
 pub mod Cutting
 pub mod Forwarding
 pub mod Relaying
+pub mod Accounts
 -- proofs that `impl Servant` cites, which nobody has to read
 pub mod facts

@@ -1,8 +1,9 @@
-//! Nineteen uses of the libraries, as a caller writes them: each is one file with one subject, proved, and
-//! run by a test of `uses_tests` on octets written out by hand from the standard's layouts (CDR 9.3 and GIOP 9.4).
+//! Twenty uses of the libraries, as a caller writes them: each is one file with one subject, proved, and
+//! run by a test of `uses_tests`, whose octets are written out by hand from the standard's layouts (CDR 9.3, GIOP 9.4).
 //! The pages of the repository quote them.
 #![tactic(auto)]
 
+mod accounts;
 mod arguments;
 mod banking;
 mod capture;
@@ -23,6 +24,7 @@ mod saving;
 mod serving;
 mod tickets;
 
+pub use accounts::offer_accounts;
 pub use arguments::{DecodeError, first_arguments, publish_types};
 pub use banking::{Bank, BankingError, serve_bank};
 pub use capture::{Capture, read_capture};

@@ -13,7 +13,7 @@ returns-in-Err-clause-why c =
 
 pub returns-in-Err-clause-err : goal.returns-in-Err-clause-err
 returns-in-Err-clause-err c =
-    c.take.ensures ∙ (ap (λ (f : List ℕ → Option Offered). changed is_a_name None f) (c.in-Err.ensures.err ∙ c.in_ok-put.ensures.ok)
+    c.take.ensures.gone ∙ (ap (λ (f : List ℕ → Option Offered). changed is_a_name None f) (c.in-Err.ensures.err ∙ c.in_ok-put.ensures.ok)
     ∙ changed_back (at c.args.self.now.by_name) is_a_name None (Some c.in-Ok.is_a) c.in_ok-put.ensures.free)
 
 pub returns-clause-ok : goal.returns-clause-ok
