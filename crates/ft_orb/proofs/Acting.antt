@@ -34,7 +34,7 @@ use Rattle.ft_orb.specs.DeedsPlayed.{AreOf, Holds, LeaveAtLast, RunsAreAnsweredL
 use Rattle.ft_orb.specs.Counts.{waiters_on}
 use Rattle.ft_orb.specs.Engines.{Awaited, CanAnswer, IsNumbered, asks_in, awaited_of, waits_in}
 use Rattle.ft_orb.specs.ExactlyOnce.{Absent, Arrival, Bad, Field, OneExpiration, Present, Rules, state_after, state_of}
-use Rattle.ft_orb.specs.History.{Close, Event, Lost, Piece, arrivals, completed, connection_of, event_of}
+use Rattle.ft_orb.specs.History.{Close, Event, KeepsAll, Lost, Piece, arrivals, completed, connection_of, event_of}
 use Rattle.ft_orb.specs.Now.{performed_now}
 use Rattle.ft_orb.specs.Outputs.{Noted, after, noted, output_cut}
 use Rattle.ft_orb.specs.Owners.{owned_rules, owned_says, owned_table, owner_rules}
@@ -44,7 +44,7 @@ use Rattle.ft_orb.specs.Requests.{Call, Wanted}
 use Rattle.ft_orb.specs.Standing.{note_of}
 use Rattle.ft_orb.specs.Table.{Table, forgotten, keyed_step, performing_step, step_by_field, table_after, table_step}
 use Rattle.ft_orb.specs.Tellings.{Later, nothing_yet}
-use Rattle.ft_orb.proofs.Books.{book_by}
+use Rattle.ft_orb.proofs.Books.{book_by, kept-folded}
 use Rattle.ft_orb.proofs.Folded.{table_after-append}
 use Rattle.ft_orb.proofs.Headline.{past_stands_by}
 use Rattle.ft_orb.proofs.Late.{below-past, links-go, tally-is}
@@ -249,8 +249,7 @@ module _ {C : Type 0} (offers : C → Offer) (s : Settings) where
       let rules = owned_rules (by_number s g.held) in
       let mid = table_after rules (owned_table (by_number s g.held) g.past) x.front in
       let all : owned_table (by_number s g.held) now ≡ (table_step rules mid x.last).0 =
-      ap (λ (xs : List (Arrival Wanted)). table_after rules (record { state = []; entries = [] }) (arrivals s.limits g.past ++ xs)) x.completes
-      ∙ table_after-append rules (record { state = []; entries = [] }) (arrivals s.limits g.past) (x.front ++ x.last ∷ [])
+      ap (λ (xs : List (Arrival Wanted)). table_after rules (owned_table (by_number s g.held) g.past) xs) x.completes
       ∙ table_after-append rules (owned_table (by_number s g.held) g.past) x.front (x.last ∷ []) in
       let low : x.i < length (table_step rules mid x.last).0.state = step-below s.offer.interface s.capacity s.share mid x.last x.i (after-below s.offer.interface s.capacity s.share (owned_table (by_number s g.held) g.past) x.front (below-past s g.past)) x.says in
       let count : length (table_step rules mid x.last).0.state ≡ length g.calls = ap (λ (t : Table (List Call) ℕ). length t.state) (sym all) ∙ ap (λ (l : List Call). length l) (tally-is offers s nothing_yet g.held g.calls new now x.stays.rests) in
@@ -586,11 +585,11 @@ module _ {C : Type 0} (offers : C → Offer) (s : Settings) where
 module _ (s : Settings) where
   -- The calls that were taken, by all that came.
 
-  pub calls-now : (g : Ledger) → AreTaken s g → g.calls ≡ state_after (owned_rules (by_number s g.held)) [] (performed_now (owned_rules (by_number s g.held)) (arrivals s.limits g.past))
-  calls-now g taken = taken ∙ (past_now_by (book_by (by_number s g.held)) g.past).state
+  pub calls-now : (g : Ledger) → AreTaken s g → KeepsAll g.past → g.calls ≡ state_after (owned_rules (by_number s g.held)) [] (performed_now (owned_rules (by_number s g.held)) (arrivals s.limits g.past))
+  calls-now g taken kept = taken ∙ (past_now_by (book_by (by_number s g.held)) g.past (kept-folded (by_number s g.held) g.past kept)).state
 
-  pub calls-once : (g : Ledger) → AreTaken s g → OneExpiration (arrivals s.limits g.past) → g.calls ≡ state_of (owned_rules (by_number s g.held)) [] (arrivals s.limits g.past)
-  calls-once g taken one = taken ∙ (past_stands_by (book_by (by_number s g.held)) g.past one).state
+  pub calls-once : (g : Ledger) → AreTaken s g → KeepsAll g.past → OneExpiration (arrivals s.limits g.past) → g.calls ≡ state_of (owned_rules (by_number s g.held)) [] (arrivals s.limits g.past)
+  calls-once g taken kept one = taken ∙ (past_stands_by (book_by (by_number s g.held)) g.past (kept-folded (by_number s g.held) g.past kept) one).state
 
   pub answered-late : EndingsStay meaning_in → RunsAreAnsweredLate s
   answered-late stay held ds runs = record {

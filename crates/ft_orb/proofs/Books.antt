@@ -1,5 +1,5 @@
 -- What a server, or an engine, goes by; and its table with outcomes as the log keeps them.
-use Rattle.std.proofs.Common.{◌≡◌, ℕ, Bool, true, false, cond, nat_le, nat_lt, List, [], ◌∷◌, map, Option, Some, None, Result, Ok, Err, refl, sym, ap, ◌∙◌}
+use Rattle.std.proofs.Common.{◌≡◌, ℕ, Bool, true, false, not, cond, nat_le, nat_lt, filter, List, [], ◌∷◌, map, Option, Some, None, Result, Ok, Err, refl, sym, ap, ◌∙◌}
 use Rattle.std.specs.List.{cons_option}
 use Rattle.std.specs.Option.{option_map}
 use Rattle.std.proofs.lemmas.List.{map-append}
@@ -12,8 +12,8 @@ use Rattle.ft_log.specs.declared.system_exception.SystemName.{SystemName}
 use Rattle.ft_log.specs.declared.system_exception.SystemName.TheVariants.{BadContext}
 use Rattle.ft_objects.specs.Servants.{Meaning}
 use Rattle.ft_orb.specs.ExactlyOnce.{Absent, Arrival, Bad, Field, Present, Rules, answers_after}
-use Rattle.ft_orb.specs.History.{Event, arrivals, completed}
-use Rattle.ft_orb.specs.Outputs.{Made}
+use Rattle.ft_orb.specs.History.{Close, Event, KeepsAll, Lost, Opened, Piece, Withdrew, arrivals, completed}
+use Rattle.ft_orb.specs.Outputs.{Made, table_of_past}
 use Rattle.ft_orb.specs.Requests.{Call, Wanted, rules_of}
 use Rattle.ft_orb.specs.Seen.{TablesAreSeen, seen_answer, seen_entry, seen_rules, seen_table}
 use Rattle.ft_orb.specs.Standing.{Shown, StandsBy}
@@ -21,10 +21,19 @@ use Rattle.ft_orb.specs.Table.{Table, forgotten, keyed_step, performing_step, st
 use Rattle.ft_orb.specs.Tellings.{Later, Teller, Telling, answer_told, answers_told, held_told, nothing_yet, octets_told, rendered}
 use Rattle.std.specs.List.{flat_map}
 use Rattle.ft_orb.specs.Now.{answers_now_after}
-use Rattle.ft_orb.specs.Owners.{OwnerOf, owner_rules}
+use Rattle.ft_orb.specs.Owners.{Owner, OwnerOf, let_go, owned_rules, owned_table, owner_rules, owning}
+use Rattle.ft_orb.proofs.Folded.{table_after-append}
+
+-- the event takes nothing out of a table
+abbrev pub IsLive : Event → Type 0
+IsLive (Opened c) = Unit {0}
+IsLive (Piece c moment octets) = Unit {0}
+IsLive (Close c) = Unit {0}
+IsLive (Lost c) = Unit {0}
+IsLive (Withdrew i) = ⊥
 
 -- limits of connections, how many outcomes are kept, how many of each client, the state at first, the rules, by how many are kept,
--- how an outcome is held, what is said where that is parked, which keys have objects, and what is told
+-- how an outcome is held, what is said where that is parked, which keys have objects, what is told, and the table of a past
 pub record Book (S O : Type 0) : Type 0 where
   pub limits : Limits
   pub capacity : ℕ
@@ -36,13 +45,19 @@ pub record Book (S O : Type 0) : Type 0 where
   pub knows : List ℕ → Bool
   pub tell : Teller O
   pub tells : (w : Wanted) (a : Result O SystemName) → held_told late knows w (seen_answer hold a) ≡ tell w a
+  pub table : List Event → Table S O
+  pub next : (past : List Event) (e : Event) → IsLive e → table (e ∷ past) ≡ table_after (rules capacity share) (table past) (completed limits past e)
 
 module _ {S O : Type 0} (b : Book S O) where
   abbrev pub ruled : Rules S Wanted Call O
   ruled = b.rules b.capacity b.share
 
   abbrev pub table_by : List Event → Table S O
-  table_by past = table_after ruled (record { state = b.opening; entries = [] }) (arrivals b.limits past)
+  table_by past = b.table past
+
+  -- it is folded over all arrivals of the past
+  abbrev pub IsFolded : List Event → Type 0
+  IsFolded past = table_by past ≡ table_after ruled (record { state = b.opening; entries = [] }) (arrivals b.limits past)
 
   abbrev pub says_by : List Event → Event → List (Result O SystemName)
   says_by past e = table_answers ruled (table_by past) (completed b.limits past e)
@@ -83,7 +98,33 @@ book_of meaning made = record {
   knows = meaning.knows;
   tell = answer_told meaning.knows;
   tells = known-tells nothing_yet meaning.knows;
+  table = table_of_past meaning made;
+  next = λ past e live. table_after-append (rules_of meaning made.capacity made.share) (record { state = made.opening; entries = [] }) (arrivals made.limits past) (completed made.limits past e);
 }
+
+owned-next : {O : Type 0} (o : OwnerOf O) (past : List Event) (e : Event) → IsLive e → owned_table o (e ∷ past) ≡ table_after (owned_rules o) (owned_table o past) (completed o.limits past e)
+owned-next o past (Opened c) live = refl
+owned-next o past (Piece c moment octets) live = refl
+owned-next o past (Close c) live = refl
+owned-next o past (Lost c) live = refl
+owned-next o past (Withdrew i) live = absurd live
+
+all-kept : {O : Type 0} (test : KeptOutcome O → Bool) (es : List (KeptOutcome O)) → ((e : KeptOutcome O) → test e ≡ false) → filter (λ e. not (test e)) es ≡ es
+all-kept test [] none = refl
+all-kept {O} test (e ∷ es) none = (λ i. cond (not (none e i)) (e ∷ filter (λ x. not (test x)) es) (filter (λ x. not (test x)) es)) ∙ ap (λ (xs : List (KeptOutcome O)). e ∷ xs) (all-kept test es none)
+
+kept-all : {O : Type 0} (o : OwnerOf O) → ((outcome : O) (i : ℕ) → o.is outcome i ≡ false) → (e : Event) (t : Table (List Call) O) → let_go o.is e t ≡ t
+kept-all o none (Opened c) t = refl
+kept-all o none (Piece c moment octets) t = refl
+kept-all o none (Close c) t = refl
+kept-all o none (Lost c) t = refl
+kept-all {O} o none (Withdrew i) t = ap (λ (es : List (KeptOutcome O)). record { state = t.state; entries = es }) (all-kept (λ e. o.is e.outcome i) t.entries (λ e. none e.outcome i))
+
+folded-next : {O : Type 0} (o : OwnerOf O) (past : List Event) (e : Event) → owned_table o past ≡ table_after (owned_rules o) (record { state = []; entries = [] }) (arrivals o.limits past)
+    → table_after (owned_rules o) (owned_table o past) (completed o.limits past e) ≡ table_after (owned_rules o) (record { state = []; entries = [] }) (arrivals o.limits (e ∷ past))
+folded-next {O} o past e before =
+    ap (λ (t : Table (List Call) O). table_after (owned_rules o) t (completed o.limits past e)) before
+    ∙ sym (table_after-append (owned_rules o) (record { state = []; entries = [] }) (arrivals o.limits past) (completed o.limits past e))
 
 -- an owner's
 abbrev pub book_by : {O : Type 0} → OwnerOf O → Book (List Call) O
@@ -98,7 +139,25 @@ book_by o = record {
   knows = o.offer.knows;
   tell = o.tell;
   tells = λ w a. sym (o.tells w a);
+  table = owned_table o;
+  next = owned-next o;
 }
+
+-- where nothing was withdrawn, the table is folded over all arrivals
+pub kept-folded : {O : Type 0} (o : OwnerOf O) (past : List Event) → KeepsAll past → IsFolded (book_by o) past
+kept-folded o [] kept = refl
+kept-folded o (Opened c ∷ past) kept = folded-next o past (Opened c) (kept-folded o past kept)
+kept-folded o (Piece c moment octets ∷ past) kept = folded-next o past (Piece c moment octets) (kept-folded o past kept)
+kept-folded o (Close c ∷ past) kept = folded-next o past (Close c) (kept-folded o past kept)
+kept-folded o (Lost c ∷ past) kept = folded-next o past (Lost c) (kept-folded o past kept)
+kept-folded o (Withdrew i ∷ past) kept = absurd kept
+
+-- .. and where nothing ever can be
+pub owning-folded : (o : Owner) (past : List Event) → IsFolded (book_by (owning o)) past
+owning-folded o [] = refl
+owning-folded o (e ∷ past) =
+    kept-all (owning o) (λ outcome i. refl) e (table_after (owned_rules (owning o)) (owned_table (owning o) past) (completed o.limits past e))
+    ∙ folded-next (owning o) past e (owning-folded o past)
 
 -- Tables are seen.
 module _ {O P : Type 0} (see : O → P) where

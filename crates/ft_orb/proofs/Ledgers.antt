@@ -19,9 +19,9 @@ use Rattle.ft_orb.specs.Outputs.{WritesBy, after, is_going, is_gone}
 use Rattle.ft_orb.specs.Parked.{is_wished, on_going}
 use Rattle.ft_orb.specs.Parking.{Settings, goes_on, numbering, put_at, waiter_of, own_of}
 use Rattle.ft_orb.specs.Requests.{Call, Wanted}
-use Rattle.ft_orb.proofs.Books.{book_by}
+use Rattle.ft_orb.proofs.Books.{book_by, kept-folded}
 use Rattle.ft_orb.proofs.Headline.{writes_agree_by}
-use Rattle.ft_orb.proofs.Said.{says_now_by}
+use Rattle.ft_orb.proofs.Said.{writes_now_by}
 use Rattle.ft_orb.proofs.GoesOn.{counts-after, counts-later, on-going-twice, was-counted, went-after, went-on}
 use Rattle.ft_orb.proofs.Late.{put-else, put-here}
 
@@ -370,12 +370,10 @@ module _ (s : Settings) where
   answered-are-known g (x ∷ xs) ys a o written note h = answered-are-known (after_deed s g x) xs ys a o written note h.1
 
   pub written-now : WrittenNow s
-  written-now late held past e written note h =
-      let owner = numbering s late held in
-      subst (λ (says : List Event → Event → List (Result ℕ SystemName)). WritesBy s.limits owner.tell says past e written note) (says_now_by (book_by owner)) h
+  written-now late held past e written note kept h = let owner = numbering s late held in writes_now_by (book_by owner) past e written note (kept-folded owner past kept) h
 
   pub written-once : WrittenOnce s
-  written-once late held past e written note one h = writes_agree_by (book_by (numbering s late held)) past e written note one h
+  written-once late held past e written note kept one h = let owner = numbering s late held in writes_agree_by (book_by owner) past e written note (kept-folded owner past kept) one h
 
   -- No two calls are parked under one number.
 

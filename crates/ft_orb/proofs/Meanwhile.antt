@@ -24,9 +24,9 @@ use Rattle.ft_orb.specs.declared.events.Note.TheVariants.{Done, Memory, Refused}
 use Rattle.ft_orb.specs.declared.parked.Waiter.{Waiter}
 use Rattle.ft_orb.specs.Engines.{AsksOf, Awaited, EndsOf, IsThenOf, RestsOf, ResumesOf, as_server, asks_in, waits_in}
 use Rattle.ft_orb.specs.ExactlyOnce.{Arrival}
-use Rattle.ft_orb.specs.History.{Close, Event, Gone, Line, Lost, Opened, Piece, Shut, Up, arrivals, counted, does_count, line, shut}
+use Rattle.ft_orb.specs.History.{Close, Event, Gone, Line, Lost, Opened, Piece, Shut, Up, counted, does_count, line, shut}
 use Rattle.ft_orb.specs.Outputs.{close_told, close_told_on, is_going, is_gone}
-use Rattle.ft_orb.specs.Owners.{OwnerOf, owned_rules, owned_table}
+use Rattle.ft_orb.specs.Owners.{OwnerOf, owned_table}
 use Rattle.ft_orb.specs.Parking.{AsksLate, EndsLate, ResumesLate, Settings, Stays, numbering, put_at, still}
 use Rattle.ft_orb.specs.Private.{IsPut}
 use Rattle.ft_orb.specs.Requests.{Call, Wanted}
@@ -52,10 +52,9 @@ rests-lost offers o calls old new past c h are idle same clock entries gone = re
     greatest = λ d. h.stands.greatest d ∙ ap (λ (g : Option ℕ). option_map_or (λ (x : ℕ). nat_lt x d) g true) (sym same.greatest);
     lines = λ d. at d (c == d) refl;
     table = record {
-      state = h.stands.table.state ∙ ap (λ (xs : List (Arrival Wanted)). (table_after (owned_rules o) (record { state = []; entries = [] }) xs).state) (sym (append-nil (arrivals o.limits past)));
+      state = h.stands.table.state;
       entries = ap (λ (k : ℕ). unexpired k (logged new.keeper.log).entries) clock ∙ ap (unexpired old.keeper.clock) entries ∙ h.stands.table.entries
-          ∙ ap (λ (k : ℕ). unexpired k (map (seen_entry o.hold) (owned_table o past).entries)) (sym clock)
-          ∙ ap (λ (xs : List (Arrival Wanted)). unexpired new.keeper.clock (map (seen_entry o.hold) (table_after (owned_rules o) (record { state = []; entries = [] }) xs).entries)) (sym (append-nil (arrivals o.limits past)));
+          ∙ ap (λ (k : ℕ). unexpired k (map (seen_entry o.hold) (owned_table o past).entries)) (sym clock);
     };
   };
 }
@@ -174,10 +173,9 @@ module _ {C : Type 0} (offers : C → Offer) (s : Settings) (late : Later) (held
       greatest = λ d. r.stands.greatest d ∙ ap (λ (g : Option ℕ). option_map_or (λ (x : ℕ). nat_lt x d) g true) (sym same.greatest);
       lines = λ d. at d (c == d) refl;
       table = record {
-        state = r.stands.table.state ∙ ap (λ (xs : List (Arrival Wanted)). (table_after (owned_rules Owned) (record { state = []; entries = [] }) xs).state) (sym (append-nil (arrivals s.limits past)));
+        state = r.stands.table.state;
         entries = ap (λ (k : ℕ). unexpired k (logged new.keeper.log).entries) clock ∙ ap (unexpired old.keeper.clock) entries ∙ r.stands.table.entries
-            ∙ ap (λ (k : ℕ). unexpired k (map (seen_entry held) (owned_table Owned past).entries)) (sym clock)
-            ∙ ap (λ (xs : List (Arrival Wanted)). unexpired new.keeper.clock (map (seen_entry held) (table_after (owned_rules Owned) (record { state = []; entries = [] }) xs).entries)) (sym (append-nil (arrivals s.limits past)));
+            ∙ ap (λ (k : ℕ). unexpired k (map (seen_entry held) (owned_table Owned past).entries)) (sym clock);
       };
     };
   }

@@ -12,7 +12,7 @@ use Rattle.ft_orb.specs.declared.events.Note.TheVariants.{Done, Memory}
 use Rattle.ft_orb.specs.declared.parked.Waiter.{Waiter}
 use Rattle.ft_orb.specs.Engines.{Awaited}
 use Rattle.ft_orb.specs.ExactlyOnce.{Arrival, OneExpiration}
-use Rattle.ft_orb.specs.History.{Close, Event, Lost, Opened, Piece, arrivals, completed, connection_of, shortened}
+use Rattle.ft_orb.specs.History.{Close, Event, KeepsAll, Lost, Opened, Piece, Withdrew, arrivals, completed, connection_of, shortened}
 use Rattle.ft_orb.specs.Outputs.{Noted, WritesBy, after, output_cut}
 use Rattle.ft_orb.specs.Owners.{owned_law, owned_now, owned_rules, owned_says, owned_table}
 use Rattle.ft_orb.specs.Parked.{is_wished, on_going}
@@ -130,6 +130,7 @@ IsUnawaited (Opened c) waiting = Unit {0}
 IsUnawaited (Piece c moment octets) waiting = Unit {0}
 IsUnawaited (Close c) waiting = (n : ℕ) → list_any (λ w. w.connection == c) (waiting n) ≡ false
 IsUnawaited (Lost c) waiting = Unit {0}
+IsUnawaited (Withdrew i) waiting = Unit {0}
 
 -- something was settled under number n
 abbrev pub settles : ℕ → Deed → Bool
@@ -295,14 +296,15 @@ module _ (s : Settings) where
   abbrev pub ToldAreKnown : Type 0
   ToldAreKnown = (g : Ledger) (xs ys : List Deed) (i n : ℕ) (outcome : Performed) (told : List Told) → Runs g (xs ++ Settled i n outcome told ∷ ys) → (after_deeds g (xs ++ Settled i n outcome told ∷ ys)).held i ≡ known outcome
 
-  -- What was written is what looking back over all arrivals says, each key by itself and whatever expirations requests carry ..
+  -- Where no call was withdrawn, what was written is what looking back over all arrivals says, each key by itself and whatever
+  -- expirations requests carry ..
   abbrev pub WrittenNow : Type 0
-  WrittenNow = (late : Later) (held : ℕ → Holding) (past : List Event) (e : Event) (written : List ℕ) (note : Note) → Wrote late held past e written note
+  WrittenNow = (late : Later) (held : ℕ → Holding) (past : List Event) (e : Event) (written : List ℕ) (note : Note) → KeepsAll past → Wrote late held past e written note
       → WritesBy s.limits (numbering s late held).tell (owned_now (numbering s late held)) past e written note
 
   -- .. and where requests with one key carry one expiration, what the fold that remembers all says.
   abbrev pub WrittenOnce : Type 0
-  WrittenOnce = (late : Later) (held : ℕ → Holding) (past : List Event) (e : Event) (written : List ℕ) (note : Note) → OneExpiration (arrivals s.limits (after s.limits past e note)) → Wrote late held past e written note
+  WrittenOnce = (late : Later) (held : ℕ → Holding) (past : List Event) (e : Event) (written : List ℕ) (note : Note) → KeepsAll past → OneExpiration (arrivals s.limits (after s.limits past e note)) → Wrote late held past e written note
       → WritesBy s.limits (numbering s late held).tell (owned_law (numbering s late held)) past e written note
 
   -- those who wait do so on connections that go on
