@@ -54,7 +54,7 @@ pub(crate) struct Store {
 
 impl Store {
     ghost use Rattle.std.specs.Prelude.{◌≡◌, ◌↔◌, ◌<◌, ◌*◌, ◌++◌, [], ◌∷◌, None, Some, Err, OnOk, OnErr, MatchOption, true, false, length, map};
-    ghost use Rattle.ft_log.specs.Kept.{filled, kept_for, least_expiration, unexpired};
+    ghost use Rattle.ft_log.specs.Kept.{filled, kept_for, least_expiration, unexpired, withdrawn};
     ghost use Rattle.ft_log.specs.Logged.{logged, slots_of};
     ghost use Rattle.ft_log.specs.Store.{shown};
     ghost use Rattle.ft_log.specs.View.{holding_in, performed_in};
@@ -239,6 +239,13 @@ impl Store {
         self.story = Story::filled(&self.story, &entry);
         self.kept.fill(entry.key, number, entry.outcome);
     }
+
+    /// Takes out what is kept for a call that is parked under a number, under its key; its room is given back. Where it is
+    /// forgotten, or has its outcome, nothing changes. It takes no memory.
+    #[tactic(auto, unfolding(crate::specs::Logged::logged))]
+    pub(crate) fn withdraw(&mut self, _key: &Key, _number: u64)
+        ensures { logged (shown self.new) ≡ record (logged (shown self.old)) { entries = withdrawn (key_of _key.now) _number (logged (shown self.old)).entries } }
+    {}
 
     /// No two entries have one key.
     #[tactic(auto, unfolding(crate::specs::Logged::logged))]
