@@ -8,7 +8,7 @@ use Rattle.ft_log.specs.Tied.{AreDues, due_in, due_of}
 use Rattle.ft_log.specs.View.{entries_at, key_of}
 use Rattle.ft_log.specs.Without.{without}
 use Rattle.ft_log.specs.declared.story.Entry.{Entry}
-use Rattle.ft_log.specs.declared.order.Due.{Due}
+use Rattle.ft_log.specs.declared.due.Due.{Due}
 use Rattle.ft_log.specs.declared.order.Order.{Order}
 use Rattle.ft_log.proofs.Entries.{IsLeft, NoneBefore, all_stay, keys_at, least_is, left_from, length_sum, one, one_itself, split}
 

@@ -14,7 +14,7 @@ use Rattle.ft_log.specs.Tied.{AreDues, is_free, is_slotted, outcome_for}
 use Rattle.ft_log.specs.View.{key_of}
 use Rattle.ft_log.specs.Without.{without}
 use Rattle.ft_log.specs.declared.story.Entry.{Entry}
-use Rattle.ft_log.specs.declared.order.Due.{Due}
+use Rattle.ft_log.specs.declared.due.Due.{Due}
 use Rattle.ft_log.specs.declared.order.Order.{Order}
 use Rattle.ft_log.specs.declared.held.Held.{Held}
 use Rattle.ft_log.specs.declared.shelf.Kept.{Kept}

@@ -12,7 +12,7 @@ use Rattle.ft_log.specs.Holding.{Holding}
 use Rattle.ft_log.specs.Shelf.{at_key, slot_at}
 use Rattle.ft_log.specs.Tied.{due_of, is_free, is_ready, is_slotted, outcome_for}
 use Rattle.ft_log.specs.View.{entries_at, key_of}
-use Rattle.ft_log.specs.declared.order.Due.{Due}
+use Rattle.ft_log.specs.declared.due.Due.{Due}
 use Rattle.ft_log.specs.declared.held.Held.{Held}
 use Rattle.ft_log.specs.declared.held.Held.TheVariants.{Known}
 use Rattle.ft_log.specs.declared.shelf.Kept.{Kept}

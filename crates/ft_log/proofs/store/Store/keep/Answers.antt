@@ -11,7 +11,7 @@ use Rattle.ft_log.specs.Shelf.{at_key, has_room}
 use Rattle.ft_log.specs.Tied.{AreDues, AreOutcomes, due_of, is_copied, is_free, is_ready, is_slotted}
 use Rattle.ft_log.specs.View.{key_of}
 use Rattle.ft_log.specs.declared.story.Entry.{Entry}
-use Rattle.ft_log.specs.declared.order.Due.{Due}
+use Rattle.ft_log.specs.declared.due.Due.{Due}
 use Rattle.ft_log.specs.declared.shelf.Shelf.{Shelf}
 use Rattle.ft_log.proofs.Dated.{as_many}
 use Rattle.ft_log.proofs.Entries.{clients-push, keys_at, length_push, outcome_for-push}
