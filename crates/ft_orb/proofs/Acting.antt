@@ -29,17 +29,17 @@ use Rattle.ft_orb.specs.declared.events.Written.{Written}
 use Rattle.ft_orb.specs.declared.parked.Parked.{Parked as CodeParked}
 use Rattle.ft_orb.specs.declared.parked.Places.{Places}
 use Rattle.ft_orb.specs.declared.parked.Waiter.{Waiter}
-use Rattle.ft_orb.specs.Deeds.{AreTaken, AreTold, Answered, Asking, Deed, GivenUp, Happened, HasPlace, IsFor, IsFree, IsUnawaited, Joined, Ledger, Missed, Parked, Reached, Runs, Settled, Stopped, Told, Wrote, after_deeds, note_told, notes_of, opening, piece_of, reply_to, rest_of, told_all, told_one}
+use Rattle.ft_orb.specs.Deeds.{AreTaken, AreTold, Answered, Asking, Declined, Deed, GivenUp, Happened, HasPlace, IsFor, IsFree, IsUnawaited, Joined, Ledger, Missed, Parked, Reached, Runs, Settled, Stopped, Told, Withdrawn, Wrote, after_deeds, note_told, notes_of, opening, piece_of, reply_to, rest_of, told_all, told_one, without_call}
 use Rattle.ft_orb.specs.DeedsPlayed.{AreOf, Holds, LeaveAtLast, RunsAreAnsweredLate, IsDone, IsOf, IsTold, Shows, StandsAt, left_after, left_fed, left_of}
 use Rattle.ft_orb.specs.Counts.{waiters_on}
 use Rattle.ft_orb.specs.Engines.{Awaited, CanAnswer, IsNumbered, asks_in, awaited_of, waits_in}
 use Rattle.ft_orb.specs.ExactlyOnce.{Absent, Arrival, Bad, Field, OneExpiration, Present, Rules, state_after, state_of}
-use Rattle.ft_orb.specs.History.{Close, Event, KeepsAll, Lost, Piece, arrivals, completed, connection_of, event_of}
+use Rattle.ft_orb.specs.History.{Close, Event, KeepsAll, Lost, Piece, Withdrew, arrivals, completed, connection_of, event_of}
 use Rattle.ft_orb.specs.Now.{performed_now}
 use Rattle.ft_orb.specs.Outputs.{Noted, after, noted, output_cut}
 use Rattle.ft_orb.specs.Owners.{owned_rules, owned_says, owned_table, owner_rules}
 use Rattle.ft_orb.specs.Parked.{going_in, is_wished, on_going}
-use Rattle.ft_orb.specs.Parking.{AreParked, AsksLate, CanSettle, EndsLate, FeedsLate, IsDueLate, IsSettled, Parks, RepeatsLate, RepliesLate, ResumesLate, Settings, Stays, StopsLate, by_number, goes_on, numbering, parked_at, parked_in, parked_count, parked_of, places_of, places_of_one, put_at, still, told_in, told_of as outcome_of, waiter_of, waits_on, own_of}
+use Rattle.ft_orb.specs.Parking.{AreParked, AsksLate, CanSettle, DeclinesLate, EndsLate, FeedsLate, IsDueLate, IsSettled, Parks, RepeatsLate, RepliesLate, ResumesLate, Settings, Stays, StopsLate, WithdrawsLate, by_number, goes_on, not_now, numbering, parked_at, parked_in, parked_count, parked_of, places_of, places_of_one, put_at, still, told_in, told_of as outcome_of, waiter_of, waits_on, own_of}
 use Rattle.ft_orb.specs.Requests.{Call, Wanted}
 use Rattle.ft_orb.specs.Standing.{note_of}
 use Rattle.ft_orb.specs.Table.{Table, forgotten, keyed_step, performing_step, step_by_field, table_after, table_step}
@@ -315,11 +315,11 @@ module _ {C : Type 0} (offers : C → Offer) (s : Settings) where
 
   pub gives-up-deed : (g : Ledger) (old new : Engine C) (x : Awaiting g old) (handled : ℕ) → ResumesLate offers s g.held g.calls g.past g.waiting x.a.request.connection x.a.moment x.a.octets x.a.written (Memory handled handled) new [] [] → AreParked old new → asks_in new ≡ asks_in old
       → handled + 1 ≡ length (completed s.limits g.past (piece_of x.a))
-      → (c : ℕ) → c ≡ x.a.request.connection → IsDone offers s g code.GiveUp None (record { connection = c; octets = []; note = Memory handled handled } ∷ []) new
-  gives-up-deed g old new x handled y are asks counts c at =
+      → (c : ℕ) → c ≡ x.a.request.connection → (told : CodeDeed) → IsOf told (GivenUp x.a handled) → IsDone offers s g told None (record { connection = c; octets = []; note = Memory handled handled } ∷ []) new
+  gives-up-deed g old new x handled y are asks counts c at told of =
       let wrote : x.a.written ++ y.resumes.more ≡ x.a.written = ap (λ (l : List ℕ). x.a.written ++ l) (sym y.resumes.appended) ∙ append-nil x.a.written in (
         GivenUp x.a handled,
-        tt,
+        of,
         (x.is, subst (λ (l : List ℕ). Wrote s nothing_yet g.held g.past (piece_of x.a) l (Memory handled handled)) wrote y.resumes.writes, y.stays.rests.stands.table.state, counts),
         ap (λ (k : ℕ). record { connection = k; octets = []; note = Memory handled handled } ∷ []) (sym at),
         refl,
@@ -439,6 +439,43 @@ module _ {C : Type 0} (offers : C → Offer) (s : Settings) where
       shows = shows-without g old new r.shows n asks gone others;
     },
   )
+
+  -- It is declined, and that is told.
+  pub declines-deed : (g : Ledger) (old new : Engine C) (x : Awaiting g old) (name : SystemName) (minor : ℕ) (before out : List ℕ) → before ≡ []
+      → DeclinesLate offers s g.held g.calls g.past g.waiting x.a.moment x.a.octets x.a.written x.a.request (not_now name minor) new before out → AreParked old new → asks_in new ≡ asks_in old
+      → (c : ℕ) → c ≡ x.a.request.connection → IsDone offers s g (code.Decline name minor) None (record { connection = c; octets = out; note = Done } ∷ []) new
+  declines-deed g old new x name minor before out none y are asks c at =
+      let wrote : out ≡ y.more = y.appended ∙ ap (λ (l : List ℕ). l ++ y.more) none in (
+        Declined x.a name minor out,
+        (refl, refl),
+        (x.is, subst (λ (l : List ℕ). Wrote s nothing_yet (put_at (length g.calls) (known (not_now name minor)) g.held) g.past (piece_of x.a) (x.a.written ++ l) Done) (sym wrote) y.writes, y.stays.rests.stands.table.state),
+        ap (λ (k : ℕ). record { connection = k; octets = out; note = Done } ∷ []) (sym at),
+        refl,
+        record { stands = y.stays; nobody = λ n is. still-none (Withdrew (length g.calls) ∷ piece_of x.a ∷ g.past) g.waiting n (x.nobody n is); shows = shows-on g.asked g.there old new x.shows are asks },
+      )
+
+  pub withdraws-deed : (g : Ledger) (old mid new : Engine C) → Resting g old → (n : ℕ) (name : SystemName) (minor : ℕ) (before out : List Written) (y : WithdrawsLate offers s g.held g.calls g.past g.waiting n mid)
+      → (t : IsTold offers s (without_call y.i g) n (not_now name minor) new before out) → asks_in new ≡ asks_in old
+      → parked_in new n ≡ None → ((q : ℕ) → (q == n) ≡ false → (parked_in new q ≡ parked_in old q) × (told_in new q ≡ told_in old q)) → IsDone offers s g (code.Withdraw n name minor) None (map noted t.written) new
+  withdraws-deed g old mid new r n name minor before out y t asks gone others =
+      let one : t.i ≡ y.i = y.stays.parks.once t.i y.i n t.taken y.taken t.was y.was in
+      let stays : Stays offers s (put_at y.i (known (not_now name minor)) g.held) g.calls new (told_all s n (without_call y.i g) t.told).past (told_all s n (without_call y.i g) t.told).waiting =
+      subst (λ (k : ℕ). Stays offers s (put_at k (known (not_now name minor)) g.held) g.calls new (told_all s n (without_call y.i g) t.told).past (told_all s n (without_call y.i g) t.told).waiting) one t.stays in (
+        Withdrawn y.i n name minor t.told,
+        (refl, refl, refl),
+        (r.none, y.taken, y.was, t.are_told, t.none, stays.rests.stands.table.state),
+        t.notes,
+        refl,
+        record {
+          stands = stays;
+          nobody = λ m.
+              (elim (m == n) as (λ (b : Bool). (m == n) ≡ b → cond b None (g.there m) ≡ None → (told_all s n (without_call y.i g) t.told).waiting m ≡ []) [
+                | true ↦ λ is none. subst (λ (k : ℕ). (told_all s n (without_call y.i g) t.told).waiting k ≡ []) (sym (eqb-true m n is)) t.none
+                | false ↦ λ is none. told-none m n (without_call y.i g) t.told (r.nobody m none)
+              ]) refl;
+          shows = shows-without g old new r.shows n asks gone others;
+        },
+      )
 
   -- so far
   pub record IsTelling (g : Ledger) (n : ℕ) (outcome : Performed) (new : Engine C) (before out : List Written) : Type 0 where

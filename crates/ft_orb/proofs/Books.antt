@@ -1,5 +1,5 @@
 -- What a server, or an engine, goes by; and its table with outcomes as the log keeps them.
-use Rattle.std.proofs.Common.{◌≡◌, ℕ, Bool, true, false, not, cond, nat_le, nat_lt, filter, List, [], ◌∷◌, map, Option, Some, None, Result, Ok, Err, refl, sym, ap, ◌∙◌}
+use Rattle.std.proofs.Common.{◌≡◌, ℕ, Bool, true, false, cond, nat_le, nat_lt, List, [], ◌∷◌, map, Option, Some, None, Result, Ok, Err, refl, sym, ap, ◌∙◌}
 use Rattle.std.specs.List.{cons_option}
 use Rattle.std.specs.Option.{option_map}
 use Rattle.std.proofs.lemmas.List.{map-append}
@@ -21,7 +21,7 @@ use Rattle.ft_orb.specs.Table.{Table, forgotten, keyed_step, performing_step, st
 use Rattle.ft_orb.specs.Tellings.{Later, Teller, Telling, answer_told, answers_told, held_told, nothing_yet, octets_told, rendered}
 use Rattle.std.specs.List.{flat_map}
 use Rattle.ft_orb.specs.Now.{answers_now_after}
-use Rattle.ft_orb.specs.Owners.{Owner, OwnerOf, let_go, owned_rules, owned_table, owner_rules, owning}
+use Rattle.ft_orb.specs.Owners.{Owner, OwnerOf, owned_rules, owned_table, owner_rules, owning, table_by as owner_table}
 use Rattle.ft_orb.proofs.Folded.{table_after-append}
 
 -- the event takes nothing out of a table
@@ -102,27 +102,21 @@ book_of meaning made = record {
   next = λ past e live. table_after-append (rules_of meaning made.capacity made.share) (record { state = made.opening; entries = [] }) (arrivals made.limits past) (completed made.limits past e);
 }
 
-owned-next : {O : Type 0} (o : OwnerOf O) (past : List Event) (e : Event) → IsLive e → owned_table o (e ∷ past) ≡ table_after (owned_rules o) (owned_table o past) (completed o.limits past e)
-owned-next o past (Opened c) live = refl
-owned-next o past (Piece c moment octets) live = refl
-owned-next o past (Close c) live = refl
-owned-next o past (Lost c) live = refl
-owned-next o past (Withdrew i) live = absurd live
+-- an owner's table after an event that takes nothing out
+pub owned-next : {O : Type 0} (o : OwnerOf O) (past : List Event) (e : Event) → IsLive e → owned_table o (e ∷ past) ≡ table_after (owned_rules o) (owned_table o past) (completed o.limits past e)
+owned-next {O} o past e live = by o.is e live
+  where
+    by : (x : Option (O → ℕ → Bool)) (e : Event) → IsLive e → owner_table (owned_rules o) o.limits x (e ∷ past) ≡ table_after (owned_rules o) (owner_table (owned_rules o) o.limits x past) (completed o.limits past e)
+    by None e live = table_after-append (owned_rules o) (record { state = []; entries = [] }) (arrivals o.limits past) (completed o.limits past e)
+    by (Some is) (Opened c) live = refl
+    by (Some is) (Piece c moment octets) live = refl
+    by (Some is) (Close c) live = refl
+    by (Some is) (Lost c) live = refl
+    by (Some is) (Withdrew i) live = absurd live
 
-all-kept : {O : Type 0} (test : KeptOutcome O → Bool) (es : List (KeptOutcome O)) → ((e : KeptOutcome O) → test e ≡ false) → filter (λ e. not (test e)) es ≡ es
-all-kept test [] none = refl
-all-kept {O} test (e ∷ es) none = (λ i. cond (not (none e i)) (e ∷ filter (λ x. not (test x)) es) (filter (λ x. not (test x)) es)) ∙ ap (λ (xs : List (KeptOutcome O)). e ∷ xs) (all-kept test es none)
-
-kept-all : {O : Type 0} (o : OwnerOf O) → ((outcome : O) (i : ℕ) → o.is outcome i ≡ false) → (e : Event) (t : Table (List Call) O) → let_go o.is e t ≡ t
-kept-all o none (Opened c) t = refl
-kept-all o none (Piece c moment octets) t = refl
-kept-all o none (Close c) t = refl
-kept-all o none (Lost c) t = refl
-kept-all {O} o none (Withdrew i) t = ap (λ (es : List (KeptOutcome O)). record { state = t.state; entries = es }) (all-kept (λ e. o.is e.outcome i) t.entries (λ e. none e.outcome i))
-
-folded-next : {O : Type 0} (o : OwnerOf O) (past : List Event) (e : Event) → owned_table o past ≡ table_after (owned_rules o) (record { state = []; entries = [] }) (arrivals o.limits past)
-    → table_after (owned_rules o) (owned_table o past) (completed o.limits past e) ≡ table_after (owned_rules o) (record { state = []; entries = [] }) (arrivals o.limits (e ∷ past))
-folded-next {O} o past e before =
+folded-next : {O : Type 0} (o : OwnerOf O) (x : Option (O → ℕ → Bool)) (past : List Event) (e : Event) → owner_table (owned_rules o) o.limits x past ≡ table_after (owned_rules o) (record { state = []; entries = [] }) (arrivals o.limits past)
+    → table_after (owned_rules o) (owner_table (owned_rules o) o.limits x past) (completed o.limits past e) ≡ table_after (owned_rules o) (record { state = []; entries = [] }) (arrivals o.limits (e ∷ past))
+folded-next {O} o x past e before =
     ap (λ (t : Table (List Call) O). table_after (owned_rules o) t (completed o.limits past e)) before
     ∙ sym (table_after-append (owned_rules o) (record { state = []; entries = [] }) (arrivals o.limits past) (completed o.limits past e))
 
@@ -145,19 +139,20 @@ book_by o = record {
 
 -- where nothing was withdrawn, the table is folded over all arrivals
 pub kept-folded : {O : Type 0} (o : OwnerOf O) (past : List Event) → KeepsAll past → IsFolded (book_by o) past
-kept-folded o [] kept = refl
-kept-folded o (Opened c ∷ past) kept = folded-next o past (Opened c) (kept-folded o past kept)
-kept-folded o (Piece c moment octets ∷ past) kept = folded-next o past (Piece c moment octets) (kept-folded o past kept)
-kept-folded o (Close c ∷ past) kept = folded-next o past (Close c) (kept-folded o past kept)
-kept-folded o (Lost c ∷ past) kept = folded-next o past (Lost c) (kept-folded o past kept)
-kept-folded o (Withdrew i ∷ past) kept = absurd kept
+kept-folded {O} o past kept = by o.is past kept
+  where
+    by : (x : Option (O → ℕ → Bool)) (past : List Event) → KeepsAll past → owner_table (owned_rules o) o.limits x past ≡ table_after (owned_rules o) (record { state = []; entries = [] }) (arrivals o.limits past)
+    by None past kept = refl
+    by (Some is) [] kept = refl
+    by (Some is) (Opened c ∷ past) kept = folded-next o (Some is) past (Opened c) (by (Some is) past kept)
+    by (Some is) (Piece c moment octets ∷ past) kept = folded-next o (Some is) past (Piece c moment octets) (by (Some is) past kept)
+    by (Some is) (Close c ∷ past) kept = folded-next o (Some is) past (Close c) (by (Some is) past kept)
+    by (Some is) (Lost c ∷ past) kept = folded-next o (Some is) past (Lost c) (by (Some is) past kept)
+    by (Some is) (Withdrew i ∷ past) kept = absurd kept
 
 -- .. and where nothing ever can be
 pub owning-folded : (o : Owner) (past : List Event) → IsFolded (book_by (owning o)) past
-owning-folded o [] = refl
-owning-folded o (e ∷ past) =
-    kept-all (owning o) (λ outcome i. refl) e (table_after (owned_rules (owning o)) (owned_table (owning o) past) (completed o.limits past e))
-    ∙ folded-next (owning o) past e (owning-folded o past)
+owning-folded o past = refl
 
 -- Tables are seen.
 module _ {O P : Type 0} (see : O → P) where

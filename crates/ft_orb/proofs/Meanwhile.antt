@@ -32,16 +32,17 @@ use Rattle.ft_orb.specs.Private.{IsPut}
 use Rattle.ft_orb.specs.Requests.{Call, Wanted}
 use Rattle.ft_orb.specs.Seen.{seen_entry}
 use Rattle.ft_orb.specs.Standing.{IsFor, IsSameBut, held_in}
-use Rattle.ft_orb.specs.Table.{table_after}
+use Rattle.ft_orb.specs.Table.{Table}
 use Rattle.ft_orb.specs.Tellings.{Later, nothing_yet, octets_told}
 use Rattle.ft_orb.proofs.Streams.{closed-is}
+use Rattle.ft_orb.proofs.Books.{owned-next}
 use Rattle.ft_orb.proofs.GoesOn.{not-not}
 use Rattle.ft_orb.proofs.Late.{Tally, asks-known, ends-late, parks-later, parks-more, put-else, tally-is}
 
 -- A connection is lost.
 pub rests-lost : {C Outcome : Type 0} (offers : C → Offer) (o : OwnerOf Outcome) (calls : List Call) (old new : Engine C) (past : List Event) (c : ℕ) → RestsOf offers o calls old past → new.catalogue ≡ old.catalogue → waits_in new ≡ waits_in old → IsSameBut c (as_server old calls) (as_server new calls)
     → new.keeper.clock ≡ old.keeper.clock → (logged new.keeper.log).entries ≡ (logged old.keeper.log).entries → get nat_cmp new.links c ≡ None → RestsOf offers o calls new (Lost c ∷ past)
-rests-lost offers o calls old new past c h are idle same clock entries gone = record {
+rests-lost {C} {Outcome} offers o calls old new past c h are idle same clock entries gone = record {
   offer_is = ap offers are ∙ h.offer_is;
   idle = idle ∙ h.idle;
   stands = record {
@@ -52,9 +53,10 @@ rests-lost offers o calls old new past c h are idle same clock entries gone = re
     greatest = λ d. h.stands.greatest d ∙ ap (λ (g : Option ℕ). option_map_or (λ (x : ℕ). nat_lt x d) g true) (sym same.greatest);
     lines = λ d. at d (c == d) refl;
     table = record {
-      state = h.stands.table.state;
+      state = h.stands.table.state ∙ ap (λ (t : Table (List Call) Outcome). t.state) (sym (owned-next o past (Lost c) tt));
       entries = ap (λ (k : ℕ). unexpired k (logged new.keeper.log).entries) clock ∙ ap (unexpired old.keeper.clock) entries ∙ h.stands.table.entries
-          ∙ ap (λ (k : ℕ). unexpired k (map (seen_entry o.hold) (owned_table o past).entries)) (sym clock);
+          ∙ ap (λ (k : ℕ). unexpired k (map (seen_entry o.hold) (owned_table o past).entries)) (sym clock)
+          ∙ ap (λ (t : Table (List Call) Outcome). unexpired new.keeper.clock (map (seen_entry o.hold) t.entries)) (sym (owned-next o past (Lost c) tt));
     };
   };
 }

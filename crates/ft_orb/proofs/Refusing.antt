@@ -18,7 +18,6 @@ use Rattle.ft_log.specs.Performed.{Performed}
 use Rattle.ft_log.specs.View.{entry_in}
 use Rattle.ft_log.specs.declared.held.Held.TheVariants.{Known}
 use Rattle.ft_log.specs.declared.outcome.Outcome.TheVariants.{System}
-use Rattle.ft_log.specs.declared.story.Entry.{Entry}
 use Rattle.ft_log.specs.declared.system_exception.Completion.TheVariants.{No}
 use Rattle.ft_log.specs.declared.system_exception.SystemName.{SystemName}
 use Rattle.ft_log.specs.declared.system_exception.SystemName.TheVariants.{BadContext}
@@ -109,9 +108,12 @@ log-with : (l : log.Shown) (o : Option Retained) (name : SystemName) (minor : �
     → (more : log.Shown) × ((logged more).entries ≡ kept_with o (known (not_now name minor)) (logged l).entries) × ((logged more).capacity ≡ (logged l).capacity) × ((logged more).share ≡ (logged l).share)
 unfolding logged
 log-with l None name minor = (l, refl, refl, refl)
-log-with l (Some r) name minor =
-    let entry : Entry = record { key = r.key; expiration = r.expiration; outcome = Known (System name minor No) } in
-    (record l { entries = l.entries ++ entry ∷ [] }, map-append entry_in l.entries (entry ∷ []), refl, refl)
+log-with l (Some r) name minor = (
+  record l { entries = l.entries ++ (record { key = r.key; expiration = r.expiration; outcome = Known (System name minor No) }) ∷ [] },
+  map-append entry_in l.entries ((record { key = r.key; expiration = r.expiration; outcome = Known (System name minor No) }) ∷ []),
+  refl,
+  refl,
+)
 
 -- what is parked, once another call is withdrawn
 pub parks-withdrawn : {C : Type 0} (s : Settings) (held : ℕ → Holding) (calls : List Call) (engine : Engine C) (past : List Event) (bound : ℕ) (waiting : ℕ → List Waiter) (i : ℕ) → Parks s held calls engine past bound waiting → Parks s held calls engine (Withdrew i ∷ past) bound waiting

@@ -3,6 +3,7 @@ use Rattle.std.proofs.Common.{◌≡◌, ℕ, ◌<◌, List, [], ◌++◌, Resul
 use Rattle.ft_log.specs.Performed.{Performed}
 use Rattle.ft_log.specs.declared.system_exception.SystemName.{SystemName}
 use Rattle.ft_orb.specs.declared.events.Note.{Note}
+use Rattle.ft_orb.specs.declared.events.Note.TheVariants.{Done, Memory, Refused}
 use Rattle.ft_orb.specs.ExactlyOnce.{clock_after, state_after}
 use Rattle.ft_orb.specs.History.{Event, arrivals, completed, shortened}
 use Rattle.ft_orb.specs.Now.{EventsActNow, IsTableNow, PlaysActNow, ServantsActNow, now_says, performed_now, state_now}

@@ -1,5 +1,5 @@
 -- An owner of an engine: who performs the calls. Its state is the list of the calls that it has answered, the oldest first.
-use Rattle.std.specs.Prelude.{◌≡◌, ℕ, Bool, true, false, not, filter, List, [], ◌∷◌, ◌++◌, Result, Ok, Err, refl}
+use Rattle.std.specs.Prelude.{◌≡◌, ℕ, Bool, true, not, filter, List, [], ◌∷◌, ◌++◌, Option, Some, None, Result, Ok, Err, refl}
 use Rattle.giop_frames.specs.declared.limits.Limits.{Limits}
 use Rattle.ft_log.specs.Keys.{has_room_for}
 use Rattle.ft_log.specs.Kept.{KeptOutcome}
@@ -57,8 +57,9 @@ pub record Voice : Type 0 where
   pub answers : List Call → Call → Holding
   pub late : Later
 
--- An owner whose answers are of any kind: how its engine's log holds each, which of them is that of the call before which so many were
--- taken, what is said where that is parked, and what is told for it. An outcome is held as known.
+-- An owner whose answers are of any kind: how its engine's log holds each, what is said where that is parked, and what is told for it.
+-- An outcome is held as known. Where it withdraws calls, it is known of each answer whether it is that of the call before which so
+-- many were taken.
 pub record OwnerOf (Outcome : Type 0) : Type 0 where
   pub offer : Offer
   pub answers : List Call → Call → Outcome
@@ -66,7 +67,7 @@ pub record OwnerOf (Outcome : Type 0) : Type 0 where
   pub capacity : ℕ
   pub share : ℕ
   pub hold : Outcome → Holding
-  pub is : Outcome → ℕ → Bool
+  pub is : Option (Outcome → ℕ → Bool)
   pub late : Later
   pub tell : Teller Outcome
   pub tells : (w : Wanted) (answer : Result Outcome SystemName) → tell w answer ≡ held_told late offer.knows w (seen_answer hold answer)
@@ -83,7 +84,7 @@ owning o = record {
   capacity = o.capacity;
   share = o.share;
   hold = known;
-  is = λ outcome i. false;
+  is = None;
   late = nothing_yet;
   tell = answer_told o.offer.knows;
   tells = tells_known nothing_yet o.offer.knows;
@@ -103,6 +104,11 @@ module _ {Outcome : Type 0} where
   table_over rules limits is [] = record { state = []; entries = [] }
   table_over rules limits is (e ∷ past) = let_go is e (table_after rules (table_over rules limits is past) (completed limits past e))
 
+  -- .. and over its arrivals alone, where nothing is withdrawn
+  abbrev pub table_by : Rules (List Call) Wanted Call Outcome → Limits → Option (Outcome → ℕ → Bool) → List Event → Table (List Call) Outcome
+  table_by rules limits None past = table_after rules (record { state = []; entries = [] }) (arrivals limits past)
+  table_by rules limits (Some is) past = table_over rules limits is past
+
 module _ {Outcome : Type 0} (o : OwnerOf Outcome) where
   -- its rules
   abbrev pub owned_rules : Rules (List Call) Wanted Call Outcome
@@ -117,7 +123,7 @@ module _ {Outcome : Type 0} (o : OwnerOf Outcome) where
 
   -- the table of a new engine, and its answers to the arrivals that an event completes
   abbrev pub owned_table : List Event → Table (List Call) Outcome
-  owned_table past = table_over owned_rules o.limits o.is past
+  owned_table past = table_by owned_rules o.limits o.is past
 
   abbrev pub owned_says : List Event → Event → List (Result Outcome SystemName)
   owned_says past e = table_answers owned_rules (owned_table past) (completed o.limits past e)

@@ -62,7 +62,7 @@ numbering s late held = record {
   capacity = s.capacity;
   share = s.share;
   hold = held;
-  is = λ n i. n == i;
+  is = Some (λ n i. n == i);
   late = late;
   tell = λ w answer. held_told late s.offer.knows w (seen_answer held answer);
   tells = λ w answer. refl;
