@@ -194,6 +194,11 @@ module _ {C Outcome : Type 0} (offers : C → Offer) (owner : OwnerOf Outcome) w
       brings-at past c moment octets written up.0 k.link calls (logged engine.keeper.log).entries p.place.handled p.waiting up.1
       (at-first (λ a b n. Paused owner.offer (voice_of owner) a b owner.limits c n (Seen past) up.0 octets k.link calls (logged engine.keeper.log).entries written p.place.handled p.waiting) _ _ _ _ _ _ k.stands.capacity_is k.stands.share_is at paused)
 
+  pub brings-kept : (calls : List Call) (engine : Engine C) (past : List Event) (moment : ℕ) (octets written : List ℕ) (p : Pending) → (k : KeepsOf offers owner calls engine past moment octets written p)
+      → unexpired (max (clock past) moment) (logged engine.keeper.log).entries ≡ unexpired (max (clock past) moment) (map (seen_entry owner.hold) (table_after Theirs (Folded past) (brings-of calls engine past moment octets written p k).front).entries)
+  unfolding brings-of brings-at
+  brings-kept calls engine past moment octets written p k = (brings-of calls engine past moment octets written p k).kept
+
   pub asks-of : (calls : List Call) (engine : Engine C) (past : List Event) (moment : ℕ) (octets written : List ℕ) (p : Pending) → KeepsOf offers owner calls engine past moment octets written p
       → AsksOf offers owner calls engine past moment octets written (awaited_of p)
   asks-of calls engine past moment octets written p k =

@@ -25,7 +25,7 @@ use Rattle.ft_objects.specs.Catalogues.{Offer}
 use Rattle.ft_objects.specs.Interfaces.{Interface}
 use Rattle.ft_orb.specs.declared.desk.Step.TheVariants.{Answered}
 use Rattle.ft_orb.specs.declared.engine.Engine.{Engine}
-use Rattle.ft_orb.specs.declared.events.Note.TheVariants.{Done}
+use Rattle.ft_orb.specs.declared.events.Note.TheVariants.{Done, Memory}
 use Rattle.ft_orb.specs.declared.keeper.Retained.{Retained}
 use Rattle.ft_orb.specs.declared.keeper.Waiting.{Waiting}
 use Rattle.ft_orb.specs.declared.parked.Waiter.{Waiter}
@@ -35,7 +35,7 @@ use Rattle.ft_orb.specs.ExactlyOnce.{Absent, Arrival, Bad, Field, Present, Rules
 use Rattle.ft_orb.specs.History.{Event, Piece, Withdrew, clock, completed}
 use Rattle.ft_orb.specs.Outputs.{WritesBy}
 use Rattle.ft_orb.specs.Owners.{OwnerOf, answered_so_far, kept_of, owned_rules, owned_says, owned_table, owner_rules, voice_of}
-use Rattle.ft_orb.specs.Parking.{AreKeyed, AsksLate, DeclinesLate, Parks, Settings, by_number, key_kept, not_now, numbering, put_at, still}
+use Rattle.ft_orb.specs.Parking.{AreKeyed, AsksLate, DeclinesLate, Parks, ResumesLate, Settings, by_number, key_kept, not_now, numbering, put_at, still}
 use Rattle.ft_orb.specs.Pause as pause
 use Rattle.ft_orb.specs.Pauses.{Paused, Reaches}
 use Rattle.ft_orb.specs.Requests.{Call, Wanted}
@@ -48,10 +48,12 @@ use Rattle.ft_orb.proofs.Books.{book_by, seen-unexpired}
 use Rattle.ft_orb.proofs.Folded.{table_after-append}
 use Rattle.ft_orb.proofs.Late.{Numbered, Tally, below-past, parks-more, put-here}
 use Rattle.ft_orb.proofs.Law.{unexpired_twice}
-use Rattle.ft_orb.proofs.Meanwhile.{answers-as, asked-tally}
+use Rattle.ft_orb.proofs.Meanwhile.{answers-as}
 use Rattle.ft_orb.proofs.Numbers.{AreBelow, after-below, all-but}
-use Rattle.ft_orb.proofs.Owning.{Brings, brings-of, kept-as, reach-goes, stood-whole}
+use Rattle.ft_orb.proofs.Owning.{Brings, brings-kept, brings-of, kept-as}
 use Rattle.ft_orb.proofs.Pieces.{fed-ok}
+use Rattle.ft_orb.proofs.Stopping.{reach-goes}
+use Rattle.ft_orb.proofs.Going.{stood-whole}
 
 -- What a call has kept is let go at once.
 
@@ -127,6 +129,11 @@ parks-withdrawn s held calls engine past bound waiting i h = record {
   opened = h.opened;
 }
 
+-- it is given up after so many
+pub cut-as : {C : Type 0} (offers : C → Offer) (s : Settings) (held : ℕ → Holding) (calls : List Call) (past : List Event) (waiting : ℕ → List Waiter) (c moment : ℕ) (octets written : List ℕ) (n m : ℕ) (e : Engine C) → n ≡ m
+    → ResumesLate offers s held calls past waiting c moment octets written (Memory m m) e [] [] → ResumesLate offers s held calls past waiting c moment octets written (Memory n n) e [] []
+cut-as offers s held calls past waiting c moment octets written n m e same h = subst (λ (k : ℕ). ResumesLate offers s held calls past waiting c moment octets written (Memory k k) e [] []) (sym same) h
+
 -- What waits is declined.
 module _ {C : Type 0} (offers : C → Offer) (s : Settings) (grow : HearingGrows meaning_in) (stay : EndingsStay meaning_in) (held : ℕ → Holding) (calls : List Call) (old new : Engine C) (past : List Event) (waiting : ℕ → List Waiter) (moment : ℕ) (octets written : List ℕ) (w : Awaited) (x : Pending)
     (was : pending_in old ≡ Some x) (a : AsksLate offers s held calls old past waiting moment octets written w) (name : SystemName) (minor : ℕ)
@@ -190,13 +197,14 @@ module _ {C : Type 0} (offers : C → Offer) (s : Settings) (grow : HearingGrows
 
   -- .. and as it is
   table-is : unexpired new.keeper.clock (logged new.keeper.log).entries ≡ unexpired new.keeper.clock (map (seen_entry Learnt) (owned_table Own (Withdrew (length calls) ∷ Here ∷ past)).entries)
+  unfolding brought
   table-is =
       let mid : Table (List Call) ℕ = table_after (Numbered s) (Tally s past) brought.front in
       let now = max (clock past) moment in
       let at : new.keeper.clock ≡ now = clocks ∙ K.clock ∙ ap (λ (n : ℕ). max n moment) K.stands.moment in
       let state : mid.state ≡ calls = brought.before in
       let low : AreBelow (length mid.state) mid.entries = after-below s.offer.interface s.capacity s.share (Tally s past) brought.front (below-past s past) in
-      let last : brought.last.clock ≡ now = last-clock in
+      let last : brought.last.clock ≡ now = brought.clock_is in
       let all : owned_table Own (Here ∷ past) ≡ (table_step (Numbered s) mid brought.last).0 =
       ap (λ (xs : List (Arrival Wanted)). table_after (Numbered s) (Tally s past) xs) brought.completes ∙ table_after-append (Numbered s) (Tally s past) brought.front (brought.last ∷ []) in
       let gone : unexpired now (filter (λ e. not (e.outcome == length calls)) (owned_table Own (Here ∷ past)).entries) ≡ unexpired now mid.entries =
@@ -205,7 +213,7 @@ module _ {C : Type 0} (offers : C → Offer) (s : Settings) (grow : HearingGrows
       ∙ subst (λ (k : ℕ). unexpired k (filter (λ e. not (e.outcome == length mid.state)) (table_step (Numbered s) mid brought.last).0.entries) ≡ unexpired k mid.entries) last (step-others s.offer.interface s.capacity s.share mid brought.last low) in
       ap (λ (l : log.Shown). unexpired new.keeper.clock (logged l).entries) logs
       ∙ ap (λ (k : ℕ). unexpired k (logged old.keeper.log).entries) at
-      ∙ brought.kept
+      ∙ brings-kept offers Own calls old past moment octets written x K
       ∙ seen-unexpired Learnt now mid.entries
       ∙ ap (map (seen_entry Learnt)) (sym gone)
       ∙ sym (seen-unexpired Learnt now (filter (λ e. not (e.outcome == length calls)) (owned_table Own (Here ∷ past)).entries))
