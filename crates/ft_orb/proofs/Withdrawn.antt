@@ -81,10 +81,10 @@ module _ {X : Type 0} where
   -- what is contained stands between a front and a rest
   split-at : (xs : List X) (x : X) (k : ℕ) → k < length xs → get_or xs k x ≡ x → (front : List X) × (rest : List X) × (xs ≡ front ++ x ∷ rest)
   split-at [] x k lt at = absurd (omega (arith, lt))
-  split-at (y ∷ ys) x zero lt at = ([], (ys, ap (λ z. z ∷ ys) at))
+  split-at (y ∷ ys) x zero lt at = ([], ys, ap (λ z. z ∷ ys) at)
   split-at (y ∷ ys) x (suc k) lt at =
       let more = split-at ys x k (omega (arith, lt)) at in
-      (y ∷ more.0, (more.1.0, ap (λ zs. y ∷ zs) more.1.1))
+      (y ∷ more.0, more.1, ap (λ zs. y ∷ zs) more.2)
 
   Contains-filter : (p : X → Bool) (xs : List X) (x : X) (k : ℕ) → k < length xs → get_or xs k x ≡ x → p x ≡ true → Contains (filter p xs) x
   Contains-filter p [] x k lt at is = absurd (omega (arith, lt))
@@ -315,7 +315,7 @@ module _ {C K : Type 0} (asked : C → Result K SystemName) (has_room : RequestK
     later : Pairs Apart s.performed
 
   below : (s : Standing C K) → IsGood s → AllByRecursion (λ p. p.number < length s.calls) s.performed
-  below s h = all_map (Has s.calls) (λ p. p.number < length s.calls) s.performed (λ p has. slice_get_within s.calls p.number has.0 has.1.1) h.theirs
+  below s h = all_map (Has s.calls) (λ p. p.number < length s.calls) s.performed (λ p has. slice_get_within s.calls p.number has.0 has.2) h.theirs
 
   all_arrivals : (P : Arrival C → Type 0) (ps : List (Numbered C)) → AllByRecursion P (requests_of ps) → AllByRecursion (λ p. P p.arrival) ps
   all_arrivals P [] h = tt
@@ -327,8 +327,8 @@ module _ {C K : Type 0} (asked : C → Result K SystemName) (has_room : RequestK
       let now = s.calls ++ call ∷ [] in
       record {
         theirs = all_push (Has now) s.performed q
-            (all_map (Has s.calls) (Has now) s.performed (λ p has. (has.0, (has.1.0, pushed-before s.calls call has.0 p.number has.1.1))) h.theirs)
-            (call, (asks, pushed-at s.calls call));
+            (all_map (Has s.calls) (Has now) s.performed (λ p has. (has.0, has.1, pushed-before s.calls call has.0 p.number has.2)) h.theirs)
+            (call, asks, pushed-at s.calls call);
         rising = Pairs-push Rises s.performed q h.rising (below s h);
         later = Pairs-push Apart s.performed q h.later (all_arrivals (λ b. Later b a) s.performed (acts-later By (requests_of s.performed) a acts));
       }
@@ -422,10 +422,10 @@ module _ {C K : Type 0} (asked : C → Result K SystemName) (has_room : RequestK
   held-get-the-number items p a key early late at is_p is_a after in_first in_time =
       let s = stands_after asked has_room items in
       let parts = split-at s.performed p at.0 at.1 at.2 in
-      let before = Pairs-before Apart parts.0 parts.1.0 p (subst (Pairs Apart) parts.1.1 (good items).later) in
+      let before = Pairs-before Apart parts.0 parts.1 p (subst (Pairs Apart) parts.2 (good items).later) in
       let none = all_map (λ x. Apart x p) (λ x. has_live_key a.clock key x.arrival.field ≡ false) parts.0
       (λ x later. gone p.arrival.clock a.clock key x.arrival.field after (λ e is_x. (later key e early is_x is_p).0)) before in
-      repeat_at s parts.0 parts.1.0 p a key late parts.1.1 is_a in_time none (own-live key early a.clock p.arrival is_p in_first)
+      repeat_at s parts.0 parts.1 p a key late parts.2 is_a in_time none (own-live key early a.clock p.arrival is_p in_first)
 
   -- where all with the key carry one expiration, none before the one that stands holds the key, nor does any after it
   none-before : (clock : ℕ) (key : RequestKey) (early : ℕ) (front rest : List (Numbered C)) (p : Numbered C) → p.arrival.field ≡ Present key early → Pairs Apart (front ++ p ∷ rest)
@@ -452,9 +452,9 @@ module _ {C K : Type 0} (asked : C → Result K SystemName) (has_room : RequestK
       let agree = agrees items key a late is_a one in
       let same : early ≡ late = all_at (λ x. (e : ℕ) → x.arrival.field ≡ Present key e → e ≡ late) s.performed p at.0 at.1 at.2 agree early is_p in
       let all_same = all_map (λ x. (e : ℕ) → x.arrival.field ≡ Present key e → e ≡ late) (λ x. (e : ℕ) → x.arrival.field ≡ Present key e → e ≡ early) s.performed (λ x h e is. h e is ∙ sym same) agree in
-      let none = none-before a.clock key early parts.0 parts.1.0 p is_p (subst (Pairs Apart) parts.1.1 (good items).later)
-      (subst (AllByRecursion (λ (x : Numbered C). (e : ℕ) → x.arrival.field ≡ Present key e → e ≡ early)) parts.1.1 all_same) in
-      repeat_at s parts.0 parts.1.0 p a key late parts.1.1 is_a in_time none (own-live key early a.clock p.arrival is_p (omega (arith, same, in_time)))
+      let none = none-before a.clock key early parts.0 parts.1 p is_p (subst (Pairs Apart) parts.2 (good items).later)
+      (subst (AllByRecursion (λ (x : Numbered C). (e : ℕ) → x.arrival.field ≡ Present key e → e ≡ early)) parts.2 all_same) in
+      repeat_at s parts.0 parts.1 p a key late parts.2 is_a in_time none (own-live key early a.clock p.arrival is_p (omega (arith, same, in_time)))
 
   none_found : (o : Option ℕ) → is_some o ≡ false → o ≡ None
   none_found None h = refl
@@ -545,13 +545,13 @@ module _ {C K : Type 0} (asked : C → Result K SystemName) (has_room : RequestK
       let in_p = all_at (λ (x : Numbered C). Contains (arrivals_among items) x.arrival) s.performed p at.0 at.1 at.2 (arrived items) in
       let same = all_map (λ (x : Numbered C). Contains (arrivals_among items) x.arrival) Same s.performed (λ x in_x e is. one x.arrival p.arrival e early in_x in_p is is_p) (arrived items) in
       let parts = split-at s.performed p at.0 at.1 at.2 in
-      let apart = subst (Pairs Apart) parts.1.1 (good items).later in
-      let same_too = subst (AllByRecursion Same) parts.1.1 same in
-      let before = none-before clock key early parts.0 parts.1.0 p is_p apart same_too in
-      let after = none-after clock key early parts.1.0 p is_p (Pairs-back Apart parts.0 (p ∷ parts.1.0) apart).0 (all_back Same parts.0 (p ∷ parts.1.0) same_too).1 in
+      let apart = subst (Pairs Apart) parts.2 (good items).later in
+      let same_too = subst (AllByRecursion Same) parts.2 same in
+      let before = none-before clock key early parts.0 parts.1 p is_p apart same_too in
+      let after = none-after clock key early parts.1 p is_p (Pairs-back Apart parts.0 (p ∷ parts.1) apart).0 (all_back Same parts.0 (p ∷ parts.1) same_too).1 in
       ap (λ w. is_held (requests_of w.performed) clock key) (stand_all-append none_stands items (Withdraws p.number ∷ []))
-      ∙ ap (λ ps. is_held (requests_of ps) clock key) (ap (all_but p.number) parts.1.1 ∙ but-split parts.0 parts.1.0 p)
-      ∙ none-held clock key (all_but p.number parts.0) (all_but p.number parts.1.0) (all_filter Free keep parts.0 before) (all_filter Free keep parts.1.0 after)
+      ∙ ap (λ ps. is_held (requests_of ps) clock key) (ap (all_but p.number) parts.2 ∙ but-split parts.0 parts.1 p)
+      ∙ none-held clock key (all_but p.number parts.0) (all_but p.number parts.1) (all_filter Free keep parts.0 before) (all_filter Free keep parts.1 after)
 
   but-below : (n : ℕ) (ps : List (Numbered C)) → AllByRecursion (λ p. p.number < n) ps → all_but n ps ≡ ps
   but-below n ps h =
@@ -567,7 +567,7 @@ module _ {C K : Type 0} (asked : C → Result K SystemName) (has_room : RequestK
       stand_all-append none_stands items (Arrives a ∷ Withdraws n ∷ [])
       ∙ ap (λ b. stand asked has_room (cond b (performed_too asked has_room s a) s) (Withdraws n)) is
       ∙ (λ i. record { calls = (performed_too asked has_room s a).calls; performed = others i }) in
-      (ap (λ w. w.performed) less, (ap (λ w. w.calls) less, ap (λ w. acts_now By (requests_of w.performed) a) less ∙ is))
+      (ap (λ w. w.performed) less, ap (λ w. w.calls) less, ap (λ w. acts_now By (requests_of w.performed) a) less ∙ is)
 
   -- without withdrawals: what stands is what is performed, under consecutive numbers
   abbrev numbered : List K → List (Arrival C) → List (Numbered C)
