@@ -56,7 +56,7 @@ live_is key expiration clock (Present other late) in_time h =
 abbrev pub Later : {C : Type 0} → Arrival C → Arrival C → Type 0
 Later p q = (key : RequestKey) (early late : ℕ) → p.field ≡ Present key early → q.field ≡ Present key late → (early < q.clock) × (q.clock ≤ late)
 
-abbrev pub Spaced : {C : Type 0} → List (Arrival C) → Type 0
+abbrev Spaced : {C : Type 0} → List (Arrival C) → Type 0
 Spaced [] = Unit {0}
 Spaced (p ∷ ps) = AllByRecursion (Later p) ps × Spaced ps
 
@@ -69,7 +69,7 @@ gone moment clock key (Present other e) h was =
     [ true ↦ λ same. lt-leb clock e (omega (arith, h, was e (ap (λ k. Present k e) (sym (same_is key other same))))) | false ↦ λ same. refl ] refl
 
 -- and what has the key and holds nothing has expired
-pub over : (clock : ℕ) (key : RequestKey) (early : ℕ) (f : Field) → f ≡ Present key early → has_live_key clock key f ≡ false → early < clock
+over : (clock : ℕ) (key : RequestKey) (early : ℕ) (f : Field) → f ≡ Present key early → has_live_key clock key f ≡ false → early < clock
 over clock key early f is h =
     let late : nat_le clock early ≡ false = sym (λ i. same_key-self key i && nat_le clock early) ∙ sym (ap (has_live_key clock key) is) ∙ h in
     let less = leb-false clock early late in omega (arith, less)
@@ -109,7 +109,7 @@ module _ {C : Type 0} where
       [ true ↦ λ has. absurd (true≢false (sym (any-here front rest p key e is) ∙ h.0 has)) | false ↦ λ has. refl ] refl)
       (OnceOf-front key e front rest p is h.1)
 
-  pub Spaced-push : (ps : List (Arrival C)) (a : Arrival C) → Spaced ps → AllByRecursion (λ p. Later p a) ps → Spaced (ps ++ a ∷ [])
+  Spaced-push : (ps : List (Arrival C)) (a : Arrival C) → Spaced ps → AllByRecursion (λ p. Later p a) ps → Spaced (ps ++ a ∷ [])
   Spaced-push [] a h new = (tt, tt)
   Spaced-push (p ∷ ps) a h new = (all_push (Later p) ps a h.0 new.0, Spaced-push ps a h.1 new.1)
 
@@ -134,7 +134,7 @@ module _ {C : Type 0} where
       (gone p.clock clock key x.field h (λ e is_x. (all_middle (Later x) front rest p spaced.0 key e early is_x is).0))
       (Spaced-front key early clock front rest p is h spaced.1)
 
-  pub lacks-held : (clock : ℕ) (key : RequestKey) (ps : List (Arrival C)) → list_any (λ q. has_key key q.field) ps ≡ false → is_held ps clock key ≡ false
+  lacks-held : (clock : ℕ) (key : RequestKey) (ps : List (Arrival C)) → list_any (λ q. has_key key q.field) ps ≡ false → is_held ps clock key ≡ false
   lacks-held clock key [] h = refl
   lacks-held clock key (p ∷ ps) h =
       let parts = or_parts (has_key key p.field) (list_any (λ q. has_key key q.field) ps) h in
@@ -144,7 +144,7 @@ module _ {C : Type 0} where
   pub own-live : (key : RequestKey) (e clock : ℕ) (p : Arrival C) → p.field ≡ Present key e → clock ≤ e → has_live_key clock key p.field ≡ true
   own-live key e clock p is in_time = ap (has_live_key clock key) is ∙ and_from (same_key key key) (nat_le clock e) (same_key-self key) (le-leb clock e in_time)
 
-  pub held-here : (front rest : List (Arrival C)) (p : Arrival C) (key : RequestKey) (clock : ℕ) → has_live_key clock key p.field ≡ true → is_held (front ++ p ∷ rest) clock key ≡ true
+  held-here : (front rest : List (Arrival C)) (p : Arrival C) (key : RequestKey) (clock : ℕ) → has_live_key clock key p.field ≡ true → is_held (front ++ p ∷ rest) clock key ≡ true
   held-here [] rest p key clock is = ap (λ b. b || is_held rest clock key) is
   held-here (x ∷ front) rest p key clock is =
       let later = held-here front rest p key clock is in

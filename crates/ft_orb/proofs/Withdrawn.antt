@@ -1,20 +1,20 @@
 -- What stands where calls are withdrawn.
-use Rattle.std.proofs.Common.{◌≡◌, ℕ, zero, suc, ◌<◌, ◌≤◌, Bool, true, false, not, ◌&&◌, ◌||◌, cond, nat_eq, nat_le, nat_lt, length, length-append, get_or, map, filter, Contains, List, [], ◌∷◌, ◌++◌, Option, Some, None, Result, Ok, Err, is_some, is_ok, refl, sym, ap, ◌∙◌, subst, ⊎_elim, arith, append_assoc, append-nil, eq-eqb, ne_eqb}
-use Rattle.std.specs.List.{AllByRecursion, cons_option, list_any, slice_get}
+use Rattle.std.proofs.Common.{◌≡◌, ℕ, zero, suc, ◌<◌, ◌≤◌, Bool, true, false, not, ◌&&◌, ◌||◌, cond, nat_eq, nat_le, nat_lt, length, length-append, get_or, map, filter, Contains, List, [], ◌∷◌, ◌++◌, Option, Some, None, Result, Ok, Err, is_some, is_ok, refl, sym, ap, ◌∙◌, subst, arith, append_assoc, append-nil, eq-eqb, ne_eqb}
+use Rattle.std.specs.List.{AllByRecursion, cons_option, slice_get}
 use Rattle.std.specs.Option.{option_map, unwrap_or}
-use Rattle.std.proofs.lemmas.Bool.{and_parts, and_right, false≢true, le-leb, le-ltb, or_from, or_parts, true≢false}
+use Rattle.std.proofs.lemmas.Bool.{and_right, false≢true, le-ltb, or_from, true≢false}
 use Rattle.std.proofs.lemmas.Option.{slice_get_within}
 use Rattle.std.proofs.lemmas.List.Elements.{Contains-append_left, Contains-append_right, Contains-push, filter-append, filter_map-append}
 use Rattle.ft_log.specs.Keys.{RequestKey, same_key}
 use Rattle.ft_log.specs.Kept.{KeptOutcome, kept_for, keys_of, unexpired}
 use Rattle.ft_log.specs.declared.system_exception.SystemName.{SystemName}
 use Rattle.ft_log.specs.declared.system_exception.SystemName.TheVariants.{BadContext, NoResources}
-use Rattle.ft_orb.specs.ExactlyOnce.{Absent, Arrival, Bad, ClocksGrow, Field, Present, Rules, clock_after, has_key, live_key, live_keys, new_answer, outcome_of, state_after, state_after_call}
-use Rattle.ft_orb.specs.Table.{Table, entry_of, forgotten, keyed_step, performing_step, step_by_field, table_after, table_answers, table_step}
-use Rattle.ft_orb.specs.Now.{OneExpirationOf, acts_now, answer_now, answer_now_by_field, answers_now_after, has_live_key, is_held, outcome_held, performed_now, performed_now_after}
+use Rattle.ft_orb.specs.ExactlyOnce.{Absent, Arrival, Bad, ClocksGrow, Field, Present, Rules, clock_after, live_key, live_keys, new_answer, outcome_of, state_after, state_after_call}
+use Rattle.ft_orb.specs.Table.{Table, entry_of, forgotten, keyed_step, step_by_field, table_after, table_answers, table_step}
+use Rattle.ft_orb.specs.Now.{OneExpirationOf, acts_now, answer_now_by_field, answers_now_after, has_live_key, is_held, outcome_held, performed_now, performed_now_after}
 use Rattle.ft_orb.specs.Withdrawing.{Arrives, FirstsGetTheNext, HeldGetTheNumber, IsTableFor, Item, KeyStandsLater, KeyStandsOnce, MayWithdraw, Numbered, NumbersAreTheirs, NumbersRise, RepeatsGetTheNumber, Standing, StandsTillWithdrawn, TablesLetGo, TablesTakeOne, TablesWithdraw, WithdrawnAtOnce, WithdrawnForGood, WithdrawnKeyIsFree, Withdraws, WithoutWithdrawals, all_but, arrivals_among, entries_of, item_answers, items_after, new_table, none_stands, number_answer, number_answers, number_by_field, number_held, number_rules, performed_too, requests_of, stand, stand_all, stands_after, table_without}
 use Rattle.ft_orb.proofs.Law.{AreCalls, keyed_with, keyed_with-is, state_after-push, unexpired_later, unexpired_twice}
-use Rattle.ft_orb.proofs.Now.{Later, Spaced, Spaced-push, acts-later, acts_now-call, acts_now_by, all_in, all_map, all_middle, all_push, gone, grown_now, held-here, lacks-held, over, own-live, performed_now-calls, performed_now-push}
+use Rattle.ft_orb.proofs.Now.{Later, acts-later, acts_now-call, acts_now_by, all_in, all_map, all_middle, all_push, gone, grown_now, own-live, performed_now-calls, performed_now-push}
 
 module _ {X : Type 0} where
   filter-cond : (p : X → Bool) (b : Bool) (x : X) (xs : List X) → filter p (cond b (x ∷ xs) xs) ≡ cond b (cond (p x) (x ∷ filter p xs) (filter p xs)) (filter p xs)

@@ -1,7 +1,7 @@
 -- Requests that carry keys, where an owner may decline a call that it took: it says that nothing of it has happened. A call's number is how
 -- many were taken before it, and to decline it is to withdraw its number. What stands, and what a request is answered, looks back over all
 -- that stands. A request is answered with a number, so no outcome decides anything. Where nothing is withdrawn, it is as in `Now`.
-use Rattle.std.specs.Prelude.{◌≡◌, ℕ, ◌==◌, ◌<◌, ◌≤◌, Bool, true, false, IsTrue, IsFalse, not, nat_lt, if◌then◌else◌, List, [], ◌∷◌, ◌++◌, map, filter, filter_map, length, Contains, Option, Some, None, unwrap_or, option_map, Result, Ok, Err}
+use Rattle.std.specs.Prelude.{◌≡◌, ℕ, ◌==◌, ◌<◌, ◌≤◌, Bool, IsTrue, IsFalse, not, nat_lt, if◌then◌else◌, List, [], ◌∷◌, ◌++◌, map, filter, filter_map, length, Contains, Option, Some, None, unwrap_or, option_map, Result, Ok, Err}
 use Rattle.std.specs.List.{slice_get}
 use Rattle.ft_log.specs.Keys.{RequestKey}
 use Rattle.ft_log.specs.Kept.{KeptOutcome, unexpired}
