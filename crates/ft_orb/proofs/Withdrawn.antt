@@ -12,7 +12,7 @@ use Rattle.ft_log.specs.declared.system_exception.SystemName.TheVariants.{BadCon
 use Rattle.ft_orb.specs.ExactlyOnce.{Absent, Arrival, Bad, ClocksGrow, Field, Present, Rules, clock_after, live_key, live_keys, new_answer, outcome_of, state_after, state_after_call}
 use Rattle.ft_orb.specs.Table.{Table, entry_of, forgotten, keyed_step, step_by_field, table_after, table_answers, table_step}
 use Rattle.ft_orb.specs.Now.{OneExpirationOf, acts_now, answer_now_by_field, answers_now_after, has_live_key, is_held, outcome_held, performed_now, performed_now_after}
-use Rattle.ft_orb.specs.Withdrawing.{Arrives, FirstsGetTheNext, HeldGetTheNumber, IsTableFor, Item, KeyStandsLater, KeyStandsOnce, MayWithdraw, Numbered, NumbersAreTheirs, NumbersRise, RepeatsGetTheNumber, Standing, StandsTillWithdrawn, TablesLetGo, TablesTakeOne, TablesWithdraw, WithdrawnAtOnce, WithdrawnForGood, WithdrawnKeyIsFree, Withdraws, WithoutWithdrawals, all_but, arrivals_among, entries_of, item_answers, items_after, new_table, none_stands, number_answer, number_answers, number_by_field, number_held, number_rules, performed_too, requests_of, stand, stand_all, stands_after, table_without}
+use Rattle.ft_orb.specs.Withdrawing.{Arrives, FirstsGetTheNext, HeldGetTheNumber, IsTableFor, Item, KeyStandsLater, KeyStandsOnce, MayWithdraw, Numbered, NumbersAreTheirs, NumbersRise, RepeatsGetTheNumber, Standing, StandsTillWithdrawn, TablesLetGo, TablesTakeOne, TablesWithdraw, TakenStay, WithdrawnAtOnce, WithdrawnForGood, WithdrawnKeyIsFree, Withdraws, WithoutWithdrawals, all_but, arrivals_among, entries_of, item_answers, items_after, new_table, none_stands, number_answer, number_answers, number_by_field, number_held, number_rules, performed_too, requests_of, stand, stand_all, stands_after, table_without}
 use Rattle.ft_orb.proofs.Law.{AreCalls, keyed_with, keyed_with-is, state_after-push, unexpired_later, unexpired_twice}
 use Rattle.ft_orb.proofs.Now.{Later, acts-later, acts_now-call, acts_now_by, all_in, all_map, all_middle, all_push, gone, grown_now, own-live, performed_now-calls, performed_now-push}
 
@@ -131,7 +131,7 @@ module _ {C : Type 0} where
   abbrev of : ℕ → Field → ℕ → C → Numbered C
   of n f c x = record { number = n; arrival = record { field = f; clock = c; content = x } }
 
-  live-is : (clock : ℕ) (ps : List (Numbered C)) → live_keys clock (requests_of ps) ≡ keys_of (unexpired clock (entries_of ps))
+  pub live-is : (clock : ℕ) (ps : List (Numbered C)) → live_keys clock (requests_of ps) ≡ keys_of (unexpired clock (entries_of ps))
   live-is clock [] = refl
   live-is clock (p ∷ ps) = live-step clock p.number p.arrival.field (live_keys clock (requests_of ps)) (entries_of ps) (live-is clock ps)
 
@@ -162,7 +162,7 @@ module _ {C : Type 0} where
   but-is m (p ∷ ps) = but-step m p.number p.arrival.field p.arrival.clock p.arrival.content (all_but m ps) (entries_of ps) (but-is m ps)
 
 module _ {C K : Type 0} where
-  later_stands : (clock later : ℕ) (s : Standing C K) (t : Table (List K) ℕ) → clock ≤ later → IsTableFor clock s t → IsTableFor later s t
+  pub later_stands : (clock later : ℕ) (s : Standing C K) (t : Table (List K) ℕ) → clock ≤ later → IsTableFor clock s t → IsTableFor later s t
   later_stands clock later s t h stands = record { state = stands.state; entries = unexpired_later clock later t.entries (entries_of s.performed) h stands.entries }
 
   -- where the table stands, it stands without one number
@@ -477,6 +477,24 @@ module _ {C K : Type 0} (asked : C → Result K SystemName) (has_room : RequestK
         λ i. cond (acts_is i) (taken-is s a call asks i) s,
       )
 
+  calls-more : (s : Standing C K) (later : List (Item C)) → (more : List K) × ((stand_all asked has_room s later).calls ≡ s.calls ++ more)
+  calls-more s [] = ([], sym (append-nil s.calls))
+  calls-more s (Arrives a ∷ later) =
+      let rest = calls-more (stand asked has_room s (Arrives a)) later in
+      let step = one (acts_now By (requests_of s.performed) a) (asked a.content) in
+      (step.0 ++ rest.0, rest.1 ∙ ap (λ calls. calls ++ rest.0) step.1 ∙ append_assoc s.calls step.0 rest.0)
+    where
+      one : (b : Bool) (r : Result K SystemName) → (more : List K) × ((cond b (too_by s a.field a.clock a.content r) s).calls ≡ s.calls ++ more)
+      one true (Ok call) = (call ∷ [], refl)
+      one true (Err refusal) = ([], sym (append-nil s.calls))
+      one false r = ([], sym (append-nil s.calls))
+  calls-more s (Withdraws n ∷ later) = calls-more (stand asked has_room s (Withdraws n)) later
+
+  pub taken-stay : TakenStay asked has_room
+  taken-stay items later =
+      let more = calls-more (stands_after asked has_room items) later in
+      (more.0, ap (λ w. w.calls) (stand_all-append none_stands items later) ∙ more.1)
+
   stays : (s : Standing C K) (later : List (Item C)) (p : Numbered C) → Contains s.performed p → (Contains later (Withdraws p.number) → ⊥) → Contains (stand_all asked has_room s later).performed p
   stays s [] p at none = at
   stays s (Arrives a ∷ later) p at none =
@@ -657,6 +675,7 @@ module _ {C K : Type 0} (asked : C → Result K SystemName) (has_room : RequestK
     first = firsts-get-the-next;
     theirs = numbers-are-theirs;
     rise = numbers-rise;
+    taken = taken-stay;
     stands = stands-till-withdrawn;
     gone = withdrawn-for-good;
     free = withdrawn-key-is-free;

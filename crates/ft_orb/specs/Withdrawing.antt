@@ -180,6 +180,10 @@ module _ {Content Call : Type 0} (asked : Content → Result Call SystemName) (h
   NumbersRise = (items : List (Item Content)) (front between rest : List (Numbered Content)) (p q : Numbered Content)
       → (stands_after items).performed ≡ front ++ p ∷ between ++ q ∷ rest → p.number < q.number
 
+  -- The calls that were taken stay, and more come after them: no number is given twice.
+  abbrev pub TakenStay : Type 0
+  TakenStay = (items later : List (Item Content)) → (more : List Call) × ((stands_after (items ++ later)).calls ≡ (stands_after items).calls ++ more)
+
   -- What was performed stands until its number is withdrawn, ..
   abbrev pub StandsTillWithdrawn : Type 0
   StandsTillWithdrawn = (items later : List (Item Content)) (p : Numbered Content)
@@ -223,6 +227,7 @@ module _ {Content Call : Type 0} (asked : Content → Result Call SystemName) (h
     pub first : FirstsGetTheNext
     pub theirs : NumbersAreTheirs
     pub rise : NumbersRise
+    pub taken : TakenStay
     pub stands : StandsTillWithdrawn
     pub gone : WithdrawnForGood
     pub free : WithdrawnKeyIsFree
