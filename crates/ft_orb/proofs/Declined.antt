@@ -1,6 +1,6 @@
 -- What stands after a past in which calls were declined.
 use Rattle.std.proofs.Common.{◌≡◌, ℕ, zero, suc, ◌<◌, ◌≤◌, Bool, true, false, length, get_or, map, Contains, List, [], ◌∷◌, ◌++◌, Ok, Err, cond, refl, sym, ap, ◌∙◌, subst, ⊎_elim, arith, append_assoc, append-nil}
-use Rattle.std.specs.List.{slice_get}
+use Rattle.std.specs.List.{AllByRecursion, slice_get}
 use Rattle.std.proofs.lemmas.Bool.{true≢false}
 use Rattle.std.proofs.lemmas.List.{map-append}
 use Rattle.std.proofs.lemmas.List.Elements.{Contains-append_cases, Contains-append_right}
@@ -9,7 +9,7 @@ use Rattle.ft_log.specs.Holding.{Holding}
 use Rattle.ft_log.specs.Kept.{keys_of}
 use Rattle.ft_log.specs.declared.system_exception.SystemName.TheVariants.{NoResources}
 use Rattle.ft_orb.specs.ExactlyOnce.{Arrival, ClocksGrow, clock_after}
-use Rattle.ft_orb.specs.Declined.{AnswersAreNumbers, CallsAreTheirs, DeclinedAtOnce, DeclinedForGood, DeclinedIsFree, FirstsAreTaken, KeyStandsOnceInPast, LiveKeysAreKept, NothingDeclined, PastsStand, RepeatsTakeNothing, StandsTillDeclined, TablesStandForItems, asks_by, brought, items, room_by, standing, standing_with}
+use Rattle.ft_orb.specs.Declined.{AnswersAreNumbers, CallsAreTheirs, DeclinedAtOnce, DeclinedForGood, DeclinedIsFree, FirstsAreTaken, HeldTakeNothing, KeyStandsLaterInPast, KeyStandsOnceInPast, LiveKeysAreKept, NothingDeclined, PastsStand, RepeatsTakeNothing, StandsTillDeclined, TablesStandForItems, asks_by, brought, items, room_by, standing, standing_with}
 use Rattle.ft_orb.specs.History.{Close, Event, KeepsAll, Lost, Opened, Piece, Withdrew, arrivals, clock, completed}
 use Rattle.ft_orb.specs.Now.{OneExpirationOf, acts_now}
 use Rattle.ft_orb.specs.Owners.{let_go, owned_rules, owned_table}
@@ -19,7 +19,7 @@ use Rattle.ft_orb.specs.Table.{Table, table_after, table_answers, table_step}
 use Rattle.ft_orb.specs.Withdrawing.{Arrives, IsTableFor, Item, Withdraws, arrivals_among, items_after, new_table, none_stands, number_answer, number_answers, number_rules, requests_of, stand, stands_after}
 use Rattle.ft_orb.proofs.Folded.{ClocksGrow-front}
 use Rattle.ft_orb.proofs.Headline.{arrivals-grow, event-clocks}
-use Rattle.ft_orb.proofs.Withdrawn.{firsts-get-the-next, key-stands-once, later_stands, live-is, numbers-are-theirs, plain_says, plain_table, repeats-get-the-number, run-stands, stand_all-append, stands-till-withdrawn, tables-withdraw, takes-one, withdrawn-at-once, withdrawn-for-good, withdrawn-key-is-free}
+use Rattle.ft_orb.proofs.Withdrawn.{all_at, firsts-get-the-next, held-get-the-number, in_run, key-stands-later, key-stands-once, later_stands, live-is, numbers-are-theirs, plain_says, plain_table, repeats-get-the-number, run-stands, stand_all-append, stands-till-withdrawn, tables-withdraw, takes-one, withdrawn-at-once, withdrawn-for-good, withdrawn-key-is-free}
 
 module _ {C : Type 0} where
   among-append : (xs ys : List (Item C)) → arrivals_among (xs ++ ys) ≡ arrivals_among xs ++ arrivals_among ys
@@ -53,6 +53,15 @@ module _ {C : Type 0} where
   grow-middle : (first : ℕ) (xs rest : List (Arrival C)) (a : Arrival C) → ClocksGrow first (xs ++ a ∷ rest) → clock_after first xs ≤ a.clock
   grow-middle first [] rest a h = h.0
   grow-middle first (x ∷ xs) rest a h = grow-middle x.clock xs rest a h.1
+
+-- no clock before one of them is greater
+grow-first : {C : Type 0} (first : ℕ) (xs rest : List (Arrival C)) (a : Arrival C) → ClocksGrow first (xs ++ a ∷ rest) → first ≤ a.clock
+grow-first first [] rest a h = h.0
+grow-first first (x ∷ xs) rest a h = let more = grow-first x.clock xs rest a h.1 in let here = h.0 in omega (arith, here, more)
+
+grow-all : {C : Type 0} (first : ℕ) (xs rest : List (Arrival C)) (a : Arrival C) → ClocksGrow first (xs ++ a ∷ rest) → AllByRecursion (λ b. b.clock ≤ a.clock) xs
+grow-all first [] rest a h = tt
+grow-all first (x ∷ xs) rest a h = (grow-first x.clock xs rest a h.1, grow-all x.clock xs rest a h.1)
 
 not-nil : {X : Type 0} (front rest : List X) (x : X) → [] ≡ front ++ x ∷ rest → ⊥
 not-nil [] rest x is = let size = ap length is in omega (arith, size)
@@ -198,23 +207,48 @@ module _ (s : Settings) where
   pub answers-are-numbers : AnswersAreNumbers s
   answers-are-numbers held past e = past-says held past e
 
+  pub key-stands-later-in-past : KeyStandsLaterInPast s
+  key-stands-later-in-past past front between rest p q key early late is is_p is_q =
+      key-stands-later (asks_by s) (room_by s) (items s.limits past) front between rest p q key early late is is_p is_q
+
   pub key-stands-once-in-past : KeyStandsOnceInPast s
   key-stands-once-in-past past front between rest p q key early late one is is_p is_q =
       key-stands-once (asks_by s) (room_by s) (items s.limits past) front between rest p q key early late
       (subst (OneExpirationOf key) (sym (items-arrivals s.limits past)) one) is is_p is_q
 
-  pub repeats-take-nothing : RepeatsTakeNothing s
-  repeats-take-nothing held past e front rest p a key early late is one at is_p is_a in_time =
-      let all = front-items past front in
+  -- a repeat, by what stands after the items
+  repeat-step : (held : ℕ → Holding) (past : List Event) (e : Event) (front rest : List (Arrival Wanted)) (a : Arrival Wanted) (n : ℕ) → completed s.limits past e ≡ front ++ a ∷ rest
+      → let w = stands_after (asks_by s) (room_by s) (front-items past front) in (number_answer (asks_by s) (room_by s) w a ≡ Ok n) × (stand (asks_by s) (room_by s) w (Arrives a) ≡ w)
+      → let t = table_after (owned_rules (by_number s held)) (owned_table (by_number s held) past) front in
+      ((table_step (owned_rules (by_number s held)) t a).1 ≡ Ok n) × ((table_step (owned_rules (by_number s held)) t a).0.state ≡ t.state)
+  repeat-step held past e front rest a n is repeat =
       let stands = front-stands past front in
-      let one_too : OneExpirationOf key (arrivals_among all ++ a ∷ []) =
-      subst (OneExpirationOf key) (ap (λ (xs : List (Arrival Wanted)). xs ++ a ∷ []) (sym (among-append (items s.limits past) (map (λ b. Arrives b) front) ∙ (λ i. items-arrivals s.limits past i ++ among-arrivals front i)))) one in
-      let repeat = repeats-get-the-number (asks_by s) (room_by s) all p a key early late one_too (subst (λ w. Contains w.performed p) (sym stands) at) is_p is_a in_time in
       let here = standing_with s past front in
-      let says : number_answer (asks_by s) (room_by s) here a ≡ Ok p.number = ap (λ w. number_answer (asks_by s) (room_by s) w a) (sym stands) ∙ repeat.0 in
+      let says : number_answer (asks_by s) (room_by s) here a ≡ Ok n = ap (λ w. number_answer (asks_by s) (room_by s) w a) (sym stands) ∙ repeat.0 in
       let idle : stand (asks_by s) (room_by s) here (Arrives a) ≡ here = ap (λ w. stand (asks_by s) (room_by s) w (Arrives a)) (sym stands) ∙ repeat.1 ∙ stands in
       let step = in-event held past e front rest a is in
       (step.0 ∙ says, step.1 ∙ ap (λ w. w.calls) idle ∙ sym step.2)
+
+  front-arrivals : (past : List Event) (front : List (Arrival Wanted)) → arrivals_among (front-items past front) ≡ arrivals s.limits past ++ front
+  front-arrivals past front = among-append (items s.limits past) (map (λ b. Arrives b) front) ∙ (λ i. items-arrivals s.limits past i ++ among-arrivals front i)
+
+  pub held-take-nothing : HeldTakeNothing s
+  held-take-nothing held past e front rest p a key early late is at is_p is_a in_first in_time =
+      let all = front-items past front in
+      let there = subst (λ w. Contains w.performed p) (sym (front-stands past front)) at in
+      let grow : ClocksGrow 0 ((arrivals s.limits past ++ front) ++ a ∷ rest) =
+      subst (λ (xs : List (Arrival Wanted)). ClocksGrow 0 xs) (ap (λ (xs : List (Arrival Wanted)). arrivals s.limits past ++ xs) is ∙ sym (append_assoc (arrivals s.limits past) front (a ∷ rest))) (arrivals-grow s.limits (e ∷ past)).0 in
+      let before = subst (AllByRecursion (λ (b : Arrival Wanted). b.clock ≤ a.clock)) (sym (front-arrivals past front)) (grow-all 0 (arrivals s.limits past ++ front) rest a grow) in
+      let after = all_at (λ q. q.arrival.clock ≤ a.clock) (stands_after (asks_by s) (room_by s) all).performed p there.0 there.1 there.2
+      (in_run (asks_by s) (room_by s) (λ b. b.clock ≤ a.clock) none_stands all before tt) in
+      repeat-step held past e front rest a p.number is (held-get-the-number (asks_by s) (room_by s) all p a key early late there is_p is_a after in_first in_time)
+
+  pub repeats-take-nothing : RepeatsTakeNothing s
+  repeats-take-nothing held past e front rest p a key early late is one at is_p is_a in_time =
+      let one_too : OneExpirationOf key (arrivals_among (front-items past front) ++ a ∷ []) =
+      subst (OneExpirationOf key) (ap (λ (xs : List (Arrival Wanted)). xs ++ a ∷ []) (sym (front-arrivals past front))) one in
+      repeat-step held past e front rest a p.number is
+      (repeats-get-the-number (asks_by s) (room_by s) (front-items past front) p a key early late one_too (subst (λ w. Contains w.performed p) (sym (front-stands past front)) at) is_p is_a in_time)
 
   pub firsts-are-taken : FirstsAreTaken s
   firsts-are-taken held past e front rest a key expiration call room is is_a in_time asks free room_is =
@@ -270,7 +304,9 @@ module _ (s : Settings) where
     table = tables-stand-for-items;
     live = live-keys-are-kept;
     answers = answers-are-numbers;
+    later = key-stands-later-in-past;
     once = key-stands-once-in-past;
+    held = held-take-nothing;
     repeats = repeats-take-nothing;
     first = firsts-are-taken;
     theirs = calls-are-theirs;

@@ -49,7 +49,7 @@ module _ {X : Type 0} where
   all_back P [] ys h = h
   all_back P (x ∷ xs) ys h = all_back P xs ys h.1
 
-  all_at : (P : X → Type 0) (xs : List X) (x : X) (k : ℕ) → k < length xs → get_or xs k x ≡ x → AllByRecursion P xs → P x
+  pub all_at : (P : X → Type 0) (xs : List X) (x : X) (k : ℕ) → k < length xs → get_or xs k x ≡ x → AllByRecursion P xs → P x
   all_at P [] x k lt at h = absurd (omega (arith, lt))
   all_at P (y ∷ ys) x zero lt at h = subst P at h.0
   all_at P (y ∷ ys) x (suc k) lt at h = all_at P ys x k (omega (arith, lt)) at h.1
@@ -366,7 +366,7 @@ module _ {C K : Type 0} (asked : C → Result K SystemName) (has_room : RequestK
   numbers-are-theirs items p at = all_at (Has (stands_after asked has_room items).calls) (stands_after asked has_room items).performed p at.0 at.1 at.2 (good items).theirs
 
   -- what stands has arrived
-  in_run : (P : Arrival C → Type 0) (s : Standing C K) (items : List (Item C)) → AllByRecursion P (arrivals_among items) → AllByRecursion (λ p. P p.arrival) s.performed → AllByRecursion (λ p. P p.arrival) (stand_all asked has_room s items).performed
+  pub in_run : (P : Arrival C → Type 0) (s : Standing C K) (items : List (Item C)) → AllByRecursion P (arrivals_among items) → AllByRecursion (λ p. P p.arrival) s.performed → AllByRecursion (λ p. P p.arrival) (stand_all asked has_room s items).performed
   in_run P s [] all h = h
   in_run P s (Arrives a ∷ later) all h =
       let q : Numbered C = record { number = length s.calls; arrival = a } in

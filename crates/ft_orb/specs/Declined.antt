@@ -57,12 +57,26 @@ module _ (s : Settings) where
   abbrev pub AnswersAreNumbers : Type 0
   AnswersAreNumbers = (held : ℕ → Holding) (past : List Event) (e : Event) → owned_says (by_number s held) past e ≡ number_answers asks_by room_by (standing past) (brought s.limits past e)
 
+  -- Of two requests that stand with one key the first had expired when the other came, and the other had not.
+  abbrev pub KeyStandsLaterInPast : Type 0
+  KeyStandsLaterInPast = (past : List Event) (front between rest : List (Numbered Wanted)) (p q : Numbered Wanted) (key : RequestKey) (early late : ℕ)
+      → (standing past).performed ≡ front ++ p ∷ between ++ q ∷ rest → p.arrival.field ≡ Present key early → q.arrival.field ≡ Present key late
+      → (early < q.arrival.clock) × (q.arrival.clock ≤ late)
+
   -- Where the arrivals with a key carry one expiration, not two requests stand with it, whatever the others carry.
   abbrev pub KeyStandsOnceInPast : Type 0
   KeyStandsOnceInPast = (past : List Event) (front between rest : List (Numbered Wanted)) (p q : Numbered Wanted) (key : RequestKey) (early late : ℕ) → OneExpirationOf key (arrivals s.limits past)
       → (standing past).performed ≡ front ++ p ∷ between ++ q ∷ rest → p.arrival.field ≡ Present key early → q.arrival.field ≡ Present key late → ⊥
 
-  -- Where they do, a repeat of what stands, not after its expiration, is answered with its number, and no call is taken.
+  -- A repeat of what stands, before either has expired, is answered with its number, and no call is taken, whatever expiration it carries.
+  abbrev pub HeldTakeNothing : Type 0
+  HeldTakeNothing = (held : ℕ → Holding) (past : List Event) (e : Event) (front rest : List (Arrival Wanted)) (p : Numbered Wanted) (a : Arrival Wanted) (key : RequestKey) (early late : ℕ)
+      → completed s.limits past e ≡ front ++ a ∷ rest → Contains (standing_with past front).performed p
+      → p.arrival.field ≡ Present key early → a.field ≡ Present key late → a.clock ≤ early → a.clock ≤ late
+      → let rules = owned_rules (by_number s held) in let t = table_after rules (owned_table (by_number s held) past) front in
+      ((table_step rules t a).1 ≡ Ok p.number) × ((table_step rules t a).0.state ≡ t.state)
+
+  -- Where the arrivals with a key carry one expiration, a repeat of what stands, not after its expiration, is answered with its number, and no call is taken.
   abbrev pub RepeatsTakeNothing : Type 0
   RepeatsTakeNothing = (held : ℕ → Holding) (past : List Event) (e : Event) (front rest : List (Arrival Wanted)) (p : Numbered Wanted) (a : Arrival Wanted) (key : RequestKey) (early late : ℕ)
       → completed s.limits past e ≡ front ++ a ∷ rest → OneExpirationOf key (arrivals s.limits past ++ front ++ a ∷ [])
@@ -114,7 +128,9 @@ module _ (s : Settings) where
     pub table : TablesStandForItems
     pub live : LiveKeysAreKept
     pub answers : AnswersAreNumbers
+    pub later : KeyStandsLaterInPast
     pub once : KeyStandsOnceInPast
+    pub held : HeldTakeNothing
     pub repeats : RepeatsTakeNothing
     pub first : FirstsAreTaken
     pub theirs : CallsAreTheirs
