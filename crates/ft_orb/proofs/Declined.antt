@@ -1,24 +1,30 @@
 -- What stands after a past in which calls were declined.
-use Rattle.std.proofs.Common.{◌≡◌, ℕ, zero, suc, ◌<◌, ◌≤◌, Bool, true, false, length, get_or, map, Contains, List, [], ◌∷◌, ◌++◌, Ok, Err, cond, refl, sym, ap, ◌∙◌, subst, ⊎_elim, arith, append_assoc, append-nil}
-use Rattle.std.specs.List.{AllByRecursion, slice_get}
-use Rattle.std.proofs.lemmas.Bool.{true≢false}
+use Rattle.std.proofs.Common.{◌≡◌, ℕ, zero, suc, ◌*◌, ◌<◌, ◌≤◌, Bool, true, false, not, nat_eq, nat_lt, length, get_or, map, Contains, List, [], ◌∷◌, ◌++◌, Option, Some, None, Ok, Err, cond, refl, sym, ap, ◌∙◌, subst, ⊎_elim, arith, append_assoc, append-nil}
+use Rattle.std.specs.List.{AllByRecursion, cons_option, slice_get}
+use Rattle.std.proofs.lemmas.Bool.{and_from, lt-ltb, ltb-false, ltb-true, true≢false}
 use Rattle.std.proofs.lemmas.List.{map-append}
 use Rattle.std.proofs.lemmas.List.Elements.{Contains-append_cases, Contains-append_right}
 use Rattle.giop_frames.specs.declared.limits.Limits.{Limits}
 use Rattle.ft_log.specs.Holding.{Holding}
+use Rattle.ft_log.specs.Keys.{RequestKey, has_room_for, held_of}
 use Rattle.ft_log.specs.Kept.{keys_of}
 use Rattle.ft_log.specs.declared.system_exception.SystemName.TheVariants.{NoResources}
-use Rattle.ft_orb.specs.ExactlyOnce.{Arrival, ClocksGrow, clock_after}
-use Rattle.ft_orb.specs.Declined.{AnswersAreNumbers, CallsAreTheirs, DeclinedAtOnce, DeclinedForGood, DeclinedIsFree, FirstsAreTaken, HeldTakeNothing, KeyStandsLaterInPast, KeyStandsOnceInPast, LiveKeysAreKept, NothingDeclined, PastsStand, RepeatsTakeNothing, StandsTillDeclined, TablesStandForItems, asks_by, brought, items, room_by, standing, standing_with}
+use Rattle.ft_orb.specs.ExactlyOnce.{Arrival, ClocksGrow, Present, clock_after, live_key, live_keys}
+use Rattle.ft_orb.specs.Declined.{AnswersAreNumbers, CallsAreTheirs, DeclinedAtOnce, DeclinedForGood, DeclinedIsFree, FirstsAreTaken, HeldTakeNothing, KeyStandsLaterInPast, KeyStandsOnceInPast, LiveKeysAreKept, NothingDeclined, PastsStand, RepeatsTakeNothing, RoomForStandingClients, StandsTillDeclined, TablesStandForItems, asks_by, brought, items, room_by, standing, standing_with}
 use Rattle.ft_orb.specs.History.{Close, Event, KeepsAll, Lost, Opened, Piece, Withdrew, arrivals, clock, completed}
 use Rattle.ft_orb.specs.Now.{OneExpirationOf, acts_now}
 use Rattle.ft_orb.specs.Owners.{let_go, owned_rules, owned_table}
 use Rattle.ft_orb.specs.Parking.{Settings, by_number}
 use Rattle.ft_orb.specs.Requests.{Call, Wanted}
 use Rattle.ft_orb.specs.Table.{Table, table_after, table_answers, table_step}
-use Rattle.ft_orb.specs.Withdrawing.{Arrives, IsTableFor, Item, Withdraws, arrivals_among, items_after, new_table, none_stands, number_answer, number_answers, number_rules, requests_of, stand, stands_after}
+use Rattle.ft_orb.specs.Withdrawing.{Arrives, IsTableFor, Item, Numbered, Standing, Withdraws, all_but, arrivals_among, items_after, new_table, none_stands, number_answer, number_answers, number_by_field, number_held, number_rules, performed_too, requests_of, stand, stand_all, stands_after}
 use Rattle.ft_orb.proofs.Folded.{ClocksGrow-front}
 use Rattle.ft_orb.proofs.Headline.{arrivals-grow, event-clocks}
+use Rattle.ft_orb.proofs.Asking.{asked-never}
+use Rattle.ft_orb.proofs.Now.{grown_now}
+use Rattle.ft_orb.proofs.NowFirsts.{owners, owners-all, owners-length}
+use Rattle.ft_orb.proofs.Shares.{Within, held_of-cons, held_of-later, length-total, refused, total-below}
+use Rattle.ft_orb.proofs.SharesNow.{grown_now-within}
 use Rattle.ft_orb.proofs.Withdrawn.{all_at, firsts-get-the-next, held-get-the-number, in_run, key-stands-later, key-stands-once, later_stands, live-is, numbers-are-theirs, plain_says, plain_table, repeats-get-the-number, run-stands, stand_all-append, stands-till-withdrawn, tables-withdraw, takes-one, withdrawn-at-once, withdrawn-for-good, withdrawn-key-is-free}
 
 module _ {C : Type 0} where
@@ -62,6 +68,25 @@ grow-first first (x ∷ xs) rest a h = let more = grow-first x.clock xs rest a h
 grow-all : {C : Type 0} (first : ℕ) (xs rest : List (Arrival C)) (a : Arrival C) → ClocksGrow first (xs ++ a ∷ rest) → AllByRecursion (λ b. b.clock ≤ a.clock) xs
 grow-all first [] rest a h = tt
 grow-all first (x ∷ xs) rest a h = (grow-first x.clock xs rest a h.1, grow-all x.clock xs rest a h.1)
+
+-- of a client no more keys are live without one number
+cons-more : (client : List ℕ) (o : Option RequestKey) (ks ls : List RequestKey) → held_of client ls ≤ held_of client ks → held_of client (cons_option o ls) ≤ held_of client (cons_option o ks)
+cons-more client None ks ls le = le
+cons-more client (Some k) ks ls le = let more = held_of-cons client k ks in let less = held_of-cons client k ls in omega (arith, more, less, le)
+
+cons-less : (client : List ℕ) (o : Option RequestKey) (ks ls : List RequestKey) → held_of client ls ≤ held_of client ks → held_of client ls ≤ held_of client (cons_option o ks)
+cons-less client None ks ls le = le
+cons-less client (Some k) ks ls le = let more = held_of-cons client k ks in omega (arith, more, le)
+
+but-fewer : {C : Type 0} (client : List ℕ) (now n : ℕ) (ps : List (Numbered C)) → held_of client (live_keys now (requests_of (all_but n ps))) ≤ held_of client (live_keys now (requests_of ps))
+but-fewer client now n [] = omega arith
+but-fewer client now n (p ∷ ps) =
+    let rest = but-fewer client now n ps in
+    let o = live_key now p.arrival.field in
+    let ks = live_keys now (requests_of ps) in
+    let ls = live_keys now (requests_of (all_but n ps)) in
+    elim (not (nat_eq p.number n)) as (λ b. held_of client (live_keys now (requests_of (cond b (p ∷ all_but n ps) (all_but n ps)))) ≤ held_of client (cons_option o ks))
+    [ true ↦ cons-more client o ks ls rest | false ↦ cons-less client o ks ls rest ]
 
 not-nil : {X : Type 0} (front rest : List X) (x : X) → [] ≡ front ++ x ∷ rest → ⊥
 not-nil [] rest x is = let size = ap length is in omega (arith, size)
@@ -232,12 +257,16 @@ module _ (s : Settings) where
   front-arrivals : (past : List Event) (front : List (Arrival Wanted)) → arrivals_among (front-items past front) ≡ arrivals s.limits past ++ front
   front-arrivals past front = among-append (items s.limits past) (map (λ b. Arrives b) front) ∙ (λ i. items-arrivals s.limits past i ++ among-arrivals front i)
 
+  -- the arrivals of a past, up to one that an event completes
+  whole-grow : (past : List Event) (e : Event) (front rest : List (Arrival Wanted)) (a : Arrival Wanted) → completed s.limits past e ≡ front ++ a ∷ rest → ClocksGrow 0 ((arrivals s.limits past ++ front) ++ a ∷ rest)
+  whole-grow past e front rest a is =
+      subst (λ (xs : List (Arrival Wanted)). ClocksGrow 0 xs) (ap (λ (xs : List (Arrival Wanted)). arrivals s.limits past ++ xs) is ∙ sym (append_assoc (arrivals s.limits past) front (a ∷ rest))) (arrivals-grow s.limits (e ∷ past)).0
+
   pub held-take-nothing : HeldTakeNothing s
   held-take-nothing held past e front rest p a key early late is at is_p is_a in_first in_time =
       let all = front-items past front in
       let there = subst (λ w. Contains w.performed p) (sym (front-stands past front)) at in
-      let grow : ClocksGrow 0 ((arrivals s.limits past ++ front) ++ a ∷ rest) =
-      subst (λ (xs : List (Arrival Wanted)). ClocksGrow 0 xs) (ap (λ (xs : List (Arrival Wanted)). arrivals s.limits past ++ xs) is ∙ sym (append_assoc (arrivals s.limits past) front (a ∷ rest))) (arrivals-grow s.limits (e ∷ past)).0 in
+      let grow = whole-grow past e front rest a is in
       let before = subst (AllByRecursion (λ (b : Arrival Wanted). b.clock ≤ a.clock)) (sym (front-arrivals past front)) (grow-all 0 (arrivals s.limits past ++ front) rest a grow) in
       let after = all_at (λ q. q.arrival.clock ≤ a.clock) (stands_after (asks_by s) (room_by s) all).performed p there.0 there.1 there.2
       (in_run (asks_by s) (room_by s) (λ b. b.clock ≤ a.clock) none_stands all before tt) in
@@ -260,6 +289,54 @@ module _ (s : Settings) where
             ∙ (elim room as (λ b. (cond b (record { calls = here.calls ++ call ∷ []; performed = here.performed ++ record { number = length here.calls; arrival = a } ∷ [] }) here).calls ≡ cond b (here.calls ++ call ∷ []) here.calls) [ true ↦ refl | false ↦ refl ])
             ∙ (λ i. cond room (sym step.2 i ++ call ∷ []) (sym step.2 i)),
       )
+
+  -- no client has more live keys than its share
+  stand-requests : (w : Standing Wanted Call) (a : Arrival Wanted) → requests_of (stand (asks_by s) (room_by s) w (Arrives a)).performed ≡ grown_now (number_rules (asks_by s) (room_by s)) (requests_of w.performed) a
+  stand-requests w a =
+      elim (acts_now (number_rules (asks_by s) (room_by s)) (requests_of w.performed) a)
+      as (λ b. requests_of (cond b (performed_too (asks_by s) (room_by s) w a) w).performed ≡ cond b (requests_of w.performed ++ a ∷ []) (requests_of w.performed))
+      [ true ↦ map-append (λ (p : Numbered Wanted). p.arrival) w.performed (record { number = length w.calls; arrival = a } ∷ []) | false ↦ refl ]
+
+  within-run : (w : Standing Wanted Call) (first : ℕ) (xs : List (Item Wanted)) → ClocksGrow first (arrivals_among xs) → Within s.share (live_keys first (requests_of w.performed))
+      → Within s.share (live_keys (clock_after first (arrivals_among xs)) (requests_of (stand_all (asks_by s) (room_by s) w xs).performed))
+  within-run w first [] grow all = all
+  within-run w first (Arrives a ∷ later) grow all =
+      within-run (stand (asks_by s) (room_by s) w (Arrives a)) a.clock later grow.1
+      (subst (λ (ps : List (Arrival Wanted)). Within s.share (live_keys a.clock ps)) (sym (stand-requests w a))
+      (grown_now-within (asks_by s) (number_rules (asks_by s) (room_by s)).apply s.capacity s.share first (requests_of w.performed) a grow.0 all))
+  within-run w first (Withdraws n ∷ later) grow all =
+      within-run (stand (asks_by s) (room_by s) w (Withdraws n)) first later grow (λ client. let here = all client in let less = but-fewer client first n w.performed in omega (arith, here, less))
+
+  front-within : (past : List Event) (e : Event) (front rest : List (Arrival Wanted)) (a : Arrival Wanted) → completed s.limits past e ≡ front ++ a ∷ rest → Within s.share (live_keys a.clock (requests_of (standing_with s past front).performed))
+  front-within past e front rest a is =
+      let all = front-items past front in
+      let xs = arrivals s.limits past ++ front in
+      let whole = whole-grow past e front rest a is in
+      let grow = subst (λ (ys : List (Arrival Wanted)). ClocksGrow 0 ys) (sym (front-arrivals past front)) (ClocksGrow-front 0 xs (a ∷ rest) whole) in
+      let upto = subst (λ (ys : List (Arrival Wanted)). clock_after 0 ys ≤ a.clock) (sym (front-arrivals past front)) (grow-middle 0 xs rest a whole) in
+      let ps = requests_of (stands_after (asks_by s) (room_by s) all).performed in
+      let within = within-run none_stands 0 all grow (λ client. omega arith) in
+      subst (λ w. Within s.share (live_keys a.clock (requests_of w.performed))) (front-stands past front)
+      (λ client. let here = within client in let less = held_of-later client (clock_after 0 (arrivals_among all)) a.clock ps upto in omega (arith, here, less))
+
+  pub room-for-standing-clients : RoomForStandingClients s
+  room-for-standing-clients held past e front rest a key expiration is is_a enough refusal =
+      let here = standing_with s past front in
+      let live = live_keys a.clock (requests_of here.performed) in
+      let keys = key ∷ live in
+      let clients = owners keys in
+      let within = front-within past e front rest a is in
+      let enough_too = subst (λ n. s.share * n ≤ s.capacity) (sym (owners-length keys)) enough in
+      let answer_is : number_by_field (asks_by s) (room_by s) here a.clock (asks_by s a.content) (Present key expiration) ≡ Err NoResources =
+      ap (number_by_field (asks_by s) (room_by s) here a.clock (asks_by s a.content)) (sym is_a) ∙ sym (in-event held past e front rest a is).0 ∙ refusal in
+      let no_room : has_room_for s.capacity s.share key live ≡ false =
+      refused (asks_by s) (number_rules (asks_by s) (room_by s)).apply s.capacity s.share (nat_lt expiration a.clock) (number_held a.clock key here.performed) (asks_by s a.content)
+      (has_room_for s.capacity s.share key live) here.calls (asked-never s.offer.interface a.content) answer_is in
+      elim (nat_lt (held_of key.client_id live) s.share) as (λ b. nat_lt (held_of key.client_id live) s.share ≡ b → s.share ≤ held_of key.client_id live) [
+        | true ↦ λ own. absurd (true≢false (sym (and_from (nat_lt (length live) s.capacity) (nat_lt (held_of key.client_id live) s.share)
+            (lt-ltb (length live) s.capacity (omega (arith, length-total clients live (owners-all keys).1, total-below clients live s.share key.client_id within (owners-all keys).0 (ltb-true _ _ own), enough_too))) own) ∙ no_room))
+        | false ↦ λ own. ltb-false _ _ own
+      ] refl
 
   pub calls-are-theirs : CallsAreTheirs s
   calls-are-theirs held past p at =
@@ -309,6 +386,7 @@ module _ (s : Settings) where
     held = held-take-nothing;
     repeats = repeats-take-nothing;
     first = firsts-are-taken;
+    fair = room-for-standing-clients;
     theirs = calls-are-theirs;
     stands = stands-till-declined;
     gone = declined-for-good;

@@ -1,9 +1,9 @@
 -- What stands after a past in which an engine's owner declined calls: `Withdrew i` is that it declined the call before which i were taken.
-use Rattle.std.specs.Prelude.{◌≡◌, ℕ, ◌<◌, ◌≤◌, Bool, IsTrue, IsFalse, if◌then◌else◌, List, [], ◌∷◌, ◌++◌, map, length, Contains, Some, Result, Ok, Err}
+use Rattle.std.specs.Prelude.{◌≡◌, ℕ, ◌*◌, ◌<◌, ◌≤◌, Bool, IsTrue, IsFalse, if◌then◌else◌, List, [], ◌∷◌, ◌++◌, map, length, Contains, Some, Result, Ok, Err}
 use Rattle.std.specs.List.{slice_get}
 use Rattle.giop_frames.specs.declared.limits.Limits.{Limits}
 use Rattle.ft_log.specs.Holding.{Holding}
-use Rattle.ft_log.specs.Keys.{RequestKey, has_room_for}
+use Rattle.ft_log.specs.Keys.{RequestKey, clients_in, has_room_for, held_of}
 use Rattle.ft_log.specs.Kept.{keys_of, unexpired}
 use Rattle.ft_log.specs.declared.system_exception.SystemName.{SystemName}
 use Rattle.ft_log.specs.declared.system_exception.SystemName.TheVariants.{NoResources}
@@ -93,6 +93,15 @@ module _ (s : Settings) where
       → let rules = owned_rules (by_number s held) in let t = table_after rules (owned_table (by_number s held) past) front in
       ((table_step rules t a).1 ≡ (if room then Ok (length t.state) else Err NoResources)) × ((table_step rules t a).0.state ≡ (if room then t.state ++ call ∷ [] else t.state))
 
+  -- Where the capacity is enough for the share of each client that has a live key, and of the one that asks, only a client that has used
+  -- up its own share by what stands is answered NO_RESOURCES: what was declined does not count.
+  abbrev pub RoomForStandingClients : Type 0
+  RoomForStandingClients = (held : ℕ → Holding) (past : List Event) (e : Event) (front rest : List (Arrival Wanted)) (a : Arrival Wanted) (key : RequestKey) (expiration : ℕ)
+      → completed s.limits past e ≡ front ++ a ∷ rest → a.field ≡ Present key expiration
+      → let live = live_keys a.clock (requests_of (standing_with past front).performed) in let rules = owned_rules (by_number s held) in
+      s.share * clients_in (key ∷ live) ≤ s.capacity → (table_step rules (table_after rules (owned_table (by_number s held) past) front) a).1 ≡ Err NoResources
+      → s.share ≤ held_of key.client_id live
+
   -- The call of a number is what the request asks that stands under it.
   abbrev pub CallsAreTheirs : Type 0
   CallsAreTheirs = (held : ℕ → Holding) (past : List Event) (p : Numbered Wanted) → Contains (standing past).performed p
@@ -133,6 +142,7 @@ module _ (s : Settings) where
     pub held : HeldTakeNothing
     pub repeats : RepeatsTakeNothing
     pub first : FirstsAreTaken
+    pub fair : RoomForStandingClients
     pub theirs : CallsAreTheirs
     pub stands : StandsTillDeclined
     pub gone : DeclinedForGood
