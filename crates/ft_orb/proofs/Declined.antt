@@ -13,7 +13,7 @@ use Rattle.ft_orb.specs.ExactlyOnce.{Arrival, ClocksGrow, Present, clock_after, 
 use Rattle.ft_orb.specs.Declined.{AnswersAreNumbers, CallsAreTheirs, DeclinedAtOnce, DeclinedForGood, DeclinedIsFree, FirstsAreTaken, HeldTakeNothing, KeyStandsLaterInPast, KeyStandsOnceInPast, LiveKeysAreKept, NothingDeclined, PastsStand, RepeatsTakeNothing, RoomForStandingClients, StandsTillDeclined, TablesStandForItems, asks_by, brought, items, room_by, standing, standing_with}
 use Rattle.ft_orb.specs.History.{Close, Event, KeepsAll, Lost, Opened, Piece, Withdrew, arrivals, clock, completed}
 use Rattle.ft_orb.specs.Now.{OneExpirationOf, acts_now}
-use Rattle.ft_orb.specs.Owners.{let_go, owned_rules, owned_table}
+use Rattle.ft_orb.specs.Owners.{owned_rules, owned_table}
 use Rattle.ft_orb.specs.Parking.{Settings, by_number}
 use Rattle.ft_orb.specs.Requests.{Call, Wanted}
 use Rattle.ft_orb.specs.Table.{Table, table_after, table_answers, table_step}
@@ -160,17 +160,17 @@ module _ (s : Settings) where
     abbrev Kept : List Event → Table (List Call) ℕ
     Kept past = owned_table (by_number s held) past
 
-    brought-table : (past : List Event) (e : Event) (t : Table (List Call) ℕ) → let_go (by_number s held).is e (table_after (owned_rules (by_number s held)) t (completed s.limits past e)) ≡ items_after (asks_by s) (room_by s) t (brought s.limits past e)
-    brought-table past (Opened c) t = refl
-    brought-table past (Piece c moment octets) t = sym (plain_table (asks_by s) (room_by s) t (completed s.limits past (Piece c moment octets)))
-    brought-table past (Close c) t = refl
-    brought-table past (Lost c) t = refl
-    brought-table past (Withdrew i) t = refl
+    next-table : (past : List Event) (e : Event) → Kept (e ∷ past) ≡ items_after (asks_by s) (room_by s) (Kept past) (brought s.limits past e)
+    next-table past (Opened c) = refl
+    next-table past (Piece c moment octets) = sym (plain_table (asks_by s) (room_by s) (Kept past) (completed s.limits past (Piece c moment octets)))
+    next-table past (Close c) = refl
+    next-table past (Lost c) = refl
+    next-table past (Withdrew i) = refl
 
     pub table-of-items : (past : List Event) → Kept past ≡ items_after (asks_by s) (room_by s) new_table (items s.limits past)
     table-of-items [] = refl
     table-of-items (e ∷ past) =
-        brought-table past e (Kept past)
+        next-table past e
         ∙ ap (λ t. items_after (asks_by s) (room_by s) t (brought s.limits past e)) (table-of-items past)
         ∙ sym (items_after-append new_table (items s.limits past) (brought s.limits past e))
 
