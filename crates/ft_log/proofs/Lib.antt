@@ -4,6 +4,7 @@ pub mod Slots
 pub mod Placing
 mod Counting
 pub mod Heaped
+pub mod Queued
 pub mod Entries
 pub mod Dated
 pub mod Moved

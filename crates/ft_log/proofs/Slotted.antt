@@ -21,27 +21,13 @@ use Rattle.ft_log.specs.declared.shelf.Kept.{Kept}
 use Rattle.ft_log.specs.declared.shelf.Shelf.{Shelf}
 use Rattle.ft_log.proofs.Entries.{keys_at, same_comm}
 use Rattle.ft_log.proofs.Listed.{itself}
-
--- none of them passes: not the first, and none of the others
-none_parts : {X : Type 0} (p : X → Bool) (x : X) (xs : List X) → count_by p (x ∷ xs) ≡ 0 → (p x ≡ false) × (count_by p xs ≡ 0)
-none_parts {X} p x xs h = by (p x) refl
-  where
-    all : count_by p (x ∷ xs) ≡ cond (p x) 1 0 + count_by p xs
-    all = sum_by-cons (λ z. cond (p z) 1 0) x xs
-
-    by : (b : Bool) → p x ≡ b → (p x ≡ false) × (count_by p xs ≡ 0)
-    by true e = let one : ◌≡◌ {A = ℕ} (cond (p x) 1 0) 1 = ap (λ b. cond b 1 0) e in absurd (omega (arith, h, all, one))
-    by false e = (e, omega (arith, h, all))
+use Rattle.ft_log.proofs.Queued.{none_parts, not_not}
 
 none_from : {X : Type 0} (p : X → Bool) (x : X) (xs : List X) → p x ≡ false → count_by p xs ≡ 0 → count_by p (x ∷ xs) ≡ 0
 none_from p x xs e h =
     let all = sum_by-cons (λ z. cond (p z) 1 0) x xs in
     let none : ◌≡◌ {A = ℕ} (cond (p x) 1 0) 0 = ap (λ b. cond b 1 0) e in
     omega (arith, h, all, none)
-
-not_not : (b : Bool) → not b ≡ false → b ≡ true
-not_not true h = refl
-not_not false h = absurd (true≢false h)
 
 -- what stands under one key changed, and none of the slots is of that key
 pub slotted-change : (m n : Shelf) (key : RequestKey) (ds : List Due) → ((other : RequestKey) → same_key other key ≡ false → at_key n other ≡ at_key m other)
