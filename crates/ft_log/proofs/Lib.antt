@@ -11,3 +11,4 @@ pub mod Moved
 pub mod Ready
 pub mod Slotted
 pub mod Filling
+pub mod Withdrawn

@@ -1,5 +1,5 @@
 -- A queue some of whose dues are withdrawn: what it has once one comes, goes, or is withdrawn.
-use Rattle.std.proofs.Common.{◌≡◌, ◌≢◌, ℕ, zero, suc, ◌+◌, ◌<◌, ◌≤◌, ◌==◌, ◌&&◌, Bool, true, false, not, cond, nat_lt, List, [], ◌∷◌, length, filter, take, slice_get, slice_index_or, Option, Some, None, is_some, IfSome, Result, Ok, Err, IsOk, OnOk, option_map, unwrap_or, IsPermutation, refl, sym, ap, ◌∙◌, subst, true≢false, arith}
+use Rattle.std.proofs.Common.{◌≡◌, ◌≢◌, ℕ, zero, suc, ◌+◌, ◌<◌, ◌≤◌, ◌==◌, ◌&&◌, Bool, true, false, not, cond, nat_lt, List, [], ◌∷◌, length, filter, take, slice_get, slice_index_or, Option, Some, None, is_some, IfSome, IfNone, Result, Ok, Err, IsOk, OnOk, option_map, unwrap_or, IsPermutation, refl, sym, ap, ◌∙◌, subst, true≢false, arith}
 use Rattle.std.specs.List.{count_by, sum_by}
 use Rattle.std.specs.Option.{option_map_or}
 use Rattle.std.specs.Borrow.{Bor}
@@ -372,3 +372,20 @@ pub slot_kept : (o : Option (Option ℕ)) → is_some (unwrap_or o None) ≡ tru
 slot_kept None h = absurd (true≢false (sym h))
 slot_kept (Some None) h = absurd (true≢false (sym h))
 slot_kept (Some (Some x)) h = refl
+
+pub if_none : {X P : Type 0} (r : Option X) → P → IfNone r P
+if_none None h = h
+if_none (Some x) h = tt
+
+-- the first of what is kept
+pub first_kept : (P : Slab (Option ℕ)) (ds : List Due) (d : Due) → Some d ≡ slice_get (filter (is_kept P) ds) 0 → is_kept P d ≡ true
+first_kept P [] d h = absurd (none-some d (sym h))
+first_kept P (e ∷ ds) d h = by (is_kept P e) refl h (first_kept P ds d)
+  where
+    by : (b : Bool) → is_kept P e ≡ b → Some d ≡ slice_get (cond b (e ∷ filter (is_kept P) ds) (filter (is_kept P) ds)) 0 → (Some d ≡ slice_get (filter (is_kept P) ds) 0 → is_kept P d ≡ true) → is_kept P d ≡ true
+    by true t is more = ap (is_kept P) (same_Some d e is) ∙ t
+    by false t is more = more is
+
+pub rest_of : (ds : List Due) (d : Due) → Some d ≡ slice_get ds 0 → (rest : List Due) × (ds ≡ d ∷ rest)
+rest_of [] d h = absurd (none-some d (sym h))
+rest_of (e ∷ ds) d h = (ds, ap (λ (x : Due). x ∷ ds) (sym (same_Some d e h)))

@@ -261,8 +261,9 @@ impl Store {
     pub(crate) fn withdraw(&mut self, key: &Key, number: u64)
         ensures { logged (shown self.new) ≡ record (logged (shown self.old)) { entries = withdrawn (key_of key.now) number (logged (shown self.old)).entries } }
     {
-        if let Some(spot) = self.kept.parked_at(key, number) {
-            self.take_out(spot);
+        match self.kept.parked_at(key, number) {
+            Some(spot) => self.take_out(spot),
+            None => {}
         }
     }
 

@@ -24,8 +24,8 @@ stays : (c : After-retain) → (f : Due → ℕ) → sum_by f (heap_items c.reta
 stays c f =
     let s = c.args.self.now in
     let all = c.retain.ensures.filtered in
-    let is = filter_same _ (λ d. is_kept c.free.new.places d) _ (λ x b f' k. search rules) _ _ all.1.0 in
-    sum_by-IsPermutation f all.0 (heap_items c.retain.new.self) all.1.1 ∙ ap (sum_by f) is ∙ (λ i. sum_by f (filter (λ d. is_some (same c d.slot i)) (heap_items s.heap)))
+    let is = filter_same _ (λ d. is_kept c.free.new.places d) _ (λ x b f' k. search rules) _ _ all.1 in
+    sum_by-IsPermutation f all.0 (heap_items c.retain.new.self) all.2 ∙ ap (sum_by f) is ∙ (λ i. sum_by f (filter (λ d. is_some (same c d.slot i)) (heap_items s.heap)))
 
 none : (c : After-retain) → count_by (λ d. not (is_kept c.free.new.places d)) (heap_items c.retain.new.self) ≡ 0
 none c = counted-compact c.args.self.now.places c.free.new.places (heap_items c.args.self.now.heap) (heap_items c.retain.new.self) (same c) (stays c)
