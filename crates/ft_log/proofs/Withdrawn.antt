@@ -20,7 +20,7 @@ is_parked_in number o = option_map_or (λ h. is_parked number (holding_in h)) o 
 
 -- where no entry has the key, all of them stay
 module _ (key : RequestKey) where
-  NoneHas : List Entry → Type 0
+  abbrev NoneHas : List Entry → Type 0
   NoneHas es = list_any (λ later. same_key later key) (keys_at es) ≡ false
 
   not_it : (e : Entry) (es : List Entry) → NoneHas (e ∷ es) → same_key key (key_of e.key) ≡ false
@@ -38,24 +38,21 @@ module _ (key : RequestKey) where
 pub entries-withdrawn : (key : RequestKey) (number : ℕ) (es : List Entry) → are_distinct (keys_at es) ≡ true
     → withdrawn key number (entries_at es) ≡ entries_at (cond (is_parked_in number (outcome_for key es)) (without key es) es)
 entries-withdrawn key number [] distinct = refl
-entries-withdrawn key number (e ∷ es) distinct = by (same_key key (key_of e.key)) refl
+entries-withdrawn key number (e ∷ es) distinct = by (entries-withdrawn key number es parts.1) (same_key key (key_of e.key)) refl
   where
     parts : (not (list_any (λ later. same_key later (key_of e.key)) (keys_at es)) ≡ true) × (are_distinct (keys_at es) ≡ true)
     parts = and_parts (not (list_any (λ later. same_key later (key_of e.key)) (keys_at es))) (are_distinct (keys_at es)) distinct
 
-    left : List (KeptOutcome Holding)
-    left = withdrawn key number (entries_at es)
-
-    by : (b : Bool) → same_key key (key_of e.key) ≡ b
-        → cond (not (b && is_parked number (holding_in e.outcome))) (entry_in e ∷ left) left
+    by : withdrawn key number (entries_at es) ≡ entries_at (cond (is_parked_in number (outcome_for key es)) (without key es) es) → (b : Bool) → same_key key (key_of e.key) ≡ b
+        → cond (not (b && is_parked number (holding_in e.outcome))) (entry_in e ∷ withdrawn key number (entries_at es)) (withdrawn key number (entries_at es))
             ≡ entries_at (cond (is_parked_in number (cond b (Some e.outcome) (outcome_for key es))) (cond (not b) (e ∷ without key es) (without key es)) (e ∷ es))
-    by true t =
+    by more true t =
         let none : list_any (λ later. same_key later key) (keys_at es) ≡ false =
             ap (λ (k : RequestKey). list_any (λ later. same_key later k) (keys_at es)) (same_is key (key_of e.key) t) ∙ false_from_not _ parts.0 in
-        elim (is_parked number (holding_in e.outcome)) as (λ (p : Bool). cond (not p) (entry_in e ∷ left) left ≡ entries_at (cond p (without key es) (e ∷ es))) [
+        elim (is_parked number (holding_in e.outcome)) as (λ (p : Bool). cond (not p) (entry_in e ∷ withdrawn key number (entries_at es)) (withdrawn key number (entries_at es)) ≡ entries_at (cond p (without key es) (e ∷ es))) [
           | true ↦ withdrawn-none key number es none ∙ sym (ap (λ (l : List Entry). entries_at l) (without_none key es none))
           | false ↦ ap (λ (l : List (KeptOutcome Holding)). entry_in e ∷ l) (withdrawn-none key number es none)
         ]
-    by false t =
-        ap (λ (l : List (KeptOutcome Holding)). entry_in e ∷ l) (entries-withdrawn key number es parts.1)
+    by more false t =
+        ap (λ (l : List (KeptOutcome Holding)). entry_in e ∷ l) more
         ∙ (elim (is_parked_in number (outcome_for key es)) as (λ (q : Bool). entry_in e ∷ entries_at (cond q (without key es) es) ≡ entries_at (cond q (e ∷ without key es) (e ∷ es))) [ true ↦ refl | false ↦ refl ])
