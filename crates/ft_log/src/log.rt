@@ -43,7 +43,7 @@ impl Log {
     ghost use Rattle.std.specs.Prelude.{◌≡◌, ◌↔◌, ◌<◌, ◌*◌, ◌++◌, [], ◌∷◌, None, Some, Err, OnOk, OnErr, MatchOption, true, false, length, map};
     ghost use Rattle.ft_log.specs.Holding.{known, parked};
     ghost use Rattle.ft_log.specs.Kept.{filled, kept_for, least_expiration, unexpired, withdrawn};
-    ghost use Rattle.ft_log.specs.Logged.{logged, slots_of};
+    ghost use Rattle.ft_log.specs.Logged.{dues_of, logged, slots_of};
     ghost use Rattle.ft_log.specs.View.{holding_in, performed_in};
     ghost use Rattle.ft_log.specs.declared.error.LogError.TheVariants.{Full, ShareFull};
 
@@ -158,11 +158,12 @@ impl Log {
     }
 
     /// The map has at most one slot for each entry and one for each client of an entry, however many clients
-    /// have asked.
+    /// have asked; and the heap two expirations for each entry, however many calls were withdrawn.
     pub fn slots_are_few(&self)
         ensures each { slots_of self.now ≤ length (logged self.now).entries + clients_in (keys_of (logged self.now).entries) }
         ensures twice { slots_of self.now ≤ 2 * length (logged self.now).entries }
         ensures bound { slots_of self.now ≤ 2 * (logged self.now).capacity }
+        ensures dues { dues_of self.now ≤ 2 * length (logged self.now).entries }
     {
         self.store.slots_are_few();
     }

@@ -118,21 +118,21 @@ impl Shelf {
         ensures parked { IfSome result (λ spot. option_map_or (λ h. is_parked number (holding_in h)) (kept_at self.now (key_of key.now)) false ≡ true) }
         ensures key { IfSome result (λ spot. key_of spot.key.key ≡ key_of key.now) }
         ensures slot { IfSome result (λ spot. slot_at self.now (key_of key.now) ≡ Some spot.slot) }
-        ensures place { IfSome result (λ spot. IsTrue (is_at (key_of key.now) spot.place self.now)) }
+        ensures place { IfSome result (λ spot. option_map (λ p. p.1.slot) (slice_get self.now.outcomes.entries spot.place) ≡ Some spot.slot) }
     {
         let name = Lent {
             client_id: key.client_id.as_slice(),
             number: Some(key.retention_id),
         };
         let (place, _, kept) = self.outcomes.get_full(name)?;
-        if kept.outcome.number() != Some(number) {
-            return None;
+        if kept.outcome.number() == Some(number) {
+            return Some(Spot {
+                slot: kept.slot,
+                place,
+                key: Mark::of(key),
+            });
         }
-        Some(Spot {
-            slot: kept.slot,
-            place,
-            key: Mark::of(key),
-        })
+        None
     }
 
     /// Takes the outcome of a key away, by its place, and gives the client.

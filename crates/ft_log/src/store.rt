@@ -57,7 +57,7 @@ pub(crate) struct Store {
 impl Store {
     ghost use Rattle.std.specs.Prelude.{◌≡◌, ◌↔◌, ◌<◌, ◌*◌, ◌++◌, [], ◌∷◌, None, Some, Err, OnOk, OnErr, MatchOption, true, false, length, map};
     ghost use Rattle.ft_log.specs.Kept.{filled, kept_for, least_expiration, unexpired, withdrawn};
-    ghost use Rattle.ft_log.specs.Logged.{logged, slots_of};
+    ghost use Rattle.ft_log.specs.Logged.{dues_of, logged, slots_of};
     ghost use Rattle.ft_log.specs.Shelf.{slot_at};
     ghost use Rattle.ft_log.specs.Store.{shown};
     ghost use Rattle.ft_log.specs.View.{holding_in, performed_in};
@@ -261,8 +261,9 @@ impl Store {
     pub(crate) fn withdraw(&mut self, key: &Key, number: u64)
         ensures { logged (shown self.new) ≡ record (logged (shown self.old)) { entries = withdrawn (key_of key.now) number (logged (shown self.old)).entries } }
     {
-        if let Some(spot) = self.kept.parked_at(key, number) {
-            self.take_out(spot);
+        match self.kept.parked_at(key, number) {
+            Some(spot) => self.take_out(spot),
+            None => {}
         }
     }
 
@@ -273,11 +274,12 @@ impl Store {
     {}
 
     /// The map has at most one slot for each entry and one for each client of an entry, however many clients
-    /// have asked.
-    #[tactic(auto, unfolding(crate::specs::Logged::logged, crate::specs::Logged::slots_of))]
+    /// have asked; and the heap two expirations for each entry, however many calls were withdrawn.
+    #[tactic(auto, unfolding(crate::specs::Logged::logged, crate::specs::Logged::slots_of, crate::specs::Logged::dues_of))]
     pub(crate) fn slots_are_few(&self)
         ensures each { slots_of (shown self.now) ≤ length (logged (shown self.now)).entries + clients_in (keys_of (logged (shown self.now)).entries) }
         ensures twice { slots_of (shown self.now) ≤ 2 * length (logged (shown self.now)).entries }
         ensures bound { slots_of (shown self.now) ≤ 2 * (logged (shown self.now)).capacity }
+        ensures dues { dues_of (shown self.now) ≤ 2 * length (logged (shown self.now)).entries }
     {}
 }
