@@ -131,9 +131,6 @@ withdraws {C} offers s held calls old new past waiting n p now h was is others n
     here : (i : ℕ) × (i < length calls) × (held i ≡ parked n) × AreKeyed i (key_kept p.pending.waiting.retained) (owned_table (by_number s held) past).entries
     here = h.parks.call n p was
 
-    abbrev Then : List Event
-    Then = Withdrew here.0 ∷ past
-
     count : (Tally s past).state ≡ calls
     count = sym h.rests.stands.table.state
 
@@ -148,7 +145,7 @@ withdraws {C} offers s held calls old new past waiting n p now h was is others n
         kept-others held calls here.0 n here.1 here.2 h.parks.once (key_of r.key) old.keeper.clock (Some r) (logged old.keeper.log).entries (Tally s past).entries low
         (subst (λ (o : Option Retained). AreKeyed here.0 (key_kept o) (Tally s past).entries) at here.3) (λ t some. let same : r ≡ t = cc in ap (λ (x : Retained). key_of x.key) same) h.rests.stands.table.entries
 
-    stands : StandsOf (by_number s held) (as_server new calls) Then
+    stands : StandsOf (by_number s held) (as_server new calls) (Withdrew here.0 ∷ past)
     stands = record {
       limits_are = limits ∙ h.rests.stands.limits_are;
       capacity_is = capacity ∙ h.rests.stands.capacity_is;
@@ -168,7 +165,7 @@ withdraws {C} offers s held calls old new past waiting n p now h was is others n
     there m false at some = subst (λ (o : Option Parked). IsSome o) (sym (others m at)) some
 
     call-at : (m : ℕ) (x : Parked) (b : Bool) → (m == n) ≡ b → parked_at new m ≡ Some x
-        → (j : ℕ) × (j < length calls) × (held j ≡ parked m) × AreKeyed j (key_kept x.pending.waiting.retained) (owned_table (by_number s held) Then).entries
+        → (j : ℕ) × (j < length calls) × (held j ≡ parked m) × AreKeyed j (key_kept x.pending.waiting.retained) (owned_table (by_number s held) (Withdrew here.0 ∷ past)).entries
     call-at m x true at found =
         let same = eqb-true m n at in
         (here.0, here.1, here.2 ∙ ap parked (sym same), gone-keyed here.0 (key_kept x.pending.waiting.retained) (Tally s past).entries)
@@ -182,7 +179,7 @@ withdraws {C} offers s held calls old new past waiting n p now h was is others n
         like p x (sym waiters ∙ ap (λ (y : Parked). y.waiters) own) (every p (ap (parked_at old) (eqb-true m n at) ∙ was))
     waiters-at P like m x false at found every = every x (sym (others m at) ∙ found)
 
-    parks : Parks s held calls new Then (asks_in new) waiting
+    parks : Parks s held calls new (Withdrew here.0 ∷ past) (asks_in new) waiting
     parks = record {
       places = places ∙ h.parks.places;
       there = λ j m less at. there m (m == n) refl (h.parks.there j m less at);
