@@ -1,14 +1,14 @@
 -- A queue some of whose dues are withdrawn: what it has once one comes, goes, or is withdrawn.
-use Rattle.std.proofs.Common.{◌≡◌, ◌≢◌, ℕ, zero, suc, ◌+◌, ◌<◌, ◌≤◌, ◌==◌, ◌&&◌, Bool, true, false, not, cond, nat_lt, List, [], ◌∷◌, length, filter, take, slice_get, slice_index_or, Option, Some, None, is_some, IfSome, IfNone, Result, Ok, Err, IsOk, OnOk, option_map, unwrap_or, IsPermutation, refl, sym, ap, ◌∙◌, subst, true≢false, arith}
+use Rattle.std.proofs.Common.{◌≡◌, ℕ, ◌+◌, ◌<◌, ◌≤◌, ◌==◌, ◌&&◌, Bool, true, false, not, cond, nat_lt, List, [], ◌∷◌, length, filter, slice_get, slice_index_or, Option, Some, None, is_some, IfSome, IfNone, Result, Ok, Err, IsOk, OnOk, option_map, unwrap_or, IsPermutation, refl, sym, ap, ◌∙◌, subst, true≢false, arith}
 use Rattle.std.specs.List.{count_by, sum_by}
 use Rattle.std.specs.Option.{option_map_or}
 use Rattle.std.specs.Borrow.{Bor}
 use Rattle.std.specs.BinaryHeap.{IsHeap, IsUpperBound}
 use Rattle.std.specs.declared.cmp.Ordering.{Ordering}
-use Rattle.std.proofs.lemmas.Bool.{and_parts, eqb-true, eq-eqb, ltb-true, lt-ltb}
+use Rattle.std.proofs.lemmas.Bool.{and_parts, eqb-true, eq-eqb, lt-ltb}
 use Rattle.std.proofs.lemmas.List.Filters.{length-filter_both, sum_by-filter_both}
 use Rattle.std.proofs.lemmas.List.Sorted.{sum_by_popped}
-use Rattle.std.proofs.lemmas.List.Sums.{length-filter, sum_by-cons, sum_by-le-sum_by}
+use Rattle.std.proofs.lemmas.List.Sums.{length-filter, sum_by-cons}
 use Rattle.std.proofs.lemmas.Option.{none-some, same_Some}
 use Rattle.slab.specs.Slab.{Slab, Updates, get}
 use Rattle.ft_log.specs.Keys.{RequestKey, same_key}
@@ -16,7 +16,7 @@ use Rattle.ft_log.specs.Places.{is_kept, place_in}
 use Rattle.ft_log.specs.Queue.{IsOut}
 use Rattle.ft_log.specs.View.{key_of}
 use Rattle.ft_log.specs.declared.due.Due.{Due}
-use Rattle.ft_log.proofs.Heaped.{Law, NoneBefore, none_before}
+use Rattle.ft_log.proofs.Heaped.{Law, none_before}
 use Rattle.ft_log.proofs.Listed.{same_is}
 
 -- none of them passes: not the first, and none of the others

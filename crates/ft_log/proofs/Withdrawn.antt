@@ -1,5 +1,5 @@
 -- The entries without the one that is parked under a number.
-use Rattle.std.proofs.Common.{◌≡◌, ℕ, ◌&&◌, Bool, true, false, not, cond, List, [], ◌∷◌, Option, Some, None, refl, sym, ap, ◌∙◌}
+use Rattle.std.proofs.Common.{◌≡◌, ℕ, ◌&&◌, Bool, true, false, not, cond, List, [], ◌∷◌, Option, Some, refl, sym, ap, ◌∙◌}
 use Rattle.std.specs.List.{list_any}
 use Rattle.std.specs.Option.{option_map_or}
 use Rattle.std.proofs.lemmas.Bool.{and_parts, or_parts}
@@ -45,10 +45,10 @@ entries-withdrawn key number (e ∷ es) distinct = by (entries-withdrawn key num
 
     by : withdrawn key number (entries_at es) ≡ entries_at (cond (is_parked_in number (outcome_for key es)) (without key es) es) → (b : Bool) → same_key key (key_of e.key) ≡ b
         → cond (not (b && is_parked number (holding_in e.outcome))) (entry_in e ∷ withdrawn key number (entries_at es)) (withdrawn key number (entries_at es))
-            ≡ entries_at (cond (is_parked_in number (cond b (Some e.outcome) (outcome_for key es))) (cond (not b) (e ∷ without key es) (without key es)) (e ∷ es))
+        ≡ entries_at (cond (is_parked_in number (cond b (Some e.outcome) (outcome_for key es))) (cond (not b) (e ∷ without key es) (without key es)) (e ∷ es))
     by more true t =
         let none : list_any (λ later. same_key later key) (keys_at es) ≡ false =
-            ap (λ (k : RequestKey). list_any (λ later. same_key later k) (keys_at es)) (same_is key (key_of e.key) t) ∙ false_from_not _ parts.0 in
+        ap (λ (k : RequestKey). list_any (λ later. same_key later k) (keys_at es)) (same_is key (key_of e.key) t) ∙ false_from_not _ parts.0 in
         elim (is_parked number (holding_in e.outcome)) as (λ (p : Bool). cond (not p) (entry_in e ∷ withdrawn key number (entries_at es)) (withdrawn key number (entries_at es)) ≡ entries_at (cond p (without key es) (e ∷ es))) [
           | true ↦ withdrawn-none key number es none ∙ sym (ap (λ (l : List Entry). entries_at l) (without_none key es none))
           | false ↦ ap (λ (l : List (KeptOutcome Holding)). entry_in e ∷ l) (withdrawn-none key number es none)

@@ -1,4 +1,4 @@
-use Rattle.std.proofs.Common.{◌≡◌, ◌<◌, true≢false, nat_lt, is_some, Some, refl, sym, ap, ◌∙◌}
+use Rattle.std.proofs.Common.{true≢false, nat_lt, is_some, refl, sym, ap, ◌∙◌}
 use Rattle.std.specs.BinaryHeap.{heap_items}
 use Rattle.std.specs.List.{count_by}
 use Rattle.ft_log.specs.Dues.{dues}

@@ -1,4 +1,4 @@
-use Rattle.std.proofs.Common.{rules, ◌≡◌, ◌==◌, ◌∙◌, cond, not, nat_lt, List, ℕ, Option, Some, is_some, option_map, filter, ap, arith}
+use Rattle.std.proofs.Common.{rules, ◌≡◌, ◌==◌, ◌∙◌, cond, not, nat_lt, ℕ, Some, is_some, option_map, filter, ap}
 use Rattle.std.specs.BinaryHeap.{heap_items}
 use Rattle.std.specs.List.{count_by, sum_by}
 use Rattle.std.proofs.lemmas.Fn.{filter_same}

@@ -1,4 +1,4 @@
-use Rattle.std.proofs.Common.{◌≡◌, None, refl, arith}
+use Rattle.std.proofs.Common.{None, refl, arith}
 use Rattle.std.specs.BinaryHeap.{heap_items}
 use Rattle.ft_log.proofs.Queued.{IsPopped, apart-went, counted-went, gone_at, popped_first, sums-went}
 use Rattle.ft_log.proofs.queue.Queue.drop_first.Goals as goal

@@ -16,5 +16,5 @@ returns-clause-ok c =
     let gone : count_by (λ d. not (is_kept places d)) (heap_items heap) ≡ s.withdrawn = (λ i. count_by (λ d. not (is_kept (c.reserve-2.ensures.rest_kept i) d)) (c.in_ok-reserve.ensures.items i)) ∙ s.counted in
     on_ok c.reserve-2.result
     (λ (room : slab_len places + 1 ≤ places.capacity). fits_from (nat_lt (slab_len places) places.capacity) (length (filter (is_kept places) (heap_items heap))) (heap_capacity heap - s.withdrawn)
-        (lt-ltb (slab_len places) places.capacity (omega (arith, room))) (omega (arith, many, gone, c.in_ok-reserve.ensures.ok, heap.data.ok.0)))
+    (lt-ltb (slab_len places) places.capacity (omega (arith, room))) (omega (arith, many, gone, c.in_ok-reserve.ensures.ok, heap.data.ok.0)))
     c.reserve-2.ensures.room

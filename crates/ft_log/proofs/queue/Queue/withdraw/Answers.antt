@@ -1,4 +1,4 @@
-use Rattle.std.proofs.Common.{◌≡◌, None, Some, refl, ap, ◌∙◌, arith}
+use Rattle.std.proofs.Common.{None, Some, refl, arith}
 use Rattle.std.specs.BinaryHeap.{heap_items}
 use Rattle.ft_log.specs.View.{key_of}
 use Rattle.ft_log.proofs.Queued.{apart-withdrawn, counted-withdrawn, out-withdrawn}

@@ -1,4 +1,4 @@
-use Rattle.std.proofs.Common.{◌≡◌, Bool, List, ℕ, ℤ, Option, unwrap_or, None, Some, is_some, slice_get, refl, sym, ap, ◌∙◌, subst, arith}
+use Rattle.std.proofs.Common.{◌≡◌, Bool, List, ℕ, ℤ, Option, unwrap_or, None, Some, is_some, refl, sym, ap, ◌∙◌, subst, arith}
 use mir.Syntax.{w32}
 use mir.Val.{to_z}
 use Rattle.std.specs.List.{sum_by}

@@ -1,16 +1,16 @@
-use Rattle.std.proofs.Common.{◌≡◌, ◌≤◌, ◌&&◌, ◌+◌, Bool, true, false, not, nat_lt, cond, List, ℕ, length, nat_eq, option_map, Option, Some, refl, sym, ap, ◌∙◌, subst, arith}
+use Rattle.std.proofs.Common.{◌≡◌, ◌≤◌, ◌&&◌, Bool, true, not, nat_lt, cond, List, ℕ, length, nat_eq, option_map, Option, Some, sym, ap, ◌∙◌, subst, arith}
 use Rattle.std.specs.List.{count_by, sum_by}
 use Rattle.std.specs.Option.{option_eq}
-use Rattle.indexmap.specs.IndexMap.{index_map_len, spare}
+use Rattle.indexmap.specs.IndexMap.{index_map_len}
 use Rattle.ft_log.specs.Dues.{dues, places, under}
-use Rattle.ft_log.specs.Filled.{filled_by, put_at}
+use Rattle.ft_log.specs.Filled.{filled_by}
 use Rattle.ft_log.specs.Keys.{RequestKey, are_distinct, clients_in, held_of, same_key}
 use Rattle.ft_log.specs.Kept.{KeptOutcome}
-use Rattle.ft_log.specs.Logged.{Logged, logged}
+use Rattle.ft_log.specs.Logged.{logged}
 use Rattle.ft_log.specs.Maps.{held_at, is_countable, key_in}
 use Rattle.ft_log.specs.Holding.{Holding}
-use Rattle.ft_log.specs.Shelf.{at_key, slot_at}
-use Rattle.ft_log.specs.Tied.{due_of, is_free, is_ready, is_slotted, outcome_for}
+use Rattle.ft_log.specs.Shelf.{at_key}
+use Rattle.ft_log.specs.Tied.{due_of, is_free, is_ready, outcome_for}
 use Rattle.ft_log.specs.View.{entries_at, key_of}
 use Rattle.ft_log.specs.declared.due.Due.{Due}
 use Rattle.ft_log.specs.declared.held.Held.{Held}

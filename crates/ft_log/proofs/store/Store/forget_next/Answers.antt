@@ -1,7 +1,7 @@
-use Rattle.std.proofs.Common.{◌≡◌, not, List, ℕ, Some, length, sym, ap, ◌∙◌, subst, arith}
+use Rattle.std.proofs.Common.{not, List, Some, length, sym, ap, ◌∙◌, subst, arith}
 use Rattle.std.proofs.lemmas.List.{length-map}
 use Rattle.std.specs.List.{count_by}
-use Rattle.ft_log.specs.Dues.{dues, under}
+use Rattle.ft_log.specs.Dues.{under}
 use Rattle.ft_log.specs.Kept.{unexpired}
 use Rattle.ft_log.specs.Logged.{logged}
 use Rattle.ft_log.specs.Shelf.{slot_at}

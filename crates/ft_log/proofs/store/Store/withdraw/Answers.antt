@@ -1,8 +1,8 @@
-use Rattle.std.proofs.Common.{◌≡◌, Bool, true, false, cond, List, ℕ, Some, option_map, sym, ap, ◌∙◌}
+use Rattle.std.proofs.Common.{◌≡◌, Bool, true, false, cond, List, option_map, sym, ap, ◌∙◌}
 use Rattle.ft_log.specs.Dues.{under}
 use Rattle.ft_log.specs.Holding.{Holding}
 use Rattle.ft_log.specs.Keys.{RequestKey}
-use Rattle.ft_log.specs.Kept.{KeptOutcome, withdrawn}
+use Rattle.ft_log.specs.Kept.{KeptOutcome}
 use Rattle.ft_log.specs.Logged.{logged}
 use Rattle.ft_log.specs.Shelf.{slot_at}
 use Rattle.ft_log.specs.Tied.{outcome_for}
