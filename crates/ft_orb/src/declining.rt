@@ -103,13 +103,12 @@ impl<C: Catalogue + Drop> Engine<C> {
         ensures counted { counts_in self.new ≡ record (counts_in self.old) { withdrawn = one_more (counts_in self.old).withdrawn } }
         ensures ended { AreEndings self.old self.new }
     {
-        let Some(parked) = self.parked.requests.get_mut(&number) else {
-            return;
-        };
-        let retained = parked.pending.waiting.retained.take();
-        parked.outcome = Some(Outcome::System(name, minor, Completion::No));
-        self.keeper.withdraw(retained, number);
-        count(&mut self.keeper.counts.withdrawn);
+        if let Some(parked) = self.parked.requests.get_mut(&number) {
+            let retained = parked.pending.waiting.retained.take();
+            parked.outcome = Some(Outcome::System(name, minor, Completion::No));
+            self.keeper.withdraw(retained, number);
+            count(&mut self.keeper.counts.withdrawn);
+        }
     }
 
     /// Gives up the request of this number, which waits (`is_open`), as `give_up` does, and says goodbye first: appends
