@@ -46,7 +46,7 @@ returns-clause-due g c s held calls past waiting moment octets written w a =
     let slot = c.args.self.now.keeper.slot in
     let same : pending_by slot c.in-Some.ask ≡ a.asks.pending = (let both : Some (pending_by slot c.in-Some.ask) ≡ Some a.asks.pending = sym (ap (pending_of slot) (sym c.take.ensures.value ∙ c.in-Some.is)) ∙ a.asks.keeps.waits in cc) in
     subst (λ (k : Asker). 0 < length (reply_by k.wish k.version k.request_id (not_now c.args.name c.args.minor))) (ap (λ (p : Pending). p.waiting.asker) same ∙ a.asks.asker)
-    (unput (reply_by slot.asker.wish slot.asker.version slot.asker.request_id (not_now c.args.name c.args.minor)) c.refuse.result c.args.out.now.items c.refuse.new.out.items c.not-Answered c.refuse.ensures.put)
+    (unput (reply_by slot.asker.wish slot.asker.version slot.asker.request_id (not_now c.args.name c.args.minor)) c.refuse.result c.args.out.now.items c.refuse.new.out.items c.in_default-refuse.not-Answered c.refuse.ensures.put)
 
 pub returns-clause-counts : goal.returns-clause-counts
 returns-clause-counts g c s held calls past waiting moment octets written w a =
