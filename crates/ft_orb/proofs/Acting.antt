@@ -48,7 +48,7 @@ use Rattle.ft_orb.proofs.Books.{book_by, kept-folded}
 use Rattle.ft_orb.proofs.Folded.{table_after-append}
 use Rattle.ft_orb.proofs.Headline.{past_stands_by}
 use Rattle.ft_orb.proofs.Late.{below-past, links-go, tally-is}
-use Rattle.ft_orb.proofs.Ledgers.{answered-are-known, calls-are-taken, runs-join, theirs-later, told-are-known, told-once, twice}
+use Rattle.ft_orb.proofs.Ledgers.{answered-are-known, calls-are-taken, declined-are-known, refused-are-known, runs-join, theirs-later, told-are-known, told-once, twice}
 use Rattle.ft_orb.proofs.Acts.{asks-acts, one-question, same-front}
 use Rattle.ft_orb.proofs.Placed.{all-within, came-within, count-same, nobody-under}
 use Rattle.ft_orb.proofs.Numbers.{AreBelow, after-below, all-filter}
@@ -649,6 +649,10 @@ module _ (s : Settings) where
         subst (λ (l : List Deed). (after_deeds s (opening held) l).held i ≡ known outcome) (sym is) (told-are-known s (opening held) xs ys i n outcome told (subst (λ (l : List Deed). Runs s (opening held) l) is runs));
     answered = λ xs ys a outcome written note is.
         subst (λ (l : List Deed). (after_deeds s (opening held) l).held (length (after_deeds s (opening held) xs).calls) ≡ known outcome) (sym is) (answered-are-known s (opening held) xs ys a outcome written note (subst (λ (l : List Deed). Runs s (opening held) l) is runs));
+    declined = λ xs ys a name minor written is.
+        subst (λ (l : List Deed). (after_deeds s (opening held) l).held (length (after_deeds s (opening held) xs).calls) ≡ known (not_now name minor)) (sym is) (refused-are-known s (opening held) xs ys a name minor written (subst (λ (l : List Deed). Runs s (opening held) l) is runs));
+    withdrawn = λ xs ys i n name minor told is.
+        subst (λ (l : List Deed). (after_deeds s (opening held) l).held i ≡ known (not_now name minor)) (sym is) (declined-are-known s (opening held) xs ys i n name minor told (subst (λ (l : List Deed). Runs s (opening held) l) is runs));
     once = calls-once (after_deeds s (opening held) ds) (calls-are-taken s (opening held) ds runs refl);
     now = calls-now (after_deeds s (opening held) ds) (calls-are-taken s (opening held) ds runs refl);
     told = λ n. told-once s stay (opening held) ds n runs (λ m. refl);

@@ -10,11 +10,12 @@ use Rattle.ft_log.specs.Holding.{Holding, known, parked}
 use Rattle.ft_log.specs.Performed.{Performed}
 use Rattle.ft_log.specs.declared.system_exception.SystemName.{SystemName}
 use Rattle.ft_orb.specs.declared.events.Note.{Note}
-use Rattle.ft_orb.specs.declared.events.Note.TheVariants.{Memory}
+use Rattle.ft_orb.specs.declared.events.Note.TheVariants.{Done, Memory, Refused}
 use Rattle.ft_orb.specs.declared.parked.Waiter.{Waiter}
-use Rattle.ft_orb.specs.Deeds.{AnsweredAreKnown, AreApart, AreTaken, AreTold, Answered, CallsAreTaken, CallsGrow, Declined, DeclinedAreKnown, Deed, DeedsAreRuns, GivenUp, Happened, IsDeed, IsLeftOf, Joined, JoinedAreNoCalls, KnownGrows, Ledger, Missed, Parked, Reached, Runs, RunsJoin, Settled, SettledAreTheirs, Stopped, Told, ToldAreKnown, ToldOnce, Withdrawn, WrittenNow, WrittenOnce, after_deed, after_deeds, came_to, part_of, piece_of, reached, rest_of, settles, told_all, told_of, told_one, without_call}
+use Rattle.ft_orb.specs.Deeds.{AnsweredAreKnown, AreApart, AreTaken, AreTold, Answered, CallsAreTaken, CallsGrow, Declined, DeclinedAreKnown, Deed, DeedsAreRuns, GivenUp, Happened, IsDeed, IsLeftOf, IsUnawaited, Joined, JoinedAreNoCalls, KnownGrows, Ledger, Missed, Parked, Reached, RefusedAreKnown, Runs, RunsJoin, RunsKeepAll, Settled, SettledAreTheirs, Stopped, Told, ToldAreKnown, ToldOnce, Withdrawn, WithdrawnAreTheirs, WrittenNow, WrittenOnce, after_deed, after_deeds, came_to, declines, part_of, piece_of, reached, rest_of, settles, told_all, told_of, told_one, without_call}
 use Rattle.ft_orb.specs.ExactlyOnce.{Arrival}
-use Rattle.ft_orb.specs.History.{Event, Gone, Line, Lost, Shut, Up, Withdrew, arrivals_on, does_count, line}
+use Rattle.ft_orb.specs.History as history
+use Rattle.ft_orb.specs.History.{Close, Event, Gone, KeepsAll, Line, Lost, Piece, Shut, Up, Withdrew, arrivals_on, does_count, line}
 use Rattle.ft_orb.specs.Outputs.{WritesBy, after, is_going, is_gone}
 use Rattle.ft_orb.specs.Parked.{is_wished, on_going}
 use Rattle.ft_orb.specs.Parking.{Settings, goes_on, not_now, numbering, put_at, waiter_of, own_of}
@@ -394,6 +395,52 @@ module _ (s : Settings) where
       known-grows (after_deed s g (Answered a o written note)) ys (length g.calls) o h.1 (omega (arith, size)) (put-here (length g.calls) (known o) g.held)
   answered-are-known g (x ∷ xs) ys a o written note h = answered-are-known (after_deed s g x) xs ys a o written note h.1
 
+  pub refused-are-known : RefusedAreKnown s
+  refused-are-known g [] ys a name minor written h =
+      let size = length-append g.calls (a.request.call ∷ []) in
+      known-grows (after_deed s g (Declined a name minor written)) ys (length g.calls) (not_now name minor) h.1 (omega (arith, size)) (put-here (length g.calls) (known (not_now name minor)) g.held)
+  refused-are-known g (x ∷ xs) ys a name minor written h = refused-are-known (after_deed s g x) xs ys a name minor written h.1
+
+  -- Where none is declined, none is withdrawn.
+
+  keeps-event : (past : List Event) (e : Event) (waiting : ℕ → List Waiter) → IsUnawaited e waiting → KeepsAll past → KeepsAll (e ∷ past)
+  keeps-event past (history.Opened c) waiting free kept = kept
+  keeps-event past (Piece c moment octets) waiting free kept = kept
+  keeps-event past (Close c) waiting free kept = kept
+  keeps-event past (Lost c) waiting free kept = kept
+  keeps-event past (Withdrew i) waiting free kept = absurd free
+
+  keeps-after : (past : List Event) (e : Event) (note : Note) (waiting : ℕ → List Waiter) → IsUnawaited e waiting → KeepsAll past → KeepsAll (after s.limits past e note)
+  keeps-after past e Done waiting free kept = keeps-event past e waiting free kept
+  keeps-after past e Refused waiting free kept = keeps-event past e waiting free kept
+  keeps-after past (history.Opened c) (Memory handled answered) waiting free kept = kept
+  keeps-after past (Piece c moment octets) (Memory handled answered) waiting free kept = kept
+  keeps-after past (Close c) (Memory handled answered) waiting free kept = kept
+  keeps-after past (Lost c) (Memory handled answered) waiting free kept = kept
+  keeps-after past (Withdrew i) (Memory handled answered) waiting free kept = kept
+
+  keeps-told : (n : ℕ) (g : Ledger) (told : List Told) → KeepsAll g.past → KeepsAll (told_all s n g told).past
+  keeps-told n g [] kept = kept
+  keeps-told n g (Reached w ∷ told) kept = keeps-told n (told_one s n g (Reached w)) told kept
+  keeps-told n g (Missed w ∷ told) kept = keeps-told n (told_one s n g (Missed w)) told kept
+
+  keeps-deed : (g : Ledger) (d : Deed) → IsDeed s g d → declines d ≡ false → KeepsAll g.past → KeepsAll (after_deed s g d).past
+  keeps-deed g (Happened e written note) h none kept = keeps-after g.past e note g.waiting h.3 kept
+  keeps-deed g (Stopped p written w q) h none kept = kept
+  keeps-deed g (Joined p written n joined) h none kept = kept
+  keeps-deed g (Answered a outcome written note) h none kept = keeps-after g.past (piece_of a) note g.waiting tt kept
+  keeps-deed g (Parked a own) h none kept = kept
+  keeps-deed g (GivenUp a handled) h none kept = kept
+  keeps-deed g (Settled i n outcome told) h none kept = keeps-told n g told kept
+  keeps-deed g (Declined a name minor written) h none kept = absurd cc
+  keeps-deed g (Withdrawn i n name minor told) h none kept = absurd cc
+
+  pub runs-keep-all : RunsKeepAll s
+  runs-keep-all g [] h kept none = kept
+  runs-keep-all g (d ∷ ds) h kept none =
+      let parts = or_parts (declines d) (list_any declines ds) none in
+      runs-keep-all (after_deed s g d) ds h.1 (keeps-deed g d h.0 parts.0 kept) parts.1
+
   pub written-now : WrittenNow s
   written-now late held past e written note kept h = let owner = numbering s late held in writes_now_by (book_by owner) past e written note (kept-folded owner past kept) h
 
@@ -470,6 +517,12 @@ module _ (s : Settings) where
   settled-are-theirs g (d ∷ ds) ys i j n o told apart h less is none =
       let parts = or_parts (settles n d) (list_any (settles n) ds) none in
       settled-are-theirs (after_deed s g d) ds ys i j n o told (apart-deed g d h.0 apart) h.1 (less-deed g d i less) (parked-deed g d i n h.0 parts.0 less is) parts.1
+
+  pub withdrawn-are-theirs : WithdrawnAreTheirs s
+  withdrawn-are-theirs g [] ys i j n name minor told apart h less is none = apart i j n less h.0.1 is h.0.2
+  withdrawn-are-theirs g (d ∷ ds) ys i j n name minor told apart h less is none =
+      let parts = or_parts (settles n d) (list_any (settles n) ds) none in
+      withdrawn-are-theirs (after_deed s g d) ds ys i j n name minor told (apart-deed g d h.0 apart) h.1 (less-deed g d i less) (parked-deed g d i n h.0 parts.0 less is) parts.1
 
   -- .. from any deed of a run on
   pub theirs-later : (g : Ledger) (xs ms ys : List Deed) (i j n : ℕ) (outcome : Performed) (told : List Told) → AreApart g → Runs s g (xs ++ (ms ++ Settled j n outcome told ∷ ys))

@@ -154,6 +154,18 @@ settles n (Settled i m outcome told) = n == m
 settles n (Declined a name minor written) = false
 settles n (Withdrawn i m name minor told) = n == m
 
+-- a call is declined in it
+abbrev pub declines : Deed → Bool
+declines (Happened e written note) = false
+declines (Stopped p written w q) = false
+declines (Joined p written n joined) = false
+declines (Answered a outcome written note) = false
+declines (Parked a own) = false
+declines (GivenUp a handled) = false
+declines (Settled i n outcome told) = false
+declines (Declined a name minor written) = true
+declines (Withdrawn i n name minor told) = true
+
 -- the ledger once nothing is kept for call i any more
 abbrev pub without_call : (i : ℕ) → Ledger → Ledger
 without_call i g = record g { past = Withdrew i ∷ g.past }
@@ -321,6 +333,15 @@ module _ (s : Settings) where
   abbrev pub DeclinedAreKnown : Type 0
   DeclinedAreKnown = (g : Ledger) (xs ys : List Deed) (i n : ℕ) (name : SystemName) (minor : ℕ) (told : List Told) → Runs g (xs ++ Withdrawn i n name minor told ∷ ys) → (after_deeds g (xs ++ Withdrawn i n name minor told ∷ ys)).held i ≡ known (not_now name minor)
 
+  -- .. or to the one who asked, when it was declined at once.
+  abbrev pub RefusedAreKnown : Type 0
+  RefusedAreKnown = (g : Ledger) (xs ys : List Deed) (a : Asking) (name : SystemName) (minor : ℕ) (written : List ℕ) → Runs g (xs ++ Declined a name minor written ∷ ys)
+      → (after_deeds g (xs ++ Declined a name minor written ∷ ys)).held (length (after_deeds g xs).calls) ≡ known (not_now name minor)
+
+  -- Where no call is declined in a run, none is withdrawn.
+  abbrev pub RunsKeepAll : Type 0
+  RunsKeepAll = (g : Ledger) (ds : List Deed) → Runs g ds → KeepsAll g.past → list_any declines ds ≡ false → KeepsAll (after_deeds g ds).past
+
   -- Where no call was withdrawn, what was written is what looking back over all arrivals says, each key by itself and whatever
   -- expirations requests carry ..
   abbrev pub WrittenNow : Type 0
@@ -346,6 +367,11 @@ module _ (s : Settings) where
   -- i is told the outcome of call i.
   abbrev pub SettledAreTheirs : Type 0
   SettledAreTheirs = (g : Ledger) (ds : List Deed) (ys : List Deed) (i j n : ℕ) (outcome : Performed) (told : List Told) → AreApart g → Runs g (ds ++ Settled j n outcome told ∷ ys)
+      → i < length g.calls → g.held i ≡ parked n → list_any (settles n) ds ≡ false → i ≡ j
+
+  -- .. and nobody is told the refusal of another call.
+  abbrev pub WithdrawnAreTheirs : Type 0
+  WithdrawnAreTheirs = (g : Ledger) (ds ys : List Deed) (i j n : ℕ) (name : SystemName) (minor : ℕ) (told : List Told) → AreApart g → Runs g (ds ++ Withdrawn j n name minor told ∷ ys)
       → i < length g.calls → g.held i ≡ parked n → list_any (settles n) ds ≡ false → i ≡ j
 
   -- For a repeat that joins nothing is performed, and it makes nothing known.

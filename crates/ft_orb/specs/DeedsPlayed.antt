@@ -4,6 +4,7 @@ use Rattle.std.specs.List.{list_any}
 use Rattle.ft_log.specs.Holding.{Holding, known, parked}
 use Rattle.ft_log.specs.Performed.{Performed}
 use Rattle.ft_log.specs.View.{performed_in}
+use Rattle.ft_log.specs.declared.system_exception.SystemName.{SystemName}
 use Rattle.ft_objects.specs.Catalogues.{Offer}
 use Rattle.ft_orb.specs.declared.deeds.Deed.{Deed as CodeDeed}
 use Rattle.ft_orb.specs.declared.deeds.Deed.TheVariants as code
@@ -156,15 +157,18 @@ Becomes {C} offers told left notes old new = (s : Settings) (g : Ledger) → Hol
 abbrev pub Remains : {C : Type 0} → (C → Offer) → Engine C → Engine C → Type 0
 Remains {C} offers old new = (s : Settings) (g : Ledger) → Holds offers s g old → Holds offers s g new
 
--- What holds of a run from a new engine on: what is answered or told of a call is the outcome that is known of it at the end; of those who came
--- to wait under a number each is told once, waits on, or its connection has ended; and what is told under it first is of the call that
--- was parked there. Where none is declined, the calls that were taken are those of the distinct admissible requests, each once, in the
--- order of their first arrivals, where requests with one key carry one expiration, and those that are performed with each key by
--- itself, whatever they carry.
+-- What holds of a run from a new engine on: what is answered or told of a call is the outcome or the refusal that is known of it at
+-- the end; of those who came to wait under a number each is told once, waits on, or its connection has ended; and what is told
+-- under it first is of the call that was parked there. Where none is declined, the calls that were taken are those of the distinct
+-- admissible requests, each once, in the order of their first arrivals, where requests with one key carry one expiration, and those
+-- that are performed with each key by itself, whatever they carry.
 pub record IsAnsweredLate (s : Settings) (held : ℕ → Holding) (ds : List Deed) : Type 0 where
   pub runs : Runs s (opening held) ds
   pub answered : (xs ys : List Deed) (a : Asking) (outcome : Performed) (written : List ℕ) (note : Note) → ds ≡ xs ++ Answered a outcome written note ∷ ys
       → (after_deeds s (opening held) ds).held (length (after_deeds s (opening held) xs).calls) ≡ known outcome
+  pub declined : (xs ys : List Deed) (a : Asking) (name : SystemName) (minor : ℕ) (written : List ℕ) → ds ≡ xs ++ Declined a name minor written ∷ ys
+      → (after_deeds s (opening held) ds).held (length (after_deeds s (opening held) xs).calls) ≡ known (not_now name minor)
+  pub withdrawn : (xs ys : List Deed) (i n : ℕ) (name : SystemName) (minor : ℕ) (told : List Told) → ds ≡ xs ++ Withdrawn i n name minor told ∷ ys → (after_deeds s (opening held) ds).held i ≡ known (not_now name minor)
   pub known : (xs ys : List Deed) (i n : ℕ) (outcome : Performed) (told : List Told) → ds ≡ xs ++ Settled i n outcome told ∷ ys → (after_deeds s (opening held) ds).held i ≡ known outcome
   pub once : KeepsAll (after_deeds s (opening held) ds).past → OneExpiration (arrivals s.limits (after_deeds s (opening held) ds).past)
       → (after_deeds s (opening held) ds).calls ≡ state_of (owned_rules (by_number s held)) [] (arrivals s.limits (after_deeds s (opening held) ds).past)
