@@ -139,6 +139,14 @@ LISTS = [
         (("ft_orb", "owners_answer_once"), ("ft_orb", "owners_answer_firsts"), ("ft_orb", "answers_have_a_rule")),
     ),
     Listing(
+        "Where calls are declined",
+        "What stands of a past in which an engine's owner declined calls, with each key by itself. `Withdrawing` has it"
+        " without an event or an engine: read it first.",
+        (("ft_orb", "requests_stand_once", None),),
+        ("ft_orb/Withdrawing", "ft_orb/Declined"),
+        (("ft_orb", "owners_may_withdraw"),),
+    ),
+    Listing(
         "Over a wire",
         "From the clauses `table` of `serve_stream` and `serve_engine`.",
         (("ft_orb", "serve_stream", ("table",)), ("ft_orb", "serve_engine", ("table",))),

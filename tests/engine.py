@@ -1,7 +1,7 @@
 """Plays random scripts with `giop play --engine`, and compares with a model.
 
 A script is events on connections, and what the owner of the engine does: how it answers from there on, which requests
-are parked, and which of these are answered, by a seed. Each is played twice: as it is, and with each piece cut into
+are parked, and which of these are answered or declined, by a seed. Each is played twice: as it is, and with each piece cut into
 small ones. All that is printed, the requests that were asked for and parked, the octets, the requests that were given
 up and the total, must be what the model says (tests/engine_model.py). A script that fails is printed with as few
 messages and events as are found with which it still does, as the program takes it.
@@ -257,7 +257,7 @@ class Maker:
 
 
 class LateMaker(Maker):
-    """Makes a script in which requests are parked and answered, of numbers that `giop play` takes."""
+    """Makes a script in which requests are parked, answered and declined, of numbers that `giop play` takes."""
 
     def __init__(self, dice):
         super().__init__(dice)
@@ -265,8 +265,15 @@ class LateMaker(Maker):
         start = dice.choice([0, 0, 0, *(edge for edge in EDGES if 0 < edge)])
         self.terms = self.terms._replace(capacity=capacity, share=share, total=start)
         self.places = Places(dice.choice([0, 1, 2, 3, 3, 100, 100, 65536]), dice.choice([0, 0, 1, 2, 10, 65536]))
-        late = dice.choice([{}, {"park": 10, "answer": 8}, {"park": 25, "answer": 15}, {"park": 30, "answer": 4}])
+        late = dice.choice([{}, {"park": 10, "answer": 8}, {"park": 25, "answer": 15}, {"park": 30, "answer": 4},
+                            {"park": 25, "answer": 8, "decline": 8}, {"park": 30, "answer": 2, "decline": 6}])
         self.kinds = {**KINDS, **late}
+
+    def owner(self):
+        if self.dice.random() < 0.3:
+            self.steps.append(("owner", self.dice.choice(["declines", "declines", "leaves"])))
+        else:
+            super().owner()
 
     def park(self):
         """The next requests are parked; at times such a one comes, and comes again on any connections."""
@@ -277,17 +284,28 @@ class LateMaker(Maker):
                 again = self.repeat()._replace(field=self.keyed[-1].field, call=self.keyed[-1].call)
                 self.say(self.connection(), [self.framed(again)])
 
+    def late(self, verb):
+        """Some of what is parked is answered or declined."""
+        self.steps.append((self.dice.choice(["any"] * 4 + ["all"]), self.dice.randrange(1000), verb))
+
     def answer(self):
-        pick = self.dice.randrange(1000)
-        self.steps.append(self.dice.choice([("any", pick)] * 4 + [("all", pick)]))
+        self.late("answer")
+
+    def decline(self):
+        """Some of what is parked is declined, and at times a request comes again."""
+        self.late("decline")
+        if self.keyed and self.dice.random() < 0.5:
+            self.say(self.connection(), [self.framed(self.repeat())])
 
     def audit(self):
-        """What is parked is answered, too, before all comes once more and after; at times there is a stray answer."""
+        """What is parked is answered, or declined, too, before all comes once more and after; at times what is not
+        parked is."""
         for _ in range(2):
-            self.steps += [("owner", "performs"), ("all", self.dice.randrange(1000))]
+            verb = self.dice.choice(["answer", "answer", "decline"])
+            self.steps += [("owner", "performs"), ("all", self.dice.randrange(1000), verb)]
             super().audit()
         if self.dice.random() < 0.1:
-            self.steps.append(("stray", self.dice.randrange(100)))
+            self.steps.append(("stray", self.dice.randrange(100), self.dice.choice(["answer", "decline"])))
 
 
 def in_pieces(dice, events):

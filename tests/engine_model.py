@@ -2,9 +2,10 @@
 
 A script is events on connections, and what the owner does, as `giop play --engine` takes it. The model looks back over
 all requests that came (`Server` of tests/ends_model.py): each distinct admissible request is asked for once, in the
-order in which they came first, and again only where it was given up. A request that is parked acts when it is answered.
-A repeat of one waits with it, and is told with it; where more than so many wait on connections that go on it is told
-TRANSIENT. The model knows of each message what it says and where it ends, and reads no octets.
+order in which they came first, and again only where it was given up or declined. A request that is parked acts when it
+is answered. A repeat of one waits with it, and is told with it; where more than so many wait on connections that go on
+it is told TRANSIENT. Of a request that is declined nothing stays. The model knows of each message what it says and where
+it ends, and reads no octets.
 """
 from collections import namedtuple
 
@@ -15,6 +16,8 @@ from tests.giop import CLOSE_CONNECTION, HEADER, MAYBE, MESSAGE_ERROR
 STATUSES = {"returned": giop.NO_EXCEPTION, "raised": giop.USER_EXCEPTION, "system": giop.SYSTEM_EXCEPTION}
 FULL, EMPTY, NONE = "full", "empty", "none"
 BAD = "bad"
+# what a request is told that is declined
+NOT_NOW = refused("TRANSIENT")
 
 # what a play keeps to, and how many requests may be parked, and repeats wait for one beside the first
 Terms = namedtuple("Terms", "capacity share total limit partials")
@@ -51,7 +54,9 @@ def line_of(event):
 
 
 class Lost(Exception):
-    """A connection is lost, for want of an answer."""
+    """A connection is lost, for want of an answer, and what is written on it before."""
+
+    goodbye = b""
 
     def line(self, number, since):
         """What is printed of it, where so many requests and locates came since the engine stopped."""
@@ -73,8 +78,14 @@ class NoPlace(GivenUp):
     why = "full"
 
 
+class Left(GivenUp):
+    """The owner gave a request up, and closed its connection."""
+
+    goodbye = CLOSE_CONNECTION
+
+
 class NotParked(Exception):
-    """Nothing is parked under a number that is answered."""
+    """Nothing is parked under a number that is answered or declined."""
 
 
 class Wire:
@@ -112,14 +123,26 @@ class Engine(Server):
         """Who waits for what is parked, on connections that go on."""
         return [(number, asked) for number, asked in parked.waiting if self.is_going(number)]
 
+    def waits_on(self, number):
+        """Whether somebody waits on a connection for what is parked."""
+        return any(number == waiter for parked in self.parked.values() for waiter, _ in parked.waiting)
+
     def apply(self, call):
-        """What the owner answers."""
-        if self.manner in ("gives_up", "mistypes"):
-            raise GivenUp
+        """The outcome that the owner has."""
         if self.manner == "performs":
             return super().apply(call)
+        if not self.manner.startswith("system "):
+            raise GivenUp
         _, name, minor = self.manner.split(" ")
         return refused(name, int(minor), MAYBE)
+
+    def answer_now(self, connection, call):
+        """What the owner answers to what it is asked for."""
+        if self.manner == "declines":
+            return NOT_NOW
+        if self.manner == "leaves" and not self.waits_on(connection):
+            raise Left
+        return self.apply(call)
 
     def note(self, line):
         """Notes a line of what was asked for."""
@@ -133,7 +156,7 @@ class Engine(Server):
         is_to_park, self.parks = self.parks > 0, max(0, self.parks - 1)
         self.note(f"ask {what}")
         if not is_to_park:
-            return self.apply(call)
+            return self.answer_now(connection, call)
         self.note(f"parked {number} {what}")
         if self.places.parked <= len(self.parked):
             self.journal.pop()
@@ -167,7 +190,8 @@ class Engine(Server):
         if refusal:
             return refusal
         came = self.ask(connection, asked)
-        self.performed.append((key, call.expiration, came))
+        if came != NOT_NOW:
+            self.performed.append((key, call.expiration, came))
         return came
 
     def came_of(self, connection, asked):
@@ -220,7 +244,7 @@ class Engine(Server):
                 since = since + 1 if stopped == self.stops else 0
             self.end()
         except Lost as lost:
-            return written, lost.line(number, since)
+            return written + lost.goodbye, lost.line(number, since)
         return written, None
 
     def open(self, number):
@@ -233,7 +257,7 @@ class Engine(Server):
         """Closes a connection, unless somebody waits on it for an outcome."""
         if not self.is_going(number):
             return b"", None
-        if any(waiter == number for parked in self.parked.values() for waiter, _ in parked.waiting):
+        if self.waits_on(number):
             self.journal.append(f"waits {number}")
             return b"", None
         self.wires[number].is_shut = True
@@ -271,28 +295,39 @@ class Engine(Server):
         """Prints the reply to one who waited."""
         self.print(number, reply_to(asked, outcome))
 
-    def answer(self, number):
-        """Has the owner answer what is parked under a number, and prints the replies."""
+    def parked_under(self, number):
+        """What is parked under a number."""
         if number not in self.parked:
             raise NotParked
-        parked = self.parked[number]
+        return self.parked[number]
+
+    def tell_all(self, number, outcome):
+        """Prints the replies to all who waited for what was parked under a number, and is not any more."""
+        for connection, asked in self.parked.pop(number).waiting:
+            if self.is_going(connection):
+                self.tell(connection, asked, outcome)
+
+    def answer(self, number):
+        """Has the owner answer what is parked under a number, and prints the replies."""
+        parked = self.parked_under(number)
         try:
             outcome = self.apply(parked.call)
         except GivenUp:
             self.lines.append(f"unanswered {number}")
             return
-        del self.parked[number]
         self.performed = [(key, end, outcome if came is parked else came) for key, end, came in self.performed]
-        for connection, asked in parked.waiting:
-            if self.is_going(connection):
-                self.tell(connection, asked, outcome)
+        self.tell_all(number, outcome)
+
+    def decline(self, number):
+        """Has the owner decline what is parked under a number, and prints the replies: nothing of it stays."""
+        parked = self.parked_under(number)
+        self.performed = [(key, end, came) for key, end, came in self.performed if came is not parked]
+        self.tell_all(number, NOT_NOW)
 
     def chosen(self, name, pick):
-        """The numbers that are answered: this one; each that is parked, in an order by a number; one of them; or one
-        under which nothing is parked."""
+        """The numbers of an event: each that is parked, in an order by a number; one of them; or one under which nothing
+        is parked."""
         some = sorted(self.parked)
-        if name == "answer":
-            return [pick]
         if name == "all":
             return sorted(some, key=lambda number: number * pick % 1009)
         if name == "stray":
@@ -302,16 +337,18 @@ class Engine(Server):
     def step(self, event):
         """Takes an event, or what the owner does, and gives its lines in a script, each before it is played."""
         name, *words = event
-        if name in ("answer", "all", "any", "stray"):
-            for number in self.chosen(name, *words):
-                yield f"answer {number}"
-                self.answer(number)
+        if name in ("all", "any", "stray"):
+            pick, verb = words
+            for number in self.chosen(name, pick):
+                yield from self.step((verb, number))
             return
         yield line_of(event)
         if name == "owner":
             self.manner = words[0]
         elif name == "park":
             self.parks += 1
+        elif name in ("answer", "decline"):
+            getattr(self, name)(*words)
         else:
             self.happen(name, *words)
 
@@ -321,8 +358,8 @@ Played = namedtuple("Played", "given printed error")
 
 
 def play(terms, streams, events, places=NO_PLACES):
-    """Plays a script up to the first answer to what is not parked. `all`, `any` and `stray` have a number by which what
-    is answered is chosen of what is parked then (`chosen`)."""
+    """Plays a script up to the first line that answers or declines what is not parked. `all`, `any` and `stray` have a
+    number by which it is chosen of what is parked then (`chosen`), and whether it is answered or declined."""
     engine, given = Engine(terms, streams, places), []
     try:
         for event in events:

@@ -32,7 +32,8 @@ from tests.ends_model import Call
 from tests.engine import played, words_for
 from tests.engine_model import FULL, Asked, Places, Terms, line_of
 from tests.giop_peers import request
-from tests.short_model import ASKED, BEFORE, DUE, KEPT, OWNED, REPEATED, UNANSWERED, outcomes
+from tests.short_model import (
+    ASKED, BEFORE, DECLINED, DUE, KEPT, OWNED, REPEATED, SILENT, UNANSWERED, outcomes)
 
 ADD_SEVEN = dict(key=b"c", operation="add", body=bytes([0, 0, 0, 7]))
 REQUEST = request(5, **ADD_SEVEN, number=1, expiration=100)
@@ -142,6 +143,16 @@ ENGINE_SCRIPTS = [
         *says(4, added(9, 1)), ("answer", 0), ("answer", 1), *says(5, added(10, 3), added(11, 1))]),
     ("a repeat in the piece of what is parked", LATE, [
         ("park",), *says(1, FIRST, added(7, 1)), ("answer", 0), *says(2, FIRST)]),
+    ("a request that is declined, and comes again", {*AT_ONCE, DECLINED}, [
+        ("owner", "declines"), *says(1, FIRST), *says(2, OTHER, FIRST), ("owner", "performs"), *says(3, FIRST)]),
+    ("a goodbye", {*AT_ONCE, SILENT}, [
+        ("owner", "leaves"), *says(1, FIRST), ("owner", "performs"), *says(2, FIRST), ("owner", "leaves"),
+        *says(3, FIRST, OTHER)]),
+    ("a request that is parked and declined", {BEFORE, ASKED, OWNED, REPEATED, DUE, KEPT}, [
+        ("park",), *says(1, FIRST), *says(2, added(8, 1)), ("decline", 0), *says(3, FIRST), ("close", 3)]),
+    ("two that are parked, one declined and one answered", {BEFORE, ASKED, OWNED, REPEATED, UNANSWERED, DUE}, [
+        ("park",), ("park",), ("park",), *says(1, FIRST, OTHER), *says(2, added(7, 2)), ("decline", 1),
+        *says(3, added(8, 2), added(9, 1)), ("answer", 0), ("answer", 2), *says(4, added(10, 2))]),
 ]
 
 # how the names of the two suites of a pair end, and of a suite that takes no memory

@@ -3,13 +3,14 @@
 `Short` fails at the place of this number, where one can: its places are counted from 1 as they come. `outcomes` plays a
 script with each of them, up to the first number that has none.
 """
-from tests.engine_model import Engine, GivenUp, Lost, NotParked
+from tests.engine_model import NOT_NOW, Engine, GivenUp, Left, Lost, NotParked
 
 # how a play can fail: before a message is handled, or a piece is taken whole; a request is not asked for, or not
-# performed or parked; an outcome is kept, and its reply not written; who repeats what is parked is lost; what is parked
-# is not performed; who waits for it is lost; or a connection isn't opened, or not closed
-BEFORE, ASKED, OWNED, KEPT, REPEATED, UNANSWERED, DUE, OPENED, CLOSED = (
-    "before", "asked", "owned", "kept", "repeated", "unanswered", "due", "opened", "closed")
+# performed or parked; an outcome is kept, and its reply not written; who is declined is lost; no goodbye is said; who
+# repeats what is parked is lost; what is parked is not performed; who waits for it is lost; or a connection isn't opened,
+# or not closed
+BEFORE, ASKED, OWNED, KEPT, DECLINED, SILENT, REPEATED, UNANSWERED, DUE, OPENED, CLOSED = (
+    "before", "asked", "owned", "kept", "declined", "silent", "repeated", "unanswered", "due", "opened", "closed")
 
 
 class NoMemory(Lost):
@@ -59,6 +60,17 @@ class Short(Engine):
         if self.fails(UNANSWERED if self.is_told else OWNED):
             raise GivenUp
         return super().apply(call)
+
+    def answer_now(self, connection, call):
+        try:
+            came = super().answer_now(connection, call)
+        except Left:
+            if self.fails(SILENT):
+                raise GivenUp from None
+            raise
+        if came == NOT_NOW and self.fails(DECLINED):
+            raise NoMemory
+        return came
 
     def reply(self, asked, outcome):
         if any(key == asked.field and kept == outcome for key, _, kept in self.performed) and self.fails(KEPT):

@@ -1318,8 +1318,9 @@ class Engine(_Held):
 
     Octets that come on connections go in by `feed`, up to a request that is to be performed. `asked` says what it asks
     for; you perform it, and hand in what came of it by `answer` or one of its like, which keeps it for repeats. Octets
-    that are due go out by `output`, after each call, on the connection of that call. Repeats, and requests that are
-    expired, not valid or refused, never come to you.
+    that are due go out by `output`, after each call, on the connection of that call. The first of these that holds
+    decides what a request is answered: FT_REQUEST not valid, expired, repeated, nothing of that name, arguments not
+    valid, no room. Else it comes to you.
 
     One request waits at a time. While it does, feed, connect, lost and farewell raise LemonrudderError (ASKING). What
     is due belongs to one connection; until it is taken, feed and farewell of another raise LemonrudderError (DUE).

@@ -215,8 +215,9 @@ int64_t lr_catalogue_repository_ids(lr_catalogue *catalogue, const void *key, si
 /*
  * Octets that come on connections go in by lr_server_feed, up to a request that is to be performed. lr_server_asked
  * says what it asks for; you perform it, and hand in what came of it by lr_server_answer or one of its like, which
- * keeps it for repeats and makes the reply. Octets that are due go out by lr_server_output after each call. Repeats
- * are answered from what was kept; they, and requests that are expired, not valid or refused, never come to you.
+ * keeps it for repeats and makes the reply. Octets that are due go out by lr_server_output after each call. The first
+ * of these that holds decides what a request is answered: FT_REQUEST not valid, expired, repeated (by what was kept),
+ * nothing of that name, arguments not valid, no room. Else it comes to you.
  *
  * One request waits at a time. While it does, lr_server_feed, lr_server_connect, lr_server_lost and
  * lr_server_farewell answer LR_E_ASKING. What is due belongs to one connection; until it is taken, lr_server_feed and

@@ -2,7 +2,7 @@
 
 use crate::requests::requests_in;
 use cdr_core::Val;
-use ft_log::Outcome;
+use ft_log::{Outcome, SystemName};
 use ft_orb::{Deed, Event};
 use std::alloc::Global;
 use trials::{Stop, parted};
@@ -58,12 +58,14 @@ pub(crate) fn deed_in(alloc: Global, line: &str) -> Result<Deed, Stop> {
     match line {
         "park" => return Ok(Deed::Park),
         "give_up" => return Ok(Deed::GiveUp),
+        "decline" => return Ok(Deed::Decline(SystemName::Transient, 0)),
         _ => {}
     }
     let (name, words) = parted(line)?;
     match name {
         "answer" => Ok(Deed::Answer(outcome_in(alloc, words)?)),
         "settle" => settling(alloc, words),
+        "withdraw" => Ok(Deed::Withdraw(number(words)?, SystemName::Transient, 0)),
         _ => Ok(Deed::Event(event_in(alloc, name, words)?)),
     }
 }

@@ -9,6 +9,7 @@
 //! - `piece C NOW HEX`: octets in hexadecimal digits
 //! - `asks C NOW REQUEST,..`: requests as `requests` says, with a comma between them
 //! - `answer OUTCOME`, `park`, `give_up`, `settle NUMBER OUTCOME`: an outcome is a total, or `overflow`
+//! - `decline`, `withdraw NUMBER`: with TRANSIENT and the minor code 0
 //!
 //! The line `counts` prints the engine's counts, `ending C` why a connection ended, and `heard` what became of each request
 //! since the last one. `tick NOW` tells the engine a moment, and prints its moment, how many outcomes it keeps, how many of the client

@@ -134,6 +134,8 @@ pub(crate) fn print_counts<W: Write>(counts: &Counts, out: &mut W) -> io::Result
         ("parked", counts.parked),
         ("settled", counts.settled),
         ("given_up", counts.given_up),
+        ("declined", counts.declined),
+        ("withdrawn", counts.withdrawn),
     ];
     for (name, count) in &named {
         if *count > 0 {

@@ -23,7 +23,7 @@ use Rattle.ft_client.specs.Clients.{Ended, ended_by}
 use Rattle.ft_client.specs.Directions.{stream}
 use Rattle.ft_client.specs.Messages.{Answer, Asked, Call, Said, fields_of, Transmission, Withdrawn, incoming_of, located, octets_said, question_of, replied}
 use Rattle.ft_orb.specs.ExactlyOnce.{Arrival, Present, answer_of, answers_after}
-use Rattle.ft_orb.specs.History.{Close, Event, Gone, Line, Lost, Opened, Piece, Shut, Up, arrivals, arrivals_in, arrivals_on, completed, connection_of, does_count, heard_after, line, longer, shut}
+use Rattle.ft_orb.specs.History.{Close, Event, Gone, Line, Lost, Opened, Piece, Shut, Up, Withdrew, arrivals, arrivals_in, arrivals_on, completed, connection_of, does_count, heard_after, line, longer, shut}
 use Rattle.ft_orb.specs.Outputs.{Made, close_told, close_told_on, error_told, error_told_on, farewell_told}
 use Rattle.ft_objects.specs.Replies.{answered_as, body_of, order_of, status_of}
 use Rattle.ft_orb.specs.Requests.{Wanted, arrival_of, asking, field_of, rules_of}
@@ -77,6 +77,7 @@ line-other (Opened d) past c h = ap (λ b. cond b (cond (does_count past d) (Up 
 line-other (Piece d moment octets) past c h = ap (λ b. cond b (longer octets (line past c)) (line past c)) h
 line-other (Close d) past c h = ap (λ b. cond b (shut (line past c)) (line past c)) h
 line-other (Lost d) past c h = ap (λ b. cond b Gone (line past c)) h
+line-other (Withdrew i) past c h = refl
 
 pub line-piece : (past : List Event) (c moment : ℕ) (octets : List ℕ) → line (Piece c moment octets ∷ past) c ≡ longer octets (line past c)
 line-piece past c moment octets = ap (λ b. cond b (longer octets (line past c)) (line past c)) (eq-eqb c c refl)
@@ -211,6 +212,7 @@ module _ (P : List Telling → Type 0) (none : P []) (failed : P (Failed ∷ [])
   farewell-is limits past (Piece c moment octets) = error_on-is limits (line past c) octets
   farewell-is limits past (Close c) = close_on-is limits (line past c)
   farewell-is limits past (Lost c) = none
+  farewell-is limits past (Withdrew i) = none
 
 module _ {State : Type 0} (meaning : Meaning State) (made : Made State) where
   -- there is an arrival of the key whose answer this is

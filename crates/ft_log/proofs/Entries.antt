@@ -82,7 +82,7 @@ same_comm a b = by (same_key a b) (same_key b a) refl refl
     by false true e f = absurd (true≢false (sym (itself b) ∙ ap (λ k. same_key k b) (same_is b a f) ∙ e))
 
 -- nothing is left out where no entry has the key
-without_none : (key : RequestKey) (es : List Entry) → list_any (λ k. same_key k key) (keys_at es) ≡ false → without key es ≡ es
+pub without_none : (key : RequestKey) (es : List Entry) → list_any (λ k. same_key k key) (keys_at es) ≡ false → without key es ≡ es
 without_none key [] h = refl
 without_none key (e ∷ es) h =
     let parts = or_parts (same_key (key_of e.key) key) (list_any (λ k. same_key k key) (keys_at es)) h in

@@ -1,11 +1,10 @@
 -- The log once the outcome of a parked call is there.
-use Rattle.std.proofs.Common.{◌≡◌, ℕ, zero, suc, ◌+◌, Bool, true, false, cond, ◌&&◌, List, [], ◌∷◌, length, map, slice_get, Option, Some, None, option_map, refl, sym, ap, ◌∙◌, subst, true≢false}
+use Rattle.std.proofs.Common.{◌≡◌, ℕ, zero, suc, ◌+◌, Bool, true, false, cond, ◌&&◌, List, [], ◌∷◌, length, map, slice_get, Option, Some, None, option_map, refl, sym, ap, ◌∙◌, true≢false}
 use Rattle.std.specs.List.{sum_by}
 use Rattle.std.specs.Map.{lookup, set_value}
 use Rattle.std.proofs.lemmas.List.Sums.{sum_by-cons}
 use Rattle.std.proofs.lemmas.Option.{none-some, same_Some}
-use Rattle.slab.specs.Slab.{Slab, get}
-use Rattle.ft_log.specs.Filled.{filled_by, put_at, put_if, put_in}
+use Rattle.ft_log.specs.Filled.{filled_by, put_at, put_if}
 use Rattle.ft_log.specs.Keys.{RequestKey, same_key}
 use Rattle.ft_log.specs.Kept.{KeptOutcome, filled, is_parked}
 use Rattle.ft_log.specs.Maps.{IsRefilled, key_in, slot_of}
@@ -47,10 +46,10 @@ refilled-at (o ∷ old) (n ∷ new) is (suc x) p h =
     let tail : map slot_of new ≡ map slot_of old = cc in
     refilled-at old new tail x p h
 
-pub placed-refilled : (old new : List (Name × Kept)) (places : Slab ℕ) → IsRefilled old new → ArePlaced old places → ArePlaced new places
+pub placed-refilled : (old new : List (Name × Kept)) (places : ℕ → Option ℕ) → IsRefilled old new → ArePlaced old places → ArePlaced new places
 placed-refilled old new places is h x p at =
     let w = refilled-at old new is x p at in
-    ap (get places) (sym w.2) ∙ h x w.0 w.1
+    ap places (sym w.2) ∙ h x w.0 w.1
 
 -- sums over the names are as they were
 pub sums-refilled : (f : RequestKey → ℕ) (old new : List (Name × Kept)) → IsRefilled old new → sum_by (λ (p : Name × Kept). f (key_in p.0)) new ≡ sum_by (λ (p : Name × Kept). f (key_in p.0)) old

@@ -10,7 +10,7 @@ use Rattle.ft_log.specs.Maps.{Counts, held_at, key_in}
 use Rattle.ft_log.specs.Tied.{AreDues, AreOutcomes, due_in, is_slotted}
 use Rattle.ft_log.specs.View.{key_of}
 use Rattle.ft_log.specs.declared.story.Entry.{Entry}
-use Rattle.ft_log.specs.declared.order.Due.{Due}
+use Rattle.ft_log.specs.declared.due.Due.{Due}
 use Rattle.ft_log.specs.declared.order.Order.{Order}
 use Rattle.ft_log.specs.declared.shelf.Shelf.{Shelf}
 use Rattle.std.proofs.Common.{Some, None}

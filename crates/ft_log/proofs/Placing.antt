@@ -7,10 +7,10 @@ use Rattle.std.specs.Map.{lookup}
 use Rattle.std.proofs.lemmas.Bool.{eqb-true, eq-eqb}
 use Rattle.std.proofs.lemmas.List.{get_or-take, get_or-set_same, get_or-set_other, length-take, length-set}
 use Rattle.std.proofs.lemmas.Option.{none-some, same_Some, slice_get_within, get_or_from_slice_get, slice_get_read, slice_get-get_or}
-use Rattle.slab.specs.Slab.{Slab, Updates, get}
 use Rattle.ft_log.specs.Keys.{RequestKey}
 use Rattle.ft_log.specs.Names.{is_named, named_so}
-use Rattle.ft_log.specs.Placed.{ArePlaced, IsMoved}
+use Rattle.ft_log.specs.Placed.{ArePlaced}
+use Rattle.ft_log.specs.Places.{IsChanged, IsMoved}
 use Rattle.ft_log.specs.declared.name.Name.{Name}
 use Rattle.ft_log.specs.declared.shelf.Kept.{Kept}
 
@@ -54,6 +54,7 @@ pub record IsSlotted (key : RequestKey) (slot : ℕ) (es : List (Name × Kept)) 
   pub of_client : name.client_id.items ≡ key.client_id
   pub of_number : name.number ≡ Some key.retention_id
   pub has : kept.slot ≡ slot
+  pub passes : is_named key.client_id (Some key.retention_id) name ≡ true
 
 pub slotted : (key : RequestKey) (slot : ℕ) (es : List (Name × Kept)) → option_map (λ k. k.slot) (lookup (is_named key.client_id (Some key.retention_id)) es) ≡ Some slot → IsSlotted key slot es
 slotted key slot es h = by (lookup (is_named key.client_id (Some key.retention_id)) es) refl h
@@ -63,7 +64,41 @@ slotted key slot es h = by (lookup (is_named key.client_id (Some key.retention_i
     by (Some v) e is =
         let there = place_of (is_named key.client_id (Some key.retention_id)) es v e in
         let same = named_so key.client_id (Some key.retention_id) there.name there.passes in
-        record { place = there.place; name = there.name; kept = v; at = there.at; of_client = sym same.client; of_number = sym same.number; has = same_Some v.slot slot is }
+        record { place = there.place; name = there.name; kept = v; at = there.at; of_client = sym same.client; of_number = sym same.number; has = same_Some v.slot slot is; passes = there.passes }
+
+-- it stands in the place under its slot
+pub at_place : (key : RequestKey) (slot place : ℕ) (es : List (Name × Kept)) (under : ℕ → Option ℕ) → ArePlaced es under → option_map (λ k. k.slot) (lookup (is_named key.client_id (Some key.retention_id)) es) ≡ Some slot
+    → under slot ≡ Some place → option_map_or (λ p. is_named key.client_id (Some key.retention_id) p.0) (slice_get es place) false ≡ true
+at_place key slot place es under placed h is =
+    let w = slotted key slot es h in
+    let same : w.place ≡ place = same_Some w.place place (sym (placed w.place (w.name, w.kept) w.at) ∙ ap under w.has ∙ is) in
+    ap (λ (n : ℕ). option_map_or (λ (p : Name × Kept). is_named key.client_id (Some key.retention_id) p.0) (slice_get es n) false) (sym same)
+    ∙ ap (λ (o : Option (Name × Kept)). option_map_or (λ (p : Name × Kept). is_named key.client_id (Some key.retention_id) p.0) o false) w.at ∙ w.passes
+
+-- under the slot of what stands in a place is that place
+pub placed_under : (es : List (Name × Kept)) (under : ℕ → Option ℕ) (place slot : ℕ) → ArePlaced es under → option_map (λ p. p.1.slot) (slice_get es place) ≡ Some slot → under slot ≡ Some place
+placed_under es under place slot placed h = by (slice_get es place) refl h
+  where
+    by : (o : Option (Name × Kept)) → slice_get es place ≡ o → option_map (λ p. p.1.slot) o ≡ Some slot → under slot ≡ Some place
+    by None e is = absurd (none-some slot is)
+    by (Some p) e is = ap under (sym (same_Some p.1.slot slot is)) ∙ placed place p e
+
+-- what stands in a place, where it is of a key
+pub record IsStanding (key : RequestKey) (place : ℕ) (es : List (Name × Kept)) : Type 0 where
+  pub name : Name
+  pub kept : Kept
+  pub at : slice_get es place ≡ Some (name, kept)
+  pub of_client : name.client_id.items ≡ key.client_id
+  pub of_number : name.number ≡ Some key.retention_id
+
+pub standing : (key : RequestKey) (place : ℕ) (es : List (Name × Kept)) → option_map_or (λ p. is_named key.client_id (Some key.retention_id) p.0) (slice_get es place) false ≡ true → IsStanding key place es
+standing key place es h = by (slice_get es place) refl h
+  where
+    by : (o : Option (Name × Kept)) → slice_get es place ≡ o → option_map_or (λ p. is_named key.client_id (Some key.retention_id) p.0) o false ≡ true → IsStanding key place es
+    by None e t = absurd (true≢false (sym t))
+    by (Some p) e t =
+        let same = named_so key.client_id (Some key.retention_id) p.0 t in
+        record { name = p.0; kept = p.1; at = e; of_client = sym same.client; of_number = sym same.number }
 
 -- what stands at a place, once one more was put last
 pub pushed_at : {X : Type 0} (es : List X) (p : X) (x : ℕ) (q : X) → slice_get (es ++ p ∷ []) x ≡ Some q → (slice_get es x ≡ Some q) ⊎ ((x ≡ length es) × (p ≡ q))
@@ -92,43 +127,43 @@ left_at {X} es i d x q within at =
     }
 
 -- one more outcome, under a slot of its own
-pub placed-push : (es : List (Name × Kept)) (p : Name × Kept) (old new : Slab ℕ) → ArePlaced es old → get old p.1.slot ≡ None → Updates old new p.1.slot (Some (length es)) → ArePlaced (es ++ p ∷ []) new
+pub placed-push : (es : List (Name × Kept)) (p : Name × Kept) (old new : ℕ → Option ℕ) → ArePlaced es old → old p.1.slot ≡ None → IsChanged old new p.1.slot (Some (length es)) → ArePlaced (es ++ p ∷ []) new
 placed-push es p old new placed none up x q at = elim (pushed_at es p x q at) [
-  | inl a ↦ up.others q.1.slot (λ e. none-some x (sym none ∙ ap (get old) (sym e) ∙ placed x q a)) ∙ placed x q a
-  | inr a ↦ ap (λ (r : Name × Kept). get new r.1.slot) (sym a.1) ∙ up.changed ∙ ap Some (sym a.0)
+  | inl a ↦ up.others q.1.slot (λ e. none-some x (sym none ∙ ap old (sym e) ∙ placed x q a)) ∙ placed x q a
+  | inr a ↦ ap (λ (r : Name × Kept). new r.1.slot) (sym a.1) ∙ up.changed ∙ ap Some (sym a.0)
 ]
 
 -- what was moved has a slot that is another's than that of what was taken
-pub moved_has : (es es' : List (Name × Kept)) (place slot : ℕ) (d : Name × Kept) (old left : Slab ℕ) → ArePlaced es old → get old slot ≡ Some place → place < length es
-    → es' ≡ swap_remove es place d → Updates old left slot None → (other : ℕ) → option_map (λ p. p.1.slot) (slice_get es' place) ≡ Some other → is_some (get left other) ≡ true
+pub moved_has : (es es' : List (Name × Kept)) (place slot : ℕ) (d : Name × Kept) (old left : ℕ → Option ℕ) → ArePlaced es old → old slot ≡ Some place → place < length es
+    → es' ≡ swap_remove es place d → IsChanged old left slot None → (other : ℕ) → option_map (λ p. p.1.slot) (slice_get es' place) ≡ Some other → is_some (left other) ≡ true
 moved_has es es' place slot d old left placed under within is gone other h = by (slice_get es' place) refl h
   where
-    by : (o : Option (Name × Kept)) → slice_get es' place ≡ o → option_map (λ p. p.1.slot) o ≡ Some other → is_some (get left other) ≡ true
+    by : (o : Option (Name × Kept)) → slice_get es' place ≡ o → option_map (λ p. p.1.slot) o ≡ Some other → is_some (left other) ≡ true
     by None e some = absurd (none-some other some)
     by (Some m) e some =
         let was = left_at es place d place m within (ap (λ l. slice_get l place) (sym is) ∙ e) in
-        let last = ap (get old) (sym (same_Some m.1.slot other some)) ∙ placed (length es - 1) m (was.here refl) in
-        ap is_some (gone.others other (λ same. absurd (omega (arith, was.before, same_Some (length es - 1) place (sym last ∙ ap (get old) same ∙ under)))) ∙ last)
+        let last = ap old (sym (same_Some m.1.slot other some)) ∙ placed (length es - 1) m (was.here refl) in
+        ap is_some (gone.others other (λ same. absurd (omega (arith, was.before, same_Some (length es - 1) place (sym last ∙ ap old same ∙ under)))) ∙ last)
 
 -- one fewer: under its slot stands nothing, and under that of what was moved its new place
-pub placed-take : (es es' : List (Name × Kept)) (place slot : ℕ) (d : Name × Kept) (old left new : Slab ℕ) → ArePlaced es old → get old slot ≡ Some place → place < length es
-    → es' ≡ swap_remove es place d → Updates old left slot None → IsMoved (option_map (λ p. p.1.slot) (slice_get es' place)) place left new → ArePlaced es' new
+pub placed-take : (es es' : List (Name × Kept)) (place slot : ℕ) (d : Name × Kept) (old left new : ℕ → Option ℕ) → ArePlaced es old → old slot ≡ Some place → place < length es
+    → es' ≡ swap_remove es place d → IsChanged old left slot None → IsMoved (option_map (λ p. p.1.slot) (slice_get es' place)) place left new → ArePlaced es' new
 placed-take es es' place slot d old left new placed under within is gone moved x q at = by (slice_get es' place) refl moved
   where
     was : IsLeftAt es place x q
     was = left_at es place d x q within (ap (λ l. slice_get l x) (sym is) ∙ at)
 
     -- what stays where it was, is under its slot as before
-    stays : (x ≡ place → ⊥) → get left q.1.slot ≡ Some x
-    stays differ = let there = placed x q (was.there differ) in gone.others q.1.slot (λ e. differ (same_Some x place (sym there ∙ ap (get old) e ∙ under))) ∙ there
+    stays : (x ≡ place → ⊥) → left q.1.slot ≡ Some x
+    stays differ = let there = placed x q (was.there differ) in gone.others q.1.slot (λ e. differ (same_Some x place (sym there ∙ ap old e ∙ under))) ∙ there
 
-    by : (o : Option (Name × Kept)) → slice_get es' place ≡ o → IsMoved (option_map (λ p. p.1.slot) o) place left new → get new q.1.slot ≡ Some x
+    by : (o : Option (Name × Kept)) → slice_get es' place ≡ o → IsMoved (option_map (λ p. p.1.slot) o) place left new → new q.1.slot ≡ Some x
     by None e same = same q.1.slot ∙ stays (λ here. none-some q (sym e ∙ ap (slice_get es') (sym here) ∙ at))
-    by (Some m) e up = elim (x == place) as (λ b. (x == place) ≡ b → get new q.1.slot ≡ Some x) [
+    by (Some m) e up = elim (x == place) as (λ b. (x == place) ≡ b → new q.1.slot ≡ Some x) [
       | true ↦ λ t. let here = eqb-true x place t in
           let mine : m ≡ q = same_Some m q (sym e ∙ ap (slice_get es') (sym here) ∙ at) in
-          ap (λ (r : Name × Kept). get new r.1.slot) (sym mine) ∙ up.changed ∙ ap Some (sym here)
+          ap (λ (r : Name × Kept). new r.1.slot) (sym mine) ∙ up.changed ∙ ap Some (sym here)
       | false ↦ λ t. let differ : x ≡ place → ⊥ = λ here. true≢false (sym (eq-eqb x place here) ∙ t) in
           let last = placed (length es - 1) m ((left_at es place d place m within (ap (λ l. slice_get l place) (sym is) ∙ e)).here refl) in
-          up.others q.1.slot (λ same. absurd (omega (arith, was.before, same_Some x (length es - 1) (sym (placed x q (was.there differ)) ∙ ap (get old) same ∙ last)))) ∙ stays differ
+          up.others q.1.slot (λ same. absurd (omega (arith, was.before, same_Some x (length es - 1) (sym (placed x q (was.there differ)) ∙ ap old same ∙ last)))) ∙ stays differ
     ] refl

@@ -1,5 +1,5 @@
 -- What it says that room is made for a key.
-use Rattle.std.proofs.Common.{◌≡◌, Bool, ℕ, ◌<◌, ◌≤◌, true, false, not, nat_lt, List, length, Option, Some, None, refl, ap, sym, ◌∙◌, arith}
+use Rattle.std.proofs.Common.{◌≡◌, Bool, ℕ, ◌+◌, ◌<◌, ◌≤◌, true, false, not, nat_lt, List, length, Option, Some, None, refl, ap, sym, ◌∙◌, arith}
 use Rattle.std.specs.List.{list_any}
 use Rattle.std.proofs.lemmas.Bool.{and_parts, and_from, not_from_false, ltb-true, lt-ltb}
 use Rattle.ft_log.specs.Keys.{RequestKey, held_of, same_key}
@@ -37,16 +37,16 @@ pub ready_at : (room : Option RequestKey) (key : RequestKey) (ks : List RequestK
 ready_at room key ks capacity share places free is h = ready_of key ks capacity share places free (sym (ap (λ r. is_ready r ks capacity share places free) is) ∙ h)
 
 -- one entry less leaves the room
-pub ready-without : (room : Option RequestKey) (key : RequestKey) (es : List Entry) (capacity share places : ℕ) (free free' : Bool) → (free ≡ true → free' ≡ true)
-    → ((client : List ℕ) → held_of client (keys_at (without key es)) ≤ held_of client (keys_at es)) → length (keys_at (without key es)) ≤ length (keys_at es)
-    → is_ready room (keys_at es) capacity share places free ≡ true → is_ready room (keys_at (without key es)) capacity share places free' ≡ true
-ready-without None key es capacity share places free free' more held fewer h = refl
-ready-without (Some k) key es capacity share places free free' more held fewer h =
+pub ready-without : (room : Option RequestKey) (key : RequestKey) (es : List Entry) (capacity share places places' : ℕ) (free free' : Bool) → (free ≡ true → free' ≡ true)
+    → ((client : List ℕ) → held_of client (keys_at (without key es)) ≤ held_of client (keys_at es)) → length (keys_at (without key es)) + 1 ≡ length (keys_at es) → places ≤ places' + 1
+    → is_ready room (keys_at es) capacity share places free ≡ true → is_ready room (keys_at (without key es)) capacity share places' free' ≡ true
+ready-without None key es capacity share places places' free free' more held fewer room h = refl
+ready-without (Some k) key es capacity share places places' free free' more held fewer room h =
     let r = ready_of k (keys_at es) capacity share places free h in
-    ready_from k (keys_at (without key es)) capacity share places free' (record {
+    ready_from k (keys_at (without key es)) capacity share places' free' (record {
       new = list_any-without (λ other. same_key k other) key es r.new;
       within = omega (arith, r.within, fewer);
       shared = omega (arith, r.shared, held k.client_id);
-      place = omega (arith, r.place, fewer);
+      place = omega (arith, r.place, fewer, room);
       fits = more r.fits;
     })

@@ -1,10 +1,10 @@
 -- Outcomes and their slots in the order of expirations, once an outcome was put or taken away.
-use Rattle.std.proofs.Common.{◌≡◌, ℕ, ◌+◌, ◌≤◌, Bool, true, false, not, nat_eq, cond, List, [], ◌∷◌, Option, Some, None, option_map, refl, sym, ap, ◌∙◌, true≢false, arith}
+use Rattle.std.proofs.Common.{◌≡◌, ℕ, ◌+◌, ◌<◌, ◌≤◌, ◌==◌, ◌&&◌, Bool, true, false, not, nat_eq, cond, List, [], ◌∷◌, Option, Some, None, option_map, refl, sym, ap, ◌∙◌, true≢false, arith}
 use Rattle.std.specs.List.{count_by, list_any, sum_by}
 use Rattle.std.specs.Option.{option_eq}
 use Rattle.std.proofs.lemmas.Bool.{and_parts, and_from, or_parts, eq-eqb, eqb-true, ltb-true, lt-ltb}
 use Rattle.std.proofs.lemmas.List.Sums.{sum_by-cons}
-use Rattle.std.proofs.lemmas.Option.{none-some}
+use Rattle.std.proofs.lemmas.Option.{none-some, same_Some}
 use Rattle.indexmap.specs.IndexMap.{spare}
 use Rattle.ft_log.specs.Dues.{dues}
 use Rattle.ft_log.specs.Keys.{RequestKey, same_key}
@@ -14,34 +14,20 @@ use Rattle.ft_log.specs.Tied.{AreDues, is_free, is_slotted, outcome_for}
 use Rattle.ft_log.specs.View.{key_of}
 use Rattle.ft_log.specs.Without.{without}
 use Rattle.ft_log.specs.declared.story.Entry.{Entry}
-use Rattle.ft_log.specs.declared.order.Due.{Due}
+use Rattle.ft_log.specs.declared.due.Due.{Due}
 use Rattle.ft_log.specs.declared.order.Order.{Order}
 use Rattle.ft_log.specs.declared.held.Held.{Held}
 use Rattle.ft_log.specs.declared.shelf.Kept.{Kept}
 use Rattle.ft_log.specs.declared.shelf.Shelf.{Shelf}
 use Rattle.ft_log.proofs.Entries.{keys_at, same_comm}
-use Rattle.ft_log.proofs.Listed.{itself}
-
--- none of them passes: not the first, and none of the others
-none_parts : {X : Type 0} (p : X → Bool) (x : X) (xs : List X) → count_by p (x ∷ xs) ≡ 0 → (p x ≡ false) × (count_by p xs ≡ 0)
-none_parts {X} p x xs h = by (p x) refl
-  where
-    all : count_by p (x ∷ xs) ≡ cond (p x) 1 0 + count_by p xs
-    all = sum_by-cons (λ z. cond (p z) 1 0) x xs
-
-    by : (b : Bool) → p x ≡ b → (p x ≡ false) × (count_by p xs ≡ 0)
-    by true e = let one : ◌≡◌ {A = ℕ} (cond (p x) 1 0) 1 = ap (λ b. cond b 1 0) e in absurd (omega (arith, h, all, one))
-    by false e = (e, omega (arith, h, all))
+use Rattle.ft_log.proofs.Listed.{itself, same_is}
+use Rattle.ft_log.proofs.Queued.{none_parts, not_not}
 
 none_from : {X : Type 0} (p : X → Bool) (x : X) (xs : List X) → p x ≡ false → count_by p xs ≡ 0 → count_by p (x ∷ xs) ≡ 0
 none_from p x xs e h =
     let all = sum_by-cons (λ z. cond (p z) 1 0) x xs in
     let none : ◌≡◌ {A = ℕ} (cond (p x) 1 0) 0 = ap (λ b. cond b 1 0) e in
     omega (arith, h, all, none)
-
-not_not : (b : Bool) → not b ≡ false → b ≡ true
-not_not true h = refl
-not_not false h = absurd (true≢false h)
 
 -- what stands under one key changed, and none of the slots is of that key
 pub slotted-change : (m n : Shelf) (key : RequestKey) (ds : List Due) → ((other : RequestKey) → same_key other key ≡ false → at_key n other ≡ at_key m other)
@@ -130,3 +116,39 @@ free_parts b m counts h = and_parts (has_room m) (is_countable b counts) h
 pub countable_stays : (b : Bool) (old new : Counts) → spare old ≤ spare new → is_countable b old ≡ true → is_countable b new ≡ true
 countable_stays true old new more h = lt-ltb 0 (spare new) (let some = ltb-true 0 (spare old) h in omega (arith, some, more))
 countable_stays false old new more h = refl
+
+-- an entry is there where an outcome is found
+pub entry_there : (key : RequestKey) (es : List Entry) (o : Held) → outcome_for key es ≡ Some o → 0 < count_by (λ e. same_key (key_of e.key) key) es
+entry_there key [] o h = absurd (none-some o h)
+entry_there key (e ∷ es) o h = by (same_key key (key_of e.key)) refl h (entry_there key es o)
+  where
+    all : count_by (λ (z : Entry). same_key (key_of z.key) key) (e ∷ es) ≡ cond (same_key (key_of e.key) key) 1 0 + count_by (λ (z : Entry). same_key (key_of z.key) key) es
+    all = sum_by-cons (λ (z : Entry). cond (same_key (key_of z.key) key) 1 0) e es
+
+    by : (b : Bool) → same_key key (key_of e.key) ≡ b → cond b (Some e.outcome) (outcome_for key es) ≡ Some o → (outcome_for key es ≡ Some o → 0 < count_by (λ (z : Entry). same_key (key_of z.key) key) es)
+        → 0 < count_by (λ (z : Entry). same_key (key_of z.key) key) (e ∷ es)
+    by true t is more = let one : ◌≡◌ {A = ℕ} (cond (same_key (key_of e.key) key) 1 0) 1 = ap (λ b. cond b 1 0) (same_comm (key_of e.key) key ∙ t) in omega (arith, all, one)
+    by false t is more = let later = more is in omega (arith, all, later)
+
+-- each due of a key has the slot that is under it
+pub due_there : (m : Shelf) (key : RequestKey) (slot : ℕ) (ds : List Due) → slot_at m key ≡ Some slot → count_by (λ d. not (is_slotted m d)) ds ≡ 0
+    → count_by (λ d. same_key (key_of d.key.key) key) ds ≤ count_by (λ d. d.slot == slot && same_key (key_of d.key.key) key) ds
+due_there m key slot [] h none = omega arith
+due_there m key slot (d ∷ ds) h none =
+    let parts = none_parts (λ z. not (is_slotted m z)) d ds none in
+    let a = sum_by-cons (λ (z : Due). cond (same_key (key_of z.key.key) key) 1 0) d ds in
+    let z = sum_by-cons (λ (z : Due). cond (z.slot == slot && same_key (key_of z.key.key) key) 1 0) d ds in
+    let here : cond (same_key (key_of d.key.key) key) 1 0 ≤ cond (d.slot == slot && same_key (key_of d.key.key) key) 1 0 = by (same_key (key_of d.key.key) key) refl parts.0 in
+    omega (arith, a, z, here, due_there m key slot ds h parts.1)
+  where
+    by : (b : Bool) → same_key (key_of d.key.key) key ≡ b → not (is_slotted m d) ≡ false → cond b 1 0 ≤ cond (d.slot == slot && b) 1 0
+    by true t is =
+        let same : d.slot ≡ slot = same_Some d.slot slot (sym (slot_is m d is) ∙ ap (slot_at m) (same_is (key_of d.key.key) key t) ∙ h) in
+        let one : ◌≡◌ {A = ℕ} (cond (d.slot == slot && true) 1 0) 1 = ap (λ b. cond (b && true) 1 0) (eq-eqb d.slot slot same) in
+        omega (arith, one)
+    by false t is = omega arith
+
+-- what is found where a slot is
+pub kept_where : (o : Option Kept) (slot : ℕ) → option_map (λ k. k.slot) o ≡ Some slot → (h : Held) × (option_map (λ k. k.outcome) o ≡ Some h)
+kept_where None slot h = absurd (none-some slot h)
+kept_where (Some k) slot h = (k.outcome, refl)

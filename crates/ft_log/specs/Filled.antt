@@ -1,5 +1,5 @@
 -- The entries once the outcome of a parked call is there. No public contract, definition or law uses these words.
-use Rattle.std.specs.Prelude.{ℕ, Bool, ◌&&◌, if◌then◌else◌, List, map, Option, Some, None, option_map}
+use Rattle.std.specs.Prelude.{ℕ, Bool, ◌&&◌, if◌then◌else◌, List, map}
 use Rattle.ft_log.specs.Keys.{RequestKey, same_key}
 use Rattle.ft_log.specs.Kept.{is_parked}
 use Rattle.ft_log.specs.View.{key_of, holding_in}

@@ -1,5 +1,5 @@
 -- Kept outcomes, in order of keeping.
-use Rattle.std.specs.Prelude.{ℕ, ◌&&◌, Bool, nat_eq, nat_le, min, if◌then◌else◌, List, [], ◌∷◌, map, filter, Option, Some, None}
+use Rattle.std.specs.Prelude.{ℕ, ◌&&◌, Bool, not, nat_eq, nat_le, min, if◌then◌else◌, List, [], ◌∷◌, map, filter, Option, Some, None}
 use Rattle.std.specs.Option.{option_eq, option_map_or}
 use Rattle.ft_log.specs.Holding.{Holding, known, number_of}
 use Rattle.ft_log.specs.Keys.{RequestKey, same_key}
@@ -39,3 +39,11 @@ filled_if b outcome e = if b then record { key = e.key; expiration = e.expiratio
 -- an entry with this outcome, where it is of this key, and of the call that is parked under this number
 abbrev pub filled : RequestKey → ℕ → Performed → KeptOutcome Holding → KeptOutcome Holding
 filled key number outcome e = filled_if (same_key key e.key && is_parked number e.outcome) outcome e
+
+-- an entry of this key, whose call is parked under this number
+abbrev pub is_parked_at : RequestKey → ℕ → KeptOutcome Holding → Bool
+is_parked_at key number e = same_key key e.key && is_parked number e.outcome
+
+-- the entries without the one that is parked under this number, under this key
+abbrev pub withdrawn : RequestKey → ℕ → List (KeptOutcome Holding) → List (KeptOutcome Holding)
+withdrawn key number entries = filter (λ e. not (is_parked_at key number e)) entries

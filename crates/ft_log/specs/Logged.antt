@@ -14,13 +14,15 @@ pub record Logged : Type 0 where
   pub entries : List (KeptOutcome Holding)
   pub room : Option RequestKey
 
--- what shows of a `Log`: the same, with the entries as the code has them, and how many slots its maps have
+-- what shows of a `Log`: the same, with the entries as the code has them, how many slots its maps have, and how many
+-- expirations its heap has
 pub record Shown : Type 0 where
   pub capacity : ℕ
   pub share : ℕ
   pub entries : List Entry
   pub room : Option RequestKey
   pub slots : ℕ
+  pub dues : ℕ
 
 -- what a `Log` stands for; the public contracts say nothing else of it
 unfoldable pub logged : Shown → Logged
@@ -29,3 +31,7 @@ logged l = record { capacity = l.capacity; share = l.share; entries = entries_at
 -- how many slots its maps have: what it keeps in memory for outcomes and for clients
 unfoldable pub slots_of : Shown → ℕ
 slots_of l = l.slots
+
+-- how many expirations its heap has, those of what is withdrawn among them
+unfoldable pub dues_of : Shown → ℕ
+dues_of l = l.dues

@@ -1,10 +1,13 @@
 -- What a shelf has. No public contract, definition or law uses these words.
-use Rattle.std.specs.Prelude.{ℕ, Bool, ◌+◌, ◌&&◌, nat_le, nat_lt, Option, option_map}
+use Rattle.std.specs.Prelude.{◌≡◌, ℕ, Bool, false, nat_lt, List, Option, Some, option_map, slice_get}
+use Rattle.std.specs.List.{swap_remove}
+use Rattle.std.specs.Option.{option_map_or}
 use Rattle.indexmap.specs.IndexMap.{spare}
-use Rattle.slab.specs.Slab.{slab_len}
 use Rattle.ft_log.specs.Keys.{RequestKey}
 use Rattle.ft_log.specs.Maps.{under}
+use Rattle.ft_log.specs.Names.{is_named}
 use Rattle.ft_log.specs.declared.held.Held.{Held}
+use Rattle.ft_log.specs.declared.name.Name.{Name}
 use Rattle.ft_log.specs.declared.shelf.Kept.{Kept}
 use Rattle.ft_log.specs.declared.shelf.Shelf.{Shelf}
 
@@ -22,4 +25,14 @@ slot_at s key = option_map (λ k. k.slot) (at_key s key)
 
 -- one more outcome fits
 abbrev pub has_room : Shelf → Bool
-has_room s = nat_lt 0 (spare s.outcomes) && nat_le (slab_len s.places + 1) s.places.capacity
+has_room s = nat_lt 0 (spare s.outcomes)
+
+-- in this place is what is kept for this key
+abbrev pub is_at : RequestKey → ℕ → Shelf → Bool
+is_at key place s = option_map_or (λ p. is_named key.client_id (Some key.retention_id) p.0) (slice_get s.outcomes.entries place) false
+
+-- what was in a place is gone, and the last stands there
+pub record IsTaken (place : ℕ) (old new : List (Name × Kept)) : Type 0 where
+  pub was : Name × Kept
+  pub there : slice_get old place ≡ Some was
+  pub is : new ≡ swap_remove old place was

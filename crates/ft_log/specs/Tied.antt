@@ -11,7 +11,7 @@ use Rattle.ft_log.specs.View.{key_of}
 use Rattle.ft_log.specs.contracts.held.Held as code
 use Rattle.ft_log.specs.declared.held.Held.{Held}
 use Rattle.ft_log.specs.declared.story.Entry.{Entry}
-use Rattle.ft_log.specs.declared.order.Due.{Due}
+use Rattle.ft_log.specs.declared.due.Due.{Due}
 use Rattle.ft_log.specs.declared.order.Order.{Order}
 use Rattle.ft_log.specs.declared.room.Room.{Room}
 use Rattle.ft_log.specs.declared.shelf.Shelf.{Shelf}

@@ -7,6 +7,7 @@
 #![tactic(auto)]
 
 mod counts;
+mod due;
 mod error;
 mod held;
 mod key;
@@ -15,6 +16,7 @@ mod log;
 mod name;
 mod order;
 mod outcome;
+mod queue;
 mod retention;
 mod room;
 mod shelf;

@@ -20,7 +20,7 @@ use std::marker::Model;
 ///
 /// A contract sees a log as `logged` of it: how many outcomes it may keep, how many of each client, the
 /// entries, and the key that room is made for, if there is one. `find`, `forget`, `keep`, `keep_parked`,
-/// `fill`, `len`, `held_by` and `next_expiry` allocate nothing.
+/// `fill`, `withdraw`, `len`, `held_by` and `next_expiry` allocate nothing.
 #[derive(Drop)]
 pub struct Log {
     store: Store,
@@ -42,8 +42,8 @@ impl Model for Log {
 impl Log {
     ghost use Rattle.std.specs.Prelude.{◌≡◌, ◌↔◌, ◌<◌, ◌*◌, ◌++◌, [], ◌∷◌, None, Some, Err, OnOk, OnErr, MatchOption, true, false, length, map};
     ghost use Rattle.ft_log.specs.Holding.{known, parked};
-    ghost use Rattle.ft_log.specs.Kept.{filled, kept_for, least_expiration, unexpired};
-    ghost use Rattle.ft_log.specs.Logged.{logged, slots_of};
+    ghost use Rattle.ft_log.specs.Kept.{filled, kept_for, least_expiration, unexpired, withdrawn};
+    ghost use Rattle.ft_log.specs.Logged.{dues_of, logged, slots_of};
     ghost use Rattle.ft_log.specs.View.{holding_in, performed_in};
     ghost use Rattle.ft_log.specs.declared.error.LogError.TheVariants.{Full, ShareFull};
 
@@ -142,6 +142,14 @@ impl Log {
         self.store.fill(key, number, outcome);
     }
 
+    /// Takes out what is kept for a call that is parked under a number, under its key; its room is given back. Where it is
+    /// forgotten, or has its outcome, nothing changes. It takes no memory.
+    pub fn withdraw(&mut self, key: &Key, number: u64)
+        ensures { logged self.new ≡ record (logged self.old) { entries = withdrawn (key_of key.now) number (logged self.old).entries } }
+    {
+        self.store.withdraw(key, number);
+    }
+
     /// No two entries have one key.
     pub fn keys_are_distinct(&self)
         ensures { IsTrue (are_distinct (keys_of (logged self.now).entries)) }
@@ -150,11 +158,12 @@ impl Log {
     }
 
     /// The map has at most one slot for each entry and one for each client of an entry, however many clients
-    /// have asked.
+    /// have asked; and the heap two expirations for each entry, however many calls were withdrawn.
     pub fn slots_are_few(&self)
         ensures each { slots_of self.now ≤ length (logged self.now).entries + clients_in (keys_of (logged self.now).entries) }
         ensures twice { slots_of self.now ≤ 2 * length (logged self.now).entries }
         ensures bound { slots_of self.now ≤ 2 * (logged self.now).capacity }
+        ensures dues { dues_of self.now ≤ 2 * length (logged self.now).entries }
     {
         self.store.slots_are_few();
     }

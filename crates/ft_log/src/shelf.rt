@@ -1,21 +1,20 @@
 //! What a log keeps under keys.
 
-ghost use Rattle.std.specs.Prelude.{◌≡◌, ◌<◌, if◌then◌else◌, ℕ, Some, None, bytes_eq, is_some, option_map, slice_get, true, false};
+ghost use Rattle.std.specs.Prelude.{◌≡◌, ◌<◌, if◌then◌else◌, ℕ, Some, None, bytes_eq, option_map, slice_get, true, false};
 ghost use Rattle.std.specs.Option.{option_copied, option_map_or};
 ghost use Rattle.indexmap.specs.IndexMap.{index_map_len, spare};
-ghost use Rattle.slab.specs.Slab.{get as place_of, slab_len};
 ghost use Rattle.ft_log.specs.Filled.{put_at};
 ghost use Rattle.ft_log.specs.Keys.{RequestKey, same_key};
+ghost use Rattle.ft_log.specs.Kept.{is_parked};
 ghost use Rattle.ft_log.specs.Maps.{IsPushed, IsRefilled, key_in, under};
-ghost use Rattle.ft_log.specs.Placed.{ArePlaced, ArePlaced-prop, IsMoved};
-ghost use Rattle.ft_log.specs.View.{key_of};
+ghost use Rattle.ft_log.specs.View.{holding_in, key_of};
 
+use crate::due::Spot;
 use crate::held::Held;
 use crate::key::Key;
 use crate::name::{Lent, Name};
 use crate::story::Mark;
 use indexmap::IndexMap;
-use slab::Slab;
 use std::alloc::{AllocError, Global};
 use std::hash::RandomState;
 
@@ -29,19 +28,16 @@ pub(crate) struct Kept {
 /// Outcomes by their keys.
 pub(crate) type Outcomes = IndexMap<Name, Kept, RandomState>;
 
-/// Outcomes by their keys, and for each a slot, a number that stays. Under its slot stands its place among the outcomes, which
-/// changes as others go.
+/// Outcomes by their keys, each with its slot. Its place among them changes as others go.
 #[derive(Drop)]
 pub(crate) struct Shelf {
     outcomes: Outcomes,
-    places: Slab<usize>,
-    ghost placed: { ArePlaced outcomes.entries places } by { ArePlaced-prop outcomes.entries places },
 }
 
 impl Shelf {
-    ghost use Rattle.std.specs.Prelude.{◌+◌, [], IsTrue, OnOk};
+    ghost use Rattle.std.specs.Prelude.{◌+◌, [], IsTrue, OnOk, IfNone, IfSome, length};
     ghost use Rattle.std.specs.List.{count_by, sum_by};
-    ghost use Rattle.ft_log.specs.Shelf.{at_key, has_room, kept_at, slot_at};
+    ghost use Rattle.ft_log.specs.Shelf.{IsTaken, at_key, has_room, is_at, kept_at, slot_at};
 
     /// No outcome.
     pub(crate) fn new(alloc: Global, hasher: RandomState) -> Shelf
@@ -49,7 +45,6 @@ impl Shelf {
     {
         Shelf {
             outcomes: IndexMap::with_hasher(alloc, hasher),
-            places: Slab::new(alloc),
         }
     }
 
@@ -80,25 +75,30 @@ impl Shelf {
         held
     }
 
+    /// How many outcomes: the place of the next.
+    pub(crate) fn len(&self) -> usize
+        ensures { result ≡ length self.now.outcomes.entries }
+    {
+        self.outcomes.len()
+    }
+
     /// Makes room for one more outcome.
     pub(crate) fn reserve(&mut self) -> Result<(), AllocError>
         ensures same { self.new.outcomes.entries ≡ self.old.outcomes.entries }
         ensures ok { OnOk result (IsTrue (has_room self.new)) }
     {
-        self.outcomes.reserve(1)?;
-        self.places.reserve(1)
+        self.outcomes.reserve(1)
     }
 
-    /// Puts an outcome under a key that has none, for which there is room, and gives its slot.
-    pub(crate) fn put(&mut self, key: Key, outcome: Held) -> usize
+    /// Puts an outcome under a key that has none, for which there is room, last of all.
+    pub(crate) fn put(&mut self, key: Key, kept: Kept)
         requires absent { at_key self.old (key_of key) ≡ None }
         requires room { IsTrue (has_room self.old) }
-        ensures kept { (other : RequestKey) → at_key self.new other ≡ (if same_key other (key_of key) then Some (record { slot = result; outcome = outcome }) else at_key self.old other) }
+        ensures kept { (other : RequestKey) → at_key self.new other ≡ (if same_key other (key_of key) then Some kept else at_key self.old other) }
         ensures sums { (f : RequestKey → ℕ) → sum_by (λ p. f (key_in p.0)) self.new.outcomes.entries ≡ sum_by (λ p. f (key_in p.0)) self.old.outcomes.entries + f (key_of key) }
+        ensures last { IsPushed (key_of key) kept self.old.outcomes.entries self.new.outcomes.entries }
     {
-        let slot = self.places.insert_reserved(self.outcomes.len());
-        insert(&mut self.outcomes, key, Kept { slot, outcome });
-        slot
+        insert(&mut self.outcomes, key, kept);
     }
 
     /// Puts an outcome under a key, where the call of this number is parked there.
@@ -107,23 +107,55 @@ impl Shelf {
         ensures sums { (f : RequestKey → ℕ) → sum_by (λ p. f (key_in p.0)) self.new.outcomes.entries ≡ sum_by (λ p. f (key_in p.0)) self.old.outcomes.entries }
         ensures room { has_room self.new ≡ has_room self.old }
         ensures len { index_map_len self.new.outcomes ≡ index_map_len self.old.outcomes }
+        ensures is { IsRefilled self.old.outcomes.entries self.new.outcomes.entries }
     {
         refill(&mut self.outcomes, key, number, outcome);
     }
 
-    /// Takes the outcome of a key away, by its slot, and gives the client.
-    pub(crate) fn take(&mut self, slot: usize, _key: &Mark) -> Vec<u8>
-        requires { slot_at self.old (key_of _key.now.key) ≡ Some slot }
+    /// Where the call of this number is parked under a key, if it is.
+    pub(crate) fn parked_at(&self, key: &Key, number: u64) -> Option<Spot>
+        ensures none { IfNone result (option_map_or (λ h. is_parked number (holding_in h)) (kept_at self.now (key_of key.now)) false ≡ false) }
+        ensures parked { IfSome result (λ spot. option_map_or (λ h. is_parked number (holding_in h)) (kept_at self.now (key_of key.now)) false ≡ true) }
+        ensures key { IfSome result (λ spot. key_of spot.key.key ≡ key_of key.now) }
+        ensures slot { IfSome result (λ spot. slot_at self.now (key_of key.now) ≡ Some spot.slot) }
+        ensures place { IfSome result (λ spot. option_map (λ p. p.1.slot) (slice_get self.now.outcomes.entries spot.place) ≡ Some spot.slot) }
+    {
+        let name = Lent {
+            client_id: key.client_id.as_slice(),
+            number: Some(key.retention_id),
+        };
+        let (place, _, kept) = self.outcomes.get_full(name)?;
+        if kept.outcome.number() == Some(number) {
+            return Some(Spot {
+                slot: kept.slot,
+                place,
+                key: Mark::of(key),
+            });
+        }
+        None
+    }
+
+    /// Takes the outcome of a key away, by its place, and gives the client.
+    pub(crate) fn take(&mut self, place: usize, _key: &Mark) -> Vec<u8>
+        requires { IsTrue (is_at (key_of _key.now.key) place self.old) }
         ensures client { result.items ≡ (key_of _key.now.key).client_id }
         ensures kept { (other : RequestKey) → at_key self.new other ≡ (if same_key other (key_of _key.now.key) then None else at_key self.old other) }
         ensures sums { (f : RequestKey → ℕ) → sum_by (λ p. f (key_in p.0)) self.new.outcomes.entries + f (key_of _key.now.key) ≡ sum_by (λ p. f (key_in p.0)) self.old.outcomes.entries }
         ensures room { IsTrue (has_room self.old) → IsTrue (has_room self.new) }
+        ensures taken { IsTaken place self.old.outcomes.entries self.new.outcomes.entries }
     {
-        let place = self.places.remove(slot);
         let (name, _) = self.outcomes.swap_remove_index(place).unwrap();
-        let moved = slot_in(&self.outcomes, place);
-        move_to(&mut self.places, moved, place);
         name.client_id
+    }
+
+    /// The slot of the outcome in a place, if there is one.
+    pub(crate) fn slot_in(&self, place: usize) -> Option<usize>
+        ensures { result ≡ option_map (λ p. p.1.slot) (slice_get self.now.outcomes.entries place) }
+    {
+        match self.outcomes.get_index(place) {
+            Some((_, kept)) => Some(kept.slot),
+            None => None,
+        }
     }
 }
 
@@ -170,28 +202,5 @@ fn is_held_at(outcomes: &Outcomes, place: usize, client_id: &[u8]) -> bool
     match outcomes.get_index(place) {
         Some((name, _)) => name.client_id.as_slice() == client_id,
         None => false,
-    }
-}
-
-/// The slot of the outcome in a place, if there is one.
-fn slot_in(outcomes: &Outcomes, place: usize) -> Option<usize>
-    ensures { result ≡ option_map (λ p. p.1.slot) (slice_get outcomes.now.entries place) }
-{
-    match outcomes.get_index(place) {
-        Some((_, kept)) => Some(kept.slot),
-        None => None,
-    }
-}
-
-/// Notes the place of what was moved, if there is something.
-fn move_to(places: &mut Slab<usize>, moved: Option<usize>, place: usize)
-    requires { (slot : ℕ) → moved ≡ Some slot → is_some (place_of places.old slot) ≡ true }
-    ensures moved { IsMoved moved place places.old places.new }
-    ensures len { slab_len places.new ≡ slab_len places.old }
-    ensures capacity { places.new.capacity ≡ places.old.capacity }
-{
-    if let Some(slot) = moved {
-        places.remove(slot);
-        places.insert_reserved(place);
     }
 }

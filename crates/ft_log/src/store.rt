@@ -3,25 +3,26 @@
 ghost use Rattle.std.specs.Prelude.{◌≡◌, ◌≤◌, ◌+◌, IsTrue, List, ℕ, if◌then◌else◌, length, nat_lt, not, option_map};
 ghost use Rattle.std.specs.List.{count_by, sum_by};
 ghost use Rattle.indexmap.specs.IndexMap.{index_map_len};
-ghost use Rattle.ft_log.specs.Dues.{dues, places};
+ghost use Rattle.ft_log.specs.Dues.{dues, places, under};
 ghost use Rattle.ft_log.specs.Keys.{RequestKey, are_distinct, clients_in, held_of};
 ghost use Rattle.ft_log.specs.Kept.{keys_of};
 ghost use Rattle.ft_log.specs.Maps.{held_at, key_in};
+ghost use Rattle.ft_log.specs.Placed.{ArePlaced, ArePlaced-prop};
 ghost use Rattle.ft_log.specs.Tied.{AreDues, AreOutcomes, AreOutcomes-prop, is_copied, is_free, is_ready, is_slotted};
 ghost use Rattle.ft_log.specs.View.{entries_at, key_of};
 
 use crate::counts::{Counts, count_down_if, count_of, count_up_if, reserve_if};
+use crate::due::Spot;
 use crate::error::LogError;
 use crate::held::Held;
 use crate::key::Key;
-use crate::order::{Due, Order};
+use crate::order::Order;
 use crate::outcome::Outcome;
 use crate::room::{Room, room_for};
-use crate::shelf::Shelf;
+use crate::shelf::{Kept, Shelf};
 use crate::story::{Entry, Story};
 use indexmap::IndexMap;
 use std::alloc::Global;
-use std::cmp::Reverse;
 use std::hash::RandomState;
 
 /// The outcomes that a log keeps, in the order in which they were kept, each under a key of its own.
@@ -48,16 +49,19 @@ pub(crate) struct Store {
     ghost slim: { index_map_len counts ≤ (if nat_lt share capacity then clients_in (keys_of (entries_at story.entries)) else 0) },
     ghost dated: { AreDues order story.entries },
     ghost slotted: { count_by (λ d. not (is_slotted kept d)) (dues order) ≡ 0 },
+    ghost placed: { ArePlaced kept.outcomes.entries (under order) } by { ArePlaced-prop kept.outcomes.entries (under order) },
     ghost copied: { IsTrue (nat_lt share capacity) → IsTrue (is_copied room) },
     ghost ready: { IsTrue (is_ready (option_map (λ r. key_of r.key.key) room) (keys_of (entries_at story.entries)) capacity share (places order) (is_free (nat_lt share capacity) kept counts)) },
 }
 
 impl Store {
     ghost use Rattle.std.specs.Prelude.{◌≡◌, ◌↔◌, ◌<◌, ◌*◌, ◌++◌, [], ◌∷◌, None, Some, Err, OnOk, OnErr, MatchOption, true, false, length, map};
-    ghost use Rattle.ft_log.specs.Kept.{filled, kept_for, least_expiration, unexpired};
-    ghost use Rattle.ft_log.specs.Logged.{logged, slots_of};
+    ghost use Rattle.ft_log.specs.Kept.{filled, kept_for, least_expiration, unexpired, withdrawn};
+    ghost use Rattle.ft_log.specs.Logged.{dues_of, logged, slots_of};
+    ghost use Rattle.ft_log.specs.Shelf.{slot_at};
     ghost use Rattle.ft_log.specs.Store.{shown};
     ghost use Rattle.ft_log.specs.View.{holding_in, performed_in};
+    ghost use Rattle.ft_log.specs.Without.{without};
     ghost use Rattle.ft_log.specs.declared.error.LogError.TheVariants.{Full, ShareFull};
 
     /// A log that keeps nothing. It may keep `capacity` outcomes, `share` of them for each client.
@@ -144,16 +148,30 @@ impl Store {
         ensures same { unexpired now (logged (shown self.new)).entries ≡ unexpired now (logged (shown self.old)).entries }
         ensures others { logged (shown self.new) ≡ record (logged (shown self.old)) { entries = (logged (shown self.new)).entries } }
     {
-        let counts = self.counts_clients();
-        match self.order.pop_before(now) {
-            Some(due) => {
-                let client_id = self.kept.take(due.slot, &due.key);
-                count_down_if(counts, &mut self.counts, client_id.as_slice());
-                self.story = Story::without(&self.story, &due.key);
+        match self.order.before(now) {
+            Some(spot) => {
+                self.take_out(spot);
                 true
             }
             None => false,
         }
+    }
+
+    /// Takes out the entry that is kept there.
+    #[tactic(auto, unfolding(crate::specs::Logged::logged))]
+    fn take_out(&mut self, spot: Spot)
+        requires slot { slot_at self.old.kept (key_of spot.key.key) ≡ Some spot.slot }
+        requires place { under self.old.order spot.slot ≡ Some spot.place }
+        ensures entries { self.new.story.entries ≡ without (key_of spot.key.key) self.old.story.entries }
+        ensures others { logged (shown self.new) ≡ record (logged (shown self.old)) { entries = (logged (shown self.new)).entries } }
+    {
+        let counts = self.counts_clients();
+        let client_id = self.kept.take(spot.place, &spot.key);
+        self.order.withdraw(spot.slot, &spot.key);
+        self.order
+            .move_to(self.kept.slot_in(spot.place), spot.place);
+        count_down_if(counts, &mut self.counts, client_id.as_slice());
+        self.story = Story::without(&self.story, &spot.key);
     }
 
     /// Whether a client has its share, in a log that isn't full.
@@ -216,12 +234,9 @@ impl Store {
             outcome,
         };
         self.story = Story::with(&self.story, &entry);
-        let slot = self.kept.put(entry.key, entry.outcome);
-        self.order.push(Due {
-            until: Reverse(expiration),
-            slot,
-            key: room.key,
-        });
+        let slot = self.order.push(expiration, room.key, self.kept.len());
+        let outcome = entry.outcome;
+        self.kept.put(entry.key, Kept { slot, outcome });
         count_up_if(counts, &mut self.counts, room.client_id);
     }
 
@@ -240,6 +255,18 @@ impl Store {
         self.kept.fill(entry.key, number, entry.outcome);
     }
 
+    /// Takes out what is kept for a call that is parked under a number, under its key; its room is given back. Where it is
+    /// forgotten, or has its outcome, nothing changes. It takes no memory.
+    #[tactic(auto, unfolding(crate::specs::Logged::logged))]
+    pub(crate) fn withdraw(&mut self, key: &Key, number: u64)
+        ensures { logged (shown self.new) ≡ record (logged (shown self.old)) { entries = withdrawn (key_of key.now) number (logged (shown self.old)).entries } }
+    {
+        match self.kept.parked_at(key, number) {
+            Some(spot) => self.take_out(spot),
+            None => {}
+        }
+    }
+
     /// No two entries have one key.
     #[tactic(auto, unfolding(crate::specs::Logged::logged))]
     pub(crate) fn keys_are_distinct(&self)
@@ -247,11 +274,12 @@ impl Store {
     {}
 
     /// The map has at most one slot for each entry and one for each client of an entry, however many clients
-    /// have asked.
-    #[tactic(auto, unfolding(crate::specs::Logged::logged, crate::specs::Logged::slots_of))]
+    /// have asked; and the heap two expirations for each entry, however many calls were withdrawn.
+    #[tactic(auto, unfolding(crate::specs::Logged::logged, crate::specs::Logged::slots_of, crate::specs::Logged::dues_of))]
     pub(crate) fn slots_are_few(&self)
         ensures each { slots_of (shown self.now) ≤ length (logged (shown self.now)).entries + clients_in (keys_of (logged (shown self.now)).entries) }
         ensures twice { slots_of (shown self.now) ≤ 2 * length (logged (shown self.now)).entries }
         ensures bound { slots_of (shown self.now) ≤ 2 * (logged (shown self.now)).capacity }
+        ensures dues { dues_of (shown self.now) ≤ 2 * length (logged (shown self.now)).entries }
     {}
 }

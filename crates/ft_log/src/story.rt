@@ -40,6 +40,13 @@ impl Mark {
     {
         Mark {}
     }
+
+    /// The same mark.
+    pub(crate) fn copy(_mark: &Mark) -> Mark
+        ensures { result.key ≡ _mark.now.key }
+    {
+        Mark {}
+    }
 }
 
 /// The entries that are kept, in order. It takes no memory, and its calls do nothing when they run.

@@ -29,22 +29,22 @@ use Rattle.ft_orb.specs.declared.events.Written.{Written}
 use Rattle.ft_orb.specs.declared.parked.Parked.{Parked as CodeParked}
 use Rattle.ft_orb.specs.declared.parked.Places.{Places}
 use Rattle.ft_orb.specs.declared.parked.Waiter.{Waiter}
-use Rattle.ft_orb.specs.Deeds.{AreTaken, AreTold, Answered, Asking, Deed, GivenUp, Happened, HasPlace, IsFor, IsFree, IsUnawaited, Joined, Ledger, Missed, Parked, Reached, Runs, Settled, Stopped, Told, Wrote, after_deeds, note_told, notes_of, opening, piece_of, reply_to, rest_of, told_all, told_one}
+use Rattle.ft_orb.specs.Deeds.{AreTaken, AreTold, Answered, Asking, Declined, Deed, GivenUp, Happened, HasPlace, IsFor, IsFree, IsUnawaited, Joined, Ledger, Missed, Parked, Reached, Runs, Settled, Stopped, Told, Withdrawn, Wrote, after_deeds, note_told, notes_of, opening, piece_of, reply_to, rest_of, told_all, told_one, without_call}
 use Rattle.ft_orb.specs.DeedsPlayed.{AreOf, Holds, LeaveAtLast, RunsAreAnsweredLate, IsDone, IsOf, IsTold, Shows, StandsAt, left_after, left_fed, left_of}
 use Rattle.ft_orb.specs.Counts.{waiters_on}
 use Rattle.ft_orb.specs.Engines.{Awaited, CanAnswer, IsNumbered, asks_in, awaited_of, waits_in}
 use Rattle.ft_orb.specs.ExactlyOnce.{Absent, Arrival, Bad, Field, OneExpiration, Present, Rules, state_after, state_of}
-use Rattle.ft_orb.specs.History.{Close, Event, Lost, Piece, arrivals, completed, connection_of, event_of}
+use Rattle.ft_orb.specs.History.{Close, Event, KeepsAll, Lost, Piece, Withdrew, arrivals, completed, connection_of, event_of}
 use Rattle.ft_orb.specs.Now.{performed_now}
 use Rattle.ft_orb.specs.Outputs.{Noted, after, noted, output_cut}
 use Rattle.ft_orb.specs.Owners.{owned_rules, owned_says, owned_table, owner_rules}
 use Rattle.ft_orb.specs.Parked.{going_in, is_wished, on_going}
-use Rattle.ft_orb.specs.Parking.{AreParked, AsksLate, CanSettle, EndsLate, FeedsLate, IsDueLate, IsSettled, Parks, RepeatsLate, RepliesLate, ResumesLate, Settings, Stays, StopsLate, by_number, goes_on, numbering, parked_at, parked_in, parked_count, parked_of, places_of, places_of_one, put_at, still, told_in, told_of as outcome_of, waiter_of, waits_on, own_of}
+use Rattle.ft_orb.specs.Parking.{AreParked, AsksLate, CanSettle, DeclinesLate, EndsLate, FeedsLate, IsDueLate, IsSettled, Parks, RepeatsLate, RepliesLate, ResumesLate, Settings, Stays, StopsLate, WithdrawsLate, by_number, goes_on, not_now, numbering, parked_at, parked_in, parked_count, parked_of, places_of, places_of_one, put_at, still, told_in, told_of as outcome_of, waiter_of, waits_on, own_of}
 use Rattle.ft_orb.specs.Requests.{Call, Wanted}
 use Rattle.ft_orb.specs.Standing.{note_of}
 use Rattle.ft_orb.specs.Table.{Table, forgotten, keyed_step, performing_step, step_by_field, table_after, table_step}
 use Rattle.ft_orb.specs.Tellings.{Later, nothing_yet}
-use Rattle.ft_orb.proofs.Books.{book_by}
+use Rattle.ft_orb.proofs.Books.{book_by, kept-folded}
 use Rattle.ft_orb.proofs.Folded.{table_after-append}
 use Rattle.ft_orb.proofs.Headline.{past_stands_by}
 use Rattle.ft_orb.proofs.Late.{below-past, links-go, tally-is}
@@ -249,8 +249,7 @@ module _ {C : Type 0} (offers : C → Offer) (s : Settings) where
       let rules = owned_rules (by_number s g.held) in
       let mid = table_after rules (owned_table (by_number s g.held) g.past) x.front in
       let all : owned_table (by_number s g.held) now ≡ (table_step rules mid x.last).0 =
-      ap (λ (xs : List (Arrival Wanted)). table_after rules (record { state = []; entries = [] }) (arrivals s.limits g.past ++ xs)) x.completes
-      ∙ table_after-append rules (record { state = []; entries = [] }) (arrivals s.limits g.past) (x.front ++ x.last ∷ [])
+      ap (λ (xs : List (Arrival Wanted)). table_after rules (owned_table (by_number s g.held) g.past) xs) x.completes
       ∙ table_after-append rules (owned_table (by_number s g.held) g.past) x.front (x.last ∷ []) in
       let low : x.i < length (table_step rules mid x.last).0.state = step-below s.offer.interface s.capacity s.share mid x.last x.i (after-below s.offer.interface s.capacity s.share (owned_table (by_number s g.held) g.past) x.front (below-past s g.past)) x.says in
       let count : length (table_step rules mid x.last).0.state ≡ length g.calls = ap (λ (t : Table (List Call) ℕ). length t.state) (sym all) ∙ ap (λ (l : List Call). length l) (tally-is offers s nothing_yet g.held g.calls new now x.stays.rests) in
@@ -316,11 +315,11 @@ module _ {C : Type 0} (offers : C → Offer) (s : Settings) where
 
   pub gives-up-deed : (g : Ledger) (old new : Engine C) (x : Awaiting g old) (handled : ℕ) → ResumesLate offers s g.held g.calls g.past g.waiting x.a.request.connection x.a.moment x.a.octets x.a.written (Memory handled handled) new [] [] → AreParked old new → asks_in new ≡ asks_in old
       → handled + 1 ≡ length (completed s.limits g.past (piece_of x.a))
-      → (c : ℕ) → c ≡ x.a.request.connection → IsDone offers s g code.GiveUp None (record { connection = c; octets = []; note = Memory handled handled } ∷ []) new
-  gives-up-deed g old new x handled y are asks counts c at =
+      → (c : ℕ) → c ≡ x.a.request.connection → (told : CodeDeed) → IsOf told (GivenUp x.a handled) → IsDone offers s g told None (record { connection = c; octets = []; note = Memory handled handled } ∷ []) new
+  gives-up-deed g old new x handled y are asks counts c at told of =
       let wrote : x.a.written ++ y.resumes.more ≡ x.a.written = ap (λ (l : List ℕ). x.a.written ++ l) (sym y.resumes.appended) ∙ append-nil x.a.written in (
         GivenUp x.a handled,
-        tt,
+        of,
         (x.is, subst (λ (l : List ℕ). Wrote s nothing_yet g.held g.past (piece_of x.a) l (Memory handled handled)) wrote y.resumes.writes, y.stays.rests.stands.table.state, counts),
         ap (λ (k : ℕ). record { connection = k; octets = []; note = Memory handled handled } ∷ []) (sym at),
         refl,
@@ -440,6 +439,43 @@ module _ {C : Type 0} (offers : C → Offer) (s : Settings) where
       shows = shows-without g old new r.shows n asks gone others;
     },
   )
+
+  -- It is declined, and that is told.
+  pub declines-deed : (g : Ledger) (old new : Engine C) (x : Awaiting g old) (name : SystemName) (minor : ℕ) (before out : List ℕ) → before ≡ []
+      → DeclinesLate offers s g.held g.calls g.past g.waiting x.a.moment x.a.octets x.a.written x.a.request (not_now name minor) new before out → AreParked old new → asks_in new ≡ asks_in old
+      → (c : ℕ) → c ≡ x.a.request.connection → IsDone offers s g (code.Decline name minor) None (record { connection = c; octets = out; note = Done } ∷ []) new
+  declines-deed g old new x name minor before out none y are asks c at =
+      let wrote : out ≡ y.more = y.appended ∙ ap (λ (l : List ℕ). l ++ y.more) none in (
+        Declined x.a name minor out,
+        (refl, refl),
+        (x.is, subst (λ (l : List ℕ). Wrote s nothing_yet (put_at (length g.calls) (known (not_now name minor)) g.held) g.past (piece_of x.a) (x.a.written ++ l) Done) (sym wrote) y.writes, y.stays.rests.stands.table.state),
+        ap (λ (k : ℕ). record { connection = k; octets = out; note = Done } ∷ []) (sym at),
+        refl,
+        record { stands = y.stays; nobody = λ n is. still-none (Withdrew (length g.calls) ∷ piece_of x.a ∷ g.past) g.waiting n (x.nobody n is); shows = shows-on g.asked g.there old new x.shows are asks },
+      )
+
+  pub withdraws-deed : (g : Ledger) (old mid new : Engine C) → Resting g old → (n : ℕ) (name : SystemName) (minor : ℕ) (before out : List Written) (y : WithdrawsLate offers s g.held g.calls g.past g.waiting n mid)
+      → (t : IsTold offers s (without_call y.i g) n (not_now name minor) new before out) → asks_in new ≡ asks_in old
+      → parked_in new n ≡ None → ((q : ℕ) → (q == n) ≡ false → (parked_in new q ≡ parked_in old q) × (told_in new q ≡ told_in old q)) → IsDone offers s g (code.Withdraw n name minor) None (map noted t.written) new
+  withdraws-deed g old mid new r n name minor before out y t asks gone others =
+      let one : t.i ≡ y.i = y.stays.parks.once t.i y.i n t.taken y.taken t.was y.was in
+      let stays : Stays offers s (put_at y.i (known (not_now name minor)) g.held) g.calls new (told_all s n (without_call y.i g) t.told).past (told_all s n (without_call y.i g) t.told).waiting =
+      subst (λ (k : ℕ). Stays offers s (put_at k (known (not_now name minor)) g.held) g.calls new (told_all s n (without_call y.i g) t.told).past (told_all s n (without_call y.i g) t.told).waiting) one t.stays in (
+        Withdrawn y.i n name minor t.told,
+        (refl, refl, refl),
+        (r.none, y.taken, y.was, t.are_told, t.none, stays.rests.stands.table.state),
+        t.notes,
+        refl,
+        record {
+          stands = stays;
+          nobody = λ m.
+              (elim (m == n) as (λ (b : Bool). (m == n) ≡ b → cond b None (g.there m) ≡ None → (told_all s n (without_call y.i g) t.told).waiting m ≡ []) [
+                | true ↦ λ is none. subst (λ (k : ℕ). (told_all s n (without_call y.i g) t.told).waiting k ≡ []) (sym (eqb-true m n is)) t.none
+                | false ↦ λ is none. told-none m n (without_call y.i g) t.told (r.nobody m none)
+              ]) refl;
+          shows = shows-without g old new r.shows n asks gone others;
+        },
+      )
 
   -- so far
   pub record IsTelling (g : Ledger) (n : ℕ) (outcome : Performed) (new : Engine C) (before out : List Written) : Type 0 where
@@ -586,11 +622,11 @@ module _ {C : Type 0} (offers : C → Offer) (s : Settings) where
 module _ (s : Settings) where
   -- The calls that were taken, by all that came.
 
-  pub calls-now : (g : Ledger) → AreTaken s g → g.calls ≡ state_after (owned_rules (by_number s g.held)) [] (performed_now (owned_rules (by_number s g.held)) (arrivals s.limits g.past))
-  calls-now g taken = taken ∙ (past_now_by (book_by (by_number s g.held)) g.past).state
+  pub calls-now : (g : Ledger) → AreTaken s g → KeepsAll g.past → g.calls ≡ state_after (owned_rules (by_number s g.held)) [] (performed_now (owned_rules (by_number s g.held)) (arrivals s.limits g.past))
+  calls-now g taken kept = taken ∙ (past_now_by (book_by (by_number s g.held)) g.past (kept-folded (by_number s g.held) g.past kept)).state
 
-  pub calls-once : (g : Ledger) → AreTaken s g → OneExpiration (arrivals s.limits g.past) → g.calls ≡ state_of (owned_rules (by_number s g.held)) [] (arrivals s.limits g.past)
-  calls-once g taken one = taken ∙ (past_stands_by (book_by (by_number s g.held)) g.past one).state
+  pub calls-once : (g : Ledger) → AreTaken s g → KeepsAll g.past → OneExpiration (arrivals s.limits g.past) → g.calls ≡ state_of (owned_rules (by_number s g.held)) [] (arrivals s.limits g.past)
+  calls-once g taken kept one = taken ∙ (past_stands_by (book_by (by_number s g.held)) g.past (kept-folded (by_number s g.held) g.past kept) one).state
 
   pub answered-late : EndingsStay meaning_in → RunsAreAnsweredLate s
   answered-late stay held ds runs = record {

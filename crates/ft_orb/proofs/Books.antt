@@ -12,8 +12,8 @@ use Rattle.ft_log.specs.declared.system_exception.SystemName.{SystemName}
 use Rattle.ft_log.specs.declared.system_exception.SystemName.TheVariants.{BadContext}
 use Rattle.ft_objects.specs.Servants.{Meaning}
 use Rattle.ft_orb.specs.ExactlyOnce.{Absent, Arrival, Bad, Field, Present, Rules, answers_after}
-use Rattle.ft_orb.specs.History.{Event, arrivals, completed}
-use Rattle.ft_orb.specs.Outputs.{Made}
+use Rattle.ft_orb.specs.History.{Close, Event, KeepsAll, Lost, Opened, Piece, Withdrew, arrivals, completed}
+use Rattle.ft_orb.specs.Outputs.{Made, table_of_past}
 use Rattle.ft_orb.specs.Requests.{Call, Wanted, rules_of}
 use Rattle.ft_orb.specs.Seen.{TablesAreSeen, seen_answer, seen_entry, seen_rules, seen_table}
 use Rattle.ft_orb.specs.Standing.{Shown, StandsBy}
@@ -21,10 +21,19 @@ use Rattle.ft_orb.specs.Table.{Table, forgotten, keyed_step, performing_step, st
 use Rattle.ft_orb.specs.Tellings.{Later, Teller, Telling, answer_told, answers_told, held_told, nothing_yet, octets_told, rendered}
 use Rattle.std.specs.List.{flat_map}
 use Rattle.ft_orb.specs.Now.{answers_now_after}
-use Rattle.ft_orb.specs.Owners.{OwnerOf, owner_rules}
+use Rattle.ft_orb.specs.Owners.{Owner, OwnerOf, owned_rules, owned_table, owner_rules, owning, table_by as owner_table}
+use Rattle.ft_orb.proofs.Folded.{table_after-append}
+
+-- the event takes nothing out of a table
+abbrev pub IsLive : Event → Type 0
+IsLive (Opened c) = Unit {0}
+IsLive (Piece c moment octets) = Unit {0}
+IsLive (Close c) = Unit {0}
+IsLive (Lost c) = Unit {0}
+IsLive (Withdrew i) = ⊥
 
 -- limits of connections, how many outcomes are kept, how many of each client, the state at first, the rules, by how many are kept,
--- how an outcome is held, what is said where that is parked, which keys have objects, and what is told
+-- how an outcome is held, what is said where that is parked, which keys have objects, what is told, and the table of a past
 pub record Book (S O : Type 0) : Type 0 where
   pub limits : Limits
   pub capacity : ℕ
@@ -36,13 +45,19 @@ pub record Book (S O : Type 0) : Type 0 where
   pub knows : List ℕ → Bool
   pub tell : Teller O
   pub tells : (w : Wanted) (a : Result O SystemName) → held_told late knows w (seen_answer hold a) ≡ tell w a
+  pub table : List Event → Table S O
+  pub next : (past : List Event) (e : Event) → IsLive e → table (e ∷ past) ≡ table_after (rules capacity share) (table past) (completed limits past e)
 
 module _ {S O : Type 0} (b : Book S O) where
   abbrev pub ruled : Rules S Wanted Call O
   ruled = b.rules b.capacity b.share
 
   abbrev pub table_by : List Event → Table S O
-  table_by past = table_after ruled (record { state = b.opening; entries = [] }) (arrivals b.limits past)
+  table_by past = b.table past
+
+  -- it is folded over all arrivals of the past
+  abbrev pub IsFolded : List Event → Type 0
+  IsFolded past = table_by past ≡ table_after ruled (record { state = b.opening; entries = [] }) (arrivals b.limits past)
 
   abbrev pub says_by : List Event → Event → List (Result O SystemName)
   says_by past e = table_answers ruled (table_by past) (completed b.limits past e)
@@ -83,7 +98,27 @@ book_of meaning made = record {
   knows = meaning.knows;
   tell = answer_told meaning.knows;
   tells = known-tells nothing_yet meaning.knows;
+  table = table_of_past meaning made;
+  next = λ past e live. table_after-append (rules_of meaning made.capacity made.share) (record { state = made.opening; entries = [] }) (arrivals made.limits past) (completed made.limits past e);
 }
+
+-- an owner's table after an event that takes nothing out
+pub owned-next : {O : Type 0} (o : OwnerOf O) (past : List Event) (e : Event) → IsLive e → owned_table o (e ∷ past) ≡ table_after (owned_rules o) (owned_table o past) (completed o.limits past e)
+owned-next {O} o past e live = by o.is e live
+  where
+    by : (x : Option (O → ℕ → Bool)) (e : Event) → IsLive e → owner_table (owned_rules o) o.limits x (e ∷ past) ≡ table_after (owned_rules o) (owner_table (owned_rules o) o.limits x past) (completed o.limits past e)
+    by None e live = table_after-append (owned_rules o) (record { state = []; entries = [] }) (arrivals o.limits past) (completed o.limits past e)
+    by (Some is) (Opened c) live = refl
+    by (Some is) (Piece c moment octets) live = refl
+    by (Some is) (Close c) live = refl
+    by (Some is) (Lost c) live = refl
+    by (Some is) (Withdrew i) live = absurd live
+
+folded-next : {O : Type 0} (o : OwnerOf O) (x : Option (O → ℕ → Bool)) (past : List Event) (e : Event) → owner_table (owned_rules o) o.limits x past ≡ table_after (owned_rules o) (record { state = []; entries = [] }) (arrivals o.limits past)
+    → table_after (owned_rules o) (owner_table (owned_rules o) o.limits x past) (completed o.limits past e) ≡ table_after (owned_rules o) (record { state = []; entries = [] }) (arrivals o.limits (e ∷ past))
+folded-next {O} o x past e before =
+    ap (λ (t : Table (List Call) O). table_after (owned_rules o) t (completed o.limits past e)) before
+    ∙ sym (table_after-append (owned_rules o) (record { state = []; entries = [] }) (arrivals o.limits past) (completed o.limits past e))
 
 -- an owner's
 abbrev pub book_by : {O : Type 0} → OwnerOf O → Book (List Call) O
@@ -98,7 +133,26 @@ book_by o = record {
   knows = o.offer.knows;
   tell = o.tell;
   tells = λ w a. sym (o.tells w a);
+  table = owned_table o;
+  next = owned-next o;
 }
+
+-- where nothing was withdrawn, the table is folded over all arrivals
+pub kept-folded : {O : Type 0} (o : OwnerOf O) (past : List Event) → KeepsAll past → IsFolded (book_by o) past
+kept-folded {O} o past kept = by o.is past kept
+  where
+    by : (x : Option (O → ℕ → Bool)) (past : List Event) → KeepsAll past → owner_table (owned_rules o) o.limits x past ≡ table_after (owned_rules o) (record { state = []; entries = [] }) (arrivals o.limits past)
+    by None past kept = refl
+    by (Some is) [] kept = refl
+    by (Some is) (Opened c ∷ past) kept = folded-next o (Some is) past (Opened c) (by (Some is) past kept)
+    by (Some is) (Piece c moment octets ∷ past) kept = folded-next o (Some is) past (Piece c moment octets) (by (Some is) past kept)
+    by (Some is) (Close c ∷ past) kept = folded-next o (Some is) past (Close c) (by (Some is) past kept)
+    by (Some is) (Lost c ∷ past) kept = folded-next o (Some is) past (Lost c) (by (Some is) past kept)
+    by (Some is) (Withdrew i ∷ past) kept = absurd kept
+
+-- .. and where nothing ever can be
+pub owning-folded : (o : Owner) (past : List Event) → IsFolded (book_by (owning o)) past
+owning-folded o past = refl
 
 -- Tables are seen.
 module _ {O P : Type 0} (see : O → P) where

@@ -12,7 +12,7 @@ use Rattle.ft_orb.specs.declared.events.Note.{Note}
 use Rattle.ft_orb.specs.declared.events.Note.TheVariants.{Done, Memory, Refused}
 use Rattle.ft_orb.specs.declared.parked.Waiter.{Waiter}
 use Rattle.ft_orb.specs.ExactlyOnce.{Arrival}
-use Rattle.ft_orb.specs.History.{Close, Event, Gone, Line, Lost, Opened, Piece, Shut, Up, arrivals, completed, counted, does_count, line, longer, shortened, shut}
+use Rattle.ft_orb.specs.History.{Close, Event, Gone, Line, Lost, Opened, Piece, Shut, Up, Withdrew, counted, does_count, line, longer, shortened, shut}
 use Rattle.ft_orb.specs.Outputs.{after, is_going, is_gone}
 use Rattle.ft_orb.specs.Parked.{on_going}
 use Rattle.ft_orb.specs.Parking.{goes_on}
@@ -59,6 +59,7 @@ counts-later past (Opened d) c h = all-counted c d (counted past) (list_all (λ 
 counts-later past (Piece d moment octets) c h = h
 counts-later past (Close d) c h = h
 counts-later past (Lost d) c h = h
+counts-later past (Withdrew i) c h = h
 
 module _ (limits : Limits) (stay : EndingsStay meaning_in) where
   longer-goes : (octets : List ℕ) (l : Line) → is_going limits (longer octets l) ≡ true → is_going limits l ≡ true
@@ -97,6 +98,7 @@ module _ (limits : Limits) (stay : EndingsStay meaning_in) where
       by : (b : Bool) → is_going limits (cond b Gone (line past c)) ≡ true → is_going limits (line past c) ≡ true
       by false g = g
       by true g = absurd cc
+  went-on past (Withdrew i) c h g = g
 
   -- what happened, and how it ended
   pub went-after : (past : List Event) (e : Event) (note : Note) (c : ℕ) → does_count past c ≡ false → goes_on limits (after limits past e note) c ≡ true → goes_on limits past c ≡ true
@@ -107,6 +109,7 @@ module _ (limits : Limits) (stay : EndingsStay meaning_in) where
       let short = shortened limits past (Piece d moment octets) handled in went-on past short c h (went-on (short ∷ past) (Lost d) c (counts-later past short c h) g)
   went-after past (Close d) (Memory handled answered) c h g = went-on past (Lost d) c h g
   went-after past (Lost d) (Memory handled answered) c h g = went-on past (Lost d) c h g
+  went-after past (Withdrew i) (Memory handled answered) c h g = g
 
 pub counts-after : (limits : Limits) (past : List Event) (e : Event) (note : Note) (c : ℕ) → does_count past c ≡ false → does_count (after limits past e note) c ≡ false
 counts-after limits past e Done c h = counts-later past e c h
@@ -115,16 +118,7 @@ counts-after limits past (Opened d) (Memory handled answered) c h = h
 counts-after limits past (Piece d moment octets) (Memory handled answered) c h = counts-later past (shortened limits past (Piece d moment octets) handled) c h
 counts-after limits past (Close d) (Memory handled answered) c h = h
 counts-after limits past (Lost d) (Memory handled answered) c h = h
-
--- the arrivals of what happened come after those of before
-pub arrivals-after : (limits : Limits) (past : List Event) (e : Event) (note : Note) → (xs : List (Arrival Wanted)) × (arrivals limits (after limits past e note) ≡ arrivals limits past ++ xs)
-arrivals-after limits past e Done = (completed limits past e, refl)
-arrivals-after limits past e Refused = (completed limits past e, refl)
-arrivals-after limits past (Opened c) (Memory handled answered) = ([], sym (append-nil (arrivals limits past)))
-arrivals-after limits past (Piece c moment octets) (Memory handled answered) =
-    let short = shortened limits past (Piece c moment octets) handled in (completed limits past short, append-nil (arrivals limits past ++ completed limits past short))
-arrivals-after limits past (Close c) (Memory handled answered) = ([], refl)
-arrivals-after limits past (Lost c) (Memory handled answered) = ([], refl)
+counts-after limits past (Withdrew i) (Memory handled answered) c h = h
 
 -- a connection that is there was opened
 pub was-counted : (past : List Event) (c : ℕ) → is_gone (line past c) ≡ false → does_count past c ≡ false
@@ -162,3 +156,4 @@ was-counted (Lost d ∷ past) c h = was-counted past c (by (d == c) h)
     by : (b : Bool) → is_gone (cond b Gone (line past c)) ≡ false → is_gone (line past c) ≡ false
     by true h = absurd cc
     by false h = h
+was-counted (Withdrew i ∷ past) c h = was-counted past c h

@@ -27,7 +27,7 @@ use Rattle.ft_orb.specs.declared.desk.Step.{Step}
 use Rattle.ft_orb.specs.declared.desk.Step.TheVariants.{Answered, Quiet, Unanswered, Unhandled}
 use Rattle.ft_orb.specs.declared.engine.Engine.{Engine}
 use Rattle.ft_orb.specs.declared.events.Note.{Note}
-use Rattle.ft_orb.specs.declared.events.Note.TheVariants.{Done, Memory}
+use Rattle.ft_orb.specs.declared.events.Note.TheVariants.{Done, Memory, Refused}
 use Rattle.ft_orb.specs.declared.keeper.Repeat.{Repeat}
 use Rattle.ft_orb.specs.declared.lot.Lot.{Lot}
 use Rattle.ft_orb.specs.declared.parked.Parked.{Parked}
@@ -40,9 +40,9 @@ use Rattle.ft_orb.specs.declared.waiters.Join.{Join}
 use Rattle.ft_orb.specs.declared.waiters.Join.TheVariants as join
 use Rattle.ft_orb.specs.Engines.{AsksOf, Awaited, EndsOf, KeepsOf, RestsOf, StandsOf, StopsOf, as_server, asks_in, awaited_of, waits_in, pending_in}
 use Rattle.ft_orb.specs.ExactlyOnce.{Absent, Arrival, Bad, Field, Present, Rules}
-use Rattle.ft_orb.specs.History.{Event, Gone, Line, Piece, Shut, Up, arrivals, does_count, line}
+use Rattle.ft_orb.specs.History.{Close, Event, Gone, Line, Lost, Opened, Piece, Shut, Up, Withdrew, completed, does_count, line, shortened}
 use Rattle.ft_orb.specs.Outputs.{after, is_gone, output_cut}
-use Rattle.ft_orb.specs.Owners.{Voice, answered_so_far, owned_says, owned_table, owner_rules}
+use Rattle.ft_orb.specs.Owners.{Voice, answered_so_far, owned_says, owned_table, owner_rules, table_over}
 use Rattle.ft_orb.specs.Parked.{AreOf, IsSaid, IsStepOf, JoinsAs, JoinsBy, going_in, is_wished, on_going}
 use Rattle.ft_orb.specs.Parking.{AreKeyed, by_number, EndsLate, Parks, RepeatsLate, Settings, Stays, StopsLate, goes_on, key_kept, numbering, parked_at, put_at, still, unless_placed, waiter_of, was_opened}
 use Rattle.ft_orb.specs.Pauses.{Reaches}
@@ -53,11 +53,10 @@ use Rattle.ft_orb.specs.Standing.{IsFor, IsSameBut, Shown, table_of}
 use Rattle.ft_orb.specs.Table.{AreAlike, Table, forgotten, keyed_step, keyless_step, new_step, performing_step, step_by_field, table_after, table_step}
 use Rattle.ft_orb.specs.Tellings.{Later, Telling, nothing_yet, octets_if, reply_by, reply_told}
 use Rattle.ft_orb.specs.Waits.{asker_of}
-use Rattle.ft_orb.proofs.Folded.{table_after-append}
 use Rattle.ft_orb.proofs.Clearing.{all-push, going-append}
-use Rattle.ft_orb.proofs.Numbers.{AreBelow, after-below, after-keyed, all-filter, seen-agree}
+use Rattle.ft_orb.proofs.Numbers.{AreBelow, after-below, after-keyed, all-filter, below-less, keyed-less, seen-agree}
 use Rattle.ft_orb.proofs.Owning.{Turns, asks-of, turns, turns-end, turns-left, turns-short}
-use Rattle.ft_orb.proofs.GoesOn.{Same, arrivals-after, counts-after, counts-later, going-is, on-going-twice, was-counted, went-after}
+use Rattle.ft_orb.proofs.GoesOn.{Same, counts-after, counts-later, going-is, on-going-twice, was-counted, went-after}
 
 -- What is known of calls.
 
@@ -77,10 +76,11 @@ module _ (s : Settings) where
 
   -- the table of the numbers of calls
   abbrev pub Tally : List Event → Table (List Call) ℕ
-  Tally past = table_after Numbered (record { state = []; entries = [] }) (arrivals s.limits past)
+  Tally past = table_over Numbered s.limits (λ n i. n == i) past
 
   pub below-past : (past : List Event) → AreBelow (length (Tally past).state) (Tally past).entries
-  below-past past = after-below s.offer.interface s.capacity s.share (record { state = []; entries = [] }) (arrivals s.limits past) tt
+  below-past [] = tt
+  below-past (e ∷ past) = below-less e (table_after Numbered (Tally past) (completed s.limits past e)) (after-below s.offer.interface s.capacity s.share (Tally past) (completed s.limits past e) (below-past past))
 
   table-known : (held other : ℕ → Holding) (past : List Event) → ((i : ℕ) → i < length (Tally past).state → held i ≡ other i) → seen_table held (Tally past) ≡ seen_table other (Tally past)
   table-known held other past same = ap (λ (es : List (KeptOutcome Holding)). record { state = (Tally past).state; entries = es }) (seen-agree held other (length (Tally past).state) (Tally past).entries same (below-past past))
@@ -130,11 +130,20 @@ module _ (s : Settings) where
 
   -- What is parked, after more.
 
-  keyed-later : (i : ℕ) (key : Option RequestKey) (past later : List Event) (xs : List (Arrival Wanted)) → arrivals s.limits later ≡ arrivals s.limits past ++ xs → i < length (Tally past).state → AreKeyed i key (Tally past).entries → AreKeyed i key (Tally later).entries
-  keyed-later i key past later xs more less h =
-      subst (λ (l : List (Arrival Wanted)). AreKeyed i key (table_after Numbered (record { state = []; entries = [] }) l).entries) (sym more)
-      (subst (λ (t : Table (List Call) ℕ). AreKeyed i key t.entries) (sym (table_after-append Numbered (record { state = []; entries = [] }) (arrivals s.limits past) xs))
-      (after-keyed s.offer.interface s.capacity s.share i key (Tally past) xs less h).1)
+  keyed-next : (i : ℕ) (key : Option RequestKey) (past : List Event) (e : Event) → i < length (Tally past).state → AreKeyed i key (Tally past).entries → (i < length (Tally (e ∷ past)).state) × AreKeyed i key (Tally (e ∷ past)).entries
+  keyed-next i key past e less h =
+      let next = after-keyed s.offer.interface s.capacity s.share i key (Tally past) (completed s.limits past e) less h in
+      keyed-less i key e (table_after Numbered (Tally past) (completed s.limits past e)) next
+
+  keyed-later : (i : ℕ) (key : Option RequestKey) (past : List Event) (e : Event) (note : Note) → i < length (Tally past).state → AreKeyed i key (Tally past).entries → AreKeyed i key (Tally (after s.limits past e note)).entries
+  keyed-later i key past e Done less h = (keyed-next i key past e less h).1
+  keyed-later i key past e Refused less h = (keyed-next i key past e less h).1
+  keyed-later i key past (Opened c) (Memory handled answered) less h = h
+  keyed-later i key past (Piece c moment octets) (Memory handled answered) less h =
+      let short = shortened s.limits past (Piece c moment octets) handled in (keyed-next i key past short less h).1
+  keyed-later i key past (Close c) (Memory handled answered) less h = h
+  keyed-later i key past (Lost c) (Memory handled answered) less h = h
+  keyed-later i key past (Withdrew j) (Memory handled answered) less h = h
 
   -- who still waits
   pub still-later : (stay : EndingsStay meaning_in) (past : List Event) (e : Event) (note : Note) (ws now : List Waiter) → on_going (goes_on s.limits past) ws ≡ now → list_all (was_opened past) ws ≡ true
@@ -172,8 +181,7 @@ module _ (s : Settings) where
       there = λ i n less is. subst (λ (m : Lot). IsSome (get nat_cmp m.requests n)) (sym parks) (k.there i n less is);
       call = λ n p at.
           let x = k.call n p (ap (λ (m : Lot). get nat_cmp m.requests n) (sym parks) ∙ at) in
-          let xs = arrivals-after s.limits past e note in
-          (x.0, x.1, x.2, keyed-later x.0 (key_kept p.pending.waiting.retained) past Then xs.0 xs.1 (subst (λ (l : List Call). x.0 < length l) (sym tally) x.1) x.3);
+          (x.0, x.1, x.2, keyed-later x.0 (key_kept p.pending.waiting.retained) past e note (subst (λ (l : List Call). x.0 < length l) (sym tally) x.1) x.3);
       once = k.once;
       below = λ i n less is. let low = k.below i n less is in omega (arith, low, fewer);
       lists = λ n p at. let was = ap (λ (m : Lot). get nat_cmp m.requests n) (sym parks) ∙ at in (still-later stay past e note p.waiters.items (waiting n) (k.lists n p was) (k.opened n p was)).0;

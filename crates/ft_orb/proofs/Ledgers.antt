@@ -12,16 +12,16 @@ use Rattle.ft_log.specs.declared.system_exception.SystemName.{SystemName}
 use Rattle.ft_orb.specs.declared.events.Note.{Note}
 use Rattle.ft_orb.specs.declared.events.Note.TheVariants.{Memory}
 use Rattle.ft_orb.specs.declared.parked.Waiter.{Waiter}
-use Rattle.ft_orb.specs.Deeds.{AnsweredAreKnown, AreApart, AreTaken, AreTold, Answered, CallsAreTaken, CallsGrow, Deed, DeedsAreRuns, GivenUp, Happened, IsDeed, IsLeftOf, Joined, JoinedAreNoCalls, KnownGrows, Ledger, Missed, Parked, Reached, Runs, RunsJoin, Settled, SettledAreTheirs, Stopped, Told, ToldAreKnown, ToldOnce, WrittenNow, WrittenOnce, after_deed, after_deeds, came_to, part_of, piece_of, reached, rest_of, settles, told_all, told_of, told_one}
+use Rattle.ft_orb.specs.Deeds.{AnsweredAreKnown, AreApart, AreTaken, AreTold, Answered, CallsAreTaken, CallsGrow, Declined, DeclinedAreKnown, Deed, DeedsAreRuns, GivenUp, Happened, IsDeed, IsLeftOf, Joined, JoinedAreNoCalls, KnownGrows, Ledger, Missed, Parked, Reached, Runs, RunsJoin, Settled, SettledAreTheirs, Stopped, Told, ToldAreKnown, ToldOnce, Withdrawn, WrittenNow, WrittenOnce, after_deed, after_deeds, came_to, part_of, piece_of, reached, rest_of, settles, told_all, told_of, told_one, without_call}
 use Rattle.ft_orb.specs.ExactlyOnce.{Arrival}
-use Rattle.ft_orb.specs.History.{Event, Gone, Line, Lost, Shut, Up, arrivals_on, does_count, line}
+use Rattle.ft_orb.specs.History.{Event, Gone, Line, Lost, Shut, Up, Withdrew, arrivals_on, does_count, line}
 use Rattle.ft_orb.specs.Outputs.{WritesBy, after, is_going, is_gone}
 use Rattle.ft_orb.specs.Parked.{is_wished, on_going}
-use Rattle.ft_orb.specs.Parking.{Settings, goes_on, numbering, put_at, waiter_of, own_of}
+use Rattle.ft_orb.specs.Parking.{Settings, goes_on, not_now, numbering, put_at, waiter_of, own_of}
 use Rattle.ft_orb.specs.Requests.{Call, Wanted}
-use Rattle.ft_orb.proofs.Books.{book_by}
+use Rattle.ft_orb.proofs.Books.{book_by, kept-folded}
 use Rattle.ft_orb.proofs.Headline.{writes_agree_by}
-use Rattle.ft_orb.proofs.Said.{says_now_by}
+use Rattle.ft_orb.proofs.Said.{writes_now_by}
 use Rattle.ft_orb.proofs.GoesOn.{counts-after, counts-later, on-going-twice, was-counted, went-after, went-on}
 use Rattle.ft_orb.proofs.Late.{put-else, put-here}
 
@@ -213,6 +213,8 @@ module _ (s : Settings) (stay : EndingsStay meaning_in) where
   later-deed g (Parked a own) = later-event g.past (piece_of a)
   later-deed g (GivenUp a handled) = later-after g.past (piece_of a) (Memory handled handled)
   later-deed g (Settled i n outcome told) = later-told n g told
+  later-deed g (Declined a name minor written) = later-trans s.limits g.past (piece_of a ∷ g.past) (Withdrew (length g.calls) ∷ piece_of a ∷ g.past) (later-event g.past (piece_of a)) (later-event (piece_of a ∷ g.past) (Withdrew (length g.calls)))
+  later-deed g (Withdrawn i n name minor told) = later-trans s.limits g.past (Withdrew i ∷ g.past) (told_all s n (without_call i g) told).past (later-event g.past (Withdrew i)) (later-told n (without_call i g) told)
 
   opened-deed : (g : Ledger) (d : Deed) → Opened g → Opened (after_deed s g d)
   opened-deed g (Happened e written note) h n = opens-going s.limits (after s.limits g.past e note) (g.waiting n)
@@ -222,6 +224,8 @@ module _ (s : Settings) (stay : EndingsStay meaning_in) where
   opened-deed g (Parked a own) h n = opens-going s.limits (piece_of a ∷ g.past) (put_at a.request.number own g.waiting n)
   opened-deed g (GivenUp a handled) h n = opens-going s.limits (after s.limits g.past (piece_of a) (Memory handled handled)) (g.waiting n)
   opened-deed g (Settled i m outcome told) h n = told-opened m g told h n
+  opened-deed g (Declined a name minor written) h n = opens-going s.limits (Withdrew (length g.calls) ∷ piece_of a ∷ g.past) (g.waiting n)
+  opened-deed g (Withdrawn i m name minor told) h n = told-opened m (without_call i g) told h n
 
   -- a connection on which something arrived is there
   arrived-there : (c now : ℕ) (octets : List ℕ) (front : List (Arrival Wanted)) (last : Arrival Wanted) (l : Line) → arrivals_on s.limits c now l octets ≡ front ++ last ∷ [] → is_gone l ≡ false
@@ -271,6 +275,16 @@ module _ (s : Settings) (stay : EndingsStay meaning_in) where
       by : (b : Bool) → (n == m) ≡ b → IsLeftOf (goes_on s.limits end) (g.waiting n) (cond b (reached told) [] ++ (told_all s m g told).waiting n)
       by true is = subst (λ (k : ℕ). IsLeftOf (goes_on s.limits end) (g.waiting k) (reached told ++ (told_all s m g told).waiting k)) (sym (eqb-true n m is)) (told-here m outcome end g told o h.3 x)
       by false is = told-else m outcome end n is g told o x
+  deed-left g (Declined a name minor written) n end h o x =
+      rested-left g (Withdrew (length g.calls) ∷ piece_of a ∷ g.past) end n o (later-deed g (Declined a name minor written)) x
+  deed-left g (Withdrawn i m name minor told) n end h o x =
+      subst (λ (l : List Waiter). IsLeftOf (goes_on s.limits end) l (told_of n (Withdrawn i m name minor told) ++ (told_all s m (without_call i g) told).waiting n)) (sym (append-nil (g.waiting n))) (by (n == m) refl)
+    where
+      by : (b : Bool) → (n == m) ≡ b → IsLeftOf (goes_on s.limits end) (g.waiting n) (cond b (reached told) [] ++ (told_all s m (without_call i g) told).waiting n)
+      by true is =
+          subst (λ (k : ℕ). IsLeftOf (goes_on s.limits end) (g.waiting k) (reached told ++ (told_all s m (without_call i g) told).waiting k)) (sym (eqb-true n m is))
+          (told-here m (not_now name minor) end (without_call i g) told o h.3 x)
+      by false is = told-else m (not_now name minor) end n is (without_call i g) told o x
 
   -- Runs.
 
@@ -317,6 +331,8 @@ module _ (s : Settings) where
   calls-deed g (Parked a own) = (a.request.call ∷ [], refl)
   calls-deed g (GivenUp a handled) = ([], sym (append-nil g.calls))
   calls-deed g (Settled i n outcome told) = ([], sym (append-nil g.calls))
+  calls-deed g (Declined a name minor written) = (a.request.call ∷ [], refl)
+  calls-deed g (Withdrawn i n name minor told) = ([], sym (append-nil g.calls))
 
   pub calls-grow : CallsGrow s
   calls-grow g [] h = ([], sym (append-nil g.calls))
@@ -333,6 +349,8 @@ module _ (s : Settings) where
   taken-deed g (Parked a own) h was = h.4
   taken-deed g (GivenUp a handled) h was = h.2
   taken-deed g (Settled i n outcome told) h was = h.5
+  taken-deed g (Declined a name minor written) h was = h.2
+  taken-deed g (Withdrawn i n name minor told) h was = h.5
 
   pub calls-are-taken : CallsAreTaken s
   calls-are-taken g [] h was = was
@@ -347,6 +365,9 @@ module _ (s : Settings) where
   known-deed g (GivenUp a handled) i o h less is = is
   known-deed g (Settled j n outcome told) i o h less is =
       put-else j (known outcome) g.held i (λ same. let both : parked n ≡ known o = sym h.2 ∙ ap g.held (sym same) ∙ is in absurd cc) ∙ is
+  known-deed g (Declined a name minor written) i o h less is = put-else (length g.calls) (known (not_now name minor)) g.held i (λ same. absurd (omega (arith, same, less))) ∙ is
+  known-deed g (Withdrawn j n name minor told) i o h less is =
+      put-else j (known (not_now name minor)) g.held i (λ same. let both : parked n ≡ known o = sym h.2 ∙ ap g.held (sym same) ∙ is in absurd cc) ∙ is
 
   less-deed : (g : Ledger) (d : Deed) (i : ℕ) → i < length g.calls → i < length (after_deed s g d).calls
   less-deed g d i less =
@@ -363,6 +384,10 @@ module _ (s : Settings) where
   told-are-known g [] ys i n o told h = known-grows (after_deed s g (Settled i n o told)) ys i o h.1 h.0.1 (put-here i (known o) g.held)
   told-are-known g (x ∷ xs) ys i n o told h = told-are-known (after_deed s g x) xs ys i n o told h.1
 
+  pub declined-are-known : DeclinedAreKnown s
+  declined-are-known g [] ys i n name minor told h = known-grows (after_deed s g (Withdrawn i n name minor told)) ys i (not_now name minor) h.1 h.0.1 (put-here i (known (not_now name minor)) g.held)
+  declined-are-known g (x ∷ xs) ys i n name minor told h = declined-are-known (after_deed s g x) xs ys i n name minor told h.1
+
   pub answered-are-known : AnsweredAreKnown s
   answered-are-known g [] ys a o written note h =
       let size = length-append g.calls (a.request.call ∷ []) in
@@ -370,12 +395,10 @@ module _ (s : Settings) where
   answered-are-known g (x ∷ xs) ys a o written note h = answered-are-known (after_deed s g x) xs ys a o written note h.1
 
   pub written-now : WrittenNow s
-  written-now late held past e written note h =
-      let owner = numbering s late held in
-      subst (λ (says : List Event → Event → List (Result ℕ SystemName)). WritesBy s.limits owner.tell says past e written note) (says_now_by (book_by owner)) h
+  written-now late held past e written note kept h = let owner = numbering s late held in writes_now_by (book_by owner) past e written note (kept-folded owner past kept) h
 
   pub written-once : WrittenOnce s
-  written-once late held past e written note one h = writes_agree_by (book_by (numbering s late held)) past e written note one h
+  written-once late held past e written note kept one h = let owner = numbering s late held in writes_agree_by (book_by owner) past e written note (kept-folded owner past kept) one h
 
   -- No two calls are parked under one number.
 
@@ -401,6 +424,14 @@ module _ (s : Settings) where
       by false a true b = absurd (fresh n (held-here j b two) i (below i low a) (held-there i a one))
       by false a false b = apart i j n (below i low a) (below j high b) (held-there i a one) (held-there j b two)
 
+  -- what is parked then was so before
+  before-known : (g : Ledger) (k : ℕ) (outcome : Performed) (i n : ℕ) → put_at k (known outcome) g.held i ≡ parked n → g.held i ≡ parked n
+  before-known g k outcome i n is = by (i == k) refl
+    where
+      by : (b : Bool) → (i == k) ≡ b → g.held i ≡ parked n
+      by true at = absurd (let both : known outcome ≡ parked n = sym (ap (λ (b : Bool). cond b (known outcome) (g.held i)) at) ∙ is in cc)
+      by false at = sym (ap (λ (b : Bool). cond b (known outcome) (g.held i)) at) ∙ is
+
   apart-deed : (g : Ledger) (d : Deed) → IsDeed s g d → AreApart g → AreApart (after_deed s g d)
   apart-deed g (Happened e written note) h apart = apart
   apart-deed g (Stopped p written w q) h apart = apart
@@ -409,14 +440,18 @@ module _ (s : Settings) where
   apart-deed g (Parked a own) h apart =
       apart-put g a.request.call (parked a.request.number) apart (λ n is i less held. h.1.call i less (held ∙ sym is))
   apart-deed g (GivenUp a handled) h apart = apart
-  apart-deed g (Settled k m outcome told) h apart = λ i j n low high one two. apart i j n low high (before i n one) (before j n two)
-    where
-      before : (i n : ℕ) → put_at k (known outcome) g.held i ≡ parked n → g.held i ≡ parked n
-      before i n is = by (i == k) refl
-        where
-          by : (b : Bool) → (i == k) ≡ b → g.held i ≡ parked n
-          by true at = absurd (let both : known outcome ≡ parked n = sym (ap (λ (b : Bool). cond b (known outcome) (g.held i)) at) ∙ is in cc)
-          by false at = sym (ap (λ (b : Bool). cond b (known outcome) (g.held i)) at) ∙ is
+  apart-deed g (Settled k m outcome told) h apart = λ i j n low high one two. apart i j n low high (before-known g k outcome i n one) (before-known g k outcome j n two)
+  apart-deed g (Declined a name minor written) h apart = apart-put g a.request.call (known (not_now name minor)) apart (λ n is. absurd cc)
+  apart-deed g (Withdrawn k m name minor told) h apart = λ i j n low high one two. apart i j n low high (before-known g k (not_now name minor) i n one) (before-known g k (not_now name minor) j n two)
+
+  -- a call that is parked under another number is another
+  other-number : (g : Ledger) (k m i n : ℕ) → (n == m) ≡ false → g.held i ≡ parked n → g.held k ≡ parked m → i ≡ k → ⊥
+  other-number g k m i n other is at same =
+      let both : parked n ≡ parked m = sym is ∙ ap g.held same ∙ at in
+      let number : n ≡ m = cc in
+      let yes = eq-eqb n m number in
+      let clash : true ≡ false = sym yes ∙ other in
+      cc
 
   -- one that is parked stays so until it is settled
   parked-deed : (g : Ledger) (d : Deed) (i n : ℕ) → IsDeed s g d → settles n d ≡ false → i < length g.calls → g.held i ≡ parked n → (after_deed s g d).held i ≡ parked n
@@ -426,12 +461,9 @@ module _ (s : Settings) where
   parked-deed g (Answered a outcome written note) i n h other less is = put-else (length g.calls) (known outcome) g.held i (λ same. absurd (omega (arith, same, less))) ∙ is
   parked-deed g (Parked a own) i n h other less is = put-else (length g.calls) (parked a.request.number) g.held i (λ same. absurd (omega (arith, same, less))) ∙ is
   parked-deed g (GivenUp a handled) i n h other less is = is
-  parked-deed g (Settled k m outcome told) i n h other less is = put-else k (known outcome) g.held i (λ same. absurd (
-      let both : parked n ≡ parked m = sym is ∙ ap g.held same ∙ h.2 in
-      let number : n ≡ m = cc in
-      let yes = eq-eqb n m number in
-      let clash : true ≡ false = sym yes ∙ other in
-      cc)) ∙ is
+  parked-deed g (Settled k m outcome told) i n h other less is = put-else k (known outcome) g.held i (λ same. other-number g k m i n other is h.2 same) ∙ is
+  parked-deed g (Declined a name minor written) i n h other less is = put-else (length g.calls) (known (not_now name minor)) g.held i (λ same. absurd (omega (arith, same, less))) ∙ is
+  parked-deed g (Withdrawn k m name minor told) i n h other less is = put-else k (known (not_now name minor)) g.held i (λ same. other-number g k m i n other is h.2 same) ∙ is
 
   pub settled-are-theirs : SettledAreTheirs s
   settled-are-theirs g [] ys i j n o told apart h less is none = apart i j n less h.0.1 is h.0.2

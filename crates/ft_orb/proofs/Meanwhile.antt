@@ -24,24 +24,25 @@ use Rattle.ft_orb.specs.declared.events.Note.TheVariants.{Done, Memory, Refused}
 use Rattle.ft_orb.specs.declared.parked.Waiter.{Waiter}
 use Rattle.ft_orb.specs.Engines.{AsksOf, Awaited, EndsOf, IsThenOf, RestsOf, ResumesOf, as_server, asks_in, waits_in}
 use Rattle.ft_orb.specs.ExactlyOnce.{Arrival}
-use Rattle.ft_orb.specs.History.{Close, Event, Gone, Line, Lost, Opened, Piece, Shut, Up, arrivals, counted, does_count, line, shut}
+use Rattle.ft_orb.specs.History.{Close, Event, Gone, Line, Lost, Opened, Piece, Shut, Up, counted, does_count, line, shut}
 use Rattle.ft_orb.specs.Outputs.{close_told, close_told_on, is_going, is_gone}
-use Rattle.ft_orb.specs.Owners.{OwnerOf, owned_rules, owned_table}
+use Rattle.ft_orb.specs.Owners.{OwnerOf, owned_table}
 use Rattle.ft_orb.specs.Parking.{AsksLate, EndsLate, ResumesLate, Settings, Stays, numbering, put_at, still}
 use Rattle.ft_orb.specs.Private.{IsPut}
 use Rattle.ft_orb.specs.Requests.{Call, Wanted}
 use Rattle.ft_orb.specs.Seen.{seen_entry}
 use Rattle.ft_orb.specs.Standing.{IsFor, IsSameBut, held_in}
-use Rattle.ft_orb.specs.Table.{table_after}
+use Rattle.ft_orb.specs.Table.{Table}
 use Rattle.ft_orb.specs.Tellings.{Later, nothing_yet, octets_told}
 use Rattle.ft_orb.proofs.Streams.{closed-is}
+use Rattle.ft_orb.proofs.Books.{owned-next}
 use Rattle.ft_orb.proofs.GoesOn.{not-not}
 use Rattle.ft_orb.proofs.Late.{Tally, asks-known, ends-late, parks-later, parks-more, put-else, tally-is}
 
 -- A connection is lost.
 pub rests-lost : {C Outcome : Type 0} (offers : C → Offer) (o : OwnerOf Outcome) (calls : List Call) (old new : Engine C) (past : List Event) (c : ℕ) → RestsOf offers o calls old past → new.catalogue ≡ old.catalogue → waits_in new ≡ waits_in old → IsSameBut c (as_server old calls) (as_server new calls)
     → new.keeper.clock ≡ old.keeper.clock → (logged new.keeper.log).entries ≡ (logged old.keeper.log).entries → get nat_cmp new.links c ≡ None → RestsOf offers o calls new (Lost c ∷ past)
-rests-lost offers o calls old new past c h are idle same clock entries gone = record {
+rests-lost {C} {Outcome} offers o calls old new past c h are idle same clock entries gone = record {
   offer_is = ap offers are ∙ h.offer_is;
   idle = idle ∙ h.idle;
   stands = record {
@@ -52,10 +53,10 @@ rests-lost offers o calls old new past c h are idle same clock entries gone = re
     greatest = λ d. h.stands.greatest d ∙ ap (λ (g : Option ℕ). option_map_or (λ (x : ℕ). nat_lt x d) g true) (sym same.greatest);
     lines = λ d. at d (c == d) refl;
     table = record {
-      state = h.stands.table.state ∙ ap (λ (xs : List (Arrival Wanted)). (table_after (owned_rules o) (record { state = []; entries = [] }) xs).state) (sym (append-nil (arrivals o.limits past)));
+      state = h.stands.table.state ∙ ap (λ (t : Table (List Call) Outcome). t.state) (sym (owned-next o past (Lost c) tt));
       entries = ap (λ (k : ℕ). unexpired k (logged new.keeper.log).entries) clock ∙ ap (unexpired old.keeper.clock) entries ∙ h.stands.table.entries
           ∙ ap (λ (k : ℕ). unexpired k (map (seen_entry o.hold) (owned_table o past).entries)) (sym clock)
-          ∙ ap (λ (xs : List (Arrival Wanted)). unexpired new.keeper.clock (map (seen_entry o.hold) (table_after (owned_rules o) (record { state = []; entries = [] }) xs).entries)) (sym (append-nil (arrivals o.limits past)));
+          ∙ ap (λ (t : Table (List Call) Outcome). unexpired new.keeper.clock (map (seen_entry o.hold) t.entries)) (sym (owned-next o past (Lost c) tt));
     };
   };
 }
@@ -174,10 +175,9 @@ module _ {C : Type 0} (offers : C → Offer) (s : Settings) (late : Later) (held
       greatest = λ d. r.stands.greatest d ∙ ap (λ (g : Option ℕ). option_map_or (λ (x : ℕ). nat_lt x d) g true) (sym same.greatest);
       lines = λ d. at d (c == d) refl;
       table = record {
-        state = r.stands.table.state ∙ ap (λ (xs : List (Arrival Wanted)). (table_after (owned_rules Owned) (record { state = []; entries = [] }) xs).state) (sym (append-nil (arrivals s.limits past)));
+        state = r.stands.table.state;
         entries = ap (λ (k : ℕ). unexpired k (logged new.keeper.log).entries) clock ∙ ap (unexpired old.keeper.clock) entries ∙ r.stands.table.entries
-            ∙ ap (λ (k : ℕ). unexpired k (map (seen_entry held) (owned_table Owned past).entries)) (sym clock)
-            ∙ ap (λ (xs : List (Arrival Wanted)). unexpired new.keeper.clock (map (seen_entry held) (table_after (owned_rules Owned) (record { state = []; entries = [] }) xs).entries)) (sym (append-nil (arrivals s.limits past)));
+            ∙ ap (λ (k : ℕ). unexpired k (map (seen_entry held) (owned_table Owned past).entries)) (sym clock);
       };
     };
   }

@@ -26,7 +26,7 @@ module _ {X : Type 0} where
   all_map P Q [] f h = tt
   all_map P Q (x ∷ xs) f h = (f x h.0, all_map P Q xs f h.1)
 
-  all_push : (P : X → Type 0) (xs : List X) (x : X) → AllByRecursion P xs → P x → AllByRecursion P (xs ++ x ∷ [])
+  pub all_push : (P : X → Type 0) (xs : List X) (x : X) → AllByRecursion P xs → P x → AllByRecursion P (xs ++ x ∷ [])
   all_push P [] x h is = (is, tt)
   all_push P (y ∷ ys) x h is = (h.0, all_push P ys x h.1 is)
 
@@ -53,7 +53,7 @@ live_is key expiration clock (Present other late) in_time h =
     [ true ↦ λ same. le-leb clock late (omega (arith, h same, in_time)) | false ↦ λ same. refl ] refl
 
 -- where both have one key, the first had expired when the other came, and the other had not
-abbrev Later : {C : Type 0} → Arrival C → Arrival C → Type 0
+abbrev pub Later : {C : Type 0} → Arrival C → Arrival C → Type 0
 Later p q = (key : RequestKey) (early late : ℕ) → p.field ≡ Present key early → q.field ≡ Present key late → (early < q.clock) × (q.clock ≤ late)
 
 abbrev Spaced : {C : Type 0} → List (Arrival C) → Type 0
@@ -61,7 +61,7 @@ Spaced [] = Unit {0}
 Spaced (p ∷ ps) = AllByRecursion (Later p) ps × Spaced ps
 
 -- what had expired at a moment holds nothing from it on
-gone : (moment clock : ℕ) (key : RequestKey) (f : Field) → moment ≤ clock → ((e : ℕ) → f ≡ Present key e → e < moment) → has_live_key clock key f ≡ false
+pub gone : (moment clock : ℕ) (key : RequestKey) (f : Field) → moment ≤ clock → ((e : ℕ) → f ≡ Present key e → e < moment) → has_live_key clock key f ≡ false
 gone moment clock key Absent h was = refl
 gone moment clock key Bad h was = refl
 gone moment clock key (Present other e) h was =
@@ -141,7 +141,7 @@ module _ {C : Type 0} where
       or_from (has_live_key clock key p.field) (is_held ps clock key) (live_lacks clock key p.field parts.0) (lacks-held clock key ps parts.1)
 
   -- the one with the key holds it
-  own-live : (key : RequestKey) (e clock : ℕ) (p : Arrival C) → p.field ≡ Present key e → clock ≤ e → has_live_key clock key p.field ≡ true
+  pub own-live : (key : RequestKey) (e clock : ℕ) (p : Arrival C) → p.field ≡ Present key e → clock ≤ e → has_live_key clock key p.field ≡ true
   own-live key e clock p is in_time = ap (has_live_key clock key) is ∙ and_from (same_key key key) (nat_le clock e) (same_key-self key) (le-leb clock e in_time)
 
   held-here : (front rest : List (Arrival C)) (p : Arrival C) (key : RequestKey) (clock : ℕ) → has_live_key clock key p.field ≡ true → is_held (front ++ p ∷ rest) clock key ≡ true
@@ -216,7 +216,7 @@ module _ {S C K O : Type 0} (rules : Rules S C K O) where
       true≢false (sym (any-here between rest q key late is_q) ∙ first.0 (own-key key early p is_p))
 
   -- what acts comes later than each that was performed with its key
-  acts-later : (performed : List (Arrival C)) (a : Arrival C) → acts_now rules performed a ≡ true → AllByRecursion (λ p. Later p a) performed
+  pub acts-later : (performed : List (Arrival C)) (a : Arrival C) → acts_now rules performed a ≡ true → AllByRecursion (λ p. Later p a) performed
   acts-later performed a acts =
       later-all performed a
       (λ key late is_a.
@@ -244,7 +244,7 @@ module _ {S C K O : Type 0} (rules : Rules S C K O) where
   -- the step of a table, against what is performed and answered
 
   -- what acts spells a call
-  acts_now-call : (performed : List (Arrival C)) (a : Arrival C) → acts_now rules performed a ≡ true → is_ok (rules.asked a.content) ≡ true
+  pub acts_now-call : (performed : List (Arrival C)) (a : Arrival C) → acts_now rules performed a ≡ true → is_ok (rules.asked a.content) ≡ true
   acts_now-call performed a h =
       let admissible = (and_parts (not (is_bad a.field) && (not (is_over a.clock a.field) && is_ok (rules.asked a.content))) (is_let_in_now rules performed a.clock a.field) h).0 in
       let in_time = (and_parts (not (is_bad a.field)) (not (is_over a.clock a.field) && is_ok (rules.asked a.content)) admissible).1 in

@@ -111,11 +111,11 @@ repeats-in-events-answer-now {State} meaning made past e earlier others a brings
     repeat-grow (rules_of meaning made.capacity made.share) made.opening (xs ++ earlier) front rest p a key early late grow is is_p is_a in_first in_time
 
 -- the clients of keys, each once, at its last key
-abbrev owners : List RequestKey → List (List ℕ)
+abbrev pub owners : List RequestKey → List (List ℕ)
 owners [] = []
 owners (k ∷ ks) = cond (held_of k.client_id ks == 0) (k.client_id ∷ owners ks) (owners ks)
 
-owners-length : (ks : List RequestKey) → length (owners ks) ≡ clients_in ks
+pub owners-length : (ks : List RequestKey) → length (owners ks) ≡ clients_in ks
 owners-length [] = refl
 owners-length (k ∷ ks) =
     let rest = owners-length ks in
@@ -147,7 +147,7 @@ among-more : (clients others : List (List ℕ)) (ks : List RequestKey) → ((c :
 among-more clients others [] more h = tt
 among-more clients others (k ∷ ks) more h = (more k.client_id h.0, among-more clients others ks more h.1)
 
-owners-all : (ks : List RequestKey) → AllAmong (owners ks) ks
+pub owners-all : (ks : List RequestKey) → AllAmong (owners ks) ks
 owners-all [] = tt
 owners-all (k ∷ ks) = (owners-own k ks (owners-have k.client_id ks), among-more (owners ks) (owners (k ∷ ks)) ks (owners-more k ks) (owners-all ks))
 

@@ -1,5 +1,5 @@
 -- The log with the numbers of calls for outcomes: each is below how many calls were taken, and under the key of its call.
-use Rattle.std.proofs.Common.{◌≡◌, ℕ, ◌+◌, ◌≤◌, ◌<◌, nat_le, nat_lt, Bool, true, false, cond, List, [], ◌∷◌, ◌++◌, length, map, Option, Some, None, Result, Ok, Err, refl, sym, ap, subst, ◌∙◌, arith, length-append}
+use Rattle.std.proofs.Common.{◌≡◌, ◌==◌, ℕ, ◌+◌, ◌≤◌, ◌<◌, nat_le, nat_lt, Bool, true, false, not, cond, filter, List, [], ◌∷◌, ◌++◌, length, map, Option, Some, None, Result, Ok, Err, refl, sym, ap, subst, ◌∙◌, arith, length-append}
 use Rattle.std.specs.List.{AllByRecursion}
 use Rattle.ft_log.specs.Holding.{Holding}
 use Rattle.ft_log.specs.Keys.{RequestKey}
@@ -8,7 +8,8 @@ use Rattle.ft_log.specs.declared.system_exception.SystemName.{SystemName}
 use Rattle.ft_log.specs.declared.system_exception.SystemName.TheVariants.{BadContext}
 use Rattle.ft_objects.specs.Interfaces.{Interface}
 use Rattle.ft_orb.specs.ExactlyOnce.{Absent, Arrival, Bad, Field, Present, Rules}
-use Rattle.ft_orb.specs.Owners.{owner_rules}
+use Rattle.ft_orb.specs.History.{Close, Event, Lost, Opened, Piece, Withdrew}
+use Rattle.ft_orb.specs.Owners.{let_go, owner_rules}
 use Rattle.ft_orb.specs.Parking.{AreKeyed}
 use Rattle.ft_orb.specs.Requests.{Call, Wanted}
 use Rattle.ft_orb.specs.Seen.{seen_entry}
@@ -124,3 +125,30 @@ module _ (interface : List ℕ → List ℕ → Interface) (capacity share : ℕ
 -- nothing is kept yet for a later call
 pub later-keyed : (n : ℕ) (own : Option RequestKey) (m : ℕ) (es : List (KeptOutcome ℕ)) → m ≤ n → AreBelow m es → AreKeyed n own es
 later-keyed n own m es less h = all-more (λ e. e.outcome < m) (λ e. e.outcome ≡ n → own ≡ Some e.key) es (λ e low is. absurd (omega (arith, low, is, less))) h
+
+-- What is withdrawn leaves the rest as it is.
+
+abbrev Is : ℕ → ℕ → Bool
+Is = λ n i. n == i
+
+pub all-but : (P : KeptOutcome ℕ → Type 0) (test : KeptOutcome ℕ → Bool) (es : List (KeptOutcome ℕ)) → AllByRecursion P es → AllByRecursion P (filter test es)
+all-but P test [] h = tt
+all-but P test (e ∷ es) h =
+    (elim (test e) as (λ (b : Bool). AllByRecursion P (cond b (e ∷ filter test es) (filter test es))) [
+      | true ↦ (h.0, all-but P test es h.1)
+      | false ↦ all-but P test es h.1
+    ])
+
+pub below-less : (e : Event) (t : Table (List Call) ℕ) → AreBelow (length t.state) t.entries → AreBelow (length (let_go Is e t).state) (let_go Is e t).entries
+below-less (Opened c) t h = h
+below-less (Piece c moment octets) t h = h
+below-less (Close c) t h = h
+below-less (Lost c) t h = h
+below-less (Withdrew i) t h = all-but (λ e. e.outcome < length t.state) (λ e. not (e.outcome == i)) t.entries h
+
+pub keyed-less : (n : ℕ) (key : Option RequestKey) (e : Event) (t : Table (List Call) ℕ) → (n < length t.state) × AreKeyed n key t.entries → (n < length (let_go Is e t).state) × AreKeyed n key (let_go Is e t).entries
+keyed-less n key (Opened c) t h = h
+keyed-less n key (Piece c moment octets) t h = h
+keyed-less n key (Close c) t h = h
+keyed-less n key (Lost c) t h = h
+keyed-less n key (Withdrew i) t h = (h.0, all-but (λ e. e.outcome ≡ n → key ≡ Some e.key) (λ e. not (e.outcome == i)) t.entries h.1)

@@ -1,5 +1,5 @@
 -- An engine after a piece, and after an answer.
-use Rattle.std.proofs.Common.{◌≡◌, ◌==◌, ℕ, ◌+◌, ◌≤◌, ◌<◌, max, Bool, true, false, List, [], ◌∷◌, ◌++◌, length, take, Option, Some, None, Result, Ok, Err, refl, sym, ap, subst, ◌∙◌, arith, append_assoc, length-append}
+use Rattle.std.proofs.Common.{◌≡◌, ◌==◌, ℕ, ◌+◌, ◌≤◌, ◌<◌, max, Bool, true, false, List, [], ◌∷◌, ◌++◌, length, map, take, Option, Some, None, Result, Ok, Err, refl, sym, ap, subst, ◌∙◌, arith, append_assoc, length-append}
 use Rattle.std.specs.BTreeMap.{get}
 use Rattle.std.specs.Option.{option_map}
 use Rattle.std.specs.Ordering.{nat_cmp}
@@ -12,7 +12,7 @@ use Rattle.giop_link.specs.Hearing as hearing
 use Rattle.giop_link.specs.Hearing.{Question, meaning_in, says}
 use Rattle.giop_link.specs.Laws.{HearingGrows}
 use Rattle.giop_link.specs.Linking.{LinkStands, Linked}
-use Rattle.ft_log.specs.Kept.{KeptOutcome}
+use Rattle.ft_log.specs.Kept.{KeptOutcome, unexpired}
 use Rattle.ft_log.specs.Logged.{logged}
 use Rattle.ft_log.specs.Performed.{Performed}
 use Rattle.ft_log.specs.declared.system_exception.SystemName.{SystemName}
@@ -54,8 +54,8 @@ use Rattle.ft_orb.proofs.Law.{run_stands}
 use Rattle.ft_orb.proofs.Pieces.{alike-then, apart-by, fed-err, fed-ok, same-by}
 use Rattle.ft_orb.proofs.Stopping.{reach-breaks, reach-goes, reach-left, reach-parks, repeat-goes, repeat-left}
 use Rattle.ft_log.specs.Holding.{Holding, known, parked}
-use Rattle.ft_orb.specs.Seen.{seen_answer, seen_rules, seen_table}
-use Rattle.ft_orb.proofs.Books.{book_by, rendered-seen, step-seen, tables-are-seen}
+use Rattle.ft_orb.specs.Seen.{seen_answer, seen_entry, seen_rules, seen_table}
+use Rattle.ft_orb.proofs.Books.{IsFolded, book_by, rendered-seen, step-seen, tables-are-seen}
 
 -- where a piece comes, nothing of it is served
 pub start-at : (offer : Offer) (voice : Voice) (capacity share : ℕ) (limits : Limits) (c now : ℕ) (t : Table (List Call) Holding) (s piece : List ℕ) (link : Linked) (calls : List Call) (entries : List (KeptOutcome Holding)) (out : List ℕ)
@@ -141,6 +141,10 @@ module _ {C Outcome : Type 0} (offers : C → Offer) (owner : OwnerOf Outcome) w
     pub content : last.content ≡ asking c question
     pub heard : link.inbound ≡ Some (says (hearing.asks question))
     pub asker : w.asker ≡ asker_of question
+    pub clock_is : last.clock ≡ max (clock past) moment
+    -- what is kept then
+    pub entries : List (KeptOutcome Holding)
+    pub kept : unexpired (max (clock past) moment) entries ≡ unexpired (max (clock past) moment) (map (seen_entry owner.hold) (table_after Theirs (Folded past) front).entries)
 
   brings-at : (past : List Event) (c moment : ℕ) (octets written : List ℕ) (s : List ℕ) (link : Linked) (calls : List Call) (entries : List (KeptOutcome Holding)) (handled : ℕ) (w : Waiting) → line past c ≡ Up s
       → Paused owner.offer (voice_of owner) owner.capacity owner.share owner.limits c (max (clock past) moment) (Seen past) s octets link calls entries written handled w
@@ -172,6 +176,9 @@ module _ {C Outcome : Type 0} (offers : C → Offer) (owner : OwnerOf Outcome) w
         content = p.content;
         heard = p.heard;
         asker = (λ i. record { version = p.waits.spells.version i; request_id = p.waits.spells.id i; wish = p.waits.spells.wish i }) ∙ ap asker_of same;
+        clock_is = p.clock;
+        entries = entries;
+        kept = p.waits.still ∙ p.alike.entries ∙ ap (λ (u : Table (List Call) Holding). unexpired now u.entries) one.0;
       }
 
   -- .. as an engine keeps them
@@ -186,6 +193,11 @@ module _ {C Outcome : Type 0} (offers : C → Offer) (owner : OwnerOf Outcome) w
       let at : now ≡ max (clock past) moment = k.clock ∙ ap (λ (n : ℕ). max n moment) k.stands.moment in
       brings-at past c moment octets written up.0 k.link calls (logged engine.keeper.log).entries p.place.handled p.waiting up.1
       (at-first (λ a b n. Paused owner.offer (voice_of owner) a b owner.limits c n (Seen past) up.0 octets k.link calls (logged engine.keeper.log).entries written p.place.handled p.waiting) _ _ _ _ _ _ k.stands.capacity_is k.stands.share_is at paused)
+
+  pub brings-kept : (calls : List Call) (engine : Engine C) (past : List Event) (moment : ℕ) (octets written : List ℕ) (p : Pending) → (k : KeepsOf offers owner calls engine past moment octets written p)
+      → unexpired (max (clock past) moment) (logged engine.keeper.log).entries ≡ unexpired (max (clock past) moment) (map (seen_entry owner.hold) (table_after Theirs (Folded past) (brings-of calls engine past moment octets written p k).front).entries)
+  unfolding brings-of brings-at
+  brings-kept calls engine past moment octets written p k = (brings-of calls engine past moment octets written p k).kept
 
   pub asks-of : (calls : List Call) (engine : Engine C) (past : List Event) (moment : ℕ) (octets written : List ℕ) (p : Pending) → KeepsOf offers owner calls engine past moment octets written p
       → AsksOf offers owner calls engine past moment octets written (awaited_of p)
@@ -502,27 +514,27 @@ module _ {C Outcome : Type 0} (offers : C → Offer) (owner : OwnerOf Outcome) w
       (resumes-cut grow calls old new past moment octets written x k.0 outcome gives step out grown r done by are idle same clock at err gone)
 
   -- each distinct admissible request is answered once
-  pub ends-once : (calls : List Call) (past : List Event) (e : Event) (note : Note) (new : Engine C) (out grown : List ℕ) → EndsOf offers owner calls past e note new out grown → EndsOnceOf offers owner calls past e note out grown
-  ends-once calls past e note new out grown x =
-      event_once_by (book_by owner) (as_server new calls) past e note out grown (x.written, x.appended, x.writes, x.rests.stands)
+  pub ends-once : ((past : List Event) → IsFolded (book_by owner) past) → (calls : List Call) (past : List Event) (e : Event) (note : Note) (new : Engine C) (out grown : List ℕ) → EndsOf offers owner calls past e note new out grown → EndsOnceOf offers owner calls past e note out grown
+  ends-once folded calls past e note new out grown x =
+      event_once_by (book_by owner) folded (as_server new calls) past e note out grown (x.written, x.appended, x.writes, x.rests.stands)
 
-  pub resumes-once : (calls : List Call) (past : List Event) (c moment : ℕ) (octets written : List ℕ) (note : Note) (new : Engine C) (out grown : List ℕ) → ResumesOf offers owner calls past c moment octets written note new out grown
+  pub resumes-once : ((past : List Event) → IsFolded (book_by owner) past) → (calls : List Call) (past : List Event) (c moment : ℕ) (octets written : List ℕ) (note : Note) (new : Engine C) (out grown : List ℕ) → ResumesOf offers owner calls past c moment octets written note new out grown
       → ResumesOnceOf offers owner calls past c moment octets written note out grown
-  resumes-once calls past c moment octets written note new out grown x =
-      let all = event_once_by (book_by owner) (as_server new calls) past (Piece c moment octets) note [] (written ++ x.more) (written ++ x.more, refl, x.writes, x.rests.stands) in
+  resumes-once folded calls past c moment octets written note new out grown x =
+      let all = event_once_by (book_by owner) folded (as_server new calls) past (Piece c moment octets) note [] (written ++ x.more) (written ++ x.more, refl, x.writes, x.rests.stands) in
       (x.more, x.appended, subst (λ (l : List ℕ). IsOnceOf offers owner calls past (Piece c moment octets) note l) (sym all.1) all.2)
 
   -- and one that waits is the first that acts
-  due-at : (calls : List Call) (past : List Event) (c moment : ℕ) (octets written : List ℕ) (handled : ℕ) (w : Waiting) {link : Linked} (b : Brings calls past c moment octets written handled w link) → (Folded past).state ≡ calls
+  due-at : ((past : List Event) → IsFolded (book_by owner) past) → (calls : List Call) (past : List Event) (c moment : ℕ) (octets written : List ℕ) (handled : ℕ) (w : Waiting) {link : Linked} (b : Brings calls past c moment octets written handled w link) → (Folded past).state ≡ calls
       → OneExpiration (arrivals owner.limits (Piece c moment octets ∷ past)) → IsDueOf offers owner calls past (Piece c moment octets) b.front b.last written
-  due-at calls past c moment octets written handled w b now one =
+  due-at folded calls past c moment octets written handled w b now one =
       let e = Piece c moment octets in
       let xs = arrivals owner.limits past in
       let all : OneExpiration (xs ++ (b.front ++ b.last ∷ [])) = subst (λ (l : List (Arrival Wanted)). OneExpiration (xs ++ l)) b.completes one in
       let grow : ClocksGrow (clock past) (b.front ++ b.last ∷ []) = subst (λ (l : List (Arrival Wanted)). ClocksGrow (clock past) l) b.completes (event-clocks owner.limits past e (clock past) (omega arith)).0 in
       let split = sym (append_assoc xs b.front (b.last ∷ [])) in
       let one-front-too : OneExpiration (xs ++ b.front) = one-front (xs ++ b.front) (b.last ∷ []) (subst (λ (l : List (Arrival Wanted)). OneExpiration l) split all) in
-      let stands = past_stands_by (book_by owner) past (one-front xs (b.front ++ b.last ∷ []) all) in
+      let stands = past_stands_by (book_by owner) past (folded past) (one-front xs (b.front ++ b.last ∷ []) all) in
       let first = (run_stands Theirs [] (clock past) xs b.front (Folded past) one-front-too (ClocksGrow-front (clock past) b.front (b.last ∷ []) grow) stands).1 in
       let last = (run_stands Theirs [] (clock past) xs (b.front ++ b.last ∷ []) (Folded past) all grow stands).1 in
       let was : state_of Theirs [] xs ≡ calls = sym stands.state ∙ now in
@@ -532,12 +544,12 @@ module _ {C Outcome : Type 0} (offers : C → Offer) (owner : OwnerOf Outcome) w
         acts_now = last-acts owner (xs ++ b.front) b.last calls (call_of w) mid then;
         is_first = none-acted owner xs b.front (mid ∙ sym was);
         calls_are = sym was;
-        out = b.out ∙ ap (λ (answers : List (Result Outcome SystemName)). rendered owner.tell (take (length b.front) (completed owner.limits past e)) answers) (says_agree_by (book_by owner) past e one);
+        out = b.out ∙ ap (λ (answers : List (Result Outcome SystemName)). rendered owner.tell (take (length b.front) (completed owner.limits past e)) answers) (says_agree_by (book_by owner) past e (folded past) one);
       }
 
-  keeps-once : (calls : List Call) (engine : Engine C) (past : List Event) (moment : ℕ) (octets written : List ℕ) (p : Pending) (out grown : List ℕ) → KeepsOf offers owner calls engine past moment octets written p → grown ≡ out ++ written
+  keeps-once : ((past : List Event) → IsFolded (book_by owner) past) → (calls : List Call) (engine : Engine C) (past : List Event) (moment : ℕ) (octets written : List ℕ) (p : Pending) (out grown : List ℕ) → KeepsOf offers owner calls engine past moment octets written p → grown ≡ out ++ written
       → AsksOnceOf offers owner calls past p.connection moment octets (waits_in engine) out grown
-  keeps-once calls engine past moment octets written p out grown k appended =
+  keeps-once folded calls engine past moment octets written p out grown k appended =
       let b = brings-of calls engine past moment octets written p k in
       record {
         written = written;
@@ -551,14 +563,14 @@ module _ {C Outcome : Type 0} (offers : C → Offer) (owner : OwnerOf Outcome) w
         completes = b.completes;
         asks = b.asks;
         carries = b.field;
-        once = due-at calls past p.connection moment octets written p.place.handled p.waiting b (sym k.stands.table.state ∙ k.answered);
+        once = due-at folded calls past p.connection moment octets written p.place.handled p.waiting b (sym k.stands.table.state ∙ k.answered);
       }
 
-  pub stops-once : (calls : List Call) (past : List Event) (c moment : ℕ) (piece : List ℕ) (taken : ℕ) (engine : Engine C) (out grown : List ℕ) → StopsOf offers owner calls past c moment piece taken engine out grown
+  pub stops-once : ((past : List Event) → IsFolded (book_by owner) past) → (calls : List Call) (past : List Event) (c moment : ℕ) (piece : List ℕ) (taken : ℕ) (engine : Engine C) (out grown : List ℕ) → StopsOf offers owner calls past c moment piece taken engine out grown
       → AsksOnceOf offers owner calls past c moment (take taken piece) (waits_in engine) out grown
-  stops-once calls past c moment piece taken engine out grown x =
+  stops-once folded calls past c moment piece taken engine out grown x =
       subst (λ (v : Awaited). AsksOnceOf offers owner calls past v.connection moment (take taken piece) (waits_in engine) out grown) x.asks.is
-      (keeps-once calls engine past moment (take taken piece) x.written x.asks.pending out grown x.asks.keeps x.appended)
+      (keeps-once folded calls engine past moment (take taken piece) x.written x.asks.pending out grown x.asks.keeps x.appended)
 
   -- What is held for each connection while a request waits stands for its line, with the octets that came.
   keeps-lines : (calls : List Call) (engine : Engine C) (past : List Event) (moment : ℕ) (octets written : List ℕ) (p : Pending) → KeepsOf offers owner calls engine past moment octets written p

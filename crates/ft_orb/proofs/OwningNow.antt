@@ -24,7 +24,7 @@ use Rattle.ft_orb.proofs.Headline.{arrivals-grow, event-clocks}
 use Rattle.ft_orb.proofs.Now.{grown_now, performed_now-calls, performed_now-push, run_now}
 use Rattle.ft_orb.proofs.Owning.{Brings, brings-of}
 use Rattle.ft_orb.proofs.Said.{event_now_by, past_now_by, says_now_at_by}
-use Rattle.ft_orb.proofs.Books.{book_by}
+use Rattle.ft_orb.proofs.Books.{IsFolded, book_by}
 
 module _ {S C K O : Type 0} (rules : Rules S C K O) where
   performed_now-append : (performed xs ys : List (Arrival C)) → performed_now_after rules performed (xs ++ ys) ≡ performed_now_after rules (performed_now_after rules performed xs) ys
@@ -75,17 +75,18 @@ module _ {Outcome : Type 0} (owner : OwnerOf Outcome) where
             absurd (omega (arith, lengths, size))
       ]) refl
 
-module _ {C Outcome : Type 0} (offers : C → Offer) (owner : OwnerOf Outcome) where
+-- where its table is folded over all arrivals of each past
+module _ {C Outcome : Type 0} (offers : C → Offer) (owner : OwnerOf Outcome) (folded : (past : List Event) → IsFolded (book_by owner) past) where
   -- each request that is performed so is answered once
   pub ends-now : (calls : List Call) (past : List Event) (e : Event) (note : Note) (new : Engine C) (out grown : List ℕ) → EndsOf offers owner calls past e note new out grown → EndsNowOf owner calls past e note out grown
   ends-now calls past e note new out grown x =
-      let all = event_now_by (book_by owner) (as_server new calls) past e note out grown (x.written, x.appended, x.writes, x.rests.stands) in
+      let all = event_now_by (book_by owner) folded (as_server new calls) past e note out grown (x.written, x.appended, x.writes, x.rests.stands) in
       (all.0, all.1, (all.2, all.3))
 
   pub resumes-now : (calls : List Call) (past : List Event) (c moment : ℕ) (octets written : List ℕ) (note : Note) (new : Engine C) (out grown : List ℕ) → ResumesOf offers owner calls past c moment octets written note new out grown
       → ResumesNowOf owner calls past c moment octets written note out grown
   resumes-now calls past c moment octets written note new out grown x =
-      let all = event_now_by (book_by owner) (as_server new calls) past (Piece c moment octets) note [] (written ++ x.more) (written ++ x.more, refl, x.writes, x.rests.stands) in
+      let all = event_now_by (book_by owner) folded (as_server new calls) past (Piece c moment octets) note [] (written ++ x.more) (written ++ x.more, refl, x.writes, x.rests.stands) in
       (x.more, x.appended, subst (λ (l : List ℕ). IsNowOf owner calls past (Piece c moment octets) note l) (sym all.1) (all.2, all.3))
 
   -- and one that waits is the first that acts
@@ -98,7 +99,7 @@ module _ {C Outcome : Type 0} (offers : C → Offer) (owner : OwnerOf Outcome) w
       let table = owned_table owner past in
       let grow : ClocksGrow start (b.front ++ b.last ∷ []) = subst (λ (l : List (Arrival Wanted)). ClocksGrow start l) b.completes (event-clocks owner.limits past e start (arrivals-grow owner.limits past).1).0 in
       let split = sym (append_assoc xs b.front (b.last ∷ [])) in
-      let stands = past_now_by (book_by owner) past in
+      let stands = past_now_by (book_by owner) past (folded past) in
       let first = (run_now (Theirs owner) [] start xs b.front table (ClocksGrow-front start b.front (b.last ∷ []) grow) stands).1 in
       let last = (run_now (Theirs owner) [] start xs (b.front ++ b.last ∷ []) table grow stands).1 in
       let was : Calls owner xs ≡ calls = sym stands.state ∙ now in
@@ -108,7 +109,7 @@ module _ {C Outcome : Type 0} (offers : C → Offer) (owner : OwnerOf Outcome) w
         acts = last-acts-now owner (xs ++ b.front) b.last calls (call_of w) mid then;
         is_first = none-acted-now owner xs b.front (mid ∙ sym was);
         calls_are = sym was;
-        out = b.out ∙ ap (λ (answers : List (Result Outcome SystemName)). rendered owner.tell (take (length b.front) (completed owner.limits past e)) answers) (says_now_at_by (book_by owner) past e);
+        out = b.out ∙ ap (λ (answers : List (Result Outcome SystemName)). rendered owner.tell (take (length b.front) (completed owner.limits past e)) answers) (says_now_at_by (book_by owner) past e (folded past));
       }
 
   keeps-now : (calls : List Call) (engine : Engine C) (past : List Event) (moment : ℕ) (octets written : List ℕ) (p : Pending) (out grown : List ℕ) → KeepsOf offers owner calls engine past moment octets written p → grown ≡ out ++ written

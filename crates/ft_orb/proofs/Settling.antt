@@ -78,8 +78,7 @@ module _ {C : Type 0} (offers : C → Offer) (s : Settings) where
       let first = later-keyed (length calls) (key_kept w.retained) (length u.state) u.entries (let size = ap (λ (l : List Call). length l) b.before in omega (arith, size)) below in
       let here = step-keyed s.offer.interface s.capacity s.share (length calls) (key_kept w.retained) u b.last (λ key x is. key-of-field w.retained key x (sym b.field ∙ is)) first in
       let all : (Tally s (Piece c moment octets ∷ past)) ≡ (table_step (Numbered s) u b.last).0 =
-      ap (λ (xs : List (Arrival Wanted)). table_after (Numbered s) (record { state = []; entries = [] }) (arrivals s.limits past ++ xs)) b.completes
-      ∙ table_after-append (Numbered s) (record { state = []; entries = [] }) (arrivals s.limits past) (b.front ++ b.last ∷ []) ∙ table_after-push (Numbered s) (Tally s past) b.front b.last in
+      ap (λ (xs : List (Arrival Wanted)). table_after (Numbered s) (Tally s past) xs) b.completes ∙ table_after-push (Numbered s) (Tally s past) b.front b.last in
       subst (λ (t : Table (List Call) ℕ). AreKeyed (length calls) (key_kept w.retained) t.entries) (sym all) here
 
   module _ (stay : EndingsStay meaning_in) (held : ℕ → Holding) (calls : List Call) (old new : Engine C) (past : List Event) (waiting : ℕ → List Waiter) (moment : ℕ) (octets written : List ℕ) (w : Awaited) (x : Pending) (a : AsksLate offers s held calls old past waiting moment octets written w)

@@ -48,7 +48,7 @@ module _ {S C K O : Type 0} (asked : C → Result K SystemName) (apply : S → K
       elim (nat_le clock e) as (λ b. Within share (live_keys clock performed ++ cons_option (cond b (Some key) None) []))
       [ true ↦ within-push (live_keys clock performed) key share all own | false ↦ λ client. omega (arith, ap (held_of client) (append-nil (live_keys clock performed)), all client) ]
 
-  grown_now-within : (clock : ℕ) (performed : List (Arrival C)) (a : Arrival C) → clock ≤ a.clock → Within share (live_keys clock performed) → Within share (live_keys a.clock (grown_now rules performed a))
+  pub grown_now-within : (clock : ℕ) (performed : List (Arrival C)) (a : Arrival C) → clock ≤ a.clock → Within share (live_keys clock performed) → Within share (live_keys a.clock (grown_now rules performed a))
   grown_now-within clock performed a h all =
       let now : Within share (live_keys a.clock performed) = λ client. omega (arith, all client, held_of-later client clock a.clock performed h) in
       elim (acts_now rules performed a) as (λ b. acts_now rules performed a ≡ b → Within share (live_keys a.clock (cond b (performed ++ a ∷ []) performed))) [

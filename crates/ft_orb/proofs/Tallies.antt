@@ -267,7 +267,7 @@ module _ (s : Settings) (held : ℕ → Holding) (server : Shown (List Call)) (p
   then-at : now ≡ max (clock past) moment
   then-at = at ∙ ap (λ (n : ℕ). max n moment) st.moment
 
-  counts-on : (P : Offer → ℕ → ℕ → (List ℕ → List (Arrival Wanted)) → (List ℕ → ℕ → List ℕ) → Type 0) → link.is_closed ≡ false
+  pub counts-on : (P : Offer → ℕ → ℕ → (List ℕ → List (Arrival Wanted)) → (List ℕ → ℕ → List ℕ) → Type 0) → link.is_closed ≡ false
       → ((x : List ℕ) → LinkStands s.limits link x → AreAlike now (table_of server) Known → P offer (capacity_of server) (share_of server) (λ o. arrivals_in s.limits c now x o) (λ o k. front_in s.limits c now x o k))
       → P s.offer s.capacity s.share (λ o. arrivals_on s.limits c (max (clock past) moment) (line past c) o) (λ o k. front_on s.limits c (max (clock past) moment) (line past c) o k)
   counts-on P live f =
@@ -299,9 +299,8 @@ module _ (s : Settings) (held : ℕ → Holding) (server : Shown (List Call)) (p
       live f
 
   -- its connection was closed
-  pub counts-closed : EndsAreSilent meaning_in → (octets : List ℕ) (old : Counts) → link.is_closed ≡ true → old ≡ counts_after s held past (Piece c moment octets) old
-  counts-closed silent octets old closed =
-      sym (ap (λ (l : List (Arrival Wanted)). counted_all s.offer (kept_of (by_number s held)) s.capacity s.share Known l old) (none (line past c) line-for))
+  pub closed-brings : EndsAreSilent meaning_in → (octets : List ℕ) → link.is_closed ≡ true → arrivals_on s.limits c (max (clock past) moment) (line past c) octets ≡ []
+  closed-brings silent octets closed = none (line past c) line-for
     where
       ended : (x : List ℕ) (o : Option Ending) → ending s.limits x ≡ o → LinkStands s.limits link x → arrivals_in s.limits c (max (clock past) moment) x octets ≡ []
       ended x None is ls = absurd (let e : true ≡ is_some (ending s.limits x) = sym closed ∙ ls.is_ended in let k : true ≡ false = e ∙ ap is_some is in cc)
@@ -311,3 +310,6 @@ module _ (s : Settings) (held : ℕ → Holding) (server : Shown (List Call)) (p
       none Gone held = absurd held
       none Shut held = refl
       none (Up x) ls = ended x (ending s.limits x) refl ls
+
+  pub counts-closed : EndsAreSilent meaning_in → (octets : List ℕ) (old : Counts) → link.is_closed ≡ true → old ≡ counts_after s held past (Piece c moment octets) old
+  counts-closed silent octets old closed = sym (ap (λ (l : List (Arrival Wanted)). counted_all s.offer (kept_of (by_number s held)) s.capacity s.share Known l old) (closed-brings silent octets closed))

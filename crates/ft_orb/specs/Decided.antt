@@ -37,6 +37,7 @@ abbrev pub octets_to : List ℕ → Pause → List ℕ
 octets_to piece pause.Whole = piece
 octets_to piece (pause.Asks w place) = take place.taken piece
 octets_to piece (pause.Repeats r place) = take place.taken piece
+octets_to piece (pause.Due place) = take place.taken piece
 
 -- One piece after the stream s of connection c, from a table t on: the counts before it, and now.
 module _ (offer : Offer) (answers : List Call → Call → Holding) (capacity share : ℕ) (limits : Limits) (c now : ℕ) (t : Table (List Call) Holding) (s : List ℕ) where

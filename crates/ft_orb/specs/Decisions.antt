@@ -59,7 +59,7 @@ abbrev pub one_more : ℕ → ℕ
 one_more n = wrapping_add n 1
 
 abbrev pub no_counts : Counts
-no_counts = record { asked = 0; repeated = 0; joined = 0; expired = 0; malformed = 0; invalid = 0; log_full = 0; share_full = 0; located = 0; dropped = 0; answered = 0; parked = 0; settled = 0; given_up = 0 }
+no_counts = record { asked = 0; repeated = 0; joined = 0; expired = 0; malformed = 0; invalid = 0; log_full = 0; share_full = 0; located = 0; dropped = 0; answered = 0; parked = 0; settled = 0; given_up = 0; declined = 0; withdrawn = 0 }
 
 -- the counts once this became of one more
 abbrev pub counted_with : Counts → Decision → Counts

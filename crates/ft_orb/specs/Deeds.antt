@@ -5,6 +5,7 @@ use Rattle.std.specs.Option.{option_map_or}
 use Rattle.giop_link.specs.Hearing.{Question}
 use Rattle.ft_log.specs.Holding.{Holding, known, parked}
 use Rattle.ft_log.specs.Performed.{Performed}
+use Rattle.ft_log.specs.declared.system_exception.SystemName.{SystemName}
 use Rattle.ft_objects.specs.Interfaces.{IsOutcomeOf}
 use Rattle.ft_objects.specs.Replies.{IsRenderable}
 use Rattle.ft_orb.specs.declared.events.Note.{Note}
@@ -12,11 +13,11 @@ use Rattle.ft_orb.specs.declared.events.Note.TheVariants.{Done, Memory}
 use Rattle.ft_orb.specs.declared.parked.Waiter.{Waiter}
 use Rattle.ft_orb.specs.Engines.{Awaited}
 use Rattle.ft_orb.specs.ExactlyOnce.{Arrival, OneExpiration}
-use Rattle.ft_orb.specs.History.{Close, Event, Lost, Opened, Piece, arrivals, completed, connection_of, shortened}
+use Rattle.ft_orb.specs.History.{Close, Event, KeepsAll, Lost, Opened, Piece, Withdrew, arrivals, completed, connection_of, shortened}
 use Rattle.ft_orb.specs.Outputs.{Noted, WritesBy, after, output_cut}
 use Rattle.ft_orb.specs.Owners.{owned_law, owned_now, owned_rules, owned_says, owned_table}
 use Rattle.ft_orb.specs.Parked.{is_wished, on_going}
-use Rattle.ft_orb.specs.Parking.{Settings, by_number, goes_on, numbering, put_at, still, unless_placed, waiter_of, own_of}
+use Rattle.ft_orb.specs.Parking.{Settings, by_number, goes_on, not_now, numbering, put_at, still, unless_placed, waiter_of, own_of}
 use Rattle.ft_orb.specs.Requests.{Call, Wanted, asked_of, asking}
 use Rattle.ft_orb.specs.Table.{table_after, table_step}
 use Rattle.ft_orb.specs.Tellings.{Later, nothing_yet, reply_by}
@@ -59,8 +60,9 @@ pub data Told : Type 0 where
   Missed : Waiter → Told
 
 -- Something happened, to its end; a part of a piece was taken, up to a request that waits now, or to a repeat of one that is parked
--- under a number, which these joined; the request that waits was answered, or parked, and these wait for it, or it was given up; or
--- call i, which was parked under number n, has its outcome, and these were told.
+-- under a number, which these joined; the request that waits was answered, or parked, and these wait for it, or it was given up, or
+-- declined; or call i, which was parked under number n, has its outcome, and these were told, or it was declined, and these were told
+-- that.
 pub data Deed : Type 0 where
   Happened : Event → (written : List ℕ) → Note → Deed
   Stopped : Part → (written : List ℕ) → Awaited → Question → Deed
@@ -69,6 +71,8 @@ pub data Deed : Type 0 where
   Parked : Asking → List Waiter → Deed
   GivenUp : Asking → (handled : ℕ) → Deed
   Settled : (i n : ℕ) → Performed → List Told → Deed
+  Declined : Asking → SystemName → (minor : ℕ) → (written : List ℕ) → Deed
+  Withdrawn : (i n : ℕ) → SystemName → (minor : ℕ) → List Told → Deed
 
 -- what happened in them
 abbrev pub part_of : Part → Event
@@ -94,6 +98,8 @@ notes_of (Answered a outcome written note) = record { connection = a.request.con
 notes_of (Parked a own) = []
 notes_of (GivenUp a handled) = record { connection = a.request.connection; octets = []; note = Memory handled handled } ∷ []
 notes_of (Settled i n outcome told) = map (note_told outcome) told
+notes_of (Declined a name minor written) = record { connection = a.request.connection; octets = written; note = Done } ∷ []
+notes_of (Withdrawn i n name minor told) = map (note_told (not_now name minor)) told
 
 -- who came to wait under number n, and to whom a reply was made that waited under it
 abbrev pub came_to : ℕ → Deed → List Waiter
@@ -104,6 +110,8 @@ came_to n (Answered a outcome written note) = []
 came_to n (Parked a own) = if n == a.request.number then own else []
 came_to n (GivenUp a handled) = []
 came_to n (Settled i m outcome told) = []
+came_to n (Declined a name minor written) = []
+came_to n (Withdrawn i m name minor told) = []
 
 abbrev pub reached : List Told → List Waiter
 reached [] = []
@@ -118,6 +126,8 @@ told_of n (Answered a outcome written note) = []
 told_of n (Parked a own) = []
 told_of n (GivenUp a handled) = []
 told_of n (Settled i m outcome told) = if n == m then reached told else []
+told_of n (Declined a name minor written) = []
+told_of n (Withdrawn i m name minor told) = if n == m then reached told else []
 
 -- how many of the first numbers have a request under them that passes a test
 abbrev pub count_under : (Awaited → Bool) → (ℕ → Option Awaited) → ℕ → ℕ
@@ -130,8 +140,9 @@ IsUnawaited (Opened c) waiting = Unit {0}
 IsUnawaited (Piece c moment octets) waiting = Unit {0}
 IsUnawaited (Close c) waiting = (n : ℕ) → list_any (λ w. w.connection == c) (waiting n) ≡ false
 IsUnawaited (Lost c) waiting = Unit {0}
+IsUnawaited (Withdrew i) waiting = Unit {0}
 
--- something was settled under number n
+-- something was settled, or declined, under number n
 abbrev pub settles : ℕ → Deed → Bool
 settles n (Happened e written note) = false
 settles n (Stopped p written w q) = false
@@ -140,6 +151,12 @@ settles n (Answered a outcome written note) = false
 settles n (Parked a own) = false
 settles n (GivenUp a handled) = false
 settles n (Settled i m outcome told) = n == m
+settles n (Declined a name minor written) = false
+settles n (Withdrawn i m name minor told) = n == m
+
+-- the ledger once nothing is kept for call i any more
+abbrev pub without_call : (i : ℕ) → Ledger → Ledger
+without_call i g = record g { past = Withdrew i ∷ g.past }
 
 -- all but the first
 abbrev pub rest_of : List Waiter → List Waiter
@@ -181,6 +198,8 @@ module _ (s : Settings) where
   after_deed g (Answered a outcome written note) = rested g (put_at (length g.calls) (known outcome) g.held) (g.calls ++ a.request.call ∷ []) (after s.limits g.past (piece_of a) note) g.waiting
   after_deed g (Parked a own) = rested (record g { there = put_at a.request.number (Some a.request) g.there }) (put_at (length g.calls) (parked a.request.number) g.held) (g.calls ++ a.request.call ∷ []) (piece_of a ∷ g.past) (put_at a.request.number own g.waiting)
   after_deed g (GivenUp a handled) = rested g g.held g.calls (after s.limits g.past (piece_of a) (Memory handled handled)) g.waiting
+  after_deed g (Declined a name minor written) = rested g (put_at (length g.calls) (known (not_now name minor)) g.held) (g.calls ++ a.request.call ∷ []) (Withdrew (length g.calls) ∷ piece_of a ∷ g.past) g.waiting
+  after_deed g (Withdrawn i n name minor told) = record (told_all n (without_call i g) told) { held = put_at i (known (not_now name minor)) g.held; calls = g.calls; asking = None; asked = g.asked; there = put_at n None g.there }
   after_deed g (Settled i n outcome told) = record (told_all n g told) { held = put_at i (known outcome) g.held; calls = g.calls; asking = None; asked = g.asked; there = put_at n None g.there }
 
   abbrev pub after_deeds : Ledger → List Deed → Ledger
@@ -259,6 +278,9 @@ module _ (s : Settings) where
       × Wrote nothing_yet (put_at (length g.calls) (parked a.request.number) g.held) g.past (piece_of a) a.written Done × AreTaken (after_deed g (Parked a own)) × HasPlace g a.request
   IsDeed g (GivenUp a handled) = (g.asking ≡ Some a) × Wrote nothing_yet g.held g.past (piece_of a) a.written (Memory handled handled) × AreTaken (after_deed g (GivenUp a handled))
       × (handled + 1 ≡ length (completed s.limits g.past (piece_of a)))
+  IsDeed g (Declined a name minor written) = (g.asking ≡ Some a) × Wrote nothing_yet (put_at (length g.calls) (known (not_now name minor)) g.held) g.past (piece_of a) (a.written ++ written) Done × AreTaken (after_deed g (Declined a name minor written))
+  IsDeed g (Withdrawn i n name minor told) = (g.asking ≡ None) × (i < length g.calls) × (g.held i ≡ parked n) × AreTold n (not_now name minor) (without_call i g) told × ((told_all n (without_call i g) told).waiting n ≡ [])
+      × AreTaken (after_deed g (Withdrawn i n name minor told))
   IsDeed g (Settled i n outcome told) = (g.asking ≡ None) × (i < length g.calls) × (g.held i ≡ parked n) × AreTold n outcome g told × ((told_all n g told).waiting n ≡ []) × AreTaken (after_deed g (Settled i n outcome told)) × IsFor (g.there n) outcome
 
   -- deeds one after another, from a ledger on
@@ -295,14 +317,19 @@ module _ (s : Settings) where
   abbrev pub ToldAreKnown : Type 0
   ToldAreKnown = (g : Ledger) (xs ys : List Deed) (i n : ℕ) (outcome : Performed) (told : List Told) → Runs g (xs ++ Settled i n outcome told ∷ ys) → (after_deeds g (xs ++ Settled i n outcome told ∷ ys)).held i ≡ known outcome
 
-  -- What was written is what looking back over all arrivals says, each key by itself and whatever expirations requests carry ..
+  -- .. or the refusal that was told to them.
+  abbrev pub DeclinedAreKnown : Type 0
+  DeclinedAreKnown = (g : Ledger) (xs ys : List Deed) (i n : ℕ) (name : SystemName) (minor : ℕ) (told : List Told) → Runs g (xs ++ Withdrawn i n name minor told ∷ ys) → (after_deeds g (xs ++ Withdrawn i n name minor told ∷ ys)).held i ≡ known (not_now name minor)
+
+  -- Where no call was withdrawn, what was written is what looking back over all arrivals says, each key by itself and whatever
+  -- expirations requests carry ..
   abbrev pub WrittenNow : Type 0
-  WrittenNow = (late : Later) (held : ℕ → Holding) (past : List Event) (e : Event) (written : List ℕ) (note : Note) → Wrote late held past e written note
+  WrittenNow = (late : Later) (held : ℕ → Holding) (past : List Event) (e : Event) (written : List ℕ) (note : Note) → KeepsAll past → Wrote late held past e written note
       → WritesBy s.limits (numbering s late held).tell (owned_now (numbering s late held)) past e written note
 
   -- .. and where requests with one key carry one expiration, what the fold that remembers all says.
   abbrev pub WrittenOnce : Type 0
-  WrittenOnce = (late : Later) (held : ℕ → Holding) (past : List Event) (e : Event) (written : List ℕ) (note : Note) → OneExpiration (arrivals s.limits (after s.limits past e note)) → Wrote late held past e written note
+  WrittenOnce = (late : Later) (held : ℕ → Holding) (past : List Event) (e : Event) (written : List ℕ) (note : Note) → KeepsAll past → OneExpiration (arrivals s.limits (after s.limits past e note)) → Wrote late held past e written note
       → WritesBy s.limits (numbering s late held).tell (owned_law (numbering s late held)) past e written note
 
   -- those who wait do so on connections that go on

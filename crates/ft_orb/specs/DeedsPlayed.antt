@@ -19,14 +19,14 @@ use Rattle.ft_orb.specs.declared.error.ParkError.TheVariants as unparked
 use Rattle.ft_orb.specs.declared.events.Event.TheVariants as happening
 use Rattle.ft_orb.specs.declared.events.Note.{Note}
 use Rattle.ft_orb.specs.declared.events.Written.{Written}
-use Rattle.ft_orb.specs.Deeds.{AreTold, Answered, Asking, Deed, GivenUp, Happened, IsDeed, IsLeftOf, Joined, Ledger, Parked, Runs, Settled, Stopped, Told, after_deed, after_deeds, came_to, note_told, notes_of, opening, settles, told_all, told_of}
+use Rattle.ft_orb.specs.Deeds.{AreTold, Answered, Asking, Declined, Deed, GivenUp, Happened, IsDeed, IsLeftOf, Joined, Ledger, Parked, Runs, Settled, Stopped, Told, Withdrawn, after_deed, after_deeds, came_to, note_told, notes_of, opening, settles, told_all, told_of}
 use Rattle.ft_orb.specs.Engines.{Awaited, CanAnswer, asks_in, waits_in}
 use Rattle.ft_orb.specs.ExactlyOnce.{OneExpiration, state_after, state_of}
-use Rattle.ft_orb.specs.History.{Piece, arrivals, event_of}
+use Rattle.ft_orb.specs.History.{KeepsAll, Piece, arrivals, event_of}
 use Rattle.ft_orb.specs.Now.{performed_now}
 use Rattle.ft_orb.specs.Outputs.{Noted, noted}
 use Rattle.ft_orb.specs.Owners.{owned_rules}
-use Rattle.ft_orb.specs.Parking.{AsksLate, CanSettle, Settings, Stays, by_number, goes_on, parked_at, parked_count, parked_in, parked_of, places_of, places_of_one, put_at, told_in, waits_on}
+use Rattle.ft_orb.specs.Parking.{AsksLate, CanSettle, Settings, Stays, by_number, goes_on, not_now, parked_at, parked_count, parked_in, parked_of, places_of, places_of_one, put_at, told_in, waits_on}
 
 -- A deed is one of what the code was told to do: a part is one of its piece.
 abbrev pub IsOf : CodeDeed → Deed → Type 0
@@ -36,6 +36,9 @@ IsOf (code.Event e) (Joined p written n joined) = event_of e ≡ Piece p.connect
 IsOf (code.Answer o) (Answered a outcome written note) = outcome ≡ performed_in o
 IsOf code.Park (Parked a own) = Unit {0}
 IsOf code.GiveUp (GivenUp a handled) = Unit {0}
+IsOf (code.Decline name minor) (Declined a said code_is written) = (said ≡ name) × (code_is ≡ minor)
+IsOf (code.Decline name minor) (GivenUp a handled) = Unit {0}
+IsOf (code.Withdraw n name minor) (Withdrawn i number said code_is told) = (number ≡ n) × (said ≡ name) × (code_is ≡ minor)
 IsOf (code.Settle n o) (Settled i number outcome told) = (number ≡ n) × (outcome ≡ performed_in o)
 IsOf _ _ = ⊥
 
@@ -57,6 +60,8 @@ left_of (Answered a outcome written note) = None
 left_of (Parked a own) = None
 left_of (GivenUp a handled) = None
 left_of (Settled i n outcome told) = None
+left_of (Declined a name minor written) = None
+left_of (Withdrawn i n name minor told) = None
 
 -- The deeds took all their pieces whole, but of that of the last this is left.
 abbrev pub LeaveAtLast : List Deed → Option ℕ → Type 0
@@ -78,6 +83,9 @@ IsRefused offers e (code.Event happening) refused.Asking = IsSome (waits_in e)
 IsRefused offers e (code.Event (happening.Close c)) refused.Waits = 0 < waits_on e c
 IsRefused offers e (code.Settle n o) refused.Asking = IsSome (waits_in e)
 IsRefused offers e (code.Settle n o) refused.NotParked = CanSettle (offers e.catalogue) (parked_at e n) (performed_in o) → ⊥
+IsRefused offers e (code.Withdraw n name minor) refused.Asking = IsSome (waits_in e)
+IsRefused offers e (code.Withdraw n name minor) refused.NotParked = CanSettle (offers e.catalogue) (parked_at e n) (not_now name minor) → ⊥
+IsRefused offers e (code.Decline name minor) refused.NothingAsked = waits_in e ≡ None
 IsRefused offers e (code.Answer o) refused.NothingAsked = waits_in e ≡ None
 IsRefused offers e code.Park refused.NothingAsked = waits_in e ≡ None
 IsRefused offers e code.GiveUp refused.NothingAsked = waits_in e ≡ None
@@ -156,9 +164,9 @@ pub record IsAnsweredLate (s : Settings) (held : ℕ → Holding) (ds : List Dee
   pub answered : (xs ys : List Deed) (a : Asking) (outcome : Performed) (written : List ℕ) (note : Note) → ds ≡ xs ++ Answered a outcome written note ∷ ys
       → (after_deeds s (opening held) ds).held (length (after_deeds s (opening held) xs).calls) ≡ known outcome
   pub known : (xs ys : List Deed) (i n : ℕ) (outcome : Performed) (told : List Told) → ds ≡ xs ++ Settled i n outcome told ∷ ys → (after_deeds s (opening held) ds).held i ≡ known outcome
-  pub once : OneExpiration (arrivals s.limits (after_deeds s (opening held) ds).past)
+  pub once : KeepsAll (after_deeds s (opening held) ds).past → OneExpiration (arrivals s.limits (after_deeds s (opening held) ds).past)
       → (after_deeds s (opening held) ds).calls ≡ state_of (owned_rules (by_number s held)) [] (arrivals s.limits (after_deeds s (opening held) ds).past)
-  pub now : (after_deeds s (opening held) ds).calls ≡ state_after (owned_rules (by_number s held)) [] (performed_now (owned_rules (by_number s held)) (arrivals s.limits (after_deeds s (opening held) ds).past))
+  pub now : KeepsAll (after_deeds s (opening held) ds).past → (after_deeds s (opening held) ds).calls ≡ state_after (owned_rules (by_number s held)) [] (performed_now (owned_rules (by_number s held)) (arrivals s.limits (after_deeds s (opening held) ds).past))
   pub told : (n : ℕ) → IsLeftOf (goes_on s.limits (after_deeds s (opening held) ds).past) (flat_map (came_to n) ds) (flat_map (told_of n) ds ++ (after_deeds s (opening held) ds).waiting n)
   pub theirs : (xs ms ys : List Deed) (i j n : ℕ) (outcome : Performed) (told : List Told) → ds ≡ xs ++ (ms ++ Settled j n outcome told ∷ ys)
       → i < length (after_deeds s (opening held) xs).calls → (after_deeds s (opening held) xs).held i ≡ parked n → list_any (settles n) ms ≡ false → i ≡ j

@@ -1,5 +1,5 @@
 -- An owner of an engine: who performs the calls. Its state is the list of the calls that it has answered, the oldest first.
-use Rattle.std.specs.Prelude.{◌≡◌, ℕ, Bool, true, List, [], ◌∷◌, ◌++◌, Result, Ok, Err, refl}
+use Rattle.std.specs.Prelude.{◌≡◌, ℕ, Bool, true, not, filter, List, [], ◌∷◌, ◌++◌, Option, Some, None, Result, Ok, Err, refl}
 use Rattle.giop_frames.specs.declared.limits.Limits.{Limits}
 use Rattle.ft_log.specs.Keys.{has_room_for}
 use Rattle.ft_log.specs.Kept.{KeptOutcome}
@@ -15,7 +15,7 @@ use Rattle.ft_log.specs.Holding.{Holding, known}
 use Rattle.ft_orb.specs.Tellings.{Later, Teller, answer_told, held_told, nothing_yet}
 use Rattle.ft_orb.specs.Seen.{seen_answer}
 use Rattle.ft_log.specs.declared.system_exception.SystemName.{SystemName}
-use Rattle.ft_orb.specs.History.{Event, arrivals, completed}
+use Rattle.ft_orb.specs.History.{Close, Event, Lost, Opened, Piece, Withdrew, arrivals, completed}
 use Rattle.ft_orb.specs.Now.{answers_now_after}
 
 -- the rules of an owner that answers a call by the calls answered before, in any way whatever
@@ -58,7 +58,8 @@ pub record Voice : Type 0 where
   pub late : Later
 
 -- An owner whose answers are of any kind: how its engine's log holds each, what is said where that is parked, and what is told for it.
--- An outcome is held as known.
+-- An outcome is held as known. Where it withdraws calls, it is known of each answer whether it is that of the call before which so
+-- many were taken.
 pub record OwnerOf (Outcome : Type 0) : Type 0 where
   pub offer : Offer
   pub answers : List Call → Call → Outcome
@@ -66,6 +67,7 @@ pub record OwnerOf (Outcome : Type 0) : Type 0 where
   pub capacity : ℕ
   pub share : ℕ
   pub hold : Outcome → Holding
+  pub is : Option (Outcome → ℕ → Bool)
   pub late : Later
   pub tell : Teller Outcome
   pub tells : (w : Wanted) (answer : Result Outcome SystemName) → tell w answer ≡ held_told late offer.knows w (seen_answer hold answer)
@@ -82,10 +84,30 @@ owning o = record {
   capacity = o.capacity;
   share = o.share;
   hold = known;
+  is = None;
   late = nothing_yet;
   tell = answer_told o.offer.knows;
   tells = tells_known nothing_yet o.offer.knows;
 }
+
+module _ {Outcome : Type 0} where
+  -- the table, once what is kept for a call is kept no longer, where an event withdraws it
+  abbrev pub let_go : (is : Outcome → ℕ → Bool) → Event → Table (List Call) Outcome → Table (List Call) Outcome
+  let_go is (Opened c) t = t
+  let_go is (Piece c moment octets) t = t
+  let_go is (Close c) t = t
+  let_go is (Lost c) t = t
+  let_go is (Withdrew i) t = record { state = t.state; entries = filter (λ e. not (is e.outcome i)) t.entries }
+
+  -- the table of a new engine, folded over the arrivals of a past and what is withdrawn in it
+  abbrev pub table_over : Rules (List Call) Wanted Call Outcome → Limits → (is : Outcome → ℕ → Bool) → List Event → Table (List Call) Outcome
+  table_over rules limits is [] = record { state = []; entries = [] }
+  table_over rules limits is (e ∷ past) = let_go is e (table_after rules (table_over rules limits is past) (completed limits past e))
+
+  -- .. and over its arrivals alone, where nothing is withdrawn
+  abbrev pub table_by : Rules (List Call) Wanted Call Outcome → Limits → Option (Outcome → ℕ → Bool) → List Event → Table (List Call) Outcome
+  table_by rules limits None past = table_after rules (record { state = []; entries = [] }) (arrivals limits past)
+  table_by rules limits (Some is) past = table_over rules limits is past
 
 module _ {Outcome : Type 0} (o : OwnerOf Outcome) where
   -- its rules
@@ -99,9 +121,9 @@ module _ {Outcome : Type 0} (o : OwnerOf Outcome) where
   abbrev pub voice_of : Voice
   voice_of = record { answers = kept_of; late = o.late }
 
-  -- the table of a new engine, folded over the arrivals of a past, and its answers to those that an event completes
+  -- the table of a new engine, and its answers to the arrivals that an event completes
   abbrev pub owned_table : List Event → Table (List Call) Outcome
-  owned_table past = table_after owned_rules (record { state = []; entries = [] }) (arrivals o.limits past)
+  owned_table past = table_by owned_rules o.limits o.is past
 
   abbrev pub owned_says : List Event → Event → List (Result Outcome SystemName)
   owned_says past e = table_answers owned_rules (owned_table past) (completed o.limits past e)

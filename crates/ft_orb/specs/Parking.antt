@@ -11,7 +11,8 @@ use Rattle.ft_log.specs.Keys.{RequestKey}
 use Rattle.ft_log.specs.Kept.{KeptOutcome}
 use Rattle.ft_log.specs.Performed.{Performed, system}
 use Rattle.ft_log.specs.View.{key_of, performed_in}
-use Rattle.ft_log.specs.declared.system_exception.Completion.TheVariants.{Maybe}
+use Rattle.ft_log.specs.declared.system_exception.Completion.TheVariants.{Maybe, No}
+use Rattle.ft_log.specs.declared.system_exception.SystemName.{SystemName}
 use Rattle.ft_log.specs.declared.system_exception.SystemName.TheVariants.{Transient}
 use Rattle.ft_objects.specs.Catalogues.{Offer}
 use Rattle.ft_objects.specs.Interfaces.{IsOutcomeOf}
@@ -28,10 +29,10 @@ use Rattle.ft_orb.specs.declared.parked.Parked.{Parked}
 use Rattle.ft_orb.specs.declared.parked.Places.{Places}
 use Rattle.ft_orb.specs.declared.parked.Waiter.{Waiter}
 use Rattle.ft_orb.specs.Counts.{parked_on, waiters_on}
-use Rattle.ft_orb.specs.Engines.{AsksOf, Awaited, EndsOf, RestsOf, ResumesOf, StopsOf, asks_in, awaited_of}
-use Rattle.ft_orb.specs.ExactlyOnce.{Arrival}
-use Rattle.ft_orb.specs.History.{Event, Lost, Piece, completed, does_count, line, shortened}
-use Rattle.ft_orb.specs.Outputs.{after, is_going, output_cut}
+use Rattle.ft_orb.specs.Engines.{AsksOf, Awaited, EndsOf, LeavesOf, RestsOf, ResumesOf, StopsOf, asks_in, awaited_of}
+use Rattle.ft_orb.specs.ExactlyOnce.{Absent, Arrival}
+use Rattle.ft_orb.specs.History.{Close, Event, Lost, Piece, Withdrew, completed, does_count, line, shortened}
+use Rattle.ft_orb.specs.Outputs.{WritesBy, after, is_going, output_cut}
 use Rattle.ft_orb.specs.Owners.{OwnerOf, owned_rules, owned_says, owned_table}
 use Rattle.ft_orb.specs.Parked.{elsewhere, going_in, is_wished, on_going}
 use Rattle.ft_orb.specs.Requests.{Call, Wanted, asking}
@@ -61,6 +62,7 @@ numbering s late held = record {
   capacity = s.capacity;
   share = s.share;
   hold = held;
+  is = Some (λ n i. n == i);
   late = late;
   tell = λ w answer. held_told late s.offer.knows w (seen_answer held answer);
   tells = λ w answer. refl;
@@ -146,6 +148,14 @@ others_under e c n = others_of (going_in e.links) c (parked_at e n)
 abbrev pub CanSettle : Offer → Option Parked → Performed → Type 0
 CanSettle offer None outcome = ⊥
 CanSettle offer (Some p) outcome = (p.outcome ≡ None) × IsRenderable outcome × IsOutcomeOf (offer.interface p.pending.waiting.object_key.items p.pending.waiting.operation.items) outcome
+
+-- what a request is told that is declined: it has done nothing (GIOP 9.4.3, COMPLETED_NO)
+abbrev pub not_now : SystemName → (minor : ℕ) → Performed
+not_now name minor = system name minor No
+
+-- what is parked, once nothing is kept for it any more
+abbrev pub keyless : Awaited → Awaited
+keyless w = record { number = w.number; connection = w.connection; call = w.call; field = Absent }
 
 -- the key under which an outcome is kept, if it is
 abbrev pub key_kept : Option Retained → Option RequestKey
@@ -234,6 +244,26 @@ module _ {C : Type 0} (offers : C → Offer) (s : Settings) where
   pub record ResumesLate (held : ℕ → Holding) (calls : List Call) (past : List Event) (waiting : ℕ → List Waiter) (c moment : ℕ) (octets written : List ℕ) (note : Note) (engine : Engine C) (before out : List ℕ) : Type 0 where
     pub resumes : ResumesOf offers (by_number s held) calls past c moment octets written note engine before out
     pub stays : Stays held calls engine (after s.limits past (Piece c moment octets) note) (still s.limits (after s.limits past (Piece c moment octets) note) waiting)
+
+  -- What waited was declined: its call was taken, and withdrawn at once, so that nothing is kept for it, and the answer to it is that
+  -- refusal.
+  pub record DeclinesLate (held : ℕ → Holding) (calls : List Call) (past : List Event) (waiting : ℕ → List Waiter) (moment : ℕ) (octets written : List ℕ) (w : Awaited) (refusal : Performed) (engine : Engine C) (before out : List ℕ) : Type 0 where
+    pub more : List ℕ
+    pub appended : out ≡ before ++ more
+    pub writes : WritesBy s.limits (by_number s (put_at (length calls) (known refusal) held)).tell (owned_says (by_number s (put_at (length calls) (known refusal) held))) past (Piece w.connection moment octets) (written ++ more) Done
+    pub stays : Stays (put_at (length calls) (known refusal) held) (calls ++ w.call ∷ []) engine (Withdrew (length calls) ∷ Piece w.connection moment octets ∷ past) (still s.limits (Piece w.connection moment octets ∷ past) waiting)
+
+  -- .. or it was given up, and its connection closed before it was lost
+  pub record LeavesLate (held : ℕ → Holding) (calls : List Call) (past : List Event) (waiting : ℕ → List Waiter) (c moment : ℕ) (octets written : List ℕ) (handled : ℕ) (engine : Engine C) (before out : List ℕ) : Type 0 where
+    pub leaves : LeavesOf offers (by_number s held) calls past c moment octets written handled engine before out
+    pub stays : Stays held calls engine (Lost c ∷ Close c ∷ shortened s.limits past (Piece c moment octets) handled ∷ past) (still s.limits (Lost c ∷ Close c ∷ shortened s.limits past (Piece c moment octets) handled ∷ past) waiting)
+
+  -- .. or it was parked, and nothing is kept for its call any more, which is i; it is still to be told
+  pub record WithdrawsLate (held : ℕ → Holding) (calls : List Call) (past : List Event) (waiting : ℕ → List Waiter) (n : ℕ) (engine : Engine C) : Type 0 where
+    pub i : ℕ
+    pub taken : i < length calls
+    pub was : held i ≡ parked n
+    pub stays : Stays held calls engine (Withdrew i ∷ past) waiting
 
   -- the outcome of call i, which was parked under number n, was told to all who waited, and is kept where it is to be
   pub record IsSettled (held : ℕ → Holding) (calls : List Call) (past : List Event) (waiting : ℕ → List Waiter) (n : ℕ) (outcome : Performed) (engine : Engine C) : Type 0 where

@@ -14,11 +14,13 @@ pub data Pause : Type 0 where
   Whole : Pause
   Asks : Waiting → Place → Pause
   Repeats : Repeat → Place → Pause
+  Due : Place → Pause
 
 abbrev pub pause_by : Waiting → code.Pause → Pause
 pause_by w pause.Whole = Whole
 pause_by w (pause.Asks place) = Asks w place
 pause_by w (pause.Repeats r place) = Repeats r place
+pause_by w (pause.Due place) = Due place
 
 -- a request that waits, with how it came
 abbrev pub pending_by : Waiting → Ask → Pending

@@ -25,6 +25,9 @@ pub struct Counts {
     /// Parked requests whose outcome was handed in.
     pub settled: u64,
     pub given_up: u64,
+    /// Requests that the owner declined while they waited, and those that were parked then.
+    pub declined: u64,
+    pub withdrawn: u64,
 }
 
 /// Counts one more.
@@ -57,6 +60,8 @@ impl Counts {
             parked: 0,
             settled: 0,
             given_up: 0,
+            declined: 0,
+            withdrawn: 0,
         }
     }
 

@@ -18,7 +18,7 @@ use crate::engine::{Engine, Fed};
 use crate::error::{CloseError, ParkError, ServeError};
 use crate::events::{Event, Note, Written};
 use crate::playing::{opened, served};
-use ft_log::Outcome;
+use ft_log::{Completion, Outcome, SystemName};
 use ft_objects::Catalogue;
 use std::alloc::Global;
 use thiserror::Error;
@@ -37,6 +37,10 @@ pub enum Deed {
     GiveUp,
     /// The outcome of the request that is parked under a number is there, and is told to all who wait for it.
     Settle(u64, Outcome),
+    /// The request that waits is declined, by a system exception and its minor code. Where an allocation fails it is given up.
+    Decline(SystemName, u32),
+    /// The request that is parked under a number is declined, and all who wait for it are told so.
+    Withdraw(u64, SystemName, u32),
 }
 
 /// Why a deed was not done. The engine stands for what it stood for.
@@ -305,6 +309,57 @@ fn do_settle<C: Catalogue + Drop>(
     Ok(())
 }
 
+/// The request that waits is declined, or given up.
+fn do_decline<C: Catalogue + Drop>(
+    alloc: Global,
+    engine: &mut Engine<C>,
+    name: SystemName,
+    minor: u32,
+) -> Result<Written, DeedError>
+    ensures ok { IfOk result (λ written. Becomes C.offers (code.Decline name minor) None (noted written ∷ []) engine.old engine.new) }
+    ensures err { IfErr result (λ why. IsRefused C.offers engine.new (code.Decline name minor) why × Remains C.offers engine.old engine.new) }
+    ensures catalogue { engine.new.catalogue ≡ engine.old.catalogue }
+{
+    let Some(asked) = engine.asked() else {
+        return Err(DeedError::NothingAsked);
+    };
+    let number = asked.number;
+    let connection = asked.connection;
+    let mut octets = Vec::new(alloc);
+    let note = served(engine.decline(number, name, minor, &mut octets));
+    Ok(Written {
+        connection,
+        octets,
+        note,
+    })
+}
+
+/// The request that is parked under a number is declined.
+fn do_withdraw<C: Catalogue + Drop>(
+    alloc: Global,
+    engine: &mut Engine<C>,
+    number: u64,
+    name: SystemName,
+    minor: u32,
+    out: &mut Vec<Written>,
+) -> Result<(), DeedError>
+    requires idle { waits_in engine.old ≡ None }
+    ensures ok { OnOk result ((s : Settings) (g : Ledger) → Holds C.offers s g engine.old → (written : List Written) × (out.new.items ≡ out.old.items ++ written)
+        × IsDone C.offers s g (code.Withdraw number name minor) None (map noted written) engine.new) }
+    ensures err { IfErr result (λ why. (out.new.items ≡ out.old.items) × IsRefused C.offers engine.new (code.Withdraw number name minor) why × Remains C.offers engine.old engine.new) }
+    ensures catalogue { engine.new.catalogue ≡ engine.old.catalogue }
+{
+    if !engine.can_settle(number, &Outcome::System(name, minor, Completion::No)) {
+        return Err(DeedError::NotParked);
+    }
+    if out.reserve(waiters(engine, number)).is_err() {
+        return Err(DeedError::Memory);
+    }
+    engine.withdraw(number, name, minor);
+    tell_all(alloc, engine, number, out);
+    Ok(())
+}
+
 /// Does one deed, and appends what was written. The result is what is left of a piece.
 fn do_deed<C: Catalogue + Drop>(
     alloc: Global,
@@ -338,6 +393,14 @@ fn do_deed<C: Catalogue + Drop>(
                 return Err(DeedError::Asking);
             }
             do_settle(alloc, engine, *number, outcome, out)?;
+            return Ok(None);
+        }
+        Deed::Decline(name, minor) => (do_decline(alloc, engine, *name, *minor)?, None),
+        Deed::Withdraw(number, name, minor) => {
+            if engine.is_asking() {
+                return Err(DeedError::Asking);
+            }
+            do_withdraw(alloc, engine, *number, *name, *minor, out)?;
             return Ok(None);
         }
     };

@@ -6,11 +6,14 @@ ghost use Rattle.ft_log.specs.Kept.{unexpired};
 ghost use Rattle.ft_log.specs.Logged.{logged};
 ghost use Rattle.ft_log.specs.View.{performed_in};
 ghost use Rattle.ft_objects.specs.Replies.{IsRenderable};
-ghost use Rattle.ft_orb.specs.Waits.{Finishes, IsReady, filled_with, kept_with};
+ghost use Rattle.ft_orb.specs.Parking.{not_now};
+ghost use Rattle.ft_orb.specs.Private.{IsPut};
+ghost use Rattle.ft_orb.specs.Tellings.{reply_by};
+ghost use Rattle.ft_orb.specs.Waits.{Finishes, IsReady, filled_with, kept_with, without_parked};
 
 use crate::desk::{Step, forget_expired};
 use crate::keeper::{Keeper, Retained};
-use ft_log::Outcome;
+use ft_log::{Completion, Outcome, SystemName};
 
 impl Keeper {
     /// Keeps an outcome, if it is to be kept.
@@ -61,6 +64,37 @@ impl Keeper {
         if let Some(Retained { key, .. }) = retained {
             self.log.fill(key, number, outcome);
         }
+    }
+
+    /// Takes out the place that is kept for an outcome, if one is.
+    pub(crate) fn withdraw(&mut self, retained: Option<Retained>, number: u64)
+        ensures entries { (logged self.new.log).entries ≡ without_parked retained number (logged self.old.log).entries }
+        ensures room { (logged self.new.log).room ≡ (logged self.old.log).room }
+        ensures slot { self.new.slot ≡ self.old.slot }
+        ensures clock { self.new.clock ≡ self.old.clock }
+        ensures capacity { (logged self.new.log).capacity ≡ (logged self.old.log).capacity }
+        ensures share { (logged self.new.log).share ≡ (logged self.old.log).share }
+        ensures counts { self.new.counts ≡ self.old.counts }
+        ensures ended { self.new.ended ≡ self.old.ended }
+    {
+        if let Some(Retained { key, .. }) = retained {
+            self.log.withdraw(&key, number);
+        }
+    }
+
+    /// Answers the request in the slot with a system exception and COMPLETED_NO, and keeps nothing.
+    pub(crate) fn refuse(&mut self, name: SystemName, minor: u32, out: &mut Vec<u8>) -> Step
+        ensures put { IsPut (reply_by self.old.slot.asker.wish self.old.slot.asker.version self.old.slot.asker.request_id (not_now name minor)) result out.old.items out.new.items }
+        ensures log { self.new.log ≡ self.old.log }
+        ensures clock { self.new.clock ≡ self.old.clock }
+        ensures counts { self.new.counts ≡ self.old.counts }
+        ensures ended { self.new.ended ≡ self.old.ended }
+    {
+        let outcome = Outcome::System(name, minor, Completion::No);
+        let step = self.slot.asker.answer(&outcome, out);
+        self.slot.retained = None;
+        self.slot.arguments.clear();
+        step
     }
 
     /// A moment has come: what expired before it is forgotten.

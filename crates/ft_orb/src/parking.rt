@@ -8,7 +8,7 @@ ghost use Rattle.ft_log.specs.View.{performed_in};
 ghost use Rattle.ft_objects.specs.Replies.{IsRenderable};
 ghost use Rattle.ft_orb.specs.ExactlyOnce.{OneExpiration, state_after, state_of};
 ghost use Rattle.ft_orb.specs.History as history;
-ghost use Rattle.ft_orb.specs.History.{arrivals};
+ghost use Rattle.ft_orb.specs.History.{KeepsAll, arrivals};
 ghost use Rattle.ft_orb.specs.Now.{performed_now};
 ghost use Rattle.ft_orb.specs.Owners.{owned_rules};
 ghost use Rattle.ft_orb.specs.Requests.{Call};
@@ -261,13 +261,13 @@ impl<C: Catalogue + Drop> Engine<C> {
     /// While requests are parked too, the calls taken are those of the distinct admissible requests, each once, in the order
     /// of their first arrivals.
     pub fn calls_are_taken_once(&self)
-        ensures { (s : Settings) (held : ℕ → Holding) (calls : List Call) (past : List history.Event) (waiting : ℕ → List Waiting) → Stays C.offers s held calls self.now past waiting → OneExpiration (arrivals s.limits past)
+        ensures { (s : Settings) (held : ℕ → Holding) (calls : List Call) (past : List history.Event) (waiting : ℕ → List Waiting) → Stays C.offers s held calls self.now past waiting → KeepsAll past → OneExpiration (arrivals s.limits past)
             → calls ≡ state_of (owned_rules (by_number s held)) [] (arrivals s.limits past) }
     {}
 
     /// .. and those that are performed with each key by itself, whatever expirations requests carry.
     pub fn calls_are_taken_now(&self)
-        ensures { (s : Settings) (held : ℕ → Holding) (calls : List Call) (past : List history.Event) (waiting : ℕ → List Waiting) → Stays C.offers s held calls self.now past waiting
+        ensures { (s : Settings) (held : ℕ → Holding) (calls : List Call) (past : List history.Event) (waiting : ℕ → List Waiting) → Stays C.offers s held calls self.now past waiting → KeepsAll past
             → calls ≡ state_after (owned_rules (by_number s held)) [] (performed_now (owned_rules (by_number s held)) (arrivals s.limits past)) }
     {}
 }

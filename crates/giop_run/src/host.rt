@@ -4,7 +4,7 @@ use crate::journal::Journal;
 use crate::owner::{Manner, Owner};
 use crate::play::Terms;
 use counter::Counter;
-use ft_log::Retention;
+use ft_log::{Completion, Outcome, Retention, SystemName};
 use ft_orb::{CloseError, ConnectError, Engine, Fed, ParkError, Places, ServeError};
 use std::alloc::{AllocError, Global};
 use std::hash::RandomState;
@@ -73,7 +73,7 @@ pub(crate) struct Host {
 
 impl Host {
     ghost use Rattle.std.specs.Prelude.{◌≡◌, IfOk, IsSome, None};
-    ghost use Rattle.ft_orb.specs.Engines.{waits_in};
+    ghost use Rattle.ft_orb.specs.Engines.{IsOpen, waits_in};
 
     /// An engine to which nothing has happened, and an owner that performs.
     pub(crate) fn new(
@@ -156,13 +156,31 @@ impl Host {
             return Ok(());
         };
         let number = asked.number;
-        if self.journal.put_asked(&asked).is_ok()
-            && let Some(outcome) = self.owner.perform(&asked)
+        if self.journal.put_asked(&asked).is_err() {
+            return Err(Unserved::GivenUp(self.engine.give_up(number)));
+        }
+        if let Some(outcome) = self.owner.perform(&asked)
             && self.engine.can_answer(number, &outcome)
         {
             return Ok(self.engine.answer(number, outcome, out)?);
         }
-        Err(Unserved::GivenUp(self.engine.give_up(number)))
+        match self.owner.manner {
+            Manner::Declines => Ok(self.engine.decline(number, SystemName::Transient, 0, out)?),
+            Manner::Leaves => Err(Unserved::GivenUp(self.leave(number, out))),
+            _ => Err(Unserved::GivenUp(self.engine.give_up(number))),
+        }
+    }
+
+    /// Gives up the request of this number, which waits, and gives what `give_up` gives. CloseConnection is appended
+    /// first, unless somebody waits on the connection for an outcome, or an allocation fails.
+    fn leave(&mut self, number: u64, out: &mut Vec<u8>) -> u64
+        requires open { IsOpen number (waits_in self.old.engine) }
+        ensures idle { waits_in self.new.engine ≡ None }
+    {
+        match self.engine.goodbye(number, out) {
+            Ok(answered) => answered,
+            Err(_) => self.engine.give_up(number),
+        }
     }
 
     /// Parks the request that waits. It is given up where there is no place for it, or an allocation fails.
@@ -233,9 +251,22 @@ impl Host {
         self.engine.settle(number, outcome);
         Settled::Told
     }
+
+    /// Declines the request that is parked under a number.
+    pub(crate) fn withdraw(&mut self, number: u64) -> Settled
+        requires idle { waits_in self.old.engine ≡ None }
+        ensures idle { waits_in self.new.engine ≡ None }
+    {
+        let declined = Outcome::System(SystemName::Transient, 0, Completion::No);
+        if !self.engine.can_settle(number, &declined) {
+            return Settled::NotParked;
+        }
+        self.engine.withdraw(number, SystemName::Transient, 0);
+        Settled::Told
+    }
 }
 
-/// What came of an answer to a request that is parked.
+/// What came of an answer to a request that is parked, or of declining it.
 #[derive(Clone, Copy, Debug, PartialEq, Eq)]
 pub(crate) enum Settled {
     /// Replies are due to all who wait for it.

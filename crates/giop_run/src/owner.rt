@@ -18,6 +18,10 @@ pub(crate) enum Manner {
     System(SystemName, u32),
     /// By a result that is of no operation's type.
     Mistypes,
+    /// By TRANSIENT, COMPLETED_NO, of which nothing is kept.
+    Declines,
+    /// Not at all, and it closes the connection.
+    Leaves,
 }
 
 /// The owner of an engine, with its counter.
@@ -60,7 +64,7 @@ impl Owner {
     pub(crate) fn perform(&mut self, asked: &Asked<'_>) -> Option<Outcome> {
         match self.manner {
             Manner::Performs => self.count(asked),
-            Manner::GivesUp => None,
+            Manner::GivesUp | Manner::Declines | Manner::Leaves => None,
             Manner::System(name, minor) => Some(Outcome::System(name, minor, Completion::Maybe)),
             Manner::Mistypes => mistyped(self.alloc).ok(),
         }

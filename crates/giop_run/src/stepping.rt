@@ -10,7 +10,8 @@
 //!   came after the last request that was asked for or repeated
 //! - `waits CONNECTION` where a connection is not closed, since somebody waits on it for an outcome
 //!
-//! And for each answer `CONNECTION HEX` for each reply, or `unanswered NUMBER` where the owner has no outcome.
+//! And for each request that is answered or declined late `CONNECTION HEX` for each reply, or `unanswered NUMBER` where
+//! the owner has no outcome.
 
 ghost use Rattle.std.specs.Prelude.{◌≡◌, None};
 ghost use Rattle.ft_orb.specs.Engines.{waits_in};
@@ -95,6 +96,26 @@ fn tell<W: Write>(alloc: Global, host: &mut Host, number: u64, out: &mut W) -> i
     Ok(())
 }
 
+/// Prints what came of the request that was parked under a number, once it was answered or declined in this line.
+fn finish<W: Write>(
+    alloc: Global,
+    host: &mut Host,
+    line: u64,
+    number: u64,
+    settled: Settled,
+    out: &mut W,
+) -> Result<(), Stop>
+    requires idle { waits_in host.old.engine ≡ None }
+    ensures idle { waits_in host.new.engine ≡ None }
+{
+    match settled {
+        Settled::Told => tell(alloc, host, number, out)?,
+        Settled::Unanswered => writeln!(out, "unanswered {number}")?,
+        Settled::NotParked => return Err(Stop::NotParked(line)),
+    }
+    Ok(())
+}
+
 /// Takes a step of a script, and prints its lines.
 fn take_step<W: Write>(alloc: Global, host: &mut Host, line: &Line, out: &mut W) -> Result<(), Stop>
     requires idle { waits_in host.old.engine ≡ None }
@@ -104,17 +125,20 @@ fn take_step<W: Write>(alloc: Global, host: &mut Host, line: &Line, out: &mut W)
         Step::Happens(event) => happen(alloc, host, event, out)?,
         Step::Owner(manner) => host.owner.manner = *manner,
         Step::Park => host.parks = host.parks.saturating_add(1),
-        Step::Answer(number) => match host.settle(*number) {
-            Settled::Told => tell(alloc, host, *number, out)?,
-            Settled::Unanswered => writeln!(out, "unanswered {number}")?,
-            Settled::NotParked => return Err(Stop::NotParked(line.number)),
-        },
+        Step::Answer(number) => {
+            let settled = host.settle(*number);
+            finish(alloc, host, line.number, *number, settled, out)?;
+        }
+        Step::Decline(number) => {
+            let settled = host.withdraw(*number);
+            finish(alloc, host, line.number, *number, settled, out)?;
+        }
     }
     Ok(())
 }
 
-/// Plays the lines of a script on a host, and prints what comes of each, up to the first that answers what is not
-/// parked.
+/// Plays the lines of a script on a host, and prints what comes of each, up to the first that answers or declines what
+/// is not parked.
 fn play_lines<W: Write>(
     alloc: Global,
     host: &mut Host,

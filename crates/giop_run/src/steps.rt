@@ -3,9 +3,11 @@
 //! Beside the lines of a script of events (`script`) it has
 //!
 //! - `owner performs`, `owner gives_up`, `owner system NAME MINOR` with the name of a system exception, as `TRANSIENT`,
-//!   and `owner mistypes`: so the owner answers from there on. Until one says otherwise it performs
+//!   `owner mistypes`, `owner declines`, and `owner leaves`, which is to give up and close the connection: so the owner
+//!   answers from there on. Until one says otherwise it performs
 //! - `park`: the next request that is asked for is parked. Several add up
 //! - `answer NUMBER`: the owner answers the request that is parked under this number
+//! - `decline NUMBER`: it declines that request, with TRANSIENT
 
 ghost use Rattle.std.specs.Prelude.{IfErr};
 ghost use Rattle.giop_run.specs.Script.{CountsFromOne};
@@ -27,6 +29,8 @@ pub(crate) enum Step {
     Park,
     /// The owner answers the request that is parked under this number.
     Answer(u64),
+    /// It declines that request.
+    Decline(u64),
 }
 
 /// What a line says, and its number, counted from 1.
@@ -68,6 +72,8 @@ fn manner_in(words: &str) -> Result<Manner, EventError> {
         "performs" => Ok(Manner::Performs),
         "gives_up" => Ok(Manner::GivesUp),
         "mistypes" => Ok(Manner::Mistypes),
+        "declines" => Ok(Manner::Declines),
+        "leaves" => Ok(Manner::Leaves),
         _ => system_in(words),
     }
 }
@@ -82,6 +88,9 @@ fn step_in(alloc: Global, line: &str) -> Result<Step, EventError> {
     }
     if let Some(number) = line.strip_prefix("answer ") {
         return Ok(Step::Answer(decimal(number)?));
+    }
+    if let Some(number) = line.strip_prefix("decline ") {
+        return Ok(Step::Decline(decimal(number)?));
     }
     Ok(Step::Happens(event_in(alloc, line)?))
 }

@@ -85,13 +85,17 @@ With --engine the input may also have these lines:
   park                      The next request that is asked for is parked, and not answered. Several add up
   answer N                  The owner performs the call that is parked under number N as it answers now, and all who
                             wait for it get a reply. Numbers count from 0 what is asked for, parked or not
+  decline N                 The owner declines it, and all who wait for it are told TRANSIENT with COMPLETED_NO
   owner performs            From here on the owner performs; so it does where no line says otherwise
   owner gives_up            It gives requests up
   owner system NAME MINOR   It answers a system exception, as TRANSIENT, with COMPLETED_MAYBE
   owner mistypes            It hands in a result of another type, and the request is given up
+  owner declines            It declines requests, with TRANSIENT and COMPLETED_NO
+  owner leaves              It gives requests up, with CloseConnection first where nobody waits on the connection
 What is parked takes its place among the outcomes when it comes, and acts when it is answered. A connection that was
 lost or closed, or whose stream has ended, gets nothing. A request that is given up is not performed and its connection
-is lost, so it is asked for again when it comes again. What is parked stays so where the owner has no outcome for it.
+is lost, so it is asked for again when it comes again. So is one that is declined: nothing of it is kept, though its
+connection stays. What is parked stays so where the owner has no outcome for it.
 
 These lines are printed before what an event writes:
   ask C KEY OPERATION       With --asks: a request on connection C is asked for
@@ -102,7 +106,7 @@ and these after it; C is lost, and K and H count requests and locates on C since
   given_up C K              A request is given up; the K before it are answered
   full C K                  The same, since no more may be parked
   memory C H K              An allocation failed; of what the event brought H count, and K are answered
-For `answer N` there is `C HEX` for each reply, `memory C 0 0` where one can't be written, or
+For `answer N` and `decline N` there is `C HEX` for each reply, `memory C 0 0` where one can't be written, or
   unanswered N              The owner has no outcome for it
 
 Exit status: 0 where the script is played, else 1";

@@ -1,8 +1,8 @@
 //! A log and the plain program of its definition, on the same calls.
 
 use crate::list_log::ListLog;
-use crate::minors::{minor_held, minor_in, outcome_of};
-use ft_log::{Key, Log, LogError, Retention};
+use crate::minors::{minor_held, outcome_of};
+use ft_log::{Held, Key, Log, LogError, Retention};
 use std::alloc::Global;
 use std::hash::RandomState;
 
@@ -34,7 +34,8 @@ fn key_of(alloc: Global, number: u64) -> Result<Key, LogError> {
 impl Both {
     /// Whether what both say of a key is the same.
     fn agree_on(&self, key: &Key) -> bool {
-        let found = minor_held(self.log.find(key)) == minor_in(self.list.find(key));
+        let (one, other) = (self.log.find(key), self.list.find(key));
+        let found = minor_held(one) == minor_held(other) && number_of(one) == number_of(other);
         let held = self.log.held_by(&key.client_id) as usize == self.list.held_by(&key.client_id);
         let len = self.log.len() == self.list.len();
         found && held && len && self.log.next_expiry() == self.list.next_expiry()
@@ -61,7 +62,29 @@ impl Both {
         if made.is_ok() {
             let copy = key.copy(alloc)?;
             self.log.keep(key, expiration, outcome_of(minor));
-            self.list.keep(copy, expiration, outcome_of(minor))?;
+            self.list
+                .keep(copy, expiration, Held::Known(outcome_of(minor)))?;
+        }
+        Ok(alike)
+    }
+
+    /// Keeps the place of an outcome of a key that has none, and says whether both did alike.
+    fn park(
+        &mut self,
+        alloc: Global,
+        key: Key,
+        expiration: u64,
+        number: u64,
+    ) -> Result<bool, LogError> {
+        if self.log.find(&key).is_some() {
+            return Ok(true);
+        }
+        let made = self.log.make_room(&key);
+        let alike = made == self.list.make_room(&key);
+        if made.is_ok() {
+            let copy = key.copy(alloc)?;
+            self.log.keep_parked(key, expiration, number);
+            self.list.keep(copy, expiration, Held::Parked(number))?;
         }
         Ok(alike)
     }
@@ -77,7 +100,15 @@ impl Both {
                 true
             }
             1 => self.make_room(&key),
-            2 => true,
+            2 | 3 => {
+                self.log.withdraw(&key, number >> 60 & 1);
+                self.list.withdraw(&key, number >> 60 & 1);
+                true
+            }
+            4 | 5 => {
+                let expiration = now.saturating_add(number >> 40 & 1023);
+                self.park(alloc, key, expiration, number >> 60 & 1)?
+            }
             _ => {
                 let expiration = now.saturating_add(number >> 40 & 63);
                 self.keep(alloc, key, expiration, (number & 0xffff) as u32)?
@@ -85,6 +116,11 @@ impl Both {
         };
         Ok(alike && self.agree_on(&asked))
     }
+}
+
+/// The number of the call, if it is parked.
+fn number_of(held: Option<&Held>) -> Option<u64> {
+    held?.number()
 }
 
 /// A log and its list, of that capacity and share.

@@ -1,14 +1,14 @@
 //! What a log is, as a plain program: a list of what is kept, which is looked at in turn.
 
-use ft_log::{Key, LogError, Outcome};
+use ft_log::{Held, Key, LogError};
 use std::alloc::Global;
 
-/// An outcome under its key, and the last moment at which it is repeated.
+/// What is held under a key, and the last moment at which it is repeated.
 #[derive(Drop)]
 struct Entry {
     key: Key,
     expiration: u64,
-    outcome: Outcome,
+    held: Held,
 }
 
 /// The outcomes that are kept, in the order in which they were kept.
@@ -32,10 +32,10 @@ impl ListLog {
         }
     }
 
-    pub(crate) fn find(&self, key: &Key) -> Option<&Outcome> {
+    pub(crate) fn find(&self, key: &Key) -> Option<&Held> {
         for entry in &self.entries {
             if key.is_same(&entry.key) {
-                return Some(&entry.outcome);
+                return Some(&entry.held);
             }
         }
         None
@@ -72,12 +72,17 @@ impl ListLog {
         Ok(())
     }
 
-    /// Keeps an outcome if room is made for its key.
+    pub(crate) fn withdraw(&mut self, key: &Key, number: u64) {
+        self.entries
+            .retain(|entry| !key.is_same(&entry.key) || entry.held.number() != Some(number));
+    }
+
+    /// Keeps an outcome, or its place, if room is made for its key.
     pub(crate) fn keep(
         &mut self,
         key: Key,
         expiration: u64,
-        outcome: Outcome,
+        held: Held,
     ) -> Result<(), LogError> {
         let Some(room) = self.room.take() else {
             return Ok(());
@@ -86,7 +91,7 @@ impl ListLog {
             let entry = Entry {
                 key,
                 expiration,
-                outcome,
+                held,
             };
             if self.entries.push(entry).is_err() {
                 return Err(LogError::Memory);

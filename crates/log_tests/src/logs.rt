@@ -1,7 +1,9 @@
 //! Logs: what is kept, found, forgotten and refused.
 
 use crate::minors::keep_minor;
-use crate::steps::Step::{Expires, Finds, Forgets, Holds, HoldsOf, Keeps, MakesRoom, Refuses};
+use crate::steps::Step::{
+    Expires, Finds, Forgets, Holds, HoldsOf, Keeps, MakesRoom, Parks, Refuses, Withdraws,
+};
 use crate::steps::{Step, assert_given};
 use ft_log::{Log, LogError, Retention};
 use std::alloc::{AllocError, Global};
@@ -100,6 +102,45 @@ static UNSEEN: [Step; 10] = [
 fn room_is_unseen(rt: HostRuntime) {
     let hasher = RandomState::new(&rt).expect(&rt, "random");
     assert_given(&rt, hasher, (1, 1), &UNSEEN);
+}
+
+/// What is withdrawn gives its room back, and its expiration is nobody's: what is kept anew has its own.
+static WITHDRAWN: [Step; 29] = [
+    Parks(b"A", 1, 30, 7),
+    Keeps(b"B", 1, 40, 9),
+    Refuses(b"A", 2, LogError::ShareFull),
+    Withdraws(b"A", 1, 8),
+    Withdraws(b"A", 2, 7),
+    Withdraws(b"B", 1, 9),
+    Holds(2),
+    Expires(Some(30)),
+    Withdraws(b"A", 1, 7),
+    Holds(1),
+    HoldsOf(b"A", 0),
+    HoldsOf(b"B", 1),
+    Finds(b"A", 1, None),
+    Expires(Some(40)),
+    Withdraws(b"A", 1, 7),
+    Keeps(b"A", 1, 50, 6),
+    Forgets(31),
+    Finds(b"A", 1, Some(6)),
+    Forgets(41),
+    Finds(b"B", 1, None),
+    Expires(Some(50)),
+    Parks(b"B", 2, 60, 5),
+    Withdraws(b"B", 2, 5),
+    Parks(b"B", 2, 45, 5),
+    Expires(Some(45)),
+    Forgets(51),
+    Holds(0),
+    Expires(None),
+    HoldsOf(b"B", 0),
+];
+
+#[test]
+fn what_is_withdrawn_gives_its_room_back(rt: HostRuntime) {
+    let hasher = RandomState::new(&rt).expect(&rt, "random");
+    assert_given(&rt, hasher, (4, 1), &WITHDRAWN);
 }
 
 /// Whether a log prints so.

@@ -42,6 +42,24 @@ pub(crate) fn keep_minor(
     Ok(true)
 }
 
+/// Keeps the place of an outcome, for a call of this number, and says whether the request had none before.
+pub(crate) fn park(
+    alloc: Global,
+    log: &mut Log,
+    client_id: &[u8],
+    retention_id: i32,
+    expiration: u64,
+    number: u64,
+) -> Result<bool, LogError> {
+    let key = Key::new(alloc, client_id, retention_id)?;
+    if log.find(&key).is_some() {
+        return Ok(false);
+    }
+    log.make_room(&key)?;
+    log.keep_parked(key, expiration, number);
+    Ok(true)
+}
+
 /// The minor code of the system exception that is kept for a request.
 pub(crate) fn minor_of(
     alloc: Global,

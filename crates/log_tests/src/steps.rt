@@ -1,6 +1,6 @@
 //! Calls of a log, one after another, and what each gives.
 
-use crate::minors::{keep_minor, minor_of};
+use crate::minors::{keep_minor, minor_of, park};
 use ft_log::{Key, Log, LogError, Retention};
 use std::alloc::Global;
 use std::hash::RandomState;
@@ -10,6 +10,10 @@ use std::process::Abort;
 pub(crate) enum Step {
     /// A system exception is kept: its client and retention id, its expiration, and its minor code.
     Keeps(&'static [u8], i32, u64, u32),
+    /// The place of an outcome is kept: its client and retention id, its expiration, and the number of the call.
+    Parks(&'static [u8], i32, u64, u64),
+    /// The call that is parked under a number is withdrawn: its client and retention id, and the number.
+    Withdraws(&'static [u8], i32, u64),
     /// Room for a request is made, and not used.
     MakesRoom(&'static [u8], i32),
     /// Room for a request is refused.
@@ -46,6 +50,13 @@ fn is_given(alloc: Global, log: &mut Log, step: &Step) -> Result<bool, LogError>
     match step {
         Step::Keeps(client, id, expiration, minor) => {
             keep_minor(alloc, log, client, *id, *expiration, *minor)
+        }
+        Step::Parks(client, id, expiration, number) => {
+            park(alloc, log, client, *id, *expiration, *number)
+        }
+        Step::Withdraws(client, id, number) => {
+            log.withdraw(&Key::new(alloc, client, *id)?, *number);
+            Ok(true)
         }
         Step::MakesRoom(client, id) => make_room(alloc, log, client, *id),
         Step::Refuses(client, id, why) => Ok(make_room(alloc, log, client, *id) == Err(*why)),

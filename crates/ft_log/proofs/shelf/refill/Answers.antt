@@ -1,11 +1,10 @@
-use Rattle.std.proofs.Common.{◌≡◌, cond, List, Bool, true, false, ℕ, ℤ, Option, Some, refl, sym, ap, ◌∙◌, subst, is_some, map, option_map, rules, arith}
+use Rattle.std.proofs.Common.{◌≡◌, cond, List, true, false, ℕ, ℤ, Some, refl, sym, ap, ◌∙◌, subst, is_some, map, rules, arith}
 use Rattle.std.proofs.lemmas.Int.{to_z-of_z}
 use Rattle.std.proofs.lemmas.Grind.{common_steps}
 use Rattle.std.specs.Option.{option_copied_mut}
 use mir.Syntax.{w32}
 use mir.Val.{SFits, of_z, to_z}
 use Rattle.indexmap.specs.IndexMap.{get_by}
-use Rattle.ft_log.specs.Filled.{put_at}
 use Rattle.ft_log.specs.Kept.{is_parked}
 use Rattle.ft_log.specs.Keys.{RequestKey, same_key}
 use Rattle.ft_log.specs.Maps.{Outcomes, slot_of, under}

@@ -1,4 +1,4 @@
-use Rattle.ft_orb.proofs.Ledgers.{answered-are-known, calls-are-taken, calls-grow, joined-are-no-calls, known-grows, told-are-known}
+use Rattle.ft_orb.proofs.Ledgers.{answered-are-known, calls-are-taken, calls-grow, declined-are-known, joined-are-no-calls, known-grows, told-are-known}
 use Rattle.ft_orb.proofs.laws.known_grows.Goals as goal
 
 pub returns-clause-calls : goal.returns-clause-calls
@@ -18,3 +18,6 @@ returns-clause-told c = told-are-known
 
 pub returns-clause-joined : goal.returns-clause-joined
 returns-clause-joined c = joined-are-no-calls
+
+pub returns-clause-declined : goal.returns-clause-declined
+returns-clause-declined c = declined-are-known

@@ -1,65 +1,33 @@
-use Rattle.std.proofs.Common.{◌≡◌, Bool, List, ℕ, ℤ, Option, unwrap_or, None, Some, is_some, slice_get, refl, sym, ap, ◌∙◌, subst, arith}
+use Rattle.std.proofs.Common.{◌≡◌, Bool, List, ℕ, ℤ, Option, unwrap_or, None, Some, is_some, refl, sym, ap, ◌∙◌, subst, arith}
 use mir.Syntax.{w32}
 use mir.Val.{to_z}
 use Rattle.std.specs.List.{sum_by}
 use Rattle.std.specs.Map.{KeepsOthers}
 use Rattle.std.proofs.lemmas.List.Sums.{sum_by-swap_remove}
 use Rattle.std.proofs.lemmas.Option.{same_Some, slice_get_within, get_or_from_slice_get}
-use Rattle.slab.specs.Slab.{get}
 use Rattle.ft_log.specs.Keys.{RequestKey}
 use Rattle.indexmap.specs.IndexMap.{get_by}
 use Rattle.ft_log.specs.Maps.{Outcomes, key_in}
 use Rattle.ft_log.specs.Names.{is_named}
-use Rattle.ft_log.specs.Placed.{IsMoved}
 use Rattle.ft_log.specs.View.{key_of}
 use Rattle.ft_log.specs.declared.name.Name.{Name}
 use Rattle.ft_log.specs.declared.shelf.Kept.{Kept}
 use Rattle.ft_log.proofs.Named.{under_key}
-use Rattle.ft_log.proofs.Placing.{IsSlotted, moved_has, placed-take, slotted}
+use Rattle.ft_log.proofs.Placing.{IsStanding, standing}
 use Rattle.ft_log.proofs.shelf.Shelf.take.Goals as goal
 use Rattle.ft_log.proofs.shelf.Shelf.take.Goals.{Start}
 
--- where the key's outcome stands
-where_is : (c : Start) → IsSlotted (key_of c.args._key.now.key) c.args.slot c.args.self.now.outcomes.entries
-where_is c = slotted (key_of c.args._key.now.key) c.args.slot c.args.self.now.outcomes.entries c.requires
-
--- and its place is under its slot
-under_slot : (c : Start) → get c.args.self.now.places c.args.slot ≡ Some (where_is c).place
-under_slot c = let w = where_is c in ap (get c.args.self.now.places) (sym w.has) ∙ c.args.self.now.placed w.place (w.name, w.kept) w.at
-
-pub remove-place-requires : goal.remove-place-requires
-remove-place-requires c = ap is_some (under_slot (goal.at.remove-place-requires c).Start)
-
--- it is the place that the code reads
-here_is : (c : Start) (place : ℕ) → get c.args.self.now.places c.args.slot ≡ Some place → slice_get c.args.self.now.outcomes.entries place ≡ Some ((where_is c).name, (where_is c).kept)
-here_is c place is = ap (slice_get c.args.self.now.outcomes.entries) (same_Some place (where_is c).place (sym is ∙ under_slot c)) ∙ (where_is c).at
+-- what stands there
+where_is : (c : Start) → IsStanding (key_of c.args._key.now.key) c.args.place c.args.self.now.outcomes.entries
+where_is c = standing (key_of c.args._key.now.key) c.args.place c.args.self.now.outcomes.entries c.requires
 
 pub unwrap-name-requires : goal.unwrap-name-requires
-unwrap-name-requires c = ap is_some (c.swap_remove_index.ensures.entry ∙ here_is (goal.at.unwrap-name-requires c).Start c.remove-place.result c.remove-place.ensures.value)
-
-pub move_to-requires : goal.move_to-requires
-move_to-requires c = λ slot is.
-    let s = c.args.self.now in
-    let place = c.remove-place in
-    let here = here_is (goal.at.move_to-requires c).Start place.result place.ensures.value in
-    moved_has s.outcomes.entries c.swap_remove_index.new.self.entries place.result c.args.slot c.unwrap-name.result s.places place.new.self s.placed place.ensures.value
-    (slice_get_within s.outcomes.entries place.result _ here) (rw c.unwrap-name.ensures at c.swap_remove_index.ensures.entries) place.ensures.updates slot (sym c.slot_in-moved.ensures ∙ is)
-
-pub invariant_of-self : goal.invariant_of-self
-invariant_of-self c =
-    let s = c.args.self.now in
-    let place = c.remove-place in
-    let here = here_is (goal.at.invariant_of-self c).Start place.result place.ensures.value in
-    record {
-      placed = placed-take s.outcomes.entries c.swap_remove_index.new.self.entries place.result c.args.slot c.unwrap-name.result s.places place.new.self c.move_to.new.places s.placed place.ensures.value
-          (slice_get_within s.outcomes.entries place.result _ here) (rw c.unwrap-name.ensures at c.swap_remove_index.ensures.entries) place.ensures.updates
-          (subst (λ (o : Option ℕ). IsMoved o place.result place.new.self c.move_to.new.places) c.slot_in-moved.ensures c.move_to.ensures.moved);
-    }
+unwrap-name-requires c = ap is_some (c.swap_remove_index.ensures.entry ∙ (where_is (goal.at.unwrap-name-requires c).Start).at)
 
 pub returns-clause-client : goal.returns-clause-client
 returns-clause-client c =
     let start = (goal.at.returns-clause-client c).Start in
-    let got = same_Some _ _ (sym c.unwrap-name.ensures ∙ c.swap_remove_index.ensures.entry ∙ here_is start c.remove-place.result c.remove-place.ensures.value) in
+    let got = same_Some _ _ (sym c.unwrap-name.ensures ∙ c.swap_remove_index.ensures.entry ∙ (where_is start).at) in
     ap (λ (p : Name × Kept). p.0.client_id.items) got ∙ (where_is start).of_client
 
 pub returns-clause-kept : goal.returns-clause-kept
@@ -71,7 +39,7 @@ returns-clause-kept c =
     let new : Outcomes = c.swap_remove_index.new.self in
     let own : Name → Name → Bool = λ x y. is_named x.client_id.items x.number y in
     let got : Name × Kept = c.unwrap-name.result in
-    let gave = same_Some _ _ (sym c.unwrap-name.ensures ∙ c.swap_remove_index.ensures.entry ∙ here_is start c.remove-place.result c.remove-place.ensures.value) in
+    let gave = same_Some _ _ (sym c.unwrap-name.ensures ∙ c.swap_remove_index.ensures.entry ∙ (where_is start).at) in
     let up = rw c.unwrap-name.ensures at c.swap_remove_index.ensures.updates in
     let client = ap (λ (p : Name × Kept). p.0.client_id.items) gave ∙ w.of_client in
     let number = ap (λ (p : Name × Kept). p.0.number) gave ∙ w.of_number in
@@ -87,8 +55,8 @@ returns-clause-sums c = λ f.
     let key : RequestKey = key_of c.args._key.now.key in
     let old : List (Name × Kept) = c.args.self.now.outcomes.entries in
     let new : List (Name × Kept) = c.swap_remove_index.new.self.entries in
-    let place : ℕ = c.remove-place.result in
-    let here = here_is start place c.remove-place.ensures.value in
+    let place : ℕ = c.args.place in
+    let here = w.at in
     let got : Name × Kept = c.unwrap-name.result in
     let g : Name × Kept → ℕ = λ p. f (key_in p.0) in
     let all = sum_by-swap_remove g old place got (slice_get_within old place _ here) in
@@ -96,3 +64,7 @@ returns-clause-sums c = λ f.
     let of_key : key_in w.name ≡ key = λ i. record { client_id = w.of_client i; retention_id = unwrap_or (w.of_number i) (to_z w32 0) } in
     let same = ap g (get_or_from_slice_get old place (w.name, w.kept) got here) ∙ ap f of_key in
     omega (arith, all, is, same)
+
+pub returns-clause-taken : goal.returns-clause-taken
+returns-clause-taken c =
+    record { was = c.unwrap-name.result; there = sym c.swap_remove_index.ensures.entry ∙ c.unwrap-name.ensures; is = rw c.unwrap-name.ensures at c.swap_remove_index.ensures.entries }

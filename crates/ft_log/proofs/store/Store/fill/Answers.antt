@@ -1,25 +1,25 @@
-use Rattle.std.proofs.Common.{◌≡◌, ◌≤◌, ◌&&◌, ◌+◌, Bool, true, false, not, nat_lt, cond, List, ℕ, length, nat_eq, option_map, Option, Some, refl, sym, ap, ◌∙◌, subst, arith}
+use Rattle.std.proofs.Common.{◌≡◌, ◌≤◌, ◌&&◌, Bool, true, not, nat_lt, cond, List, ℕ, length, nat_eq, option_map, Option, Some, sym, ap, ◌∙◌, subst, arith}
 use Rattle.std.specs.List.{count_by, sum_by}
 use Rattle.std.specs.Option.{option_eq}
-use Rattle.indexmap.specs.IndexMap.{index_map_len, spare}
-use Rattle.ft_log.specs.Dues.{dues, places}
-use Rattle.ft_log.specs.Filled.{filled_by, put_at}
+use Rattle.indexmap.specs.IndexMap.{index_map_len}
+use Rattle.ft_log.specs.Dues.{dues, places, under}
+use Rattle.ft_log.specs.Filled.{filled_by}
 use Rattle.ft_log.specs.Keys.{RequestKey, are_distinct, clients_in, held_of, same_key}
 use Rattle.ft_log.specs.Kept.{KeptOutcome}
-use Rattle.ft_log.specs.Logged.{Logged, logged}
+use Rattle.ft_log.specs.Logged.{logged}
 use Rattle.ft_log.specs.Maps.{held_at, is_countable, key_in}
 use Rattle.ft_log.specs.Holding.{Holding}
-use Rattle.ft_log.specs.Shelf.{at_key, slot_at}
-use Rattle.ft_log.specs.Tied.{due_of, is_free, is_ready, is_slotted, outcome_for}
+use Rattle.ft_log.specs.Shelf.{at_key}
+use Rattle.ft_log.specs.Tied.{due_of, is_free, is_ready, outcome_for}
 use Rattle.ft_log.specs.View.{entries_at, key_of}
-use Rattle.ft_log.specs.declared.order.Due.{Due}
+use Rattle.ft_log.specs.declared.due.Due.{Due}
 use Rattle.ft_log.specs.declared.held.Held.{Held}
 use Rattle.ft_log.specs.declared.held.Held.TheVariants.{Known}
 use Rattle.ft_log.specs.declared.shelf.Kept.{Kept}
 use Rattle.ft_log.specs.declared.shelf.Shelf.{Shelf}
 use Rattle.ft_log.specs.declared.story.Entry.{Entry}
 use Rattle.ft_log.proofs.Entries.{keys_at}
-use Rattle.ft_log.proofs.Filling.{dues-filled, entries-filled, keys-filled, length-filled, map-kept, outcome-filled, put_outcome, slot-kept}
+use Rattle.ft_log.proofs.Filling.{dues-filled, entries-filled, keys-filled, length-filled, map-kept, outcome-filled, placed-refilled, put_outcome, slot-kept}
 use Rattle.ft_log.proofs.store.Store.fill.Goals as goal
 
 pub invariant_of-self : goal.invariant_of-self
@@ -46,6 +46,7 @@ invariant_of-self c =
       dated = subst (λ (l : List Entry). (f : ℕ × RequestKey → ℕ) → sum_by (λ d. f (d.until.0, key_of d.key.key)) (dues s.order) ≡ sum_by (λ e. f (due_of e)) l) is (λ f. s.dated f ∙ sym (dues-filled f by es));
       slotted = ap (λ (g : RequestKey → Option ℕ). count_by (λ (d : Due). not (option_eq nat_eq (g (key_of d.key.key)) (Some d.slot))) (dues s.order))
           (λ i key. (ap (option_map (λ (k : Kept). k.slot)) (c.fill.ensures.kept key) ∙ slot-kept c.args.number (Known c.args.outcome) (same_key key (key_of c.args.key)) (at_key s.kept key)) i) ∙ s.slotted;
+      placed = placed-refilled s.kept.outcomes.entries n.outcomes.entries (under s.order) c.fill.ensures.is s.placed;
       copied = s.copied;
       ready = keys (λ ks. is_ready (option_map (λ r. key_of r.key.key) s.room) ks s.capacity s.share (places s.order) (is_free b n s.counts) ≡ true)
           (subst (λ (r : Bool). is_ready (option_map (λ r. key_of r.key.key) s.room) (keys_at es) s.capacity s.share (places s.order) (r && is_countable b s.counts) ≡ true) (sym c.fill.ensures.room) s.ready);

@@ -1,4 +1,4 @@
-use Rattle.std.proofs.Common.{◌<◌, ◌≡◌, ◌∙◌, Bool, true, not, bytes_eq, nat_lt, List, ℕ, ap, sym, subst, Some, length, arith}
+use Rattle.std.proofs.Common.{◌<◌, ◌≡◌, ◌∙◌, Bool, true, not, bytes_eq, nat_lt, List, ℕ, ap, sym, subst, Some, length, slice_get, arith}
 use Rattle.std.proofs.lemmas.List.{length-map}
 use Rattle.std.specs.List.{count_by}
 use Rattle.ft_log.specs.Dues.{places}
@@ -76,6 +76,7 @@ invariant_of-self-2 c =
       slim = omega (arith, s.slim, ap (λ l. length l) c.reserve_if.ensures.same);
       dated = dated_in s.order c.reserve.new.self es c.reserve.ensures.same s.dated;
       slotted = (λ i. count_by (λ d. not (slotted_in s.kept n c.reserve-2.ensures.same d i)) (c.reserve.ensures.same i)) ∙ s.slotted;
+      placed = λ x p h. c.reserve.ensures.places p.1.slot ∙ s.placed x p (ap (λ l. slice_get l x) (sym c.reserve-2.ensures.same) ∙ h);
       copied = λ t. subst (λ (x : List ℕ). bytes_eq c.in_ok-room.room.client_id.items x ≡ true) (sym (ap (λ (k : RequestKey). k.client_id) c.in_ok-room.ensures.key)) (c.in_ok-room.ensures.client (counts_is ∙ t));
       ready = subst (λ (k : RequestKey). is_ready (Some k) old s.capacity s.share (places c.reserve.new.self) (is_free b n counts) ≡ true) (sym c.in_ok-room.ensures.key)
           (ready_from key old s.capacity s.share (places c.reserve.new.self) (is_free b n counts) place);
