@@ -46,7 +46,8 @@ fn is_fine(step: &Step)
 {
     written_is_octets();
     match step {
-        Step::Call { call, .. } | Step::Recall { call, .. } => hold_octets(&call.arguments),
+        Step::Call { call, .. } => hold_octets(&call.arguments),
+        Step::Recall { call, .. } => hold_octets(&call.arguments),
         _ => {}
     }
 }
