@@ -261,7 +261,7 @@ module _ {State : Type 0} (meaning : Meaning State) (made : Made State) where
         client = h.alive.client;
         writes = h.alive.writes;
         numbers = h.alive.numbers;
-      single = h.alive.single;
+        single = h.alive.single;
         once = λ r.
             let more = ended-append r l.taken l.client.completions in
             let was = h.alive.once r in
