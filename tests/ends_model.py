@@ -9,6 +9,7 @@ from tests.cdr import Octets
 from tests.giop import HEADER, NO
 
 MOST_PENDING = 64
+LAST_NUMBER = (1 << 31) - 1
 LAST_TOTAL = (1 << 63) - 1
 CLOSE, ERROR = "close", "error"
 CANCEL_SIZE = len(giop.cancel(0))
@@ -36,6 +37,12 @@ class Call:
     def __init__(self, key, operation, expiration, arguments):
         self.key, self.operation = key.encode(), operation.encode()
         self.expiration, self.arguments = expiration, arguments
+
+
+def call_of(words):
+    """The call of the words `KEY OPERATION EXPIRATION [LONG]`."""
+    key, operation, expiration, *arguments = words
+    return Call(key, operation, int(expiration), [int(a) for a in arguments])
 
 
 class Pending:
@@ -86,12 +93,20 @@ class Client:
         self.wire.up.append((size, (pending.sent, (self.client_id, pending.number), pending.call)))
 
     def call(self, now, call):
-        if call.expiration < now or len(self.pending) >= MOST_PENDING:
+        self.recall(self.last + 1, now, call)
+
+    def recall(self, number, now, call):
+        is_free = self.last < number <= LAST_NUMBER
+        if not is_free or call.expiration < now or len(self.pending) >= MOST_PENDING:
             return
-        self.last += 1
-        self.pending.append(Pending(self.last, call))
+        self.last = number
+        self.pending.append(Pending(number, call))
         if self.wire:
             self.send(self.pending[-1])
+
+    def skip(self, number):
+        if number <= LAST_NUMBER:
+            self.last = max(self.last, number)
 
     def connect(self, now):
         self.wire = Wire()
@@ -252,8 +267,11 @@ class Play:
     def step(self, client, name, words):
         """Takes a step of a client; `words` are those after the client's place."""
         if name == "call":
-            now, key, operation, expiration, *arguments = words
-            client.call(int(now), Call(key, operation, int(expiration), [int(a) for a in arguments]))
+            client.call(int(words[0]), call_of(words[1:]))
+        elif name == "recall":
+            client.recall(int(words[0]), int(words[1]), call_of(words[2:]))
+        elif name == "skip":
+            client.skip(int(words[0]))
         elif name == "cancel":
             client.cancel(int(words[0]))
         elif name == "tick":

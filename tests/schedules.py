@@ -1,7 +1,7 @@
 """Plays random schedules of clients and a server with the program `schedule_player`, and compares with a model.
 
 A schedule is a server, two clients and sixty steps or more, by a seed; crates/schedule_player/src/lines.rt says what
-its lines are. Each is played twice: as it is, and with what goes up and down cut into small pieces. What completes, in
+its lines are. A client may crash: one of the same id then takes up again what it had pending, and steps in its place. Each is played twice: as it is, and with what goes up and down cut into small pieces. What completes, in
 order, and the total must be what tests/ends_model.py says, and the same both times. One that fails is printed with as
 few steps as are found with which it still does, as the program takes it.
 """
@@ -17,7 +17,7 @@ SEED = 23
 COUNT = 600
 STEPS = 60
 # how many lines of a schedule say what the server and the clients are
-HEAD = 3
+HEAD = 5
 FINE = 400
 LIMIT = 4096  # the least that a message may be allowed
 NAMES = ["A", "B", "AB", "client", "x" * 256]
@@ -36,6 +36,8 @@ class Maker:
         self.is_dense = dice.random() < 0.3
         self.play = Play()
         self.lines = []
+        # the place at which each of the two clients now is: 0 and 1 before a crash, 2 and 3 after it
+        self.places = [0, 1]
         self.head()
 
     def add(self, line):
@@ -49,9 +51,12 @@ class Maker:
         total = dice.choice([0, 0, 0, *EDGES])
         server = LIMIT if self.long else dice.choice([LIMIT, 1048576])
         self.add(f"server {server} {dice.randint(1, 16)} {capacity} {share} {total}")
+        clients = []
         for name in dice.sample(NAMES, 2):
             limit = dice.choice([LIMIT, 16777216])
-            self.add(f"client {name} {dice.choice(VERSIONS)} {limit} {dice.randint(1, 16)}")
+            clients.append(f"client {name} {dice.choice(VERSIONS)} {limit} {dice.randint(1, 16)}")
+        for line in [*clients, *clients]:
+            self.add(line)
 
     def at(self, client):
         """The client at a place, or None where there is none."""
@@ -103,7 +108,7 @@ class Maker:
         return self.dice.choice([*pending, *pending[:1] * 3, self.dice.randint(1, 20), 0, -1])
 
     def step(self):
-        dice, client = self.dice, self.dice.choice([0, 0, 0, 0, 1, 1, 1, 1, 1, 2])
+        dice, client = self.dice, self.dice.choice([*self.places * 4, self.places[1], 4])
         kinds = {"call": self.calls, "connect": 8, "up": 14, "down": 14, "cut": 2, "shut": 3, "cancel": 4, "tick": 2}
         kind = dice.choices(list(kinds), kinds.values())[0]
         wire = (self.at(client) or Client("", "1.2")).wire or Wire()
@@ -152,15 +157,31 @@ class Maker:
                 self.add(f"down {client} 5000")
                 return
 
+    def crash(self, which):
+        """A client is gone, and one of its id takes up again what it had pending, if that had not happened yet."""
+        old, new = which, which + 2
+        if self.places[which] == new:
+            return
+        self.places[which] = new
+        self.add(f"cut {old}")
+        gone = self.at(old)
+        for pending in gone.pending:
+            call = pending.call
+            words = [call.key.decode(), call.operation.decode(), call.expiration, *call.arguments]
+            self.add(" ".join(str(word) for word in ["recall", new, pending.number, self.now, *words]))
+        self.add(f"skip {new} {gone.last}")
+
     def made(self, steps):
         """All lines, with so many steps or some more."""
         for _ in range(steps):
             self.add(self.step())
-            client, chance = self.dice.choice([0, 1]), self.dice.random()
+            which, chance = self.dice.choice([0, 1]), self.dice.random()
             if chance < 0.02:
-                self.recover(client)
+                self.recover(self.places[which])
             elif chance < 0.04:
-                self.lapse(client)
+                self.lapse(self.places[which])
+            elif chance < 0.05:
+                self.crash(which)
         return [*self.lines, "end"]
 
 

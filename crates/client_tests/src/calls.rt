@@ -2,9 +2,9 @@
 
 use crate::clients::{Done, client, client_of};
 use crate::octets::{ADD_7, ADD_7_1_0, ADD_8, ADD_8_1_0, ADD_8_FIRST_1_0, CANCEL_1_1_0};
-use crate::steps::Step::{Calls, Cancels, Completes, Connects, Loses, Ticks};
+use crate::steps::Step::{Calls, Cancels, Completes, Connects, Loses, Recalls, Skips, Ticks};
 use crate::steps::{Step, assert_given};
-use ft_client::CallError;
+use ft_client::{CallError, RecallError};
 use giop_core::Version;
 use std::alloc::Global;
 use std::test::Fail;
@@ -102,4 +102,33 @@ static ANOTHER_ID: [Step; 6] = [
 fn a_call_of_1_0_is_sent_again_under_another_id(rt: HostRuntime) -> Result<(), Fail> {
     let mut one = client_of(rt.alloc(), Version::V10)?;
     assert_given(&rt, &mut one, &ANOTHER_ID)
+}
+
+static TAKEN_UP: [Step; 5] = [
+    Recalls(1, 50, 7, None, &[]),
+    Recalls(1, 50, 7, Some(RecallError::NumberUsed), &[]),
+    Recalls(2, 101, 7, Some(RecallError::Expired), &[]),
+    Connects(50, &[ADD_7]),
+    Recalls(2, 50, 8, None, &[ADD_8]),
+];
+
+#[test]
+fn calls_of_before_are_sent_under_their_numbers(rt: HostRuntime) -> Result<(), Fail> {
+    let mut one = client(rt.alloc())?;
+    assert_given(&rt, &mut one, &TAKEN_UP)
+}
+
+static SKIPPED: [Step; 6] = [
+    Skips(2_147_483_645),
+    Skips(5),
+    Skips(2_147_483_648),
+    Calls(50, 7, Ok(2_147_483_646), &[]),
+    Recalls(2_147_483_647, 50, 7, None, &[]),
+    Calls(50, 7, Err(CallError::IdsUsed), &[]),
+];
+
+#[test]
+fn numbers_are_skipped(rt: HostRuntime) -> Result<(), Fail> {
+    let mut one = client(rt.alloc())?;
+    assert_given(&rt, &mut one, &SKIPPED)
 }

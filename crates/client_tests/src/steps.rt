@@ -1,7 +1,8 @@
 //! What is done with a client, step by step, and what each step gives.
 
 use crate::clients::{Done, add, completes, join};
-use ft_client::{CallError, FtClient};
+use cdr_core::Val;
+use ft_client::{CallError, FtClient, RecallError};
 use std::alloc::{AllocError, Global};
 use std::process::Abort;
 use std::test::Fail;
@@ -13,6 +14,11 @@ pub(crate) type Messages = &'static [&'static [u8]];
 pub(crate) enum Step {
     /// `add` of a number is called at a moment: the number of the call, and the messages that are written.
     Calls(u64, i32, Result<i32, CallError>, Messages),
+    /// `add` of a number is taken up again under the first number at a moment: the error, if there is one, and the
+    /// messages that are written.
+    Recalls(u32, u64, i32, Option<RecallError>, Messages),
+    /// Numbers up to this one were given before.
+    Skips(u32),
     /// The client is connected at a moment: the messages that are written.
     Connects(u64, Messages),
     /// Octets come from the server.
@@ -53,6 +59,27 @@ fn calls(
     add(client, now, number, &mut out) == wanted && are(&out, messages)
 }
 
+/// Whether a call of `add` that is taken up again at a moment gives that error or none, and writes these messages.
+fn recalls(
+    alloc: Global,
+    client: &mut FtClient,
+    (number, now, argument): (u32, u64, i32),
+    wanted: Option<RecallError>,
+    messages: &[&[u8]],
+) -> bool {
+    let mut out = Vec::new(alloc);
+    let recalled = client.recall(
+        number,
+        now,
+        b"c",
+        b"add",
+        &[Val::Long(argument)],
+        100,
+        &mut out,
+    );
+    recalled.err() == wanted && are(&out, messages)
+}
+
 /// Whether a client that is connected at a moment writes these messages.
 fn connects(
     alloc: Global,
@@ -82,6 +109,10 @@ fn is_given(alloc: Global, client: &mut FtClient, step: &Step) -> Result<bool, F
         Step::Calls(now, number, id, messages) => {
             return Ok(calls(alloc, client, (*now, *number), *id, messages));
         }
+        Step::Recalls(number, now, argument, error, messages) => {
+            return Ok(recalls(alloc, client, (*number, *now, *argument), *error, messages));
+        }
+        Step::Skips(number) => client.skip_to(*number),
         Step::Connects(now, messages) => return connects(alloc, client, *now, messages),
         Step::Hears(octets) => client.feed(octets)?,
         Step::Loses => client.lost(),

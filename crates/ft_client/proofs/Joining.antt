@@ -80,9 +80,9 @@ map_push f [] x = refl
 map_push f (y ∷ xs) x = ap (λ ys. f y ∷ ys) (map_push f xs x)
 
 -- a call that was sent on the link
-pub placed_link : (m : Client) (call : Call) (l : Linked) (link new : ClientLinked) → IsLinked link m l → new ≡ record link { ids = one_more (wanted_by Full) link.ids } → IsLinked new (placed call m (Some l)) (record l { given = suc l.given })
-placed_link m call l link new h is =
-    let p : Pending = record { id = suc m.last; call = call; sent = Some (suc l.given) } in
+pub placed_link : (m : Client) (number : ℕ) (call : Call) (l : Linked) (link new : ClientLinked) → IsLinked link m l → new ≡ record link { ids = one_more (wanted_by Full) link.ids } → IsLinked new (placed number call m (Some l)) (record l { given = suc l.given })
+placed_link m number call l link new h is =
+    let p : Pending = record { id = number; call = call; sent = Some (suc l.given) } in
     let ids : one_more (wanted_by Full) link.ids ≡ waiting_ids (suc l.given) (sent_ids (m.pending ++ p ∷ [])) =
     ap (one_more (wanted_by Full)) h.stands.ids_are ∙ waiting_more l.given (sent_ids m.pending) ∙ ap (λ (js : List ℕ). waiting_ids (suc l.given) js) (sym (sent_push m.pending p)) in
     record {

@@ -1,17 +1,17 @@
 -- A client with all that ever was: each call is pending or was completed once.
-use Rattle.std.proofs.Common.{◌≡◌, ℕ, zero, suc, ◌+◌, ◌<◌, ◌≤◌, ◌==◌, ◌&&◌, nat_le, nat_lt, ℤ, pos, true, false, cond, List, [], ◌∷◌, ◌++◌, drop, length, take, Option, Some, None, refl, sym, ap, ◌∙◌, subst, arith, length-append}
-use Rattle.std.specs.List.{AllByRecursion, slice_get}
+use Rattle.std.proofs.Common.{◌≡◌, ℕ, zero, suc, ◌+◌, ◌<◌, ◌≤◌, ◌==◌, ◌&&◌, nat_le, nat_lt, ℤ, pos, Bool, true, false, cond, List, [], ◌∷◌, ◌++◌, drop, length, take, Option, Some, None, refl, sym, ap, ◌∙◌, subst, arith, length-append}
+use Rattle.std.specs.List.{AllByRecursion}
 use Rattle.std.specs.Ordering.{int_eq}
-use Rattle.std.proofs.lemmas.Bool.{and_parts, eq-eqb, eqb-true, leb-true}
+use Rattle.std.proofs.lemmas.Bool.{and_parts, eq-eqb, eqb-true, leb-true, ltb-true}
 use Rattle.std.proofs.lemmas.Bool.Decides.{nat_tests}
 use Rattle.std.proofs.lemmas.List.{append-nil, take-append-drop}
 use Rattle.std.proofs.lemmas.Option.{none-some, same_Some}
 use Rattle.giop_core.specs.declared.header.Version.{Version}
 use Rattle.giop_frames.specs.declared.limits.Limits.{Limits}
 use Rattle.giop_link.specs.Hearing.{Ending, Hearing, news}
-use Rattle.ft_client.specs.Clients.{Called, Cancelled, Client, Ended, Expired, Fed, Happening, Joined, Linked, Parted, Pending, Recalled, Taken, Ticked, after, completed, completed_if, ended_by, ending_of, fed_on, find_pending, gives, ids_after, is_sent_as, is_taken, late, made, on_time, parted, parted_at, placed, recalled, resent, says, says_again, says_placed, says_recalled, settled, settled_all, told_of, transmission, unsent, waiting, withdrawn, without}
+use Rattle.ft_client.specs.Clients.{Called, Cancelled, Client, Ended, Expired, Fed, Happening, Joined, Linked, Parted, Pending, Recalled, Resumed, Skipped, Taken, Ticked, after, completed, completed_if, ended_by, ending_of, fed_on, find_pending, fits, gives, ids_after, is_resumed, is_sent_as, is_taken, late, made, on_time, parted, parted_at, placed, recalled, resent, says, says_again, says_placed, says_recalled, settled, settled_all, skipped, told_of, transmission, unsent, waiting, withdrawn, without}
 use Rattle.ft_client.specs.Laws.{CallsCompleteOnce}
-use Rattle.ft_client.specs.Lives.{AreRising, IsAlive, IsLife, IsOfCall, Life, call_at, ended_count, goes_on, lived, moment_of, new_life, one_if, pending_count, sent_at}
+use Rattle.ft_client.specs.Lives.{AreRising, IsAlive, IsLife, IsOfCall, Life, call_at, called_count, ended_count, goes_on, lived, moment_of, new_life, one_if, pending_count, sent_at}
 use Rattle.ft_client.specs.Messages.{Answer, Asked, Call, Transmission, located, replied}
 
 -- Lists.
@@ -27,23 +27,48 @@ each-weaker P Q f (x ∷ xs) h = (f x h.0, each-weaker P Q f xs h.1)
 
 -- The calls of numbers.
 
-pub slice_get-append : {X : Type 0} (xs more : List X) (n : ℕ) (x : X) → slice_get xs n ≡ Some x → slice_get (xs ++ more) n ≡ Some x
-slice_get-append [] more n x h = absurd (none-some x h)
-slice_get-append (y ∷ xs) more zero x h = h
-slice_get-append (y ∷ xs) more (suc n) x h = slice_get-append xs more n x h
-
-pub slice_get-push : {X : Type 0} (xs : List X) (x : X) → slice_get (xs ++ x ∷ []) (length xs) ≡ Some x
-slice_get-push [] x = refl
-slice_get-push (y ∷ xs) x = slice_get-push xs x
-
 -- a call keeps its number
-pub call_at-append : (calls more : List Call) (r : ℕ) (c : Call) → call_at calls r ≡ Some c → call_at (calls ++ more) r ≡ Some c
-call_at-append calls more zero c h = h
-call_at-append calls more (suc n) c h = slice_get-append calls more n c h
+pub call_at-append : (calls more : List (ℕ × Call)) (r : ℕ) (c : Call) → call_at calls r ≡ Some c → call_at (calls ++ more) r ≡ Some c
+call_at-append [] more r c h = absurd (none-some c h)
+call_at-append (x ∷ calls) more r c h =
+    elim (x.0 == r) as (λ b. cond b (Some x.1) (call_at calls r) ≡ Some c → cond b (Some x.1) (call_at (calls ++ more) r) ≡ Some c)
+    [ true ↦ λ is. is | false ↦ λ is. call_at-append calls more r c is ] h
 
--- the next call has the next number
-pub call_at-push : (calls : List Call) (c : Call) (last : ℕ) → length calls ≡ last → call_at (calls ++ c ∷ []) (suc last) ≡ Some c
-call_at-push calls c last is = ap (λ n. slice_get (calls ++ c ∷ []) n) (sym is) ∙ slice_get-push calls c
+-- numbers from 1 up to the last one
+abbrev pub AreNumbers : ℕ → List (ℕ × Call) → Type 0
+AreNumbers last calls = AllByRecursion (λ x. (0 < x.0) × (x.0 ≤ last)) calls
+
+other-number : (n id last : ℕ) → n ≤ last → last < id → (n == id) ≡ false
+other-number n id last le lt = grind (arith, nat_tests)
+
+-- a call with a greater number
+pub call_at-push : (calls : List (ℕ × Call)) (id : ℕ) (c : Call) (last : ℕ) → AreNumbers last calls → last < id → call_at (calls ++ (id, c) ∷ []) id ≡ Some c
+call_at-push [] id c last are lt = ap (λ b. cond b (Some c) None) (eq-eqb id id refl)
+call_at-push (x ∷ calls) id c last are lt =
+    ap (λ b. cond b (Some x.1) (call_at (calls ++ (id, c) ∷ []) id)) (other-number x.0 id last are.0.1 lt) ∙ call_at-push calls id c last are.1 lt
+
+numbers-later : (last next : ℕ) (calls : List (ℕ × Call)) → last ≤ next → AreNumbers last calls → AreNumbers next calls
+numbers-later last next [] le h = tt
+numbers-later last next (x ∷ calls) le h = let low = h.0.1 in ((h.0.0, omega (arith, low, le)), numbers-later last next calls le h.1)
+
+called-append : (r : ℕ) (calls more : List (ℕ × Call)) → called_count r (calls ++ more) ≡ called_count r calls + called_count r more
+called-append r [] more = omega arith
+called-append r (x ∷ calls) more = let rest = called-append r calls more in omega (arith, rest)
+
+-- no call has a greater number
+called-none : (id last : ℕ) (calls : List (ℕ × Call)) → AreNumbers last calls → last < id → called_count id calls ≡ 0
+called-none id last [] h lt = refl
+called-none id last (x ∷ calls) h lt =
+    let off : one_if (x.0 == id) ≡ 0 = ap one_if (other-number x.0 id last h.0.1 lt) in
+    let rest = called-none id last calls h.1 lt in
+    omega (arith, off, rest)
+
+called-single : (r id last : ℕ) (calls : List (ℕ × Call)) → AreNumbers last calls → last < id → called_count r calls ≤ 1 → called_count r calls + (one_if (id == r) + 0) ≤ 1
+called-single r id last calls are lt few =
+    elim (id == r) as (λ b. (id == r) ≡ b → called_count r calls + (one_if b + 0) ≤ 1) [
+      | true ↦ λ is. let none : called_count r calls ≡ 0 = ap (λ (n : ℕ). called_count n calls) (sym (eqb-true id r is)) ∙ called-none id last calls are lt in omega (arith, none)
+      | false ↦ λ is. omega (arith, few)
+    ] refl
 
 -- Counts.
 
@@ -71,13 +96,6 @@ on_time-count r now (p ∷ ps) =
     let rest = on_time-count r now ps in
     elim (nat_le now p.call.expiration) as (λ b. one_if (p.id == r) + pending_count r ps ≡ pending_count r (cond b (p ∷ on_time now ps) (on_time now ps)) + ended_count r (cond b (late now ps) ((p.id, Expired) ∷ late now ps)))
     [ true ↦ omega (arith, rest) | false ↦ omega (arith, rest) ]
-
--- the numbers up to the next one
-next-once : (r last : ℕ) → one_if (nat_lt 0 r && nat_le r last) + one_if (suc last == r) ≡ one_if (nat_lt 0 r && nat_le r (suc last))
-next-once r last = grind (arith, nat_tests)
-
-none-once : (r : ℕ) → 0 ≡ one_if (nat_lt 0 r && nat_le r 0)
-none-once r = grind (arith, nat_tests)
 
 -- What is left of pending calls.
 
@@ -147,11 +165,16 @@ rising-each : (last : ℕ) (ps : List Pending) → AreRising last ps → AllByRe
 rising-each last [] h = tt
 rising-each last (p ∷ ps) h = (h.0, rising-each last ps h.2)
 
-pub rising-push : (last : ℕ) (ps : List Pending) (q : Pending) → q.id ≡ suc last → AreRising last ps → AreRising (suc last) (ps ++ q ∷ [])
-rising-push last [] q is h = (omega (arith, is), tt, tt)
-rising-push last (p ∷ ps) q is h =
+-- they are up to each that is no less
+pub rising-later : (last next : ℕ) (ps : List Pending) → last ≤ next → AreRising last ps → AreRising next ps
+rising-later last next [] le h = tt
+rising-later last next (p ∷ ps) le h = let low = h.0 in (omega (arith, low, le), h.1, rising-later last next ps le h.2)
+
+pub rising-push : (last : ℕ) (ps : List Pending) (q : Pending) → last < q.id → AreRising last ps → AreRising q.id (ps ++ q ∷ [])
+rising-push last [] q lt h = (omega arith, tt, tt)
+rising-push last (p ∷ ps) q lt h =
     let low = h.0 in
-    (omega (arith, low), each-append (λ x. p.id < x.id) ps (q ∷ []) h.1 (omega (arith, is, low), tt), rising-push last ps q is h.2)
+    (omega (arith, low, lt), each-append (λ x. p.id < x.id) ps (q ∷ []) h.1 (omega (arith, lt, low), tt), rising-push last ps q lt h.2)
 
 -- What is found is pending.
 
@@ -174,16 +197,28 @@ found-there id p (q ∷ ps) h =
       | false ↦ λ is. let rest = found-there id p ps is in omega (arith, rest)
     ] h
 
+-- what is taken up again has a greater number, in time
+is-greater : (now id : ℕ) (call : Call) (m : Client) → is_resumed now id call m ≡ true → m.last < id
+is-greater now id call m is =
+    let free = (and_parts (nat_lt m.last id && nat_lt id 2147483648) (nat_le now call.expiration && (nat_lt (length m.pending) 64 && fits id m call)) is).0 in
+    ltb-true m.last id (and_parts (nat_lt m.last id) (nat_lt id 2147483648) free).0
+
+is-early : (now id : ℕ) (call : Call) (m : Client) → is_resumed now id call m ≡ true → now ≤ call.expiration
+is-early now id call m is =
+    let rest = (and_parts (nat_lt m.last id && nat_lt id 2147483648) (nat_le now call.expiration && (nat_lt (length m.pending) 64 && fits id m call)) is).1 in
+    leb-true now call.expiration (and_parts (nat_le now call.expiration) (nat_lt (length m.pending) 64 && fits id m call) rest).0
+
 -- A client that is alive, and what happens to it.
 
 module _ (client_id : List ℕ) (version : Version) where
-  module _ (calls : List Call) (taken : List (ℕ × Ended)) where
+  module _ (calls : List (ℕ × Call)) (taken : List (ℕ × Ended)) where
     -- another link, and the same calls sent or not
     alive-alike : (m : Client) (qs : List Pending) (l : Option Linked) → AreAlike m.pending qs → IsAlive client_id version calls taken m → IsAlive client_id version calls taken (record m { pending = qs; link = l })
     alive-alike m qs l same h = record {
       client = h.client;
       writes = h.writes;
-      count = h.count;
+      numbers = h.numbers;
+      single = h.single;
       once = λ r. ap (λ n. n + (ended_count r taken + ended_count r m.completions)) (sym (alike-count r m.pending qs same)) ∙ h.once r;
       pending = alike-each (λ id c. call_at calls id ≡ Some c) m.pending qs same h.pending;
       rising = alike-rising m.last m.pending qs same h.rising;
@@ -193,13 +228,14 @@ module _ (client_id : List ℕ) (version : Version) where
     alive-parted m h = alive-alike m (unsent m.pending) None (alike-unsent m.pending) h
 
     alive-linked : (m : Client) (l : Option Linked) → IsAlive client_id version calls taken m → IsAlive client_id version calls taken (record m { link = l })
-    alive-linked m l h = record { client = h.client; writes = h.writes; count = h.count; once = h.once; pending = h.pending; rising = h.rising }
+    alive-linked m l h = record { client = h.client; writes = h.writes; numbers = h.numbers; single = h.single; once = h.once; pending = h.pending; rising = h.rising }
 
     alive-completed : (id : ℕ) (ended : Ended) (m : Client) → 0 < pending_count id m.pending → IsAlive client_id version calls taken m → IsAlive client_id version calls taken (completed id ended m)
     alive-completed id ended m there h = record {
       client = h.client;
       writes = h.writes;
-      count = h.count;
+      numbers = h.numbers;
+      single = h.single;
       once = λ r.
           let left = without-count r id m.pending there in
           let more = ended-append r m.completions ((id, ended) ∷ []) in
@@ -238,7 +274,8 @@ module _ (client_id : List ℕ) (version : Version) where
     alive-ticked now m h = record {
       client = h.client;
       writes = h.writes;
-      count = h.count;
+      numbers = h.numbers;
+      single = h.single;
       once = λ r.
           let left = on_time-count r now m.pending in
           let more = ended-append r m.completions (late now m.pending) in
@@ -252,7 +289,8 @@ module _ (client_id : List ℕ) (version : Version) where
     alive-taken m h = record {
       client = h.client;
       writes = h.writes;
-      count = h.count;
+      numbers = h.numbers;
+      single = h.single;
       once = λ r.
           let all = ap (ended_count r) (sym (take-append-drop 1 m.completions)) ∙ ended-append r (take 1 m.completions) (drop 1 m.completions) in
           let more = ended-append r taken (take 1 m.completions) in
@@ -263,61 +301,81 @@ module _ (client_id : List ℕ) (version : Version) where
     }
 
     -- a call more, sent or not
-    alive-called : (call : Call) (sent : Option ℕ) (l : Option Linked) (m : Client) → IsAlive client_id version calls taken m
-        → IsAlive client_id version (calls ++ call ∷ []) taken (record m { last = suc m.last; pending = m.pending ++ record { id = suc m.last; call = call; sent = sent } ∷ []; link = l })
-    alive-called call sent l m h =
-        let p : Pending = record { id = suc m.last; call = call; sent = sent } in
+    alive-called : (id : ℕ) (call : Call) (sent : Option ℕ) (l : Option Linked) (m : Client) → m.last < id → IsAlive client_id version calls taken m
+        → IsAlive client_id version (calls ++ (id, call) ∷ []) taken (record m { last = id; pending = m.pending ++ record { id = id; call = call; sent = sent } ∷ []; link = l })
+    alive-called id call sent l m lt h =
+        let p : Pending = record { id = id; call = call; sent = sent } in
         record {
           client = h.client;
           writes = h.writes;
-          count = let long = length-append calls (call ∷ []) in let was = h.count in omega (arith, long, was);
+          numbers = each-append (λ x. (0 < x.0) × (x.0 ≤ id)) calls ((id, call) ∷ []) (numbers-later m.last id calls (omega (arith, lt)) h.numbers) ((omega (arith, lt), omega arith), tt);
+          single = λ r. let few = called-single r id m.last calls h.numbers lt (h.single r) in let more = called-append r calls ((id, call) ∷ []) in omega (arith, few, more);
           once = λ r.
               let more = pending-append r m.pending (p ∷ []) in
               let was = h.once r in
-              let next = next-once r m.last in
+              let next = called-append r calls ((id, call) ∷ []) in
               omega (arith, more, was, next);
           pending =
-              each-append (λ q. call_at (calls ++ call ∷ []) q.id ≡ Some q.call) m.pending (p ∷ [])
-              (each-weaker (λ q. call_at calls q.id ≡ Some q.call) (λ q. call_at (calls ++ call ∷ []) q.id ≡ Some q.call) (λ q is. call_at-append calls (call ∷ []) q.id q.call is) m.pending h.pending)
-              (call_at-push calls call m.last h.count, tt);
-          rising = rising-push m.last m.pending p refl h.rising;
+              each-append (λ q. call_at (calls ++ (id, call) ∷ []) q.id ≡ Some q.call) m.pending (p ∷ [])
+              (each-weaker (λ q. call_at calls q.id ≡ Some q.call) (λ q. call_at (calls ++ (id, call) ∷ []) q.id ≡ Some q.call) (λ q is. call_at-append calls ((id, call) ∷ []) q.id q.call is) m.pending h.pending)
+              (call_at-push calls id call m.last h.numbers lt, tt);
+          rising = rising-push m.last m.pending p lt h.rising;
         }
 
-    alive-placed : (call : Call) (m : Client) (l : Option Linked) → IsAlive client_id version calls taken m → IsAlive client_id version (calls ++ call ∷ []) taken (placed call m l)
-    alive-placed call m None h = alive-called call None None m h
-    alive-placed call m (Some l) h = alive-called call (Some (suc l.given)) (Some (record l { given = suc l.given })) m h
+    alive-placed : (id : ℕ) (call : Call) (m : Client) (l : Option Linked) → m.last < id → IsAlive client_id version calls taken m → IsAlive client_id version (calls ++ (id, call) ∷ []) taken (placed id call m l)
+    alive-placed id call m None lt h = alive-called id call None None m lt h
+    alive-placed id call m (Some l) lt h = alive-called id call (Some (suc l.given)) (Some (record l { given = suc l.given })) m lt h
+
+    -- greater numbers from now on
+    alive-skipped : (id : ℕ) (m : Client) → IsAlive client_id version calls taken m → IsAlive client_id version calls taken (skipped id m)
+    alive-skipped id m h =
+        elim (nat_lt m.last id && nat_lt id 2147483648) as (λ b. (nat_lt m.last id && nat_lt id 2147483648) ≡ b → IsAlive client_id version calls taken (cond b (record m { last = id }) m)) [
+          | true ↦ λ is. let lt = ltb-true m.last id (and_parts (nat_lt m.last id) (nat_lt id 2147483648) is).0 in record {
+            client = h.client;
+            writes = h.writes;
+            numbers = numbers-later m.last id calls (omega (arith, lt)) h.numbers;
+            single = h.single;
+            once = h.once;
+            pending = h.pending;
+            rising = rising-later m.last id m.pending (omega (arith, lt)) h.rising;
+          }
+          | false ↦ λ is. h
+        ] refl
 
     -- where no call is made and no completion is taken
     alive-plain : (m : Client) → IsAlive client_id version calls taken m → IsAlive client_id version (calls ++ []) (taken ++ []) m
     alive-plain m h =
         subst (λ (xs : List (ℕ × Ended)). IsAlive client_id version (calls ++ []) xs m) (sym (append-nil taken))
-        (subst (λ (cs : List Call). IsAlive client_id version cs taken m) (sym (append-nil calls)) h)
+        (subst (λ (cs : List (ℕ × Call)). IsAlive client_id version cs taken m) (sym (append-nil calls)) h)
+
+    -- a call that is taken, or taken up again
+    alive-made : (b : Bool) (id : ℕ) (call : Call) (m : Client) → (b ≡ true → m.last < id) → IsAlive client_id version calls taken m
+        → IsAlive client_id version (calls ++ cond b ((id, call) ∷ []) []) (taken ++ []) (cond b (placed id call m m.link) m)
+    alive-made true id call m lt h = subst (λ (xs : List (ℕ × Ended)). IsAlive client_id version (calls ++ (id, call) ∷ []) xs (placed id call m m.link)) (sym (append-nil taken)) (alive-placed id call m m.link (lt refl) h)
+    alive-made false id call m lt h = alive-plain m h
 
     alive-after : (down : Hearing Answer) (h : Happening) (m : Client) → IsAlive client_id version calls taken m → IsAlive client_id version (calls ++ made h m) (taken ++ gives h m) (after down h m)
-    alive-after down (Called now call) m a =
-        subst (λ (xs : List (ℕ × Ended)). IsAlive client_id version (calls ++ made (Called now call) m) xs (after down (Called now call) m)) (sym (append-nil taken))
-        (elim (is_taken now call m) as (λ b. IsAlive client_id version (calls ++ cond b (call ∷ []) []) taken (cond b (placed call m m.link) m)) [
-          | true ↦ alive-placed call m m.link a
-          | false ↦ subst (λ (cs : List Call). IsAlive client_id version cs taken m) (sym (append-nil calls)) a
-        ])
+    alive-after down (Called now call) m a = alive-made (is_taken now call m) (suc m.last) call m (λ is. omega arith) a
+    alive-after down (Resumed now id call) m a = alive-made (is_resumed now id call m) id call m (λ is. is-greater now id call m is) a
+    alive-after down (Skipped id) m a = alive-plain (skipped id m) (alive-skipped id m a)
     alive-after down (Joined now) m a =
         alive-plain (after down (Joined now) m) (alive-alike m (resent now 0 m.pending) (Some (record { given = ids_after now 0 m.pending; received = [] })) (alike-resent now 0 m.pending) a)
     alive-after down (Fed octets) m a = alive-plain (fed_on down octets m) (alive-parted_at (ending_of down octets m.link) (told_of down octets m m.link) (alive-told down octets m m.link a))
     alive-after down Parted m a = alive-plain (parted m) (alive-parted m a)
     alive-after down (Recalled id) m a = alive-plain (recalled (find_pending id m.pending) m) (alive-recalled id (find_pending id m.pending) m refl a)
     alive-after down (Ticked now) m a = alive-plain (after down (Ticked now) m) (alive-ticked now m a)
-    alive-after down Taken m a = subst (λ (cs : List Call). IsAlive client_id version cs (taken ++ take 1 m.completions) (after down Taken m)) (sym (append-nil calls)) (alive-taken m a)
+    alive-after down Taken m a = subst (λ (cs : List (ℕ × Call)). IsAlive client_id version cs (taken ++ take 1 m.completions) (after down Taken m)) (sym (append-nil calls)) (alive-taken m a)
 
   -- Transmissions.
 
   -- each of these carries a call's content, in time
-  abbrev AreOfCalls : List Call → List (ℕ × Transmission) → Type 0
+  abbrev AreOfCalls : List (ℕ × Call) → List (ℕ × Transmission) → Type 0
   AreOfCalls calls xs = AllByRecursion (λ x. IsOfCall client_id version calls x) xs
 
-  of_call-later : (calls more : List Call) (x : ℕ × Transmission) → IsOfCall client_id version calls x → IsOfCall client_id version (calls ++ more) x
+  of_call-later : (calls more : List (ℕ × Call)) (x : ℕ × Transmission) → IsOfCall client_id version calls x → IsOfCall client_id version (calls ++ more) x
   of_call-later calls more x h = record { client = h.client; written = h.written; call = call_at-append calls more x.1.retention_id x.1.call h.call; in_time = h.in_time }
 
-  again-sent : (calls more : List Call) (v : Version) (id : List ℕ) (now n : ℕ) (ps : List Pending) → v ≡ version → id ≡ client_id → AllByRecursion (λ p. call_at calls p.id ≡ Some p.call) ps → AreOfCalls (calls ++ more) (sent_at now (says_again v id now n ps))
+  again-sent : (calls more : List (ℕ × Call)) (v : Version) (id : List ℕ) (now n : ℕ) (ps : List Pending) → v ≡ version → id ≡ client_id → AllByRecursion (λ p. call_at calls p.id ≡ Some p.call) ps → AreOfCalls (calls ++ more) (sent_at now (says_again v id now n ps))
   again-sent calls more v id now n [] wrote is h = tt
   again-sent calls more v id now n (p ∷ ps) wrote is h =
       elim (nat_le now p.call.expiration) as (λ b. nat_le now p.call.expiration ≡ b
@@ -326,11 +384,17 @@ module _ (client_id : List ℕ) (version : Version) where
         | false ↦ λ late. again-sent calls more v id now n ps wrote is h.1
       ] refl
 
-  placed-sent : (calls : List Call) (taken : List (ℕ × Ended)) (now : ℕ) (call : Call) (m : Client) (l : Option Linked) → now ≤ call.expiration → IsAlive client_id version calls taken m → AreOfCalls (calls ++ call ∷ []) (sent_at now (says_placed call m l))
-  placed-sent calls taken now call m None in_time h = tt
-  placed-sent calls taken now call m (Some l) in_time h = (record { client = h.client; written = h.writes; call = call_at-push calls call m.last h.count; in_time = in_time }, tt)
+  placed-sent : (calls : List (ℕ × Call)) (taken : List (ℕ × Ended)) (now id : ℕ) (call : Call) (m : Client) (l : Option Linked) → now ≤ call.expiration → m.last < id → IsAlive client_id version calls taken m
+      → AreOfCalls (calls ++ (id, call) ∷ []) (sent_at now (says_placed id call m l))
+  placed-sent calls taken now id call m None in_time lt h = tt
+  placed-sent calls taken now id call m (Some l) in_time lt h = (record { client = h.client; written = h.writes; call = call_at-push calls id call m.last h.numbers lt; in_time = in_time }, tt)
 
-  recalled-sent : (calls : List Call) (v : Version) (o : Option Pending) → AreOfCalls calls (sent_at 0 (says_recalled v o))
+  made-sent : (calls : List (ℕ × Call)) (taken : List (ℕ × Ended)) (b : Bool) (now id : ℕ) (call : Call) (m : Client) → (b ≡ true → now ≤ call.expiration) → (b ≡ true → m.last < id) → IsAlive client_id version calls taken m
+      → AreOfCalls (calls ++ cond b ((id, call) ∷ []) []) (sent_at now (cond b (says_placed id call m m.link) []))
+  made-sent calls taken true now id call m in_time lt h = placed-sent calls taken now id call m m.link (in_time refl) (lt refl) h
+  made-sent calls taken false now id call m in_time lt h = tt
+
+  recalled-sent : (calls : List (ℕ × Call)) (v : Version) (o : Option Pending) → AreOfCalls calls (sent_at 0 (says_recalled v o))
   recalled-sent calls v None = tt
   recalled-sent calls v (Some p) = withdrawn-sent p.sent
     where
@@ -338,12 +402,11 @@ module _ (client_id : List ℕ) (version : Version) where
       withdrawn-sent None = tt
       withdrawn-sent (Some i) = tt
 
-  sent-after : (calls : List Call) (taken : List (ℕ × Ended)) (h : Happening) (m : Client) → IsAlive client_id version calls taken m → AreOfCalls (calls ++ made h m) (sent_at (moment_of h) (says h m))
+  sent-after : (calls : List (ℕ × Call)) (taken : List (ℕ × Ended)) (h : Happening) (m : Client) → IsAlive client_id version calls taken m → AreOfCalls (calls ++ made h m) (sent_at (moment_of h) (says h m))
   sent-after calls taken (Called now call) m a =
-      elim (is_taken now call m) as (λ b. is_taken now call m ≡ b → AreOfCalls (calls ++ cond b (call ∷ []) []) (sent_at now (cond b (says_placed call m m.link) []))) [
-        | true ↦ λ is. placed-sent calls taken now call m m.link (leb-true now call.expiration (and_parts (nat_le now call.expiration) _ is).0) a
-        | false ↦ λ is. tt
-      ] refl
+      made-sent calls taken (is_taken now call m) now (suc m.last) call m (λ is. leb-true now call.expiration (and_parts (nat_le now call.expiration) (nat_lt m.last 2147483647 && (nat_lt (length m.pending) 64 && fits (suc m.last) m call)) is).0) (λ is. omega arith) a
+  sent-after calls taken (Resumed now id call) m a = made-sent calls taken (is_resumed now id call m) now id call m (λ is. is-early now id call m is) (λ is. is-greater now id call m is) a
+  sent-after calls taken (Skipped id) m a = tt
   sent-after calls taken (Joined now) m a = again-sent calls [] m.version m.client_id now 0 m.pending a.writes a.client a.pending
   sent-after calls taken (Fed octets) m a = tt
   sent-after calls taken Parted m a = tt
@@ -368,7 +431,7 @@ module _ (client_id : List ℕ) (version : Version) where
 
   pub life-new : (limits : Limits) → IsLife client_id version (new_life client_id version limits)
   life-new limits = record {
-    alive = record { client = refl; writes = refl; count = refl; once = λ r. none-once r; pending = tt; rising = tt };
+    alive = record { client = refl; writes = refl; numbers = tt; single = λ r. omega arith; once = λ r. refl; pending = tt; rising = tt };
     sent = tt;
   }
 

@@ -8,7 +8,7 @@ use Rattle.giop_core.specs.declared.header.Version.TheVariants.{V12}
 use Rattle.giop_core.specs.declared.reply.ReplyStatus.TheVariants.{NoException}
 use Rattle.giop_frames.specs.declared.limits.Limits.{Limits}
 use Rattle.giop_link.specs.Hearing.{Ending, Hearing, peer_closed}
-use Rattle.ft_client.specs.Clients.{Called, Cancelled, Expired, Fed, Happening, Joined, Parted, Recalled, Taken, Ticked, Told, fits, new_client, says, transmission}
+use Rattle.ft_client.specs.Clients.{Called, Cancelled, Expired, Fed, Happening, Joined, Parted, Recalled, Resumed, Skipped, Taken, Ticked, Told, fits, new_client, says, transmission}
 use Rattle.ft_client.specs.Lives.{Life, lived, new_life}
 use Rattle.ft_client.specs.Messages.{Answer, Call, Transmission, Withdrawn, located, replied}
 
@@ -46,7 +46,7 @@ abbrev sent_as : ℕ → ℕ → Transmission
 sent_as r i = transmission V12 (65 ∷ []) r i add
 
 -- it is short enough
-short : fits (new_client (65 ∷ []) V12 limits) add ≡ true
+short : fits 1 (new_client (65 ∷ []) V12 limits) add ≡ true
 unfolding behind_header
 short = refl
 
@@ -124,3 +124,22 @@ unheard = refl
 earlier : (life (Called 50 add ∷ Called 50 add ∷ Joined 50 ∷ Recalled (pos 1) ∷ Parted ∷ Joined 60 ∷ Fed (2 ∷ []) ∷ Taken ∷ Taken ∷ [])).taken ≡ (1, Cancelled) ∷ []
 unfolding behind_header
 earlier = refl
+
+-- a call of before is sent under its own number, and the next call has the next; a number that was given takes none up
+taken_up : (life (Resumed 50 3 add ∷ Called 50 add ∷ Joined 60 ∷ [])).sent ≡ (60, sent_as 3 1) ∷ (60, sent_as 4 2) ∷ []
+unfolding behind_header
+taken_up = refl
+
+used : (life (Called 50 add ∷ Resumed 50 1 add ∷ [])).calls ≡ (1, add) ∷ []
+unfolding behind_header
+used = refl
+
+-- past its expiration it is not taken up
+taken_up_late : (life (Resumed 101 3 add ∷ [])).calls ≡ []
+unfolding behind_header
+taken_up_late = refl
+
+-- numbers are skipped, and not back
+after_others : (life (Skipped 5 ∷ Skipped 3 ∷ Called 50 add ∷ [])).calls ≡ (6, add) ∷ []
+unfolding behind_header
+after_others = refl

@@ -1,11 +1,13 @@
 -- What a call asks, and why it is not taken.
-use Rattle.std.specs.Prelude.{◌≡◌, ℕ, ◌<◌, ◌≤◌, ◌^◌, List, length, false}
+use Rattle.std.specs.Prelude.{◌≡◌, ℕ, suc, ◌<◌, ◌≤◌, ◌^◌, ◌&&◌, nat_lt, List, length, false}
 use Rattle.cdr_core.specs.View.{values_of}
 use Rattle.cdr_core.specs.declared.values.Val.{Val}
 use Rattle.giop_core.specs.declared.header.Version.{Version}
 use Rattle.ft_client.specs.declared.pending.Asked.{Asked}
 use Rattle.ft_client.specs.declared.error.CallError.{CallError}
 use Rattle.ft_client.specs.declared.error.CallError.TheVariants.{Expired, IdsUsed, Memory, TooLong, TooManyCalls}
+use Rattle.ft_client.specs.declared.error.RecallError.{RecallError}
+use Rattle.ft_client.specs.declared.error.RecallError.TheVariants as recall
 use Rattle.ft_client.specs.Clients.{Client, fits, transmission}
 use Rattle.ft_client.specs.Messages.{Call, Transmission, request_behind}
 
@@ -33,8 +35,23 @@ abbrev pub IsCallError : ℕ → Call → Client → CallError → Type 0
 IsCallError now call m Expired = call.expiration < now
 IsCallError now call m IdsUsed = (now ≤ call.expiration) × (2147483647 ≤ m.last)
 IsCallError now call m TooManyCalls = (now ≤ call.expiration) × (m.last < 2147483647) × (64 ≤ length m.pending)
-IsCallError now call m TooLong = (now ≤ call.expiration) × (m.last < 2147483647) × (length m.pending < 64) × (fits m call ≡ false)
+IsCallError now call m TooLong = (now ≤ call.expiration) × (m.last < 2147483647) × (length m.pending < 64) × (fits (suc m.last) m call ≡ false)
 IsCallError now call m Memory = (now ≤ call.expiration) × (m.last < 2147483647) × (length m.pending < 64)
+
+-- a number that is not greater than each that was given or taken up, or is no long
+abbrev pub IsUsed : ℕ → Client → Type 0
+IsUsed id m = (nat_lt m.last id && nat_lt id 2147483648) ≡ false
+
+abbrev pub IsFree : ℕ → Client → Type 0
+IsFree id m = (m.last < id) × (id < 2 ^ 31)
+
+-- Why a call of before is not taken up again at a moment: the first that holds, and Memory as for a call.
+abbrev pub IsRecallError : ℕ → ℕ → Call → Client → RecallError → Type 0
+IsRecallError now id call m recall.NumberUsed = IsUsed id m
+IsRecallError now id call m recall.Expired = IsFree id m × (call.expiration < now)
+IsRecallError now id call m recall.TooManyCalls = IsFree id m × (now ≤ call.expiration) × (64 ≤ length m.pending)
+IsRecallError now id call m recall.TooLong = IsFree id m × (now ≤ call.expiration) × (length m.pending < 64) × (fits id m call ≡ false)
+IsRecallError now id call m recall.Memory = IsFree id m × (now ≤ call.expiration) × (length m.pending < 64)
 
 -- what is called
 abbrev pub call_of : List ℕ → List ℕ → List Val → ℕ → Call

@@ -64,10 +64,13 @@ new_client client_id version limits = record {
   completions = [];
 }
 
--- what can happen to a client: a call at a moment, a connection at a moment, octets that come, the loss of the connection, a
--- call's number that is cancelled, a moment, and that the next completion is taken
+-- what can happen to a client: a call at a moment; a call of before at a moment, under its number; a number up to which calls
+-- of before were numbered; a connection at a moment, octets that come, the loss of the connection, a call's number that is
+-- cancelled, a moment, and that the next completion is taken
 pub data Happening : Type 0 where
   Called : (now : ℕ) → Call → Happening
+  Resumed : (now id : ℕ) → Call → Happening
+  Skipped : (id : ℕ) → Happening
   Joined : (now : ℕ) → Happening
   Fed : List ℕ → Happening
   Parted : Happening
@@ -87,23 +90,32 @@ transmission version client_id id request_id call = record {
   call = call;
 }
 
--- GIOP 9.4.1: its Request is not too long for a message size. It is as long under each request id.
-abbrev pub fits : Client → Call → Bool
-fits m call = nat_lt (length (request_behind (transmission m.version m.client_id (suc m.last) 1 call))) 4294967296
+-- GIOP 9.4.1: its Request under a number is not too long for a message size. It is as long under each request id.
+abbrev pub fits : ℕ → Client → Call → Bool
+fits id m call = nat_lt (length (request_behind (transmission m.version m.client_id id 1 call))) 4294967296
 
 -- A call is taken where it isn't past its expiration, there are numbers left (FT 23.2.7: a long), fewer than 64 calls are
 -- pending (own rule), and it fits.
 abbrev pub is_taken : ℕ → Call → Client → Bool
-is_taken now call m = nat_le now call.expiration && (nat_lt m.last 2147483647 && (nat_lt (length m.pending) 64 && fits m call))
+is_taken now call m = nat_le now call.expiration && (nat_lt m.last 2147483647 && (nat_lt (length m.pending) 64 && fits (suc m.last) m call))
 
--- with the next number, and sent where there is a link
-abbrev pub placed : Call → Client → Option Linked → Client
-placed call m None = record m { last = suc m.last; pending = m.pending ++ record { id = suc m.last; call = call; sent = None } ∷ []; link = None }
-placed call m (Some l) = record m { last = suc m.last; pending = m.pending ++ record { id = suc m.last; call = call; sent = Some (suc l.given) } ∷ []; link = Some (record l { given = suc l.given }) }
+-- A call of before is taken up again where its number is greater than each that was given or taken up (own rule), is a long,
+-- and the call would be taken.
+abbrev pub is_resumed : ℕ → ℕ → Call → Client → Bool
+is_resumed now id call m = (nat_lt m.last id && nat_lt id 2147483648) && (nat_le now call.expiration && (nat_lt (length m.pending) 64 && fits id m call))
 
-abbrev pub says_placed : Call → Client → Option Linked → List Said
-says_placed call m None = []
-says_placed call m (Some l) = Asked (transmission m.version m.client_id (suc m.last) (suc l.given) call) ∷ []
+-- with its number, and sent where there is a link
+abbrev pub placed : ℕ → Call → Client → Option Linked → Client
+placed id call m None = record m { last = id; pending = m.pending ++ record { id = id; call = call; sent = None } ∷ []; link = None }
+placed id call m (Some l) = record m { last = id; pending = m.pending ++ record { id = id; call = call; sent = Some (suc l.given) } ∷ []; link = Some (record l { given = suc l.given }) }
+
+abbrev pub says_placed : ℕ → Call → Client → Option Linked → List Said
+says_placed id call m None = []
+says_placed id call m (Some l) = Asked (transmission m.version m.client_id id (suc l.given) call) ∷ []
+
+-- numbers up to one count as given, where it is greater than the last and a long
+abbrev pub skipped : ℕ → Client → Client
+skipped id m = if nat_lt m.last id && nat_lt id 2147483648 then record m { last = id } else m
 
 -- a connection
 
@@ -209,7 +221,9 @@ says_recalled version (Some p) = withdrawn version p.sent
 
 -- what it is, where `down` says what it hears of its server
 abbrev pub after : Hearing Answer → Happening → Client → Client
-after down (Called now call) m = if is_taken now call m then placed call m m.link else m
+after down (Called now call) m = if is_taken now call m then placed (suc m.last) call m m.link else m
+after down (Resumed now id call) m = if is_resumed now id call m then placed id call m m.link else m
+after down (Skipped id) m = skipped id m
 after down (Joined now) m = record m { pending = resent now 0 m.pending; link = Some (record { given = ids_after now 0 m.pending; received = [] }) }
 after down (Fed octets) m = fed_on down octets m
 after down Parted m = parted m
@@ -219,7 +233,9 @@ after down Taken m = record m { completions = drop 1 m.completions }
 
 -- what it writes
 abbrev pub says : Happening → Client → List Said
-says (Called now call) m = if is_taken now call m then says_placed call m m.link else []
+says (Called now call) m = if is_taken now call m then says_placed (suc m.last) call m m.link else []
+says (Resumed now id call) m = if is_resumed now id call m then says_placed id call m m.link else []
+says (Skipped id) m = []
 says (Joined now) m = says_again m.version m.client_id now 0 m.pending
 says (Fed octets) m = []
 says Parted m = []
@@ -227,9 +243,10 @@ says (Recalled id) m = says_recalled m.version (find_pending id m.pending)
 says (Ticked now) m = []
 says Taken m = []
 
--- the calls that it takes
-abbrev pub made : Happening → Client → List Call
-made (Called now call) m = if is_taken now call m then call ∷ [] else []
+-- the calls that it takes, with their numbers
+abbrev pub made : Happening → Client → List (ℕ × Call)
+made (Called now call) m = if is_taken now call m then (suc m.last, call) ∷ [] else []
+made (Resumed now id call) m = if is_resumed now id call m then (id, call) ∷ [] else []
 made _ m = []
 
 -- the completions that are taken from it

@@ -1,16 +1,16 @@
 -- A client with all that ever was, and what is true of it.
-use Rattle.std.specs.Prelude.{◌≡◌, ℕ, zero, suc, ◌+◌, ◌<◌, ◌≤◌, ◌==◌, ◌&&◌, nat_le, nat_lt, Bool, true, false, List, [], ◌∷◌, ◌++◌, length, Option, Some, None, slice_get}
+use Rattle.std.specs.Prelude.{◌≡◌, ℕ, ◌+◌, ◌<◌, ◌≤◌, ◌==◌, Bool, true, false, if◌then◌else◌, List, [], ◌∷◌, ◌++◌, Option, Some, None}
 use Rattle.std.specs.List.{AllByRecursion}
 use Rattle.giop_core.specs.declared.header.Version.{Version}
 use Rattle.giop_frames.specs.declared.limits.Limits.{Limits}
-use Rattle.ft_client.specs.Clients.{Called, Client, Ended, Happening, Joined, Pending, after, gives, made, new_client, says}
+use Rattle.ft_client.specs.Clients.{Called, Client, Ended, Happening, Joined, Pending, Resumed, after, gives, made, new_client, says}
 use Rattle.giop_link.specs.Hearing.{Hearing}
 use Rattle.ft_client.specs.Messages.{Answer, Asked, Call, Said, Transmission, Withdrawn}
 
--- a client with all its calls, the first first, its transmissions, each with its moment, and the completions that were taken
+-- a client with all its calls and their numbers, the first first, its transmissions, each with its moment, and the completions that were taken
 pub record Life : Type 0 where
   pub client : Client
-  pub calls : List Call
+  pub calls : List (ℕ × Call)
   pub sent : List (ℕ × Transmission)
   pub taken : List (ℕ × Ended)
 
@@ -31,6 +31,7 @@ sent_at now (Withdrawn version request_id ∷ later) = sent_at now later
 -- the moment of a happening at which requests are written
 abbrev pub moment_of : Happening → ℕ
 moment_of (Called now call) = now
+moment_of (Resumed now id call) = now
 moment_of (Joined now) = now
 moment_of _ = 0
 
@@ -48,16 +49,20 @@ abbrev pub lived : Hearing Answer → List Happening → Life → Life
 lived down [] l = l
 lived down (h ∷ hs) l = lived down hs (goes_on down h l)
 
--- the call of a number: numbers count from 1
-abbrev pub call_at : List Call → ℕ → Option Call
-call_at calls zero = None
-call_at calls (suc n) = slice_get calls n
+-- the call of a number, if it was given one
+abbrev pub call_at : List (ℕ × Call) → ℕ → Option Call
+call_at [] r = None
+call_at (x ∷ xs) r = if x.0 == r then Some x.1 else call_at xs r
 
 abbrev pub one_if : Bool → ℕ
 one_if true = 1
 one_if false = 0
 
--- how often a number is pending, and how often it was completed
+-- how often a number was given a call, how often it is pending, and how often it was completed
+abbrev pub called_count : ℕ → List (ℕ × Call) → ℕ
+called_count r [] = 0
+called_count r (x ∷ xs) = one_if (x.0 == r) + called_count r xs
+
 abbrev pub pending_count : ℕ → List Pending → ℕ
 pending_count r [] = 0
 pending_count r (p ∷ ps) = one_if (p.id == r) + pending_count r ps
@@ -72,18 +77,20 @@ AreRising last [] = Unit {0}
 AreRising last (p ∷ ps) = (p.id ≤ last) × AllByRecursion (λ q. p.id < q.id) ps × AreRising last ps
 
 -- a client that took these calls, and from which these completions were taken
-pub record IsAlive (client_id : List ℕ) (version : Version) (calls : List Call) (taken : List (ℕ × Ended)) (m : Client) : Type 0 where
+pub record IsAlive (client_id : List ℕ) (version : Version) (calls : List (ℕ × Call)) (taken : List (ℕ × Ended)) (m : Client) : Type 0 where
   pub client : m.client_id ≡ client_id
   pub writes : m.version ≡ version
-  pub count : length calls ≡ m.last
+  -- numbers count from 1, and no number was given two calls
+  pub numbers : AllByRecursion (λ x. (0 < x.0) × (x.0 ≤ m.last)) calls
+  pub single : (r : ℕ) → called_count r calls ≤ 1
   -- each number that was given is pending, or was completed once, and no other is
-  pub once : (r : ℕ) → pending_count r m.pending + (ended_count r taken + ended_count r m.completions) ≡ one_if (nat_lt 0 r && nat_le r m.last)
+  pub once : (r : ℕ) → pending_count r m.pending + (ended_count r taken + ended_count r m.completions) ≡ called_count r calls
   -- what is pending is as it was called, in order of the numbers
   pub pending : AllByRecursion (λ p. call_at calls p.id ≡ Some p.call) m.pending
   pub rising : AreRising m.last m.pending
 
 -- a transmission of one of these calls, made in time
-pub record IsOfCall (client_id : List ℕ) (version : Version) (calls : List Call) (x : ℕ × Transmission) : Type 0 where
+pub record IsOfCall (client_id : List ℕ) (version : Version) (calls : List (ℕ × Call)) (x : ℕ × Transmission) : Type 0 where
   pub client : x.1.client_id ≡ client_id
   pub written : x.1.version ≡ version
   pub call : call_at calls x.1.retention_id ≡ Some x.1.call

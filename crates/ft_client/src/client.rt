@@ -1,6 +1,6 @@
 //! The client.
 
-ghost use Rattle.std.specs.Prelude.{◌≡◌, ◌≢◌, ◌<◌, ◌≤◌, ◌+◌, ◌++◌, [], ℕ, length, map, take, true, false, vec_len, is_some, IfOk, IfErr, IfSome, OnOk, OnErr, pos, suc};
+ghost use Rattle.std.specs.Prelude.{◌≡◌, ◌≢◌, ◌<◌, ◌≤◌, ◌+◌, ◌++◌, [], ℕ, length, map, take, true, false, vec_len, is_some, ◌^◌, ◌&&◌, nat_lt, IfOk, IfErr, IfSome, OnOk, OnErr, pos, suc};
 ghost use Rattle.std.specs.Option.{option_to_list};
 ghost use Rattle.std.specs.VecDeque.{deque_capacity, deque_len};
 ghost use Rattle.cdr_core.specs.Spelling.{IsClean};
@@ -10,13 +10,13 @@ ghost use Rattle.cdr_core.specs.Writing.{AreWritable};
 
 use crate::ended::Ended;
 use crate::ending::{complete, give_up, place_of, withdraw};
-use crate::error::CallError;
+use crate::error::{CallError, RecallError};
 use crate::feeding::feed_on;
 use crate::pending::{Asked, Pending};
 use crate::requests::{transmit, written};
 use crate::sending::{forget_sent, send_again};
 use cdr_core::Val;
-use giop_core::Version;
+use giop_core::{Version, WriteError};
 use giop_frames::Limits;
 use giop_link::ClientLink;
 use std::alloc::{AllocError, Global};
@@ -50,8 +50,9 @@ pub struct FtClient {
 }
 
 impl FtClient {
-    ghost use Rattle.ft_client.specs.Calling.{IsCallError, call_of};
-    ghost use Rattle.ft_client.specs.Clients.{Called, Client, Fed, Joined, Parted, Recalled, Taken, Ticked, after, find_pending, gives, is_taken, new_client, parted, says};
+    ghost use Rattle.ft_client.specs.Calling.{IsCallError, IsRecallError, call_asked, call_of};
+    ghost use Rattle.ft_client.specs.Clients.{Called, Client, Fed, Joined, Parted, Recalled, Resumed, Skipped, Taken, Ticked, after, find_pending, fits, gives, is_resumed, is_taken, new_client, parted, placed, says, says_placed};
+    ghost use Rattle.giop_core.specs.declared.error.WriteError.TheVariants.{TooLong};
     ghost use Rattle.ft_client.specs.Directions.{stream};
     ghost use Rattle.ft_client.specs.Ends.{completion_of, numbered};
     ghost use Rattle.ft_client.specs.Messages.{octets_said};
@@ -195,24 +196,107 @@ impl FtClient {
             arguments,
             expiration,
         };
+        self.place(number, &asked, out)?;
+        Ok(number as i32)
+    }
+
+    /// Takes a call of before up again, under its own number: one that was made before this client was, by a client of
+    /// the same id. A server that knows the number gives the call's first outcome. Where the client is connected the
+    /// call is sent, and its Request is appended.
+    ///
+    /// Calls of before are taken up in the order of their numbers, each with the expiration that it had: a server takes
+    /// both for one call by its number alone. The next call gets the number after this one; where greater numbers
+    /// were given before, `skip_to` says so. On an error the client and `out` are as they were.
+    #[expect(clippy::too_many_arguments)]
+    pub fn recall(
+        &mut self,
+        number: u32,
+        now: u64,
+        object_key: &[u8],
+        operation: &[u8],
+        arguments: &[Val],
+        expiration: u64,
+        out: &mut Vec<u8>,
+    ) -> Result<(), RecallError>
+        requires clean { IsClean operation.now }
+        requires writable { AreWritable (values_of arguments.now) }
+        // no refusal holds ..
+        ensures taken { OnOk result ((m : Client) → FtStands self.old m → is_resumed now number (call_of object_key.now operation.now arguments.now expiration) m ≡ true) }
+        ensures stands { OnOk result ((m : Client) → FtStands self.old m → FtStands self.new (after (down m.limits) (Resumed now number (call_of object_key.now operation.now arguments.now expiration)) m)) }
+        ensures out { OnOk result ((m : Client) → FtStands self.old m → out.new.items ≡ out.old.items ++ stream octets_said (says (Resumed now number (call_of object_key.now operation.now arguments.now expiration)) m)) }
+        // .. or it is the first that holds
+        ensures err { IfErr result (λ e. (m : Client) → FtStands self.old m → IsRecallError now number (call_of object_key.now operation.now arguments.now expiration) m e) }
+        ensures same { OnErr result ((m : Client) → FtStands self.old m → FtStands self.new m) }
+        ensures unwritten { OnErr result (out.new.items ≡ out.old.items) }
+    {
+        if !self.is_free(number) {
+            return Err(RecallError::NumberUsed);
+        }
+        if expiration < now {
+            return Err(RecallError::Expired);
+        }
+        if self.pending.len() == MOST {
+            return Err(RecallError::TooManyCalls);
+        }
+        let asked = Asked {
+            object_key,
+            operation,
+            arguments,
+            expiration,
+        };
+        self.place(number, &asked, out)?;
+        Ok(())
+    }
+
+    /// Numbers up to this one were given to calls before this client was made: the next call gets a greater one. Where
+    /// it is not greater than each that this client has given or taken up, or is past 2,147,483,647, nothing changes.
+    pub fn skip_to(&mut self, number: u32)
+        ensures { (m : Client) → FtStands self.old m → FtStands self.new (after (down m.limits) (Skipped number) m) }
+    {
+        if self.is_free(number) {
+            self.last = number;
+        }
+    }
+
+    /// Whether a number is a long that is greater than each that was given or taken up.
+    fn is_free(&self, number: u32) -> bool
+        ensures { result ≡ (nat_lt self.now.last number && nat_lt number 2147483648) }
+    {
+        self.last < number && number <= LAST
+    }
+
+    /// A call becomes pending under a number, and is sent where the client is connected. There is a place for it.
+    fn place(&mut self, number: u32, asked: &Asked<'_>, out: &mut Vec<u8>) -> Result<(), WriteError>
+        requires few { vec_len self.old.pending < 64 }
+        requires greater { self.old.last < number }
+        requires long { number < 2 ^ 31 }
+        requires clean { IsClean asked.now.operation.now }
+        requires writable { AreWritable (values_of asked.now.arguments.now) }
+        ensures fits { OnOk result ((m : Client) → FtStands self.old m → fits number m (call_asked asked.now) ≡ true) }
+        ensures stands { OnOk result ((m : Client) → FtStands self.old m → FtStands self.new (placed number (call_asked asked.now) m m.link)) }
+        ensures out { OnOk result ((m : Client) → FtStands self.old m → out.new.items ≡ out.old.items ++ stream octets_said (says_placed number (call_asked asked.now) m m.link)) }
+        ensures err { IfErr result (λ e. e ≡ TooLong → (m : Client) → FtStands self.old m → fits number m (call_asked asked.now) ≡ false) }
+        ensures same { OnErr result ((m : Client) → FtStands self.old m → FtStands self.new m) }
+        ensures unwritten { OnErr result (out.new.items ≡ out.old.items) }
+    {
         let mut call = written(
             self.alloc,
             self.version,
             self.client_id.as_slice(),
             number,
-            &asked,
+            asked,
         )?;
         self.pending.reserve(1)?;
         self.completions.reserve(self.pending.len() + 1)?;
         let Some(link) = &mut self.link else {
             self.pending.push_reserved(call);
             self.last = number;
-            return Ok(number as i32);
+            return Ok(());
         };
         call.sent = Some(transmit(link, &call, out)?);
         self.pending.push_reserved(call);
         self.last = number;
-        Ok(number as i32)
+        Ok(())
     }
 
     /// The client is connected anew: each pending call that is not past its expiration is sent on the new connection,

@@ -1,8 +1,8 @@
-//! Why a call was not taken.
+//! Why a call was not taken, and why one of before was not taken up again.
 
 ghost use Rattle.std.specs.Prelude.{◌≡◌};
 ghost use Rattle.ft_client.specs.declared.error.CallError.TheVariants.{Memory};
-ghost use Rattle.ft_client.specs.Errors.{call_error_of};
+ghost use Rattle.ft_client.specs.Errors.{call_error_of, recall_error_of};
 
 use giop_core::WriteError;
 use std::alloc::AllocError;
@@ -47,5 +47,38 @@ impl From<AllocError> for CallError {
 
     fn from(_error: AllocError) -> CallError {
         CallError::Memory
+    }
+}
+
+/// Why a call of before was not taken up again: the first of these that holds, or `Memory` in place of `TooLong`. The
+/// client and the output are as they were.
+#[derive(Clone, Copy, Debug, PartialEq, Eq, Error)]
+pub enum RecallError {
+    /// The number is not greater than each that this client has given or taken up, or is past 2,147,483,647.
+    #[error("number used")]
+    NumberUsed,
+    /// The moment is past the call's expiration.
+    #[error("expired")]
+    Expired,
+    /// As many calls are pending as a client keeps, 64.
+    #[error("too many calls")]
+    TooManyCalls,
+    /// More octets would stand after the header than a message size can count, 4,294,967,295.
+    #[error("too long")]
+    TooLong,
+    /// An allocation failed.
+    #[error("memory")]
+    Memory,
+}
+
+/// The message is too long, or an allocation failed.
+impl From<WriteError> for RecallError {
+    ghost from_gives = { λ e f. f ≡ recall_error_of e };
+
+    fn from(error: WriteError) -> RecallError {
+        match error {
+            WriteError::TooLong => RecallError::TooLong,
+            WriteError::Memory => RecallError::Memory,
+        }
     }
 }

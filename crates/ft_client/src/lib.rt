@@ -15,4 +15,4 @@ mod settling;
 
 pub use client::FtClient;
 pub use ended::{Ended, ReplyBody};
-pub use error::CallError;
+pub use error::{CallError, RecallError};

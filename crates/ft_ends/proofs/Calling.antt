@@ -1,5 +1,5 @@
 -- A client's own steps.
-use Rattle.std.proofs.Common.{◌≡◌, ℕ, suc, ◌≤◌, ◌&&◌, nat_le, nat_lt, ℤ, pos, true, false, cond, List, [], ◌∷◌, ◌++◌, length, Option, Some, None, is_some, Result, Ok, Err, refl, sym, ap, ◌∙◌, subst, arith}
+use Rattle.std.proofs.Common.{◌≡◌, ℕ, suc, ◌≤◌, ◌&&◌, nat_le, nat_lt, ℤ, pos, Bool, true, false, cond, List, [], ◌∷◌, ◌++◌, length, Option, Some, None, is_some, Result, Ok, Err, refl, sym, ap, ◌∙◌, subst, arith}
 use Rattle.std.specs.List.{cons_option}
 use Rattle.std.specs.Ordering.{int_eq}
 use Rattle.std.specs.Result.{IfErr, OnErr, OnOk}
@@ -10,13 +10,15 @@ use Rattle.giop_link.specs.ClientLinking.{ClientLinked}
 use Rattle.ft_client.specs.declared.client.FtClient.{FtClient}
 use Rattle.ft_client.specs.declared.error.CallError.{CallError}
 use Rattle.ft_client.specs.declared.error.CallError.TheVariants as refused
-use Rattle.ft_client.specs.Calling.{IsCallError}
-use Rattle.ft_client.specs.Clients.{Called, Client, Linked, Pending, Recalled, after, find_pending, fits, is_taken, placed, says, says_placed, says_recalled, withdrawn}
+use Rattle.ft_client.specs.declared.error.RecallError.{RecallError}
+use Rattle.ft_client.specs.declared.error.RecallError.TheVariants as recalling
+use Rattle.ft_client.specs.Calling.{IsCallError, IsRecallError}
+use Rattle.ft_client.specs.Clients.{Called, Client, Linked, Pending, Recalled, Resumed, after, find_pending, fits, is_resumed, is_taken, placed, says, says_placed, says_recalled, withdrawn}
 use Rattle.ft_client.specs.Directions.{stream}
 use Rattle.ft_client.specs.Messages.{Call, Said, octets_said}
 use Rattle.ft_client.specs.Standing.{FtStands, LinkFor, down, sent_ids}
 use Rattle.ft_ends.specs.declared.wire.Wire.{Wire as CodeWire}
-use Rattle.ft_ends.specs.Private.{IsRefusal, IsWireFor}
+use Rattle.ft_ends.specs.Private.{IsRecallRefusal, IsRefusal, IsWireFor}
 use Rattle.ft_orb.specs.Tellings.{Telling}
 use Rattle.ft_ends.specs.World.{Wire, extended}
 use Rattle.ft_ends.proofs.Ways.{wire-said}
@@ -28,9 +30,9 @@ no-link None o same none = refl
 no-link (Some l) None same none = absurd (false≢true (sym same))
 no-link (Some l) (Some x) same none = absurd cc
 
-called-silent : (now : ℕ) (call : Call) (c : Client) (l : Option Linked) → l ≡ None → cond (is_taken now call c) (says_placed call c l) [] ≡ []
-called-silent now call c None none = elim (is_taken now call c) as (λ b. cond b (says_placed call c None) [] ≡ []) [ true ↦ refl | false ↦ refl ]
-called-silent now call c (Some l) none = absurd cc
+called-silent : (b : Bool) (id : ℕ) (call : Call) (c : Client) (l : Option Linked) → l ≡ None → cond b (says_placed id call c l) [] ≡ []
+called-silent b id call c None none = elim b as (λ t. cond t (says_placed id call c None) [] ≡ []) [ true ↦ refl | false ↦ refl ]
+called-silent b id call c (Some l) none = absurd cc
 
 unsent-one : (version : Version) (o : Option ℕ) (rest : List ℕ) → cons_option o rest ≡ [] → withdrawn version o ≡ []
 unsent-one version None rest h = refl
@@ -54,22 +56,37 @@ none-sent link c (Some l) none h = absurd cc
 -- A call that is refused is not taken.
 
 refused-is : (now : ℕ) (call : Call) (c : Client) (e : CallError) → IsRefusal e → IsCallError now call c e → is_taken now call c ≡ false
-refused-is now call c refused.Expired h is = ap (λ b. b && (nat_lt c.last 2147483647 && (nat_lt (length c.pending) 64 && fits c call))) (lt-leb now call.expiration is)
+refused-is now call c refused.Expired h is = ap (λ b. b && (nat_lt c.last 2147483647 && (nat_lt (length c.pending) 64 && fits (suc c.last) c call))) (lt-leb now call.expiration is)
 refused-is now call c refused.IdsUsed h is =
-    and_right (nat_le now call.expiration) (nat_lt c.last 2147483647 && (nat_lt (length c.pending) 64 && fits c call)) (ap (λ b. b && (nat_lt (length c.pending) 64 && fits c call)) (not-below c.last 2147483647 is.1))
+    and_right (nat_le now call.expiration) (nat_lt c.last 2147483647 && (nat_lt (length c.pending) 64 && fits (suc c.last) c call)) (ap (λ b. b && (nat_lt (length c.pending) 64 && fits (suc c.last) c call)) (not-below c.last 2147483647 is.1))
   where
     not-below : (a b : ℕ) → b ≤ a → nat_lt a b ≡ false
     not-below a b h = lt-leb (suc a) b (omega arith)
 refused-is now call c refused.TooManyCalls h is =
-    and_right (nat_le now call.expiration) (nat_lt c.last 2147483647 && (nat_lt (length c.pending) 64 && fits c call))
-    (and_right (nat_lt c.last 2147483647) (nat_lt (length c.pending) 64 && fits c call) (ap (λ b. b && fits c call) (not-below (length c.pending) 64 is.2)))
+    and_right (nat_le now call.expiration) (nat_lt c.last 2147483647 && (nat_lt (length c.pending) 64 && fits (suc c.last) c call))
+    (and_right (nat_lt c.last 2147483647) (nat_lt (length c.pending) 64 && fits (suc c.last) c call) (ap (λ b. b && fits (suc c.last) c call) (not-below (length c.pending) 64 is.2)))
   where
     not-below : (a b : ℕ) → b ≤ a → nat_lt a b ≡ false
     not-below a b h = lt-leb (suc a) b (omega arith)
 refused-is now call c refused.TooLong h is =
-    and_right (nat_le now call.expiration) (nat_lt c.last 2147483647 && (nat_lt (length c.pending) 64 && fits c call))
-    (and_right (nat_lt c.last 2147483647) (nat_lt (length c.pending) 64 && fits c call) (and_right (nat_lt (length c.pending) 64) (fits c call) is.3))
+    and_right (nat_le now call.expiration) (nat_lt c.last 2147483647 && (nat_lt (length c.pending) 64 && fits (suc c.last) c call))
+    (and_right (nat_lt c.last 2147483647) (nat_lt (length c.pending) 64 && fits (suc c.last) c call) (and_right (nat_lt (length c.pending) 64) (fits (suc c.last) c call) is.3))
 refused-is now call c refused.Memory h is = absurd h
+
+recall-refused : (now id : ℕ) (call : Call) (c : Client) (e : RecallError) → IsRecallRefusal e → IsRecallError now id call c e → is_resumed now id call c ≡ false
+recall-refused now id call c recalling.NumberUsed h is = ap (λ b. b && (nat_le now call.expiration && (nat_lt (length c.pending) 64 && fits id c call))) is
+recall-refused now id call c recalling.Expired h is =
+    and_right (nat_lt c.last id && nat_lt id 2147483648) (nat_le now call.expiration && (nat_lt (length c.pending) 64 && fits id c call)) (ap (λ b. b && (nat_lt (length c.pending) 64 && fits id c call)) (lt-leb now call.expiration is.1))
+recall-refused now id call c recalling.TooManyCalls h is =
+    and_right (nat_lt c.last id && nat_lt id 2147483648) (nat_le now call.expiration && (nat_lt (length c.pending) 64 && fits id c call))
+    (and_right (nat_le now call.expiration) (nat_lt (length c.pending) 64 && fits id c call) (ap (λ b. b && fits id c call) (not-below (length c.pending) 64 is.2)))
+  where
+    not-below : (a b : ℕ) → b ≤ a → nat_lt a b ≡ false
+    not-below a b h = lt-leb (suc a) b (omega arith)
+recall-refused now id call c recalling.TooLong h is =
+    and_right (nat_lt c.last id && nat_lt id 2147483648) (nat_le now call.expiration && (nat_lt (length c.pending) 64 && fits id c call))
+    (and_right (nat_le now call.expiration) (nat_lt (length c.pending) 64 && fits id c call) (and_right (nat_lt (length c.pending) 64) (fits id c call) is.3))
+recall-refused now id call c recalling.Memory h is = absurd h
 
 -- A call that had no memory is one that no refusal but its length holds for.
 
@@ -89,11 +106,11 @@ module _ (tells : ℕ → List Telling) (old new : FtClient) (was is : CodeWire)
       → IfErr r IsRefusal
       → FtStands new (after (down c.limits) (Called now call) c) × IsWireFor tells is (extended (says (Called now call) c) o)
   called-by now call (Ok id) stood out err same unwritten refusal =
-      (stood c stands, wire-said tells was is o (says (Called now call) c) number at same_down (out c stands) (λ none. called-silent now call c c.link (no-link c.link o linked none)) held)
+      (stood c stands, wire-said tells was is o (says (Called now call) c) number at same_down (out c stands) (λ none. called-silent (is_taken now call c) (suc c.last) call c c.link (no-link c.link o linked none)) held)
   called-by now call (Err e) stood out err same unwritten refusal =
       let no = refused-is now call c e refusal (err c stands) in
-      let silent : says (Called now call) c ≡ [] = ap (λ b. cond b (says_placed call c c.link) []) no in (
-        subst (λ (d : Client). FtStands new d) (sym (ap (λ b. cond b (placed call c c.link) c) no)) (same c stands),
+      let silent : says (Called now call) c ≡ [] = ap (λ b. cond b (says_placed (suc c.last) call c c.link) []) no in (
+        subst (λ (d : Client). FtStands new d) (sym (ap (λ b. cond b (placed (suc c.last) call c c.link) c) no)) (same c stands),
         wire-said tells was is o (says (Called now call) c) number at same_down (unwritten ∙ sym (append-none was.up.octets.items (says (Called now call) c) silent)) (λ none. silent) held,
       )
     where
@@ -108,6 +125,33 @@ module _ (tells : ℕ → List Telling) (old new : FtClient) (was is : CodeWire)
       → FtStands new (after (down c.limits) (Called now asked) c) × IsWireFor tells is (extended (says (Called now asked) c) o)
   called-is now call asked r same stood out err kept unwritten refusal =
       subst (λ (k : Call). FtStands new (after (down c.limits) (Called now k) c) × IsWireFor tells is (extended (says (Called now k) c) o)) same (called-by now call r stood out err kept unwritten refusal)
+
+  resumed-by : (now id : ℕ) (call : Call) (r : Result (Unit {0}) RecallError)
+      → OnOk r ((m : Client) → FtStands old m → FtStands new (after (down m.limits) (Resumed now id call) m))
+      → OnOk r ((m : Client) → FtStands old m → is.up.octets.items ≡ was.up.octets.items ++ stream octets_said (says (Resumed now id call) m))
+      → IfErr r (λ e. (m : Client) → FtStands old m → IsRecallError now id call m e) → OnErr r ((m : Client) → FtStands old m → FtStands new m) → OnErr r (is.up.octets.items ≡ was.up.octets.items)
+      → IfErr r IsRecallRefusal
+      → FtStands new (after (down c.limits) (Resumed now id call) c) × IsWireFor tells is (extended (says (Resumed now id call) c) o)
+  resumed-by now id call (Ok u) stood out err same unwritten refusal =
+      (stood c stands, wire-said tells was is o (says (Resumed now id call) c) number at same_down (out c stands) (λ none. called-silent (is_resumed now id call c) id call c c.link (no-link c.link o linked none)) held)
+  resumed-by now id call (Err e) stood out err same unwritten refusal =
+      let no = recall-refused now id call c e refusal (err c stands) in
+      let silent : says (Resumed now id call) c ≡ [] = ap (λ b. cond b (says_placed id call c c.link) []) no in (
+        subst (λ (d : Client). FtStands new d) (sym (ap (λ b. cond b (placed id call c c.link) c) no)) (same c stands),
+        wire-said tells was is o (says (Resumed now id call) c) number at same_down (unwritten ∙ sym (append-none was.up.octets.items (says (Resumed now id call) c) silent)) (λ none. silent) held,
+      )
+    where
+      append-none : (octets : List ℕ) (said : List Said) → said ≡ [] → octets ++ stream octets_said said ≡ octets
+      append-none octets said none = ap (λ (s : List Said). octets ++ stream octets_said s) none ∙ append-nil octets
+
+  pub resumed-as : (now id : ℕ) (call asked : Call) (r : Result (Unit {0}) RecallError) → call ≡ asked
+      → OnOk r ((m : Client) → FtStands old m → FtStands new (after (down m.limits) (Resumed now id call) m))
+      → OnOk r ((m : Client) → FtStands old m → is.up.octets.items ≡ was.up.octets.items ++ stream octets_said (says (Resumed now id call) m))
+      → IfErr r (λ e. (m : Client) → FtStands old m → IsRecallError now id call m e) → OnErr r ((m : Client) → FtStands old m → FtStands new m) → OnErr r (is.up.octets.items ≡ was.up.octets.items)
+      → IfErr r IsRecallRefusal
+      → FtStands new (after (down c.limits) (Resumed now id asked) c) × IsWireFor tells is (extended (says (Resumed now id asked) c) o)
+  resumed-as now id call asked r same stood out err kept unwritten refusal =
+      subst (λ (k : Call). FtStands new (after (down c.limits) (Resumed now id k) c) × IsWireFor tells is (extended (says (Resumed now id k) c) o)) same (resumed-by now id call r stood out err kept unwritten refusal)
 
   pub recalled-is : (id asked : ℤ) → id ≡ asked → FtStands new (after (down c.limits) (Recalled id) c) → is.up.octets.items ≡ was.up.octets.items ++ stream octets_said (says (Recalled id) c)
       → FtStands new (after (down c.limits) (Recalled asked) c) × IsWireFor tells is (extended (says (Recalled asked) c) o)

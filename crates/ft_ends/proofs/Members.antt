@@ -1,13 +1,14 @@
 -- A client with its connection: what it does, and what it gets.
-use Rattle.std.proofs.Common.{◌≡◌, ℕ, suc, ◌+◌, ◌<◌, ◌≤◌, ◌^◌, nat_le, ℤ, pos, true, false, cond, List, [], ◌∷◌, ◌++◌, drop, length, take, Option, Some, None, refl, sym, ap, ◌∙◌, subst, arith, length-append}
+use Rattle.std.proofs.Common.{◌≡◌, ℕ, suc, ◌+◌, ◌<◌, ◌≤◌, ◌^◌, ◌&&◌, nat_le, nat_lt, ℤ, pos, Bool, true, false, cond, List, [], ◌∷◌, ◌++◌, drop, length, take, Option, Some, None, refl, sym, ap, ◌∙◌, subst, arith, length-append}
 use Rattle.std.specs.List.{AllByRecursion, filter_map}
+use Rattle.std.proofs.lemmas.Bool.{and_parts, ltb-true}
 use Rattle.std.proofs.lemmas.List.{append-nil}
 use Rattle.std.proofs.lemmas.Option.{same_Some}
 use Rattle.cdr_core.specs.Spelling.{IsClean}
 use Rattle.giop_core.specs.declared.header.Version.{Version}
 use Rattle.giop_frames.specs.declared.limits.Limits.{Limits}
 use Rattle.ft_log.specs.Keys.{RequestKey}
-use Rattle.ft_client.specs.Clients.{Called, Cancelled, Client, Ended, Expired, Linked, NeedsAddressing, Pending, Recalled, Ticked, Told, completed_if, ended_by, find_pending, is_taken, late, on_time, placed, recalled, says_placed, says_recalled, settled, settled_all, transmission, waiting, withdrawn, without}
+use Rattle.ft_client.specs.Clients.{Called, Cancelled, Client, Ended, Expired, Linked, NeedsAddressing, Pending, Recalled, Resumed, Skipped, Ticked, Told, completed_if, ended_by, find_pending, is_resumed, is_taken, late, on_time, placed, recalled, says_placed, says_recalled, settled, settled_all, transmission, waiting, withdrawn, without}
 use Rattle.ft_client.specs.Directions.{stream}
 use Rattle.giop_link.specs.Hearing.{Hearing, news}
 use Rattle.ft_client.specs.Lives.{IsLife, IsOfCall, Life, ended_count, sent_at}
@@ -26,7 +27,7 @@ use Rattle.ft_ends.specs.Tellings.{answer_in, law_told, tellings}
 use Rattle.ft_ends.specs.World.{Member, Wire, acted, emptied, extended}
 use Rattle.ft_ends.proofs.Lists.{each-append, each-contains, each-drop, each-front, front-trans}
 use Rattle.ft_ends.proofs.Served.{IsReply, IsServed, Traced, front-more, served-said, traced-later}
-use Rattle.ft_ends.proofs.Small.{IsSmall, IsTaken, found-each, on_time-each, settled-each, small-after, taken-is, without-each}
+use Rattle.ft_ends.proofs.Small.{IsSmall, IsTaken, found-each, on_time-each, resumed-is, settled-each, small-after, taken-is, without-each}
 use Rattle.ft_ends.proofs.Spoken.{IsAmong, IsSent, IsSentAs, IsSpoken, asked_as, asked_as-each, asked_as-id, spoken-called, spoken-pending, spoken-withdrawn, waiting-sent}
 
 -- the key of a client's call
@@ -106,26 +107,34 @@ module _ {State : Type 0} (meaning : Meaning State) (made : Made State) where
     wired-fewer sent pending fewer last (Some l) None f h = h
     wired-fewer sent pending fewer last (Some l) (Some x) f h = record { spoken = spoken-pending sent x.said pending fewer l.given (f x.said h.spoken.waits) h.spoken; few = h.few; served = h.served; known = h.known }
 
+    -- where greater numbers are given from now on
+    wired-later : (sent : List (ℕ × Transmission)) (pending : List Pending) (last next : ℕ) (l : Option Linked) (w : Option Wire) → last ≤ next → IsWired past opened sent pending last l w → IsWired past opened sent pending next l w
+    wired-later sent pending last next None None le h = h
+    wired-later sent pending last next None (Some x) le h = h
+    wired-later sent pending last next (Some l) None le h = h
+    wired-later sent pending last next (Some l) (Some x) le h = record { spoken = h.spoken; few = let few = h.few in omega (arith, few, le); served = h.served; known = h.known }
+
     -- a call is made
-    wired-called : (sent : List (ℕ × Transmission)) (now : ℕ) (call : Call) (c : Client) (l : Option Linked) (w : Option Wire) → IsClean c.client_id → IsTaken c call → IsWired past opened sent c.pending c.last l w
-        → IsWired past opened (sent ++ sent_at now (says_placed call c l)) (placed call c l).pending (placed call c l).last (placed call c l).link (extended (says_placed call c l) w)
-    wired-called sent now call c None None clean is h = tt
-    wired-called sent now call c None (Some x) clean is h = absurd h
-    wired-called sent now call c (Some l) None clean is h = absurd h
-    wired-called sent now call c (Some l) (Some x) clean is h =
-        let t = transmission c.version c.client_id (suc c.last) (suc l.given) call in
+    wired-called : (sent : List (ℕ × Transmission)) (now number : ℕ) (call : Call) (c : Client) (l : Option Linked) (w : Option Wire) → IsClean c.client_id → IsTaken c number call → IsWired past opened sent c.pending c.last l w
+        → IsWired past opened (sent ++ sent_at now (says_placed number call c l)) (placed number call c l).pending (placed number call c l).last (placed number call c l).link (extended (says_placed number call c l) w)
+    wired-called sent now number call c None None clean is h = tt
+    wired-called sent now number call c None (Some x) clean is h = absurd h
+    wired-called sent now number call c (Some l) None clean is h = absurd h
+    wired-called sent now number call c (Some l) (Some x) clean is h =
+        let t = transmission c.version c.client_id number (suc l.given) call in
         let few = h.few in
         let low = is.low in
+        let greater = is.greater in
         let fine : IsFine t = record {
           client = clean;
           call = is.fine.fine;
           number = is.fine.number;
-          id = omega (arith, few, low);
+          id = omega (arith, few, low, greater);
           size = is.fine.size (suc l.given);
         } in
         record {
           spoken = spoken-called sent x.said c.pending now l.given t refl fine h.spoken;
-          few = omega (arith, few);
+          few = omega (arith, few, greater);
           served = served-said meaning made past x.said (Asked t ∷ []) x.number x.went x.came l.received h.served;
           known = h.known;
         }
@@ -162,6 +171,21 @@ module _ {State : Type 0} (meaning : Meaning State) (made : Made State) where
     pub own-clean : (m : Member) → IsLife id version m.life → IsClean m.life.client.client_id
     own-clean m h = subst IsClean (sym h.alive.client) clean
 
+    -- a call that is taken, or taken up again
+    made-told : (b : Bool) (number : ℕ) (call : Call) (c : Client) → AllByRecursion (λ x. IsToldOf (arrivals made.limits past) id x) c.completions
+        → AllByRecursion (λ x. IsToldOf (arrivals made.limits past) id x) (cond b (placed number call c c.link) c).completions
+    made-told false number call c h = h
+    made-told true number call c h = placed-told c.link
+      where
+        placed-told : (l : Option Linked) → AllByRecursion (λ x. IsToldOf (arrivals made.limits past) id x) (placed number call c l).completions
+        placed-told None = h
+        placed-told (Some l) = h
+
+    made-wired : (b : Bool) (now number : ℕ) (call : Call) (m : Member) → (b ≡ true → IsTaken m.life.client number call) → IsMember past opened id version m
+        → IsWired past opened (m.life.sent ++ sent_at now (cond b (says_placed number call m.life.client m.life.client.link) [])) (cond b (placed number call m.life.client m.life.client.link) m.life.client).pending (cond b (placed number call m.life.client m.life.client.link) m.life.client).last (cond b (placed number call m.life.client m.life.client.link) m.life.client).link (extended (cond b (says_placed number call m.life.client m.life.client.link) []) m.wire)
+    made-wired true now number call m is h = wired-called past opened m.life.sent now number call m.life.client m.life.client.link m.wire (own-clean m h.life) (is refl) h.wired
+    made-wired false now number call m is h = wired-nothing past opened m.life.sent m.life.client.pending m.life.client.last m.life.client.link m.wire h.wired
+
     pub member-called : ClientLaws → (now : ℕ) (call : Call) (m : Member) → IsFineCall call → IsMember past opened id version m → IsMember past opened id version (acted (sides_of meaning made hears) (Called now call) m)
     member-called of_clients now call m fine h =
         let c = m.life.client in
@@ -169,20 +193,38 @@ module _ {State : Type 0} (meaning : Meaning State) (made : Made State) where
         record {
           life = of_clients.goes_on id version down (Called now call) m.life h.life;
           small = small-after of_clients.as_long down (Called now call) c fine h.small;
+          told = made-told (is_taken now call c) (suc c.last) call c h.told;
+          wired = made-wired (is_taken now call c) now (suc c.last) call m (λ is. taken-is of_clients.as_long now call c fine is) h;
+        }
+
+    pub member-resumed : ClientLaws → (now number : ℕ) (call : Call) (m : Member) → IsFineCall call → IsMember past opened id version m → IsMember past opened id version (acted (sides_of meaning made hears) (Resumed now number call) m)
+    member-resumed of_clients now number call m fine h =
+        let c = m.life.client in
+        let down = hears c.limits in
+        record {
+          life = of_clients.goes_on id version down (Resumed now number call) m.life h.life;
+          small = small-after of_clients.as_long down (Resumed now number call) c fine h.small;
+          told = made-told (is_resumed now number call c) number call c h.told;
+          wired = made-wired (is_resumed now number call c) now number call m (λ is. resumed-is of_clients.as_long now number call c fine is) h;
+        }
+
+    pub member-skipped : ClientLaws → (number : ℕ) (m : Member) → IsMember past opened id version m → IsMember past opened id version (acted (sides_of meaning made hears) (Skipped number) m)
+    member-skipped of_clients number m h =
+        let c = m.life.client in
+        let down = hears c.limits in
+        record {
+          life = of_clients.goes_on id version down (Skipped number) m.life h.life;
+          small = small-after of_clients.as_long down (Skipped number) c tt h.small;
           told =
-              elim (is_taken now call c) as (λ b. AllByRecursion (λ x. IsToldOf (arrivals made.limits past) id x) (cond b (placed call c c.link) c).completions)
-              [ true ↦ placed-told c.link | false ↦ h.told ];
+              elim (nat_lt c.last number && nat_lt number 2147483648) as (λ b. AllByRecursion (λ x. IsToldOf (arrivals made.limits past) id x) (cond b (record c { last = number }) c).completions)
+              [ true ↦ h.told | false ↦ h.told ];
           wired =
-              elim (is_taken now call c) as (λ b. is_taken now call c ≡ b
-              → IsWired past opened (m.life.sent ++ sent_at now (cond b (says_placed call c c.link) [])) (cond b (placed call c c.link) c).pending (cond b (placed call c c.link) c).last (cond b (placed call c c.link) c).link (extended (cond b (says_placed call c c.link) []) m.wire)) [
-                | true ↦ λ is. wired-called past opened m.life.sent now call c c.link m.wire (own-clean m h.life) (taken-is of_clients.as_long now call c fine is) h.wired
+              elim (nat_lt c.last number && nat_lt number 2147483648) as (λ b. (nat_lt c.last number && nat_lt number 2147483648) ≡ b
+              → IsWired past opened (m.life.sent ++ []) (cond b (record c { last = number }) c).pending (cond b (record c { last = number }) c).last (cond b (record c { last = number }) c).link (extended [] m.wire)) [
+                | true ↦ λ is. wired-later past opened (m.life.sent ++ []) c.pending c.last number c.link (extended [] m.wire) (let lt = ltb-true c.last number (and_parts (nat_lt c.last number) (nat_lt number 2147483648) is).0 in omega (arith, lt)) (wired-nothing past opened m.life.sent c.pending c.last c.link m.wire h.wired)
                 | false ↦ λ is. wired-nothing past opened m.life.sent c.pending c.last c.link m.wire h.wired
               ] refl;
         }
-      where
-        placed-told : (l : Option Linked) → AllByRecursion (λ x. IsToldOf (arrivals made.limits past) id x) (placed call m.life.client l).completions
-        placed-told None = h.told
-        placed-told (Some l) = h.told
 
     pub member-recalled : ClientLaws → (number : ℤ) (m : Member) → IsMember past opened id version m → IsMember past opened id version (acted (sides_of meaning made hears) (Recalled number) m)
     member-recalled of_clients number m h =
@@ -218,7 +260,8 @@ module _ {State : Type 0} (meaning : Meaning State) (made : Made State) where
       alive = record {
         client = h.alive.client;
         writes = h.alive.writes;
-        count = h.alive.count;
+        numbers = h.alive.numbers;
+        single = h.alive.single;
         once = λ r.
             let more = ended-append r l.taken l.client.completions in
             let was = h.alive.once r in
@@ -239,7 +282,7 @@ module _ {State : Type 0} (meaning : Meaning State) (made : Made State) where
 
   -- What it gets.
 
-  module _ (all : List (Arrival Wanted)) (id : List ℕ) (version : Version) (calls : List Call) (sent : List (ℕ × Transmission)) (said : List Said)
+  module _ (all : List (Arrival Wanted)) (id : List ℕ) (version : Version) (calls : List (ℕ × Call)) (sent : List (ℕ × Transmission)) (said : List Said)
       (among : AllByRecursion (λ s. IsAmong sent s) said) (of_calls : AllByRecursion (λ x. IsOfCall id version calls x) sent) where
     -- the request of an id is the client's
     own-client : (i : ℕ) (t : Transmission) → asked_as said i ≡ Some t → t.client_id ≡ id

@@ -1,11 +1,11 @@
 -- What a client has pending can be written, and is little.
-use Rattle.std.proofs.Common.{◌≡◌, ℕ, suc, ◌<◌, ◌≤◌, ◌==◌, ◌&&◌, nat_le, nat_lt, ℤ, pos, true, false, cond, List, [], ◌∷◌, ◌++◌, length, Option, Some, None, refl, ap, subst, arith, length-append}
+use Rattle.std.proofs.Common.{◌≡◌, ℕ, suc, ◌<◌, ◌≤◌, ◌==◌, ◌&&◌, nat_le, nat_lt, ℤ, pos, Bool, true, false, cond, List, [], ◌∷◌, ◌++◌, length, Option, Some, None, refl, ap, subst, arith, length-append}
 use Rattle.std.specs.List.{AllByRecursion}
 use Rattle.std.specs.Ordering.{int_eq}
 use Rattle.std.proofs.lemmas.Bool.{and_parts, ltb-true}
 use Rattle.std.proofs.lemmas.Option.{none-some, same_Some}
 use Rattle.giop_link.specs.Hearing.{Ending, Hearing, news}
-use Rattle.ft_client.specs.Clients.{Called, Cancelled, Client, Ended, Fed, Happening, Joined, Linked, Parted, Pending, Recalled, Taken, Ticked, after, completed, completed_if, ended_by, ending_of, find_pending, fits, ids_after, is_taken, on_time, parted, parted_at, placed, recalled, resent, settled, settled_all, told_of, transmission, unsent, waiting, without}
+use Rattle.ft_client.specs.Clients.{Called, Cancelled, Client, Ended, Fed, Happening, Joined, Linked, Parted, Pending, Recalled, Resumed, Skipped, Taken, Ticked, after, completed, completed_if, ended_by, ending_of, find_pending, fits, ids_after, is_resumed, is_taken, on_time, parted, parted_at, placed, recalled, resent, settled, settled_all, skipped, told_of, transmission, unsent, waiting, without}
 use Rattle.ft_client.specs.Laws.{RequestsAreAsLong}
 use Rattle.ft_client.specs.Messages.{Answer, Call, located, replied, request_behind}
 use Rattle.ft_ends.specs.Fine.{IsFineCall}
@@ -124,18 +124,20 @@ small-recalled None m h = h
 small-recalled (Some p) m h = small-completed p.id Cancelled m h
 
 -- what is known of a call that is taken
-pub record IsTaken (m : Client) (call : Call) : Type 0 where
-  pub low : suc m.last ≤ 2147483647
+pub record IsTaken (m : Client) (id : ℕ) (call : Call) : Type 0 where
+  pub greater : m.last < id
+  pub low : id ≤ 2147483647
   pub few : length m.pending < 64
-  pub fine : IsFinePending m.version m.client_id (suc m.last) call
+  pub fine : IsFinePending m.version m.client_id id call
 
-pub taken-is : RequestsAreAsLong → (now : ℕ) (call : Call) (m : Client) → IsFineCall call → is_taken now call m ≡ true → IsTaken m call
+pub taken-is : RequestsAreAsLong → (now : ℕ) (call : Call) (m : Client) → IsFineCall call → is_taken now call m ≡ true → IsTaken m (suc m.last) call
 taken-is as_long now call m fine is =
-    let a = (and_parts (nat_le now call.expiration) (nat_lt m.last 2147483647 && (nat_lt (length m.pending) 64 && fits m call)) is).1 in
-    let b = and_parts (nat_lt m.last 2147483647) (nat_lt (length m.pending) 64 && fits m call) a in
-    let c = and_parts (nat_lt (length m.pending) 64) (fits m call) b.1 in
+    let a = (and_parts (nat_le now call.expiration) (nat_lt m.last 2147483647 && (nat_lt (length m.pending) 64 && fits (suc m.last) m call)) is).1 in
+    let b = and_parts (nat_lt m.last 2147483647) (nat_lt (length m.pending) 64 && fits (suc m.last) m call) a in
+    let c = and_parts (nat_lt (length m.pending) 64) (fits (suc m.last) m call) b.1 in
     let low = ltb-true m.last 2147483647 b.0 in
     record {
+      greater = omega arith;
       low = low;
       few = ltb-true (length m.pending) 64 c.0;
       fine = record {
@@ -145,28 +147,58 @@ taken-is as_long now call m fine is =
       };
     }
 
-small-called : (call : Call) (sent : Option ℕ) (l : Option Linked) (m : Client) → IsTaken m call → IsSmall m → IsSmall (record m { last = suc m.last; pending = m.pending ++ record { id = suc m.last; call = call; sent = sent } ∷ []; link = l })
-small-called call sent l m is h =
-    let p : Pending = record { id = suc m.last; call = call; sent = sent } in
+pub resumed-is : RequestsAreAsLong → (now id : ℕ) (call : Call) (m : Client) → IsFineCall call → is_resumed now id call m ≡ true → IsTaken m id call
+resumed-is as_long now id call m fine is =
+    let a = and_parts (nat_lt m.last id && nat_lt id 2147483648) (nat_le now call.expiration && (nat_lt (length m.pending) 64 && fits id m call)) is in
+    let free = and_parts (nat_lt m.last id) (nat_lt id 2147483648) a.0 in
+    let b = and_parts (nat_le now call.expiration) (nat_lt (length m.pending) 64 && fits id m call) a.1 in
+    let c = and_parts (nat_lt (length m.pending) 64) (fits id m call) b.1 in
+    let low = ltb-true id 2147483648 free.1 in
+    record {
+      greater = ltb-true m.last id free.0;
+      low = omega (arith, low);
+      few = ltb-true (length m.pending) 64 c.0;
+      fine = record {
+        fine = fine;
+        number = omega (arith, low);
+        size = λ i. subst (λ (k : ℕ). k < 4294967296) (as_long m.version m.client_id id 1 i call) (ltb-true (length (request_behind (transmission m.version m.client_id id 1 call))) 4294967296 c.1);
+      };
+    }
+
+small-called : (id : ℕ) (call : Call) (sent : Option ℕ) (l : Option Linked) (m : Client) → IsTaken m id call → IsSmall m → IsSmall (record m { last = id; pending = m.pending ++ record { id = id; call = call; sent = sent } ∷ []; link = l })
+small-called id call sent l m is h =
+    let p : Pending = record { id = id; call = call; sent = sent } in
     record {
       waits = each-append (λ q. IsFinePending m.version m.client_id q.id q.call) m.pending (p ∷ []) h.waits (is.fine, tt);
       few = let few = is.few in let long = length-append m.pending (p ∷ []) in omega (arith, few, long);
       low = is.low;
     }
 
-small-placed : (call : Call) (m : Client) (l : Option Linked) → IsTaken m call → IsSmall m → IsSmall (placed call m l)
-small-placed call m None is h = small-called call None None m is h
-small-placed call m (Some l) is h = small-called call (Some (suc l.given)) (Some (record l { given = suc l.given })) m is h
+small-placed : (id : ℕ) (call : Call) (m : Client) (l : Option Linked) → IsTaken m id call → IsSmall m → IsSmall (placed id call m l)
+small-placed id call m None is h = small-called id call None None m is h
+small-placed id call m (Some l) is h = small-called id call (Some (suc l.given)) (Some (record l { given = suc l.given })) m is h
+
+small-made : (b : Bool) (id : ℕ) (call : Call) (m : Client) → (b ≡ true → IsTaken m id call) → IsSmall m → IsSmall (cond b (placed id call m m.link) m)
+small-made true id call m is h = small-placed id call m m.link (is refl) h
+small-made false id call m is h = h
+
+small-skipped : (id : ℕ) (m : Client) → IsSmall m → IsSmall (skipped id m)
+small-skipped id m h =
+    elim (nat_lt m.last id && nat_lt id 2147483648) as (λ b. (nat_lt m.last id && nat_lt id 2147483648) ≡ b → IsSmall (cond b (record m { last = id }) m)) [
+      | true ↦ λ is. record { waits = h.waits; few = h.few; low = let low = ltb-true id 2147483648 (and_parts (nat_lt m.last id) (nat_lt id 2147483648) is).1 in omega (arith, low) }
+      | false ↦ λ is. h
+    ] refl
 
 -- the call of a happening, if it is one, can be written
 abbrev pub IsFineHappening : Happening → Type 0
 IsFineHappening (Called now call) = IsFineCall call
+IsFineHappening (Resumed now id call) = IsFineCall call
 IsFineHappening h = Unit {0}
 
 pub small-after : RequestsAreAsLong → (down : Hearing Answer) (h : Happening) (m : Client) → IsFineHappening h → IsSmall m → IsSmall (after down h m)
-small-after as_long down (Called now call) m fine s =
-    elim (is_taken now call m) as (λ b. is_taken now call m ≡ b → IsSmall (cond b (placed call m m.link) m))
-    [ true ↦ λ is. small-placed call m m.link (taken-is as_long now call m fine is) s | false ↦ λ is. s ] refl
+small-after as_long down (Called now call) m fine s = small-made (is_taken now call m) (suc m.last) call m (λ is. taken-is as_long now call m fine is) s
+small-after as_long down (Resumed now id call) m fine s = small-made (is_resumed now id call m) id call m (λ is. resumed-is as_long now id call m fine is) s
+small-after as_long down (Skipped id) m fine s = small-skipped id m s
 small-after as_long down (Joined now) m fine s =
     small-as m (resent now 0 m.pending) (Some (record { given = ids_after now 0 m.pending; received = [] })) (resent-length now 0 m.pending) (resent-each (IsFinePending m.version m.client_id) now 0 m.pending s.waits) s
 small-after as_long down (Fed octets) m fine s = small-parted_at (ending_of down octets m.link) (told_of down octets m m.link) (small-told down octets m m.link s)

@@ -13,7 +13,7 @@ use Rattle.ft_log.specs.Keys.{RequestKey}
 use Rattle.ft_client.specs.Clients.{Cancelled, Ended, Expired, Linked, NeedsAddressing, Pending, Told}
 use Rattle.giop_link.specs.Hearing.{Hearing, meaning_in}
 use Rattle.ft_client.specs.Laws.{CallsCompleteOnce}
-use Rattle.ft_client.specs.Lives.{IsOfCall, call_at, ended_count, one_if}
+use Rattle.ft_client.specs.Lives.{IsOfCall, call_at, called_count, ended_count, one_if}
 use Rattle.ft_client.specs.Messages.{Answer, Call, Transmission}
 use Rattle.ft_client.specs.Standing.{down}
 use Rattle.ft_orb.specs.ExactlyOnce.{Arrival, OneExpiration, Present}
@@ -60,22 +60,12 @@ one_if-low : (b : Bool) → one_if b ≤ 1
 one_if-low true = omega arith
 one_if-low false = omega arith
 
--- numbers of calls that were made
-slice_get-there : {A : Type 0} (xs : List A) (n : ℕ) → n < length xs → IsSome (slice_get xs n)
-slice_get-there [] n h = absurd (omega arith)
-slice_get-there (x ∷ xs) zero h = refl
-slice_get-there (x ∷ xs) (suc n) h = slice_get-there xs n (omega arith)
-
-call_at-there : (calls : List Call) (r : ℕ) → (0 < r) × (r ≤ length calls) → IsSome (call_at calls r)
-call_at-there calls zero h = absurd (let some = h.0 in omega (arith, some))
-call_at-there calls (suc n) h = slice_get-there calls n (let low = h.1 in omega (arith, low))
-
-low-from : (r last : ℕ) → 0 < one_if (nat_lt 0 r && nat_le r last) → (0 < r) × (r ≤ last)
-low-from r last h =
-    elim (nat_lt 0 r && nat_le r last) as (λ b. (nat_lt 0 r && nat_le r last) ≡ b → 0 < one_if b → (0 < r) × (r ≤ last)) [
-      | true ↦ λ is some. let both = and_parts (nat_lt 0 r) (nat_le r last) is in (ltb-true 0 r both.0, leb-true r last both.1)
-      | false ↦ λ is some. absurd (omega arith)
-    ] refl h
+-- a number that was given a call
+call_at-there : (calls : List (ℕ × Call)) (r : ℕ) → 0 < called_count r calls → IsSome (call_at calls r)
+call_at-there [] r h = absurd (omega arith)
+call_at-there (x ∷ calls) r h =
+    elim (x.0 == r) as (λ b. 0 < one_if b + called_count r calls → IsSome (cond b (Some x.1) (call_at calls r)))
+    [ true ↦ λ some. refl | false ↦ λ some. call_at-there calls r (omega (arith, some)) ] h
 
 -- Clients of one id are one client.
 same-bytes : (xs ys : List ℕ) → xs ≡ ys → bytes_eq xs ys ≡ false → ⊥
@@ -425,7 +415,7 @@ module _ {State : Type 0} (meaning : Meaning State) (made : Made State) (hears :
         let n = h.named k m is in
         let count = h.counts k m is r in
         let all = n.2.life.alive.once r in
-        let low = one_if-low (nat_lt 0 r && nat_le r m.life.client.last) in
+        let low = n.2.life.alive.single r in
         omega (arith, count, all, low)
 
     -- what completes was called
@@ -435,7 +425,7 @@ module _ {State : Type 0} (meaning : Meaning State) (made : Made State) (hears :
         let n = h.named k m is in
         let count = h.counts k m is r in
         let all = n.2.life.alive.once r in
-        (m, is, call_at-there m.life.calls r (low-from r (length m.life.calls) (subst (λ (last : ℕ). 0 < one_if (nat_lt 0 r && nat_le r last)) (sym n.2.life.alive.count) (omega (arith, count, all, some)))))
+        (m, is, call_at-there m.life.calls r (omega (arith, count, all, some)))
 
     pub acts-once : ((capacity share : ℕ) → KeysActOnce (rules_of meaning capacity share)) → ActsOnce meaning made newcomers w
     acts-once keys = record {

@@ -1,5 +1,5 @@
 -- The laws, each over the definitions alone.
-use Rattle.std.specs.Prelude.{◌≡◌, ℕ, ◌≤◌, ◌==◌, if◌then◌else◌, List, [], ◌∷◌, ◌++◌, Some, length, slice_get, IsTrue}
+use Rattle.std.specs.Prelude.{◌≡◌, ℕ, ◌≤◌, ◌==◌, if◌then◌else◌, List, [], ◌∷◌, ◌++◌, Some, length, map, slice_get, IsTrue}
 use Rattle.std.specs.List.{AllByRecursion}
 use Rattle.cdr_core.specs.Numbers.{AreOctets}
 use Rattle.cdr_core.specs.Spelling.{IsClean}
@@ -20,7 +20,7 @@ use Rattle.ft_ends.specs.Both.{ActsOnce, AreDistinct}
 use Rattle.ft_ends.specs.Fine.{AreFaithful, IsFineCall}
 use Rattle.ft_orb.specs.Tellings.{octets_told}
 use Rattle.ft_ends.specs.Tellings.{law_told}
-use Rattle.ft_ends.specs.World.{CallNow, Member, Newcomer, Sides, Step, world}
+use Rattle.ft_ends.specs.World.{CallNow, Member, Newcomer, RecallNow, Sides, Step, world}
 
 -- What an event makes a server write are the octets of these messages, one after another.
 abbrev pub TellingsAreWritten : {State : Type 0} → Meaning State → Type 0
@@ -33,6 +33,7 @@ sides_of meaning made hears = record { said = octets_said; telling = octets_told
 -- the call of a step, if it has one, can be written
 abbrev pub IsFineStep : Step → Type 0
 IsFineStep (CallNow k now call) = IsFineCall call
+IsFineStep (RecallNow k now id call) = IsFineCall call
 IsFineStep s = Unit {0}
 
 -- the body of what arrived is octets
@@ -61,9 +62,10 @@ AnswersAreShort {State} meaning = (made : Made State) → IsTrue (meaning.is_sta
 abbrev pub DirectionsAreFaithful : Type 0
 DirectionsAreFaithful = (limits : Limits) → AreFaithful limits down
 
--- the call that a step has client k make, if it has one
+-- the call that a step has client k make, or take up again, if it has one
 abbrev pub call_in : ℕ → Step → List Call
 call_in k (CallNow j now call) = if j == k then call ∷ [] else []
+call_in k (RecallNow j now id call) = if j == k then call ∷ [] else []
 call_in k s = []
 
 -- the calls that steps have it make, in order
@@ -77,9 +79,13 @@ pub data IsPartOf {A : Type 0} : List A → List A → Type 0 where
   both : {x : A} {xs ys : List A} → IsPartOf xs ys → IsPartOf (x ∷ xs) (x ∷ ys)
   left : {y : A} {xs ys : List A} → IsPartOf xs ys → IsPartOf xs (y ∷ ys)
 
+-- calls without their numbers
+abbrev pub contents : List (ℕ × Call) → List Call
+contents calls = map (λ x. x.1) calls
+
 -- What a client called are calls of its steps, in order: all but those that were refused.
 abbrev pub CallsAreOfSteps : Type 0
-CallsAreOfSteps = (sides : Sides) (newcomers : List Newcomer) (steps : List Step) (k : ℕ) (m : Member) → slice_get (world sides newcomers steps).members k ≡ Some m → IsPartOf m.life.calls (calls_in k steps)
+CallsAreOfSteps = (sides : Sides) (newcomers : List Newcomer) (steps : List Step) (k : ℕ) (m : Member) → slice_get (world sides newcomers steps).members k ≡ Some m → IsPartOf (contents m.life.calls) (calls_in k steps)
 
 -- Over every schedule both ends act as one, where the servant begins in one of its states, the clients' ids differ and have no
 -- NUL, and what is called can be written.

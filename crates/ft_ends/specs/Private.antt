@@ -6,6 +6,8 @@ use Rattle.ft_client.specs.declared.client.FtClient.{FtClient}
 use Rattle.ft_client.specs.declared.ended.Ended.{Ended as CodeEnded}
 use Rattle.ft_client.specs.declared.error.CallError.{CallError}
 use Rattle.ft_client.specs.declared.error.CallError.TheVariants.{Expired, IdsUsed, Memory, TooLong, TooManyCalls}
+use Rattle.ft_client.specs.declared.error.RecallError.{RecallError}
+use Rattle.ft_client.specs.declared.error.RecallError.TheVariants as recall
 use Rattle.ft_client.specs.Clients.{Ended}
 use Rattle.ft_client.specs.Directions.{stream}
 use Rattle.ft_client.specs.Laws.{CallsCompleteOnce, LivesGoOn, RequestsAreAsLong}
@@ -38,6 +40,14 @@ IsRefusal IdsUsed = Unit {0}
 IsRefusal TooManyCalls = Unit {0}
 IsRefusal TooLong = Unit {0}
 IsRefusal Memory = ⊥
+
+-- .. of a call that is taken up again
+abbrev pub IsRecallRefusal : RecallError → Type 0
+IsRecallRefusal recall.NumberUsed = Unit {0}
+IsRecallRefusal recall.Expired = Unit {0}
+IsRecallRefusal recall.TooManyCalls = Unit {0}
+IsRecallRefusal recall.TooLong = Unit {0}
+IsRecallRefusal recall.Memory = ⊥
 
 -- of all octets that were written one way, so many were delivered: it holds the last of them
 abbrev pub IsWay : Way → List ℕ → ℕ → Type 0

@@ -45,8 +45,10 @@ fn is_fine(step: &Step)
     ensures { IsFineStep (step_as step.now) }
 {
     written_is_octets();
-    if let Step::Call { call, .. } = step {
-        hold_octets(&call.arguments);
+    match step {
+        Step::Call { call, .. } => hold_octets(&call.arguments),
+        Step::Recall { call, .. } => hold_octets(&call.arguments),
+        _ => {}
     }
 }
 

@@ -3,9 +3,9 @@
 ghost use Rattle.std.specs.Prelude.{◌≡◌, IfErr, OnErr, OnOk, false, true};
 ghost use Rattle.ft_orb.specs.Laws.{is_memory};
 ghost use Rattle.ft_orb.specs.Standing.{note_of, note_of_opening};
-ghost use Rattle.ft_ends.specs.Private.{IsRefusal};
+ghost use Rattle.ft_ends.specs.Private.{IsRecallRefusal, IsRefusal};
 
-use ft_client::CallError;
+use ft_client::{CallError, RecallError};
 use ft_orb::{ConnectError, ServeError};
 use std::alloc::AllocError;
 
@@ -16,6 +16,17 @@ pub(crate) fn after_call(outcome: Result<i32, CallError>) -> Result<(), AllocErr
 {
     match outcome {
         Err(CallError::Memory) => Err(AllocError),
+        _ => Ok(()),
+    }
+}
+
+/// A call of before.
+pub(crate) fn after_recall(outcome: Result<(), RecallError>) -> Result<(), AllocError>
+    ensures ok { OnOk result (IfErr outcome IsRecallRefusal) }
+    ensures err { OnErr result (outcome ≡ Err RecallError.Memory) }
+{
+    match outcome {
+        Err(RecallError::Memory) => Err(AllocError),
         _ => Ok(()),
     }
 }

@@ -17,7 +17,7 @@ ghost use Rattle.ft_ends.specs.World.{Member, Newcomer, World, moved, moved_to, 
 
 use crate::octets::are_fine;
 use crate::steps::Step;
-use crate::wire::{Wire, called, cancelled, closed, come_down, come_up, connected, cut};
+use crate::wire::{Wire, called, cancelled, closed, come_down, come_up, connected, cut, recalled};
 use ft_client::{Ended, FtClient};
 use ft_objects::Servant;
 use ft_orb::{PlayError, Server};
@@ -40,6 +40,13 @@ fn take_step<S: Servant + Drop>(
 {
     match step {
         Step::Call { now, call, .. } => called(client, wire, *now, call),
+        Step::Recall {
+            number, now, call, ..
+        } => recalled(client, wire, *number, *now, call),
+        Step::Skip { number, .. } => {
+            client.skip_to(*number);
+            Ok(())
+        }
         Step::Connect { now, .. } => connected(server, opened, client, wire, *now),
         Step::Up { count, now, .. } => come_up(server, wire, *count, *now),
         Step::Down { count, .. } => come_down(server, client, wire, *count),

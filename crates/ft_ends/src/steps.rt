@@ -20,6 +20,15 @@ pub struct Call {
 pub enum Step {
     /// The client calls.
     Call { client: u32, now: u64, call: Call },
+    /// The client takes a call of before up again, under its number.
+    Recall {
+        client: u32,
+        number: u32,
+        now: u64,
+        call: Call,
+    },
+    /// It learns up to which number calls of before were numbered.
+    Skip { client: u32, number: u32 },
     /// It connects.
     Connect { client: u32, now: u64 },
     /// The next octets that it wrote come to the server, at most so many.
@@ -46,6 +55,8 @@ impl Step {
     {
         match self {
             Step::Call { client, .. }
+            | Step::Recall { client, .. }
+            | Step::Skip { client, .. }
             | Step::Connect { client, .. }
             | Step::Up { client, .. }
             | Step::Down { client, .. }

@@ -6,7 +6,7 @@ ghost use Rattle.cdr_core.specs.View.{values_of};
 ghost use Rattle.cdr_core.specs.Writing.{AreWritable};
 ghost use Rattle.ft_client.specs.declared.error.CallError.TheVariants.{Memory};
 ghost use Rattle.ft_client.specs.Calling.{IsCallError};
-ghost use Rattle.ft_client.specs.Clients.{Called, Client, Joined, Parted, Recalled, Ticked, after, says};
+ghost use Rattle.ft_client.specs.Clients.{Called, Client, Joined, Parted, Recalled, Resumed, after, says};
 ghost use Rattle.ft_client.specs.Standing.{FtStands, down};
 ghost use Rattle.ft_orb.specs.ExactlyOnce.{OneExpiration};
 ghost use Rattle.ft_orb.specs.History as history;
@@ -20,7 +20,7 @@ ghost use Rattle.ft_orb.specs.Tellings.{Telling};
 ghost use Rattle.ft_ends.specs.World as world;
 ghost use Rattle.ft_ends.specs.World.{Member, coming_down, extended, fed_with, going_up};
 
-use crate::outcomes::{after_call, after_opening, after_serving};
+use crate::outcomes::{after_call, after_opening, after_recall, after_serving};
 use crate::steps::Call;
 use crate::way::Way;
 use ft_client::FtClient;
@@ -72,6 +72,30 @@ pub(crate) fn called(
     ensures err { OnErr result ((c : Client) → FtStands client.old c → IsCallError now (call_as call.now) c Memory) }
 {
     after_call(client.call(
+        now,
+        &call.object_key,
+        &call.operation,
+        &call.arguments,
+        call.expiration,
+        &mut wire.up.octets,
+    ))
+}
+
+/// A client takes a call of before up again. One that is refused does nothing, and is no error.
+pub(crate) fn recalled(
+    client: &mut FtClient,
+    wire: &mut Wire,
+    number: u32,
+    now: u64,
+    call: &Call,
+) -> Result<(), AllocError>
+    requires clean { IsClean call.now.operation.items }
+    requires writable { AreWritable (values_of call.now.arguments.items) }
+    ensures { OnOk result ((tells : ℕ → List Telling) (c : Client) (o : Option world.Wire) → FtStands client.old c → is_some c.link ≡ is_some o → IsWireFor tells wire.old o
+        → FtStands client.new (after (down c.limits) (Resumed now number (call_as call.now)) c) × IsWireFor tells wire.new (extended (says (Resumed now number (call_as call.now)) c) o)) }
+{
+    after_recall(client.recall(
+        number,
         now,
         &call.object_key,
         &call.operation,

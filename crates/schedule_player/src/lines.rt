@@ -6,6 +6,7 @@
 //! from 0, and NOW a moment. The line `end` ends the schedule.
 //!
 //! - `call K NOW KEY OPERATION EXPIRATION` and `call K NOW KEY OPERATION EXPIRATION LONG`
+//! - `recall K NUMBER NOW KEY OPERATION EXPIRATION`, or with `LONG`, and `skip K NUMBER`
 //! - `connect K NOW`, `cut K`, `shut K`
 //! - `up K COUNT NOW`, `down K COUNT`
 //! - `cancel K ID`, `tick K NOW`

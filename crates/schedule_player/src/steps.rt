@@ -1,6 +1,7 @@
 //! Steps in words.
 
 ghost use Rattle.std.specs.Prelude.{IfOk};
+ghost use Rattle.cdr_core.specs.Spelling.{IsClean};
 ghost use Rattle.cdr_core.specs.View.{values_of};
 ghost use Rattle.cdr_core.specs.Writing.{AreWritable};
 ghost use Rattle.ft_ends.specs.Playing.{IsCallable};
@@ -22,27 +23,52 @@ fn arguments_in(alloc: Global, words: &[&str]) -> Result<Vec<Val>, Stop>
     }
 }
 
-/// The call in the words `K NOW KEY OPERATION EXPIRATION [LONG]`.
-fn call_in(alloc: Global, words: &[&str]) -> Result<Step, Stop>
-    ensures { IfOk result IsCallable }
+/// What the words `KEY OPERATION EXPIRATION [LONG]` ask.
+fn asked_in(alloc: Global, words: &[&str]) -> Result<Call, Stop>
+    ensures clean { IfOk result (λ call. IsClean call.operation.items) }
+    ensures writable { IfOk result (λ call. AreWritable (values_of call.arguments.items)) }
 {
-    let [client, now, key, operation, expiration, arguments @ ..] = words else {
+    let [key, operation, expiration, arguments @ ..] = words else {
         return Err(Stop::BadLine);
     };
     let operation = operation.as_bytes();
     if !has_no_nul(operation) {
         return Err(Stop::BadLine);
     }
-    let call = Call {
+    Ok(Call {
         object_key: Vec::from_slice(alloc, key.as_bytes())?,
         operation: Vec::from_slice(alloc, operation)?,
         arguments: arguments_in(alloc, arguments)?,
         expiration: moment(expiration)?,
+    })
+}
+
+/// The call in the words `K NOW KEY OPERATION EXPIRATION [LONG]`.
+fn call_in(alloc: Global, words: &[&str]) -> Result<Step, Stop>
+    ensures { IfOk result IsCallable }
+{
+    let [client, now, asked @ ..] = words else {
+        return Err(Stop::BadLine);
     };
     Ok(Step::Call {
         client: ulong(client)?,
         now: moment(now)?,
-        call,
+        call: asked_in(alloc, asked)?,
+    })
+}
+
+/// The call of before in the words `K NUMBER NOW KEY OPERATION EXPIRATION [LONG]`.
+fn recall_in(alloc: Global, words: &[&str]) -> Result<Step, Stop>
+    ensures { IfOk result IsCallable }
+{
+    let [client, number, now, asked @ ..] = words else {
+        return Err(Stop::BadLine);
+    };
+    Ok(Step::Recall {
+        client: ulong(client)?,
+        number: ulong(number)?,
+        now: moment(now)?,
+        call: asked_in(alloc, asked)?,
     })
 }
 
@@ -65,6 +91,10 @@ fn numbered_step(name: &str, client: u32, number: &str) -> Result<Step, Stop>
     ensures { IfOk result IsCallable }
 {
     match name {
+        "skip" => Ok(Step::Skip {
+            client,
+            number: ulong(number)?,
+        }),
         "connect" => Ok(Step::Connect {
             client,
             now: moment(number)?,
@@ -102,6 +132,7 @@ pub(crate) fn step_in(alloc: Global, name: &str, words: &[&str]) -> Result<Step,
 {
     match (name, words) {
         ("call", _) => call_in(alloc, words),
+        ("recall", _) => recall_in(alloc, words),
         ("up", _) => up_in(words),
         (_, [client]) => plain_step(name, ulong(client)?),
         (_, [client, number]) => numbered_step(name, ulong(client)?, number),

@@ -1,14 +1,15 @@
 -- That one ticket is given at most.
-use Rattle.std.proofs.Common.{◌≡◌, ℕ, zero, suc, ◌+◌, ◌≤◌, pos, Bool, true, false, cond, List, [], ◌∷◌, ◌++◌, codes, length, Some, Result, Ok, Err, refl, sym, ap, ◌∙◌, arith}
+use Rattle.std.proofs.Common.{◌≡◌, ℕ, zero, suc, ◌+◌, ◌≤◌, ◌==◌, pos, Bool, true, false, cond, List, [], ◌∷◌, ◌++◌, codes, length, Option, Some, None, Result, Ok, Err, refl, sym, ap, ◌∙◌, arith}
 use Rattle.std.specs.List.{AllByRecursion, slice_get}
-use Rattle.std.proofs.lemmas.Option.{none-some, same_Some, slice_get_within}
+use Rattle.std.proofs.lemmas.Bool.{eqb-true}
+use Rattle.std.proofs.lemmas.Option.{none-some, same_Some}
 use Rattle.giop_core.specs.declared.header.Version.TheVariants.{V12}
 use Rattle.giop_frames.specs.declared.limits.Limits.{Limits}
 use Rattle.ft_client.specs.Lives.{call_at}
 use Rattle.ft_client.specs.Messages.{Call}
 use Rattle.ft_client.specs.Standing.{down}
 use Rattle.ft_ends.specs.Both.{ActsOnce, AreOnce, IsSentBy}
-use Rattle.ft_ends.specs.Laws.{CallsAreOfSteps, IsPartOf, both, left, none, sides_of}
+use Rattle.ft_ends.specs.Laws.{CallsAreOfSteps, IsPartOf, both, contents, left, none, sides_of}
 use Rattle.ft_ends.specs.World.{Member, Newcomer}
 use Rattle.ft_log.specs.Keys.{RequestKey}
 use Rattle.ft_log.specs.Performed.{Performed, returned, system}
@@ -83,30 +84,48 @@ part-few none = omega arith
 part-few (both h) = let rest = part-few h in omega (arith, rest)
 part-few (left h) = let rest = part-few h in omega (arith, rest)
 
--- its call has the number 1
-number_one : (calls : List Call) (r : ℕ) (call : Call) → length calls ≤ 1 → call_at calls r ≡ Some call → r ≡ 1
-number_one calls zero call few is = absurd (none-some call is)
-number_one calls (suc n) call few is = let within = slice_get_within calls n call is in omega (arith, few, within)
+-- the number of its call
+abbrev number_in : List (ℕ × Call) → ℕ
+number_in [] = 1
+number_in (x ∷ xs) = x.0
+
+number_is : (calls : List (ℕ × Call)) (r : ℕ) (call : Call) → length calls ≤ 1 → call_at calls r ≡ Some call → r ≡ number_in calls
+number_is [] r call few is = absurd (none-some call is)
+number_is (x ∷ y ∷ calls) r call few is = absurd (omega (arith, few))
+number_is (x ∷ []) r call few is =
+    elim (x.0 == r) as (λ b. (x.0 == r) ≡ b → cond b (Some x.1) None ≡ Some call → r ≡ x.0) [ true ↦ λ same found. sym (eqb-true x.0 r same) | false ↦ λ other found. absurd (none-some call found) ] refl is
+
+abbrev number_of : Option Member → ℕ
+number_of None = 1
+number_of (Some m) = number_in m.life.calls
+
+contents_few : (calls : List (ℕ × Call)) → length (contents calls) ≡ length calls
+contents_few [] = refl
+contents_few (x ∷ calls) = ap suc (contents_few calls)
 
 alone : (limits : Limits) (k : ℕ) (n : Newcomer) → slice_get (newcomers limits) k ≡ Some n → (k ≡ 0) × (n.client_id ≡ codes "A")
 alone limits zero n is = (refl, ap (λ (m : Newcomer). m.client_id) (sym (same_Some (record { client_id = codes "A"; version = V12; limits = limits }) n is)))
 alone limits (suc k) n is = absurd (none-some n is)
 
-abbrev the_key : RequestKey
-the_key = record { client_id = codes "A"; retention_id = pos 1 }
+abbrev key_with : ℕ → RequestKey
+key_with r = record { client_id = codes "A"; retention_id = pos r }
 
 module _ (limits : Limits) (request reply : ℕ) (called : CallsAreOfSteps) (once : ActsOnce tickets_meaning (tickets_made limits) (newcomers limits) (world_at limits request reply)) where
   called_once : (m : Member) → slice_get (world_at limits request reply).members 0 ≡ Some m → length m.life.calls ≤ 1
   unfolding steps_at
-  called_once m is = part-few (called (sides_of tickets_meaning (tickets_made limits) down) (newcomers limits) (steps_at request reply) 0 m is)
+  called_once m is = let few = part-few (called (sides_of tickets_meaning (tickets_made limits) down) (newcomers limits) (steps_at request reply) 0 m is) in let same = contents_few m.life.calls in omega (arith, few, same)
+
+  abbrev the_key : RequestKey
+  the_key = key_with (number_of (slice_get (world_at limits request reply).members 0))
 
   -- each request that arrives has the key of that call
   sent_has : (a : Arrival Wanted) → IsSentBy (newcomers limits) (world_at limits request reply).members a → Has the_key a
   sent_has a by =
       let at = alone limits by.place by.call.newcomer by.call.client in
-      let few = called_once by.call.member (ap (slice_get (world_at limits request reply).members) (sym at.0) ∙ by.call.is) in
+      let here = ap (slice_get (world_at limits request reply).members) (sym at.0) ∙ by.call.is in
+      let few = called_once by.call.member here in
       let t = by.call.sent.transmission in
-      let number = number_one by.call.member.life.calls t.retention_id t.call few by.call.of_call.call in (
+      let number = number_is by.call.member.life.calls t.retention_id t.call few by.call.of_call.call ∙ sym (ap number_of here) in (
         t.call.expiration,
         by.call.sent.field ∙ ap (λ (id : List ℕ). Present (record { client_id = id; retention_id = pos t.retention_id }) t.call.expiration) (by.call.of_call.client ∙ at.1)
             ∙ ap (λ (r : ℕ). Present (record { client_id = codes "A"; retention_id = pos r }) t.call.expiration) number,
