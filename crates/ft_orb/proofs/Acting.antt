@@ -38,7 +38,7 @@ use Rattle.ft_orb.specs.History.{Close, Event, KeepsAll, Lost, Piece, Withdrew, 
 use Rattle.ft_orb.specs.Now.{performed_now}
 use Rattle.ft_orb.specs.Outputs.{Noted, after, noted, output_cut}
 use Rattle.ft_orb.specs.Owners.{owned_rules, owned_says, owned_table, owner_rules}
-use Rattle.ft_orb.specs.Parked.{going_in, is_wished, on_going}
+use Rattle.ft_orb.specs.Parked.{is_wished, on_going}
 use Rattle.ft_orb.specs.Parking.{AreParked, AsksLate, CanSettle, DeclinesLate, EndsLate, FeedsLate, IsDueLate, IsSettled, Parks, RepeatsLate, RepliesLate, ResumesLate, Settings, Stays, StopsLate, WithdrawsLate, by_number, goes_on, not_now, numbering, parked_at, parked_in, parked_count, parked_of, places_of, places_of_one, put_at, still, told_in, told_of as outcome_of, waiter_of, waits_on, own_of}
 use Rattle.ft_orb.specs.Requests.{Call, Wanted}
 use Rattle.ft_orb.specs.Standing.{note_of}

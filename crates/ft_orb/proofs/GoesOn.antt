@@ -1,9 +1,8 @@
 -- Which connections go on after an event, and which numbers count no more.
-use Rattle.std.proofs.Common.{◌≡◌, ◌==◌, ℕ, Bool, true, false, not, cond, nat_lt, ◌&&◌, List, [], ◌∷◌, ◌++◌, Option, Some, None, is_none, refl, sym, ap, subst, ◌∙◌, arith}
+use Rattle.std.proofs.Common.{◌≡◌, ◌==◌, ℕ, Bool, true, false, not, cond, nat_lt, ◌&&◌, List, [], ◌∷◌, Option, Some, None, is_none, refl, sym, ap, subst, ◌∙◌, arith}
 use Rattle.std.specs.List.{AllByRecursion, list_all}
 use Rattle.std.specs.Option.{option_map_or}
 use Rattle.std.proofs.lemmas.Bool.{eqb-true, le-ltb}
-use Rattle.std.proofs.lemmas.List.{append-nil}
 use Rattle.giop_frames.specs.declared.limits.Limits.{Limits}
 use Rattle.giop_link.specs.Hearing.{Ending, ending, meaning_in}
 use Rattle.giop_link.specs.Laws.{EndingsStay}
@@ -11,12 +10,10 @@ use Rattle.giop_link.specs.Linking.{Linked}
 use Rattle.ft_orb.specs.declared.events.Note.{Note}
 use Rattle.ft_orb.specs.declared.events.Note.TheVariants.{Done, Memory, Refused}
 use Rattle.ft_orb.specs.declared.parked.Waiter.{Waiter}
-use Rattle.ft_orb.specs.ExactlyOnce.{Arrival}
 use Rattle.ft_orb.specs.History.{Close, Event, Gone, Line, Lost, Opened, Piece, Shut, Up, Withdrew, counted, does_count, line, longer, shortened, shut}
 use Rattle.ft_orb.specs.Outputs.{after, is_going, is_gone}
 use Rattle.ft_orb.specs.Parked.{on_going}
 use Rattle.ft_orb.specs.Parking.{goes_on}
-use Rattle.ft_orb.specs.Requests.{Wanted}
 use Rattle.ft_orb.specs.Standing.{IsFor}
 use Rattle.ft_orb.proofs.Streams.{closed-is, gone-is}
 

@@ -1,5 +1,5 @@
 -- Runs of deeds: what is known grows, and each who waits is told once.
-use Rattle.std.proofs.Common.{◌≡◌, ◌==◌, ℕ, ◌+◌, ◌<◌, Bool, true, false, cond, ◌&&◌, inl, inr, List, [], ◌∷◌, ◌++◌, length, flat_map, if◌then◌else◌, Result, refl, sym, ap, subst, ◌∙◌, arith, append_assoc, length-append}
+use Rattle.std.proofs.Common.{◌≡◌, ◌==◌, ℕ, ◌+◌, ◌<◌, Bool, true, false, cond, ◌&&◌, inl, inr, List, [], ◌∷◌, ◌++◌, length, flat_map, if◌then◌else◌, refl, sym, ap, subst, ◌∙◌, arith, append_assoc, length-append}
 use Rattle.std.specs.List.{AllByRecursion, list_any}
 use Rattle.std.proofs.lemmas.Bool.{eq-eqb, eqb-false, eqb-true, or_parts}
 use Rattle.std.proofs.lemmas.List.{append-nil}
@@ -8,7 +8,6 @@ use Rattle.giop_link.specs.Hearing.{Question, meaning_in}
 use Rattle.giop_link.specs.Laws.{EndingsStay}
 use Rattle.ft_log.specs.Holding.{Holding, known, parked}
 use Rattle.ft_log.specs.Performed.{Performed}
-use Rattle.ft_log.specs.declared.system_exception.SystemName.{SystemName}
 use Rattle.ft_orb.specs.declared.events.Note.{Note}
 use Rattle.ft_orb.specs.declared.events.Note.TheVariants.{Done, Memory, Refused}
 use Rattle.ft_orb.specs.declared.parked.Waiter.{Waiter}
@@ -16,7 +15,7 @@ use Rattle.ft_orb.specs.Deeds.{AnsweredAreKnown, AreApart, AreTaken, AreTold, An
 use Rattle.ft_orb.specs.ExactlyOnce.{Arrival}
 use Rattle.ft_orb.specs.History as history
 use Rattle.ft_orb.specs.History.{Close, Event, Gone, KeepsAll, Line, Lost, Piece, Shut, Up, Withdrew, arrivals_on, does_count, line}
-use Rattle.ft_orb.specs.Outputs.{WritesBy, after, is_going, is_gone}
+use Rattle.ft_orb.specs.Outputs.{after, is_going, is_gone}
 use Rattle.ft_orb.specs.Parked.{is_wished, on_going}
 use Rattle.ft_orb.specs.Parking.{Settings, goes_on, not_now, numbering, put_at, waiter_of, own_of}
 use Rattle.ft_orb.specs.Requests.{Call, Wanted}

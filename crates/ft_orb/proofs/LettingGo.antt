@@ -1,6 +1,6 @@
 -- What is parked is withdrawn: nothing is kept for it any more.
-use Rattle.std.proofs.Common.{◌≡◌, ◌==◌, ℕ, ◌<◌, Bool, true, false, not, ◌&&◌, cond, nat_eq, nat_le, nat_lt, pos, List, [], ◌∷◌, filter, length, map, Option, Some, None, IsSome, refl, sym, ap, subst, ◌∙◌, arith}
-use Rattle.std.specs.List.{AllByRecursion, list_all}
+use Rattle.std.proofs.Common.{◌≡◌, ◌==◌, ℕ, ◌<◌, Bool, true, false, not, ◌&&◌, cond, nat_eq, nat_le, nat_lt, pos, List, [], ◌∷◌, filter, length, map, Option, Some, None, IsSome, refl, sym, ap, subst, ◌∙◌}
+use Rattle.std.specs.List.{list_all}
 use Rattle.std.specs.Option.{option_map_or}
 use Rattle.std.proofs.lemmas.Bool.{eq-eqb, eqb-true}
 use Rattle.ft_log.specs.Holding.{Holding, known, parked}

@@ -23,13 +23,12 @@ use Rattle.ft_orb.specs.declared.events.Note.{Note}
 use Rattle.ft_orb.specs.declared.events.Note.TheVariants.{Done, Memory, Refused}
 use Rattle.ft_orb.specs.declared.parked.Waiter.{Waiter}
 use Rattle.ft_orb.specs.Engines.{AsksOf, Awaited, EndsOf, IsThenOf, RestsOf, ResumesOf, as_server, asks_in, waits_in}
-use Rattle.ft_orb.specs.ExactlyOnce.{Arrival}
 use Rattle.ft_orb.specs.History.{Close, Event, Gone, Line, Lost, Opened, Piece, Shut, Up, counted, does_count, line, shut}
 use Rattle.ft_orb.specs.Outputs.{close_told, close_told_on, is_going, is_gone}
 use Rattle.ft_orb.specs.Owners.{OwnerOf, owned_table}
 use Rattle.ft_orb.specs.Parking.{AsksLate, EndsLate, ResumesLate, Settings, Stays, numbering, put_at, still}
 use Rattle.ft_orb.specs.Private.{IsPut}
-use Rattle.ft_orb.specs.Requests.{Call, Wanted}
+use Rattle.ft_orb.specs.Requests.{Call}
 use Rattle.ft_orb.specs.Seen.{seen_entry}
 use Rattle.ft_orb.specs.Standing.{IsFor, IsSameBut, held_in}
 use Rattle.ft_orb.specs.Table.{Table}

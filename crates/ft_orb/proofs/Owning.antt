@@ -21,7 +21,6 @@ use Rattle.ft_orb.specs.declared.desk.Step.TheVariants.{Answered, Quiet, Unanswe
 use Rattle.ft_orb.specs.declared.engine.Engine.{Engine}
 use Rattle.ft_orb.specs.declared.events.Note.{Note}
 use Rattle.ft_orb.specs.declared.events.Note.TheVariants.{Done, Memory}
-use Rattle.ft_orb.specs.declared.keeper.Keeper.{Keeper}
 use Rattle.ft_orb.specs.declared.keeper.Repeat.{Repeat}
 use Rattle.ft_orb.specs.declared.keeper.Waiting.{Waiting}
 use Rattle.ft_orb.specs.Pause.{Pause}

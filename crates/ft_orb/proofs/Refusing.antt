@@ -1,14 +1,12 @@
 -- What is declined: as if it were answered, but that nothing is kept for it.
-use Rattle.std.proofs.Common.{◌≡◌, ◌==◌, ℕ, ◌+◌, ◌≤◌, ◌<◌, max, Bool, true, false, not, cond, nat_le, nat_lt, List, [], ◌∷◌, ◌++◌, filter, length, map, take, Option, Some, None, Result, Ok, Err, refl, sym, ap, subst, ◌∙◌, arith}
-use Rattle.std.specs.List.{AllByRecursion}
+use Rattle.std.proofs.Common.{◌≡◌, ◌==◌, ℕ, ◌+◌, ◌<◌, max, Bool, true, false, not, cond, nat_le, nat_lt, List, [], ◌∷◌, ◌++◌, filter, length, map, Option, Some, None, Result, Ok, Err, refl, sym, ap, subst, ◌∙◌, arith}
 use Rattle.std.specs.BTreeMap.{get}
 use Rattle.std.specs.Ordering.{nat_cmp}
-use Rattle.std.proofs.lemmas.Bool.{eqb-false, eqb-true, eq-eqb}
+use Rattle.std.proofs.lemmas.Bool.{eqb-true, eq-eqb}
 use Rattle.std.proofs.lemmas.List.{append-nil, map-append, take_all}
 use Rattle.std.proofs.lemmas.List.Elements.{filter-append}
 use Rattle.giop_link.specs.Hearing.{meaning_in}
 use Rattle.giop_link.specs.Laws.{EndingsStay, HearingGrows}
-use Rattle.giop_link.specs.Linking.{LinkStands}
 use Rattle.ft_log.specs.Holding.{Holding, known}
 use Rattle.ft_log.specs.Kept.{KeptOutcome, kept_for, keys_of, unexpired}
 use Rattle.ft_log.specs.Keys.{RequestKey}
@@ -28,22 +26,20 @@ use Rattle.ft_orb.specs.declared.desk.Step.TheVariants.{Answered, Quiet, Unanswe
 use Rattle.ft_orb.specs.declared.engine.Engine.{Engine}
 use Rattle.ft_orb.specs.declared.events.Note.TheVariants.{Done, Memory}
 use Rattle.ft_orb.specs.declared.keeper.Retained.{Retained}
-use Rattle.ft_orb.specs.declared.keeper.Waiting.{Waiting}
 use Rattle.ft_orb.specs.declared.parked.Waiter.{Waiter}
 use Rattle.ft_orb.specs.declared.pausing.Pending.{Pending}
-use Rattle.ft_orb.specs.Engines.{AsksOf, Awaited, KeepsOf, StandsOf, as_server, asks_in, awaited_of, pending_in, waits_in}
+use Rattle.ft_orb.specs.Engines.{Awaited, KeepsOf, StandsOf, as_server, asks_in, awaited_of, pending_in, waits_in}
 use Rattle.ft_orb.specs.ExactlyOnce.{Absent, Arrival, Bad, Field, Present, Rules}
-use Rattle.ft_orb.specs.History.{Event, Piece, Withdrew, clock, completed}
+use Rattle.ft_orb.specs.History.{Event, Piece, Withdrew, clock}
 use Rattle.ft_orb.specs.Outputs.{WritesBy}
-use Rattle.ft_orb.specs.Owners.{OwnerOf, answered_so_far, kept_of, owned_rules, owned_says, owned_table, owner_rules, voice_of}
-use Rattle.ft_orb.specs.Parking.{AreKeyed, AsksLate, DeclinesLate, Parks, ResumesLate, Settings, by_number, key_kept, not_now, numbering, put_at, still}
-use Rattle.ft_orb.specs.Pause as pause
-use Rattle.ft_orb.specs.Pauses.{Paused, Reaches}
+use Rattle.ft_orb.specs.Owners.{OwnerOf, answered_so_far, kept_of, owned_says, owned_table, owner_rules, voice_of}
+use Rattle.ft_orb.specs.Parking.{AsksLate, DeclinesLate, Parks, ResumesLate, Settings, by_number, key_kept, not_now, numbering, put_at, still}
+use Rattle.ft_orb.specs.Pauses.{Paused}
 use Rattle.ft_orb.specs.Private.{IsPut}
 use Rattle.ft_orb.specs.Requests.{Call, Wanted}
 use Rattle.ft_orb.specs.Seen.{seen_entry, seen_table}
-use Rattle.ft_orb.specs.Standing.{IsSameBut, Shown, StandsBy, capacity_of, share_of, table_of}
-use Rattle.ft_orb.specs.Table.{AreAlike, Table, forgotten, keyed_step, performing_step, step_by_field, table_after, table_step}
+use Rattle.ft_orb.specs.Standing.{Shown, StandsBy, capacity_of, share_of}
+use Rattle.ft_orb.specs.Table.{Table, forgotten, keyed_step, performing_step, step_by_field, table_after, table_step}
 use Rattle.ft_orb.specs.Tellings.{held_told, nothing_yet, reply_by}
 use Rattle.ft_orb.specs.Waits.{call_of, kept_with}
 use Rattle.ft_orb.proofs.Books.{book_by, seen-unexpired}

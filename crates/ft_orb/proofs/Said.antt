@@ -1,5 +1,5 @@
 -- From the table to each key by itself: what is written with the table's answers is written so, over every past.
-use Rattle.std.proofs.Common.{◌≡◌, ℕ, ◌<◌, List, [], ◌++◌, Result, length, take, flat_map, option_to_list, subst, sym, ap, refl, ◌∙◌}
+use Rattle.std.proofs.Common.{◌≡◌, ℕ, ◌<◌, List, ◌++◌, Result, length, take, flat_map, option_to_list, subst, sym, ap, refl, ◌∙◌}
 use Rattle.ft_log.specs.Performed.{Performed}
 use Rattle.ft_log.specs.declared.system_exception.SystemName.{SystemName}
 use Rattle.ft_orb.specs.declared.events.Note.{Note}

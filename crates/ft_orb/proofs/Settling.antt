@@ -29,7 +29,7 @@ use Rattle.ft_orb.specs.declared.parked.Waiter.{Waiter}
 use Rattle.ft_orb.specs.declared.pausing.Pending.{Pending}
 use Rattle.ft_orb.specs.Engines.{Awaited, KeepsOf, RestsOf, ResumesOf, as_server, asks_in, awaited_of, waits_in, pending_in}
 use Rattle.ft_orb.specs.ExactlyOnce.{Arrival, Present}
-use Rattle.ft_orb.specs.History.{Event, Lost, Piece, arrivals, does_count, line}
+use Rattle.ft_orb.specs.History.{Event, Lost, Piece, does_count, line}
 use Rattle.ft_orb.specs.Outputs.{is_gone}
 use Rattle.ft_orb.specs.Parked.{IsClear, IsCleared, IsCopy, going_in, is_wished, on_going, own_waiters}
 use Rattle.ft_orb.specs.Parking.{AreKeyed, AsksLate, IsDueLate, IsSettled, Parks, RepliesLate, ResumesLate, Settings, Stays, goes_on, key_kept, numbering, own_of, parked_at, put_at, still, told_in, told_of, was_opened}
@@ -39,7 +39,7 @@ use Rattle.ft_orb.specs.Standing.{IsFor, IsSameBut, held_in}
 use Rattle.ft_orb.specs.Table.{Table, table_after, table_step}
 use Rattle.ft_orb.specs.Tellings.{nothing_yet, reply_by}
 use Rattle.ft_orb.specs.Waits.{call_of, field_with, filled_with, kept_with}
-use Rattle.ft_orb.proofs.Folded.{same_key-self, table_after-append, table_after-push}
+use Rattle.ft_orb.proofs.Folded.{same_key-self, table_after-push}
 use Rattle.ft_orb.proofs.Numbers.{AreBelow, after-below, later-keyed, step-keyed}
 use Rattle.ft_orb.proofs.Owning.{Brings, brings-of, kept-as, parked-done}
 use Rattle.ft_orb.proofs.GoesOn.{and-false, counts-later, was-counted}

@@ -31,7 +31,7 @@ use Rattle.ft_orb.specs.declared.parked.Waiter.{Waiter}
 use Rattle.ft_orb.specs.Counts.{parked_on, waiters_on}
 use Rattle.ft_orb.specs.Engines.{AsksOf, Awaited, EndsOf, RestsOf, ResumesOf, StopsOf, asks_in, awaited_of}
 use Rattle.ft_orb.specs.ExactlyOnce.{Absent, Arrival}
-use Rattle.ft_orb.specs.History.{Close, Event, Lost, Piece, Withdrew, completed, does_count, line, shortened}
+use Rattle.ft_orb.specs.History.{Event, Lost, Piece, Withdrew, completed, does_count, line, shortened}
 use Rattle.ft_orb.specs.Outputs.{WritesBy, after, is_going, output_cut}
 use Rattle.ft_orb.specs.Owners.{OwnerOf, owned_rules, owned_says, owned_table}
 use Rattle.ft_orb.specs.Parked.{elsewhere, going_in, is_wished, on_going}

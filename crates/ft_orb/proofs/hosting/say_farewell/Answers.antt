@@ -1,4 +1,4 @@
-use Rattle.std.proofs.Common.{◌≡◌, List, ℕ, [], ◌++◌, ap, refl, subst, ◌∙◌}
+use Rattle.std.proofs.Common.{◌≡◌, List, ℕ, [], ◌++◌, ap, subst, ◌∙◌}
 use Rattle.giop_link.specs.Linking.{close_connection}
 use Rattle.ft_orb.specs.Sessions.{TookAll, TookFront}
 use Rattle.ft_orb.proofs.Streams.{grows-none, parted}

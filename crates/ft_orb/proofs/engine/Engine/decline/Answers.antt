@@ -1,4 +1,4 @@
-use Rattle.std.proofs.Common.{ap, length, ◌++◌, ◌∷◌, [], ◌==◌, ℕ, List, Option, false, None, Some, ◌+◌, ◌<◌, ◌≡◌, sym, subst, refl, ◌∙◌, arith}
+use Rattle.std.proofs.Common.{ap, length, [], ◌==◌, ℕ, Option, false, None, Some, ◌+◌, ◌<◌, ◌≡◌, sym, subst, refl, ◌∙◌, arith}
 use Rattle.std.proofs.lemmas.Grind.{common_steps}
 use Rattle.std.specs.BTreeMap.{get}
 use Rattle.std.specs.Option.{option_map_or}

@@ -1,7 +1,7 @@
-use Rattle.std.proofs.Common.{◌≡◌, [], ap, arith, refl}
-use Rattle.ft_log.specs.Logged.{Logged, logged}
+use Rattle.std.proofs.Common.{[], ap, arith, refl}
+use Rattle.ft_log.specs.Logged.{Logged}
 use Rattle.ft_orb.specs.declared.events.Note.TheVariants.{Refused}
-use Rattle.ft_orb.specs.Engines.{as_server, clock_in}
+use Rattle.ft_orb.specs.Engines.{as_server}
 use Rattle.ft_orb.specs.History.{Piece}
 use Rattle.ft_orb.specs.Owners.{owning}
 use Rattle.ft_orb.specs.Parking.{numbering}

@@ -1,4 +1,4 @@
-use Rattle.std.proofs.Common.{◌≡◌, ℕ, [], ap, max, sym, subst, ◌∙◌}
+use Rattle.std.proofs.Common.{ℕ, [], ap, max, sym, subst, ◌∙◌}
 use Rattle.ft_log.specs.Kept.{unexpired}
 use Rattle.ft_log.specs.Logged.{logged}
 use Rattle.ft_orb.specs.declared.events.Note.TheVariants.{Refused}
