@@ -1,5 +1,5 @@
 -- What an engine does is a deed: each call takes it from a ledger to the next.
-use Rattle.std.proofs.Common.{◌≡◌, ◌==◌, ℕ, ◌+◌, ◌<◌, ◌≤◌, nat_lt, Bool, true, false, cond, ◌&&◌, List, [], ◌∷◌, ◌++◌, flat_map, length, map, take, if◌then◌else◌, Option, Some, None, IsSome, Result, Ok, Err, refl, sym, ap, subst, ◌∙◌, arith, append_assoc, length-append}
+use Rattle.std.proofs.Common.{◌≡◌, ◌==◌, ℕ, ◌+◌, ◌<◌, ◌≤◌, nat_lt, Bool, true, false, cond, ◌&&◌, List, [], ◌∷◌, ◌++◌, flat_map, length, map, take, if◌then◌else◌, Option, Some, None, IsSome, Result, Ok, Err, IfErr, OnErr, OnOk, refl, sym, ap, subst, ◌∙◌, arith, append_assoc, length-append}
 use Rattle.std.specs.List.{list_any}
 use Rattle.std.specs.Option.{option_map}
 use Rattle.std.proofs.lemmas.Bool.{eqb-true, ne_eqb}
@@ -454,16 +454,30 @@ module _ {C : Type 0} (offers : C → Offer) (s : Settings) where
         record { stands = y.stays; nobody = λ n is. still-none (Withdrew (length g.calls) ∷ piece_of x.a ∷ g.past) g.waiting n (x.nobody n is); shows = shows-on g.asked g.there old new x.shows are asks },
       )
 
+  -- .. or given up, where memory is short
+  pub declines-as : (g : Ledger) (old new : Engine C) (x : Awaiting g old) (name : SystemName) (minor handled : ℕ) (before out : List ℕ) → before ≡ [] → {A P Q D N : Type 0} (r : Result A ServeError)
+      → OnOk r P → (P → DeclinesLate offers s g.held g.calls g.past g.waiting x.a.moment x.a.octets x.a.written x.a.request (not_now name minor) new before out)
+      → OnErr r Q → (Q → ResumesLate offers s g.held g.calls g.past g.waiting x.a.request.connection x.a.moment x.a.octets x.a.written (Memory handled handled) new [] [])
+      → OnErr r D → (D → 0 < length (reply_to (not_now name minor) (waiter_of x.a.request.connection x.asks.asks.question))) → OnErr r N → (N → handled + 1 ≡ length (completed s.limits g.past (piece_of x.a)))
+      → IfErr r (λ e. e ≡ serving.Memory handled handled) → OnErr r (out ≡ before) → AreParked old new → asks_in new ≡ asks_in old
+      → (c : ℕ) → c ≡ x.a.request.connection → IsDone offers s g (code.Decline name minor) None (record { connection = c; octets = out; note = note_of r } ∷ []) new
+  declines-as g old new x name minor handled before out none (Ok u) late declined given up due some counts count is kept are asks c at = declines-deed g old new x name minor before out none (declined late) are asks c at
+  declines-as g old new x name minor handled before out none {A} (Err e) late declined given up due some counts count is kept are asks c at =
+      let of = subst (λ (q : Question). 0 < length (reply_to (not_now name minor) (waiter_of x.a.request.connection q))) x.question (some due) in
+      let d = gives-up-deed g old new x handled (up given) are asks (count counts) c at (code.Decline name minor) of in
+      subst (λ (n : Note). IsDone offers s g (code.Decline name minor) None (record { connection = c; octets = out; note = n } ∷ []) new) (ap (λ (y : ServeError). note_of {A = A} (Err y)) (sym is))
+      (subst (λ (l : List ℕ). IsDone offers s g (code.Decline name minor) None (record { connection = c; octets = l; note = Memory handled handled } ∷ []) new) (sym (kept ∙ none)) d)
+
   pub withdraws-deed : (g : Ledger) (old mid new : Engine C) → Resting g old → (n : ℕ) (name : SystemName) (minor : ℕ) (before out : List Written) (y : WithdrawsLate offers s g.held g.calls g.past g.waiting n mid)
-      → (t : IsTold offers s (without_call y.i g) n (not_now name minor) new before out) → asks_in new ≡ asks_in old
+      → (t : IsTold offers s (without_call y.i g) n (not_now name minor) new before out) → asks_in new ≡ asks_in old → CanSettle (offers old.catalogue) (parked_at old n) (not_now name minor)
       → parked_in new n ≡ None → ((q : ℕ) → (q == n) ≡ false → (parked_in new q ≡ parked_in old q) × (told_in new q ≡ told_in old q)) → IsDone offers s g (code.Withdraw n name minor) None (map noted t.written) new
-  withdraws-deed g old mid new r n name minor before out y t asks gone others =
+  withdraws-deed g old mid new r n name minor before out y t asks can gone others =
       let one : t.i ≡ y.i = y.stays.parks.once t.i y.i n t.taken y.taken t.was y.was in
       let stays : Stays offers s (put_at y.i (known (not_now name minor)) g.held) g.calls new (told_all s n (without_call y.i g) t.told).past (told_all s n (without_call y.i g) t.told).waiting =
       subst (λ (k : ℕ). Stays offers s (put_at k (known (not_now name minor)) g.held) g.calls new (told_all s n (without_call y.i g) t.told).past (told_all s n (without_call y.i g) t.told).waiting) one t.stays in (
         Withdrawn y.i n name minor t.told,
         (refl, refl, refl),
-        (r.none, y.taken, y.was, t.are_told, t.none, stays.rests.stands.table.state),
+        (r.none, y.taken, y.was, t.are_told, t.none, stays.rests.stands.table.state, fits-there g old r n (not_now name minor) can),
         t.notes,
         refl,
         record {

@@ -34,10 +34,10 @@ parked_on-take m n k p c entries was =
     (λ i. sum_by (came c) (values_of (entries i)) + came_if c (sym was i)) ∙ sum_by-remove_entry (came c) (is_at (nat_cmp k)) m.entries
 
 -- .. or written, as the same request
-pub parked_on-write : (m n : BTreeMap ℕ Parked) (k : ℕ) (p q : Parked) (c : ℕ) → n.entries ≡ set_value (is_at (nat_cmp k)) m.entries q → get nat_cmp m k ≡ Some p → q.pending ≡ p.pending → parked_on n c ≡ parked_on m c
+pub parked_on-write : (m n : BTreeMap ℕ Parked) (k : ℕ) (p q : Parked) (c : ℕ) → n.entries ≡ set_value (is_at (nat_cmp k)) m.entries q → get nat_cmp m k ≡ Some p → q.pending.connection ≡ p.pending.connection → parked_on n c ≡ parked_on m c
 parked_on-write m n k p q c entries was same =
     let all : sum_by (came c) (values_of n.entries) + came c p ≡ sum_by (came c) (values_of m.entries) + came c q = ap (λ es. sum_by (came c) (values_of es) + came c p) entries ∙ sum_by-set_value (came c) (is_at (nat_cmp k)) m.entries p q was in
-    let one : came c q ≡ came c p = ap (λ w. cond (w.connection == c) 1 0) same in
+    let one : came c q ≡ came c p = ap (λ (n : ℕ). cond (n == c) 1 0) same in
     omega (arith, all, one)
 
 -- who waits can be counted: each list is short, and there are few
@@ -54,8 +54,11 @@ waiters-fit c (p ∷ ps) =
 pub few-written : (m n : BTreeMap ℕ Parked) (k : ℕ) (q : Parked) → WritesThrough nat_cmp (nat_cmp k) m q n → btree_map_len m < 4294967296 → btree_map_len n < 4294967296
 few-written m n k q wrote few = let size = wrote.2 in omega (arith, size, few)
 
+pub counted-moved : (m n : BTreeMap ℕ Parked) (counts : BTreeMap ℕ ℕ) (k : ℕ) (p q : Parked) → WritesThrough nat_cmp (nat_cmp k) m q n → get nat_cmp m k ≡ Some p → q.pending.connection ≡ p.pending.connection → AreCounted m counts → AreCounted n counts
+counted-moved m n counts k p q wrote was same counted c = counted c ∙ sym (parked_on-write m n k p q c wrote.0 was same)
+
 pub counted-written : (m n : BTreeMap ℕ Parked) (counts : BTreeMap ℕ ℕ) (k : ℕ) (p q : Parked) → WritesThrough nat_cmp (nat_cmp k) m q n → get nat_cmp m k ≡ Some p → q.pending ≡ p.pending → AreCounted m counts → AreCounted n counts
-counted-written m n counts k p q wrote was same counted c = counted c ∙ sym (parked_on-write m n k p q c wrote.0 was same)
+counted-written m n counts k p q wrote was same counted = counted-moved m n counts k p q wrote was (ap (λ w. w.connection) same) counted
 
 -- a repeat that joins leaves its request
 pub joins-same : (goes : ℕ → Bool) (most : ℕ) (w : Waiter) (p q : Parked) (j : Join) → JoinsBy goes most w p j q → q.pending ≡ p.pending

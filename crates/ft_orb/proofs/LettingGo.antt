@@ -62,11 +62,11 @@ none-keyed i (e ∷ es) h =
 
 gone-keyed : (i : ℕ) (key : Option RequestKey) (es : List (KeptOutcome ℕ)) → AreKeyed i key (Others i es)
 gone-keyed i key [] = tt
-gone-keyed i key (e ∷ es) = by (e.outcome == i) refl
+gone-keyed i key (e ∷ es) = by (e.outcome == i) refl (gone-keyed i key es)
   where
-    by : (b : Bool) → (e.outcome == i) ≡ b → AreKeyed i key (cond (not b) (e ∷ Others i es) (Others i es))
-    by true is = gone-keyed i key es
-    by false is = (λ same. absurd (let yes = eq-eqb e.outcome i same in cc), gone-keyed i key es)
+    by : (b : Bool) → (e.outcome == i) ≡ b → AreKeyed i key (Others i es) → AreKeyed i key (cond (not b) (e ∷ Others i es) (Others i es))
+    by true is rest = rest
+    by false is rest = (λ same. absurd (let yes = eq-eqb e.outcome i same in cc), rest)
 
 module _ (held : ℕ → Holding) (calls : List Call) (i n : ℕ) (less : i < length calls) (was : held i ≡ parked n)
     (once : (j k m : ℕ) → j < length calls → k < length calls → held j ≡ parked m → held k ≡ parked m → j ≡ k) (key : RequestKey) where
@@ -85,7 +85,7 @@ module _ (held : ℕ → Holding) (calls : List Call) (i n : ℕ) (less : i < le
       by true is =
           let same = eqb-true e.outcome i is in
           let own : key ≡ e.key = let k = keyed same in cc in
-          (λ j. same_key key (own (~ j)) && is_parked n (held e.outcome))
+          ap (λ (k : RequestKey). same_key key k && is_parked n (held e.outcome)) (sym own)
           ∙ ap (λ (b : Bool). b && is_parked n (held e.outcome)) (same_key-self key)
           ∙ ap (λ (h : Holding). is_parked n h) (ap held same ∙ was)
           ∙ eq-eqb n n refl
@@ -161,7 +161,7 @@ withdraws {C} offers s held calls old new past waiting n p now h was is others n
     }
 
     there : (m : ℕ) (b : Bool) → (m == n) ≡ b → IsSome (parked_at old m) → IsSome (parked_at new m)
-    there m true at some = subst (λ (o : Option Parked). IsSome o) (sym (ap (parked_at new) (eqb-true m n at) ∙ is)) tt
+    there m true at some = subst (λ (o : Option Parked). IsSome o) (sym (ap (parked_at new) (eqb-true m n at) ∙ is)) refl
     there m false at some = subst (λ (o : Option Parked). IsSome o) (sym (others m at)) some
 
     call-at : (m : ℕ) (x : Parked) (b : Bool) → (m == n) ≡ b → parked_at new m ≡ Some x

@@ -23,7 +23,8 @@ use Rattle.ft_log.specs.declared.system_exception.SystemName.{SystemName}
 use Rattle.ft_log.specs.declared.system_exception.SystemName.TheVariants.{BadContext}
 use Rattle.ft_objects.specs.Catalogues.{Offer}
 use Rattle.ft_objects.specs.Interfaces.{Interface}
-use Rattle.ft_orb.specs.declared.desk.Step.TheVariants.{Answered}
+use Rattle.ft_orb.specs.declared.desk.Step.{Step}
+use Rattle.ft_orb.specs.declared.desk.Step.TheVariants.{Answered, Quiet, Unanswered, Unhandled}
 use Rattle.ft_orb.specs.declared.engine.Engine.{Engine}
 use Rattle.ft_orb.specs.declared.events.Note.TheVariants.{Done, Memory}
 use Rattle.ft_orb.specs.declared.keeper.Retained.{Retained}
@@ -38,6 +39,7 @@ use Rattle.ft_orb.specs.Owners.{OwnerOf, answered_so_far, kept_of, owned_rules, 
 use Rattle.ft_orb.specs.Parking.{AreKeyed, AsksLate, DeclinesLate, Parks, ResumesLate, Settings, by_number, key_kept, not_now, numbering, put_at, still}
 use Rattle.ft_orb.specs.Pause as pause
 use Rattle.ft_orb.specs.Pauses.{Paused, Reaches}
+use Rattle.ft_orb.specs.Private.{IsPut}
 use Rattle.ft_orb.specs.Requests.{Call, Wanted}
 use Rattle.ft_orb.specs.Seen.{seen_entry, seen_table}
 use Rattle.ft_orb.specs.Standing.{IsSameBut, Shown, StandsBy, capacity_of, share_of, table_of}
@@ -128,6 +130,13 @@ parks-withdrawn s held calls engine past bound waiting i h = record {
   lists = h.lists;
   opened = h.opened;
 }
+
+-- what was not put has octets
+pub unput : (octets : List ℕ) (step : Step) (before out : List ℕ) → (step ≡ Answered → ⊥) → IsPut octets step before out → 0 < length octets
+unput octets Answered before out apart put = absurd (apart refl)
+unput octets Unanswered before out apart put = put.1
+unput octets Quiet before out apart put = absurd put
+unput octets Unhandled before out apart put = absurd put
 
 -- it is given up after so many
 pub cut-as : {C : Type 0} (offers : C → Offer) (s : Settings) (held : ℕ → Holding) (calls : List Call) (past : List Event) (waiting : ℕ → List Waiter) (c moment : ℕ) (octets written : List ℕ) (n m : ℕ) (e : Engine C) → n ≡ m

@@ -134,13 +134,13 @@ abbrev pub count_under : (Awaited → Bool) → (ℕ → Option Awaited) → ℕ
 count_under test there zero = 0
 count_under test there (suc n) = if option_map_or test (there n) false then count_under test there n + 1 else count_under test there n
 
--- where a connection is closed, nobody waits on it
+-- where a connection is closed, nobody waits on it; and no call is withdrawn by itself: it is declined
 abbrev pub IsUnawaited : Event → (ℕ → List Waiter) → Type 0
 IsUnawaited (Opened c) waiting = Unit {0}
 IsUnawaited (Piece c moment octets) waiting = Unit {0}
 IsUnawaited (Close c) waiting = (n : ℕ) → list_any (λ w. w.connection == c) (waiting n) ≡ false
 IsUnawaited (Lost c) waiting = Unit {0}
-IsUnawaited (Withdrew i) waiting = Unit {0}
+IsUnawaited (Withdrew i) waiting = ⊥
 
 -- something was settled, or declined, under number n
 abbrev pub settles : ℕ → Deed → Bool
@@ -280,7 +280,7 @@ module _ (s : Settings) where
       × (handled + 1 ≡ length (completed s.limits g.past (piece_of a)))
   IsDeed g (Declined a name minor written) = (g.asking ≡ Some a) × Wrote nothing_yet (put_at (length g.calls) (known (not_now name minor)) g.held) g.past (piece_of a) (a.written ++ written) Done × AreTaken (after_deed g (Declined a name minor written))
   IsDeed g (Withdrawn i n name minor told) = (g.asking ≡ None) × (i < length g.calls) × (g.held i ≡ parked n) × AreTold n (not_now name minor) (without_call i g) told × ((told_all n (without_call i g) told).waiting n ≡ [])
-      × AreTaken (after_deed g (Withdrawn i n name minor told))
+      × AreTaken (after_deed g (Withdrawn i n name minor told)) × IsFor (g.there n) (not_now name minor)
   IsDeed g (Settled i n outcome told) = (g.asking ≡ None) × (i < length g.calls) × (g.held i ≡ parked n) × AreTold n outcome g told × ((told_all n g told).waiting n ≡ []) × AreTaken (after_deed g (Settled i n outcome told)) × IsFor (g.there n) outcome
 
   -- deeds one after another, from a ledger on

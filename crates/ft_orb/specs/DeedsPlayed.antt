@@ -19,16 +19,17 @@ use Rattle.ft_orb.specs.declared.error.ParkError.TheVariants as unparked
 use Rattle.ft_orb.specs.declared.events.Event.TheVariants as happening
 use Rattle.ft_orb.specs.declared.events.Note.{Note}
 use Rattle.ft_orb.specs.declared.events.Written.{Written}
-use Rattle.ft_orb.specs.Deeds.{AreTold, Answered, Asking, Declined, Deed, GivenUp, Happened, IsDeed, IsLeftOf, Joined, Ledger, Parked, Runs, Settled, Stopped, Told, Withdrawn, after_deed, after_deeds, came_to, note_told, notes_of, opening, settles, told_all, told_of}
+use Rattle.ft_orb.specs.Deeds.{AreTold, Answered, Asking, Declined, Deed, GivenUp, Happened, IsDeed, IsLeftOf, Joined, Ledger, Parked, Runs, Settled, Stopped, Told, Withdrawn, after_deed, after_deeds, came_to, note_told, notes_of, opening, reply_to, settles, told_all, told_of}
 use Rattle.ft_orb.specs.Engines.{Awaited, CanAnswer, asks_in, waits_in}
 use Rattle.ft_orb.specs.ExactlyOnce.{OneExpiration, state_after, state_of}
 use Rattle.ft_orb.specs.History.{KeepsAll, Piece, arrivals, event_of}
 use Rattle.ft_orb.specs.Now.{performed_now}
 use Rattle.ft_orb.specs.Outputs.{Noted, noted}
 use Rattle.ft_orb.specs.Owners.{owned_rules}
-use Rattle.ft_orb.specs.Parking.{AsksLate, CanSettle, Settings, Stays, by_number, goes_on, not_now, parked_at, parked_count, parked_in, parked_of, places_of, places_of_one, put_at, told_in, waits_on}
+use Rattle.ft_orb.specs.Parking.{AsksLate, CanSettle, Settings, Stays, by_number, goes_on, not_now, parked_at, parked_count, parked_in, parked_of, places_of, places_of_one, put_at, told_in, waiter_of, waits_on}
 
--- A deed is one of what the code was told to do: a part is one of its piece.
+-- A deed is one of what the code was told to do: a part is one of its piece. What is to be declined may be given up, where there are octets
+-- to write.
 abbrev pub IsOf : CodeDeed → Deed → Type 0
 IsOf (code.Event e) (Happened happened written note) = happened ≡ event_of e
 IsOf (code.Event e) (Stopped p written w q) = event_of e ≡ Piece p.connection p.moment p.piece
@@ -37,7 +38,7 @@ IsOf (code.Answer o) (Answered a outcome written note) = outcome ≡ performed_i
 IsOf code.Park (Parked a own) = Unit {0}
 IsOf code.GiveUp (GivenUp a handled) = Unit {0}
 IsOf (code.Decline name minor) (Declined a said code_is written) = (said ≡ name) × (code_is ≡ minor)
-IsOf (code.Decline name minor) (GivenUp a handled) = Unit {0}
+IsOf (code.Decline name minor) (GivenUp a handled) = 0 < length (reply_to (not_now name minor) (waiter_of a.request.connection a.question))
 IsOf (code.Withdraw n name minor) (Withdrawn i number said code_is told) = (number ≡ n) × (said ≡ name) × (code_is ≡ minor)
 IsOf (code.Settle n o) (Settled i number outcome told) = (number ≡ n) × (outcome ≡ performed_in o)
 IsOf _ _ = ⊥
@@ -155,10 +156,11 @@ Becomes {C} offers told left notes old new = (s : Settings) (g : Ledger) → Hol
 abbrev pub Remains : {C : Type 0} → (C → Offer) → Engine C → Engine C → Type 0
 Remains {C} offers old new = (s : Settings) (g : Ledger) → Holds offers s g old → Holds offers s g new
 
--- What holds of a run from a new engine on: what is answered or told of a call is the outcome that is known of it at the end; the calls that were
--- taken are those of the distinct admissible requests, each once, in the order of their first arrivals, where requests with one key
--- carry one expiration, and those that are performed with each key by itself, whatever they carry; of those who came to wait under a
--- number each is told once, waits on, or its connection has ended; and what is told under it first is of the call that was parked there.
+-- What holds of a run from a new engine on: what is answered or told of a call is the outcome that is known of it at the end; of those who came
+-- to wait under a number each is told once, waits on, or its connection has ended; and what is told under it first is of the call that
+-- was parked there. Where none is declined, the calls that were taken are those of the distinct admissible requests, each once, in the
+-- order of their first arrivals, where requests with one key carry one expiration, and those that are performed with each key by
+-- itself, whatever they carry.
 pub record IsAnsweredLate (s : Settings) (held : ℕ → Holding) (ds : List Deed) : Type 0 where
   pub runs : Runs s (opening held) ds
   pub answered : (xs ys : List Deed) (a : Asking) (outcome : Performed) (written : List ℕ) (note : Note) → ds ≡ xs ++ Answered a outcome written note ∷ ys

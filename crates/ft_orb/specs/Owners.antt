@@ -104,7 +104,7 @@ module _ {Outcome : Type 0} where
   table_over rules limits is [] = record { state = []; entries = [] }
   table_over rules limits is (e ∷ past) = let_go is e (table_after rules (table_over rules limits is past) (completed limits past e))
 
-  -- .. and over its arrivals alone, where nothing is withdrawn
+  -- .. and over its arrivals alone, where the owner tells outcomes not by their calls, and withdraws nothing
   abbrev pub table_by : Rules (List Call) Wanted Call Outcome → Limits → Option (Outcome → ℕ → Bool) → List Event → Table (List Call) Outcome
   table_by rules limits None past = table_after rules (record { state = []; entries = [] }) (arrivals limits past)
   table_by rules limits (Some is) past = table_over rules limits is past

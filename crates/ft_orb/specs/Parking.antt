@@ -29,7 +29,7 @@ use Rattle.ft_orb.specs.declared.parked.Parked.{Parked}
 use Rattle.ft_orb.specs.declared.parked.Places.{Places}
 use Rattle.ft_orb.specs.declared.parked.Waiter.{Waiter}
 use Rattle.ft_orb.specs.Counts.{parked_on, waiters_on}
-use Rattle.ft_orb.specs.Engines.{AsksOf, Awaited, EndsOf, LeavesOf, RestsOf, ResumesOf, StopsOf, asks_in, awaited_of}
+use Rattle.ft_orb.specs.Engines.{AsksOf, Awaited, EndsOf, RestsOf, ResumesOf, StopsOf, asks_in, awaited_of}
 use Rattle.ft_orb.specs.ExactlyOnce.{Absent, Arrival}
 use Rattle.ft_orb.specs.History.{Close, Event, Lost, Piece, Withdrew, completed, does_count, line, shortened}
 use Rattle.ft_orb.specs.Outputs.{WritesBy, after, is_going, output_cut}
@@ -252,11 +252,6 @@ module _ {C : Type 0} (offers : C → Offer) (s : Settings) where
     pub appended : out ≡ before ++ more
     pub writes : WritesBy s.limits (by_number s (put_at (length calls) (known refusal) held)).tell (owned_says (by_number s (put_at (length calls) (known refusal) held))) past (Piece w.connection moment octets) (written ++ more) Done
     pub stays : Stays (put_at (length calls) (known refusal) held) (calls ++ w.call ∷ []) engine (Withdrew (length calls) ∷ Piece w.connection moment octets ∷ past) (still s.limits (Piece w.connection moment octets ∷ past) waiting)
-
-  -- .. or it was given up, and its connection closed before it was lost
-  pub record LeavesLate (held : ℕ → Holding) (calls : List Call) (past : List Event) (waiting : ℕ → List Waiter) (c moment : ℕ) (octets written : List ℕ) (handled : ℕ) (engine : Engine C) (before out : List ℕ) : Type 0 where
-    pub leaves : LeavesOf offers (by_number s held) calls past c moment octets written handled engine before out
-    pub stays : Stays held calls engine (Lost c ∷ Close c ∷ shortened s.limits past (Piece c moment octets) handled ∷ past) (still s.limits (Lost c ∷ Close c ∷ shortened s.limits past (Piece c moment octets) handled ∷ past) waiting)
 
   -- .. or it was parked, and nothing is kept for its call any more, which is i; it is still to be told
   pub record WithdrawsLate (held : ℕ → Holding) (calls : List Call) (past : List Event) (waiting : ℕ → List Waiter) (n : ℕ) (engine : Engine C) : Type 0 where

@@ -25,8 +25,9 @@ pub struct Counts {
     /// Parked requests whose outcome was handed in.
     pub settled: u64,
     pub given_up: u64,
-    /// Requests that the owner declined while they waited, and those that were parked then.
+    /// Requests that the owner declined while they waited, also where that gave them up, as memory was short.
     pub declined: u64,
+    /// Requests that the owner declined while they were parked.
     pub withdrawn: u64,
 }
 

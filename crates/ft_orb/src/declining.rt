@@ -1,8 +1,9 @@
 //! Requests that are declined: "not now", of which nothing is kept.
 
-ghost use Rattle.std.specs.Prelude.{◌≡◌, ◌≢◌, ◌==◌, ◌↔◌, ◌<◌, [], ℕ, List, None, Some, Err, IfErr, IfOk, OnErr, OnOk, false};
+ghost use Rattle.std.specs.Prelude.{◌≡◌, ◌≢◌, ◌==◌, ◌↔◌, ◌+◌, ◌++◌, ◌<◌, [], ℕ, List, None, Some, Err, IfErr, IfOk, OnErr, OnOk, false, length};
 ghost use Rattle.std.specs.Option.{option_map};
 ghost use Rattle.ft_orb.specs.History as history;
+ghost use Rattle.ft_orb.specs.History.{completed};
 ghost use Rattle.ft_orb.specs.Owners.{Owner};
 ghost use Rattle.ft_orb.specs.Requests.{Call};
 
@@ -17,20 +18,24 @@ use giop_core::write_close;
 
 impl<C: Catalogue + Drop> Engine<C> {
     ghost use Rattle.ft_orb.specs.Decisions.{one_more};
-    ghost use Rattle.ft_orb.specs.Engines.{AreEndings, Asks, Awaited, EndsLast, IsOpen, Leaves, asks_in, counts_in, handled_in, waits_in};
-    ghost use Rattle.ft_orb.specs.Parking.{AreParked, AsksLate, CanSettle, DeclinesLate, LeavesLate, ResumesLate, Settings, Stays, WithdrawsLate, keyless, left_in, not_now, others_under, parked_at, parked_in, told_in, waits_on};
+    ghost use Rattle.ft_orb.specs.Engines.{AreEndings, Asks, Awaited, EndsLast, IsOpen, Resumes, ResumesOnce, asks_in, counts_in, handled_in, waits_in};
+    ghost use Rattle.ft_orb.specs.Deeds.{reply_to};
+    ghost use Rattle.ft_orb.specs.EnginesNow.{ResumesNow};
+    ghost use Rattle.ft_orb.specs.Parking.{AreParked, AsksLate, CanSettle, DeclinesLate, ResumesLate, Settings, Stays, WithdrawsLate, keyless, left_in, not_now, others_under, parked_at, parked_in, told_in, waiter_of, waits_on};
     ghost use Rattle.ft_orb.specs.declared.ending.Ending.TheVariants.{GivenUp, Memory as OutOfMemory};
     ghost use Rattle.ft_orb.specs.declared.error.CloseError.TheVariants.{NoConnection, Waits};
     ghost use Rattle.ft_orb.specs.declared.error.ServeError.TheVariants.{Memory as Short};
     ghost use Rattle.ft_orb.specs.declared.events.Note.TheVariants.{Memory};
     ghost use Rattle.ft_orb.specs.declared.parked.Waiter.{Waiter};
     ghost use Rattle.ft_log.specs.Holding.{Holding};
+    ghost use Rattle.giop_link.specs.Linking.{close_connection};
 
     /// Declines the request of this number, which waits (`is_open`): appends a system exception with COMPLETED_NO, where an
     /// answer is wished for, and keeps nothing. Its room is free, and its connection stays. Its owner has done nothing for
     /// it, and is asked again where it comes again.
     ///
-    /// COMPLETED_NO speaks of the past: until the key expires another transmission of the request may still act. An owner
+    /// COMPLETED_NO speaks of the past, and of what is kept of it: a request whose key came before with an expiration that has
+    /// passed may have acted then. And until the key expires another transmission of the request may still act. An owner
     /// whose refusal has to be final answers with an outcome, which is kept.
     ///
     /// Where an allocation fails the request is given up.
@@ -48,6 +53,11 @@ impl<C: Catalogue + Drop> Engine<C> {
         ensures given_up { OnErr result ((s : Settings) (held : ℕ → Holding) (calls : List Call) (past : List history.Event) (waiting : ℕ → List Waiter) (moment : ℕ) (octets written : List ℕ) (w : Awaited) → AsksLate C.offers s held calls self.old past waiting moment octets written w
             → ResumesLate C.offers s held calls past waiting w.connection moment octets written (Memory (handled_in self.old) (handled_in self.old)) self.new [] []) }
         ensures err { IfErr result (λ e. e ≡ Short (handled_in self.old) (handled_in self.old)) }
+        // which takes no memory where no answer is wished for
+        ensures due { OnErr result ((s : Settings) (held : ℕ → Holding) (calls : List Call) (past : List history.Event) (waiting : ℕ → List Waiter) (moment : ℕ) (octets written : List ℕ) (w : Awaited) (a : AsksLate C.offers s held calls self.old past waiting moment octets written w)
+            → 0 < length (reply_to (not_now name minor) (waiter_of w.connection a.asks.question))) }
+        ensures counts { OnErr result ((s : Settings) (held : ℕ → Holding) (calls : List Call) (past : List history.Event) (waiting : ℕ → List Waiter) (moment : ℕ) (octets written : List ℕ) (w : Awaited) → AsksLate C.offers s held calls self.old past waiting moment octets written w
+            → handled_in self.old + 1 ≡ length (completed s.limits past (history.Piece w.connection moment octets))) }
         ensures unwritten { OnErr result (out.new.items ≡ out.old.items) }
         ensures idle { waits_in self.new ≡ None }
         ensures asks { asks_in self.new ≡ asks_in self.old }
@@ -76,8 +86,9 @@ impl<C: Catalogue + Drop> Engine<C> {
     }
 
     /// Declines the request that is parked under this number, as `can_settle` tests of that system exception with
-    /// COMPLETED_NO: `due` and `reply` tell it to all who wait, and nothing is kept. Its room and its key are free at once: a
-    /// repeat that comes from now on is asked for anew. What `decline` says of COMPLETED_NO holds here too.
+    /// COMPLETED_NO: `due` and `reply` tell it to all who wait, and nothing is kept. Its room in what is kept and its key are free
+    /// at once: a repeat that comes from now on is asked for anew. Its place among those that are parked is free once all were
+    /// told. What `decline` says of COMPLETED_NO holds here too.
     pub fn withdraw(&mut self, number: u64, name: SystemName, minor: u32)
         requires idle { waits_in self.old ≡ None }
         requires can { CanSettle (C.offers self.old.catalogue) (parked_at self.old number) (not_now name minor) }
@@ -92,29 +103,36 @@ impl<C: Catalogue + Drop> Engine<C> {
         ensures counted { counts_in self.new ≡ record (counts_in self.old) { withdrawn = one_more (counts_in self.old).withdrawn } }
         ensures ended { AreEndings self.old self.new }
     {
-        let Some(parked) = self.parked.requests.get_mut(&number) else {
-            return;
-        };
-        let retained = parked.pending.waiting.retained.take();
-        parked.outcome = Some(Outcome::System(name, minor, Completion::No));
-        self.keeper.withdraw(retained, number);
-        count(&mut self.keeper.counts.withdrawn);
+        if let Some(parked) = self.parked.requests.get_mut(&number) {
+            let retained = parked.pending.waiting.retained.take();
+            parked.outcome = Some(Outcome::System(name, minor, Completion::No));
+            self.keeper.withdraw(retained, number);
+            count(&mut self.keeper.counts.withdrawn);
+        }
     }
 
     /// Gives up the request of this number, which waits (`is_open`), as `give_up` does, and says goodbye first: appends
     /// CloseConnection (GIOP 9.4.7), by which its client takes this request, and what it sent after it, as not processed. It
     /// may send them again at once, on a new connection: so this is for draining and restarts, and for no outage that
-    /// lasts. Gives what `give_up` gives.
+    /// lasts. Its owner has done nothing for the request. Gives what `give_up` gives.
     ///
     /// On an error nothing has changed, and the request waits still: somebody waits on its connection for the outcome of a
     /// request that is parked, or an allocation failed.
     pub fn goodbye(&mut self, number: u64, out: &mut Vec<u8>) -> Result<u64, CloseError>
         requires open { IsOpen number (waits_in self.old) }
+        ensures closed { OnOk result (out.new.items ≡ out.old.items ++ close_connection) }
+        // .. and for the rest as `give_up`
         ensures table { (owner : Owner) (calls : List Call) (past : List history.Event) (moment : ℕ) (octets written : List ℕ) (w : Awaited) → Asks C.offers owner calls self.old past moment octets written w
-            → IfOk result (λ handled. Leaves C.offers owner calls past w.connection moment octets written handled self.new out.old.items out.new.items) }
+            → IfOk result (λ handled. Resumes C.offers owner calls past w.connection moment octets written (Memory handled handled) self.new [] []) }
+        ensures once { (owner : Owner) (calls : List Call) (past : List history.Event) (moment : ℕ) (octets written : List ℕ) (w : Awaited) → Asks C.offers owner calls self.old past moment octets written w
+            → IfOk result (λ handled. ResumesOnce C.offers owner calls past w.connection moment octets written (Memory handled handled) [] []) }
+        ensures now { (owner : Owner) (calls : List Call) (past : List history.Event) (moment : ℕ) (octets written : List ℕ) (w : Awaited) → Asks C.offers owner calls self.old past moment octets written w
+            → IfOk result (λ handled. ResumesNow owner calls past w.connection moment octets written (Memory handled handled) [] []) }
         // while requests are parked
+        ensures counts { (s : Settings) (held : ℕ → Holding) (calls : List Call) (past : List history.Event) (waiting : ℕ → List Waiter) (moment : ℕ) (octets written : List ℕ) (w : Awaited) → AsksLate C.offers s held calls self.old past waiting moment octets written w
+            → IfOk result (λ handled. handled + 1 ≡ length (completed s.limits past (history.Piece w.connection moment octets))) }
         ensures late { (s : Settings) (held : ℕ → Holding) (calls : List Call) (past : List history.Event) (waiting : ℕ → List Waiter) (moment : ℕ) (octets written : List ℕ) (w : Awaited) → AsksLate C.offers s held calls self.old past waiting moment octets written w
-            → IfOk result (λ handled. LeavesLate C.offers s held calls past waiting w.connection moment octets written handled self.new out.old.items out.new.items) }
+            → IfOk result (λ handled. ResumesLate C.offers s held calls past waiting w.connection moment octets written (Memory handled handled) self.new [] []) }
         ensures handled { IfOk result (λ handled. handled ≡ handled_in self.old) }
         ensures waits { (w : Awaited) → waits_in self.old ≡ Some w → (result ≡ Err Waits) ↔ (0 < waits_on self.old w.connection) }
         ensures there { result ≢ Err NoConnection }

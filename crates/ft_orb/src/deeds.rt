@@ -1,15 +1,12 @@
 //! Deeds played on an engine, one after another: what happens to it, and what its owner does.
 
-ghost use Rattle.std.specs.Prelude.{◌≡◌, ◌==◌, ◌++◌, ◌∷◌, ◌+◌, ◌≤◌, ◌<◌, ℕ, List, [], IfOk, OnOk, IfErr, IsSome, None, Some, false, flat_map, length, map, take};
-ghost use Rattle.std.specs.Vec.{vec_capacity};
+ghost use Rattle.std.specs.Prelude.{◌≡◌, ◌++◌, ◌∷◌, ◌+◌, ◌≤◌, ◌<◌, ℕ, List, [], IfOk, OnOk, IfErr, None, Some, flat_map, length, map, take};
 ghost use Rattle.ft_log.specs.Holding.{Holding};
-ghost use Rattle.ft_log.specs.Performed.{Performed};
-ghost use Rattle.ft_log.specs.View.{performed_in};
 ghost use Rattle.ft_orb.specs.Deeds.{Deed as History, Ledger, Runs, after_deeds, notes_of, opening};
-ghost use Rattle.ft_orb.specs.DeedsPlayed.{AreOf, Becomes, Holds, IsAnsweredLate, IsDone, IsRefused, IsRefusedIn, IsTold, LeaveAtLast, Remains, deeds_done, left_after, left_fed, left_in as left_at};
-ghost use Rattle.ft_orb.specs.Engines.{asks_in, waits_in};
+ghost use Rattle.ft_orb.specs.DeedsPlayed.{AreOf, Becomes, Holds, IsAnsweredLate, IsDone, IsRefused, IsRefusedIn, LeaveAtLast, Remains, deeds_done, left_after, left_fed, left_in as left_at};
+ghost use Rattle.ft_orb.specs.Engines.{waits_in};
 ghost use Rattle.ft_orb.specs.Outputs.{noted};
-ghost use Rattle.ft_orb.specs.Parking.{Settings, Stays, left_in, parked_in, told_in};
+ghost use Rattle.ft_orb.specs.Parking.{Settings};
 ghost use Rattle.ft_orb.specs.Standing.{note_of, note_of_closing};
 ghost use Rattle.ft_orb.specs.declared.deeds.Deed.TheVariants as code;
 ghost use Rattle.ft_orb.specs.declared.events.Event.TheVariants as happening;
@@ -18,7 +15,8 @@ use crate::engine::{Engine, Fed};
 use crate::error::{CloseError, ParkError, ServeError};
 use crate::events::{Event, Note, Written};
 use crate::playing::{opened, served};
-use ft_log::{Completion, Outcome, SystemName};
+use crate::telling::{do_settle, do_withdraw};
+use ft_log::{Outcome, SystemName};
 use ft_objects::Catalogue;
 use std::alloc::Global;
 use thiserror::Error;
@@ -243,72 +241,6 @@ fn do_give_up<C: Catalogue + Drop>(
     })
 }
 
-/// How many wait for the outcome of the request that is parked under a number, those among them whose connections have ended.
-fn waiters<C: Catalogue + Drop>(engine: &Engine<C>, number: u64) -> usize
-    ensures { result ≡ left_in engine.now number }
-{
-    match engine.parked.requests.get(&number) {
-        Some(parked) => parked.waiters.len(),
-        None => 0,
-    }
-}
-
-/// Tells an outcome to all who wait for it. There is room for what is said of each.
-fn tell_all<C: Catalogue + Drop>(
-    alloc: Global,
-    engine: &mut Engine<C>,
-    number: u64,
-    out: &mut Vec<Written>,
-)
-    requires idle { waits_in engine.old ≡ None }
-    requires room { length out.old.items + left_in engine.old number ≤ vec_capacity out.old }
-    ensures asks { asks_in engine.new ≡ asks_in engine.old }
-    ensures done { IsSome (told_in engine.old number) → parked_in engine.new number ≡ None }
-    ensures others { (q : ℕ) → (q == number) ≡ false → (parked_in engine.new q ≡ parked_in engine.old q) × (told_in engine.new q ≡ told_in engine.old q) }
-    ensures told { (s : Settings) (g : Ledger) (outcome : Performed) → Stays C.offers s g.held g.calls engine.old g.past g.waiting → told_in engine.old number ≡ Some outcome
-        → IsTold C.offers s g number outcome engine.new out.old.items out.new.items }
-    ensures catalogue { engine.new.catalogue ≡ engine.old.catalogue }
-{
-    while let Some(connection) = engine.due(number) {
-        let mut octets = Vec::new(alloc);
-        let note = served(engine.reply(number, &mut octets));
-        let written = Written {
-            connection,
-            octets,
-            note,
-        };
-        out.push(written).unwrap();
-    }
-}
-
-/// The request that is parked under a number has its outcome.
-fn do_settle<C: Catalogue + Drop>(
-    alloc: Global,
-    engine: &mut Engine<C>,
-    number: u64,
-    outcome: &Outcome,
-    out: &mut Vec<Written>,
-) -> Result<(), DeedError>
-    requires idle { waits_in engine.old ≡ None }
-    ensures ok { OnOk result ((s : Settings) (g : Ledger) → Holds C.offers s g engine.old → (written : List Written) × (out.new.items ≡ out.old.items ++ written)
-        × IsDone C.offers s g (code.Settle number outcome.now) None (map noted written) engine.new) }
-    ensures err { IfErr result (λ why. (out.new.items ≡ out.old.items) × IsRefused C.offers engine.new (code.Settle number outcome.now) why × Remains C.offers engine.old engine.new) }
-    ensures catalogue { engine.new.catalogue ≡ engine.old.catalogue }
-{
-    if !engine.can_settle(number, outcome) {
-        return Err(DeedError::NotParked);
-    }
-    let Ok(copy) = outcome.copy(alloc) else {
-        return Err(DeedError::Memory);
-    };
-    if out.reserve(waiters(engine, number)).is_err() {
-        return Err(DeedError::Memory);
-    }
-    engine.settle(number, copy);
-    tell_all(alloc, engine, number, out);
-    Ok(())
-}
-
 /// The request that waits is declined, or given up.
 fn do_decline<C: Catalogue + Drop>(
     alloc: Global,
@@ -332,32 +264,6 @@ fn do_decline<C: Catalogue + Drop>(
         octets,
         note,
     })
-}
-
-/// The request that is parked under a number is declined.
-fn do_withdraw<C: Catalogue + Drop>(
-    alloc: Global,
-    engine: &mut Engine<C>,
-    number: u64,
-    name: SystemName,
-    minor: u32,
-    out: &mut Vec<Written>,
-) -> Result<(), DeedError>
-    requires idle { waits_in engine.old ≡ None }
-    ensures ok { OnOk result ((s : Settings) (g : Ledger) → Holds C.offers s g engine.old → (written : List Written) × (out.new.items ≡ out.old.items ++ written)
-        × IsDone C.offers s g (code.Withdraw number name minor) None (map noted written) engine.new) }
-    ensures err { IfErr result (λ why. (out.new.items ≡ out.old.items) × IsRefused C.offers engine.new (code.Withdraw number name minor) why × Remains C.offers engine.old engine.new) }
-    ensures catalogue { engine.new.catalogue ≡ engine.old.catalogue }
-{
-    if !engine.can_settle(number, &Outcome::System(name, minor, Completion::No)) {
-        return Err(DeedError::NotParked);
-    }
-    if out.reserve(waiters(engine, number)).is_err() {
-        return Err(DeedError::Memory);
-    }
-    engine.withdraw(number, name, minor);
-    tell_all(alloc, engine, number, out);
-    Ok(())
 }
 
 /// Does one deed, and appends what was written. The result is what is left of a piece.
@@ -425,7 +331,8 @@ pub fn play_deeds<C: Catalogue + Drop>(
         × (flat_map notes_of ds ≡ map noted written)
         × LeaveAtLast ds (left_at result)
         × Holds C.offers s (after_deeds s g ds) engine.new }
-    // from a new engine on: each distinct admissible request is a call once, and who waits for one is told once
+    // from a new engine on: each distinct admissible request is a call once, where none is declined, and who waits for one is told
+    // once
     ensures new { (s : Settings) (held : ℕ → Holding) → Holds C.offers s (opening held) engine.old → (ds : List History) × (written : List Written)
         × (out.new.items ≡ out.old.items ++ written)
         × AreOf (take (deeds_done (length deeds.now) result) deeds.now) ds

@@ -86,6 +86,7 @@ impl Keeper {
     pub(crate) fn refuse(&mut self, name: SystemName, minor: u32, out: &mut Vec<u8>) -> Step
         ensures put { IsPut (reply_by self.old.slot.asker.wish self.old.slot.asker.version self.old.slot.asker.request_id (not_now name minor)) result out.old.items out.new.items }
         ensures log { self.new.log ≡ self.old.log }
+        ensures slot { self.new.slot.retained ≡ None }
         ensures clock { self.new.clock ≡ self.old.clock }
         ensures counts { self.new.counts ≡ self.old.counts }
         ensures ended { self.new.ended ≡ self.old.ended }

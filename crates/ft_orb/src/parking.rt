@@ -259,7 +259,7 @@ impl<C: Catalogue + Drop> Engine<C> {
     }
 
     /// While requests are parked too, the calls taken are those of the distinct admissible requests, each once, in the order
-    /// of their first arrivals.
+    /// of their first arrivals, where none is declined.
     pub fn calls_are_taken_once(&self)
         ensures { (s : Settings) (held : ℕ → Holding) (calls : List Call) (past : List history.Event) (waiting : ℕ → List Waiting) → Stays C.offers s held calls self.now past waiting → KeepsAll past → OneExpiration (arrivals s.limits past)
             → calls ≡ state_of (owned_rules (by_number s held)) [] (arrivals s.limits past) }

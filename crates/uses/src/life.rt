@@ -27,7 +27,7 @@ pub enum LifeError {
 /// Makes an engine, does deeds on it one after another, and appends what was written in each.
 ///
 /// Whatever they are, and whenever outcomes come: the calls that the owner took are those of the distinct admissible
-/// requests, each once, in the order in which these came, where requests with one key carry one expiration; a call has one
+/// requests, each once, in the order in which these came, where none is declined and requests with one key carry one expiration; a call has one
 /// outcome, for ever, and each who waits for it is told it once, waits on, or its connection has ended. Where octets of a
 /// piece are left the life ends there.
 pub fn live<C: Catalogue + Drop>(

@@ -6,7 +6,7 @@ use Rattle.ft_orb.specs.declared.deeds.Deed.TheVariants as code
 use Rattle.ft_orb.specs.declared.events.Written.{Written}
 use Rattle.ft_orb.specs.Parking.{CanSettle, parked_at}
 use Rattle.ft_orb.proofs.Acting.{resting, settles-deed}
-use Rattle.ft_orb.proofs.deeds.do_settle.Goals as goal
+use Rattle.ft_orb.proofs.telling.do_settle.Goals as goal
 
 pub tell_all-requires : goal.tell_all-requires
 tell_all-requires g c = record { idle = c.settle.ensures.waits ∙ c.requires.idle; room = grind (arith, common_steps) }

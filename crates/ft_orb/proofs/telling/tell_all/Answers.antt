@@ -4,7 +4,7 @@ use Rattle.std.proofs.lemmas.Grind.{common_steps}
 use Rattle.ft_orb.specs.declared.events.Note.{Note}
 use Rattle.ft_orb.specs.declared.events.Written.{Written}
 use Rattle.ft_orb.proofs.Acting.{tells-all, tells-more, tells-none}
-use Rattle.ft_orb.proofs.deeds.tell_all.Goals as goal
+use Rattle.ft_orb.proofs.telling.tell_all.Goals as goal
 
 less-by : (a b c : ℕ) → a < b → b ≤ c → a < c
 less-by a b c h k = omega (arith, h, k)

@@ -5,7 +5,7 @@ use Rattle.ft_orb.specs.Deeds.{Ledger}
 use Rattle.ft_orb.specs.Engines.{asks_in, waits_in}
 use Rattle.ft_orb.specs.Parking.{Settings, Stays, left_in, parked_in, told_in}
 use Rattle.ft_orb.proofs.Acting.{IsTelling}
-use Rattle.ft_orb.proofs.deeds.tell_all.Given as goal
+use Rattle.ft_orb.proofs.telling.tell_all.Given as goal
 
 -- so far they were told, and there is room for the rest
 abbrev pub invariant-loop-connection : goal.invariant-loop-connection
