@@ -45,6 +45,7 @@ use Rattle.ft_orb.specs.Standing.{note_of}
 use Rattle.ft_orb.specs.Table.{Table, forgotten, keyed_step, performing_step, step_by_field, table_after, table_step}
 use Rattle.ft_orb.specs.Tellings.{Later, nothing_yet}
 use Rattle.ft_orb.proofs.Books.{book_by, kept-folded}
+use Rattle.ft_orb.proofs.Declined.{pasts-stand}
 use Rattle.ft_orb.proofs.Folded.{table_after-append}
 use Rattle.ft_orb.proofs.Headline.{past_stands_by}
 use Rattle.ft_orb.proofs.Late.{below-past, links-go, tally-is}
@@ -655,6 +656,7 @@ module _ (s : Settings) where
         subst (λ (l : List Deed). (after_deeds s (opening held) l).held i ≡ known (not_now name minor)) (sym is) (declined-are-known s (opening held) xs ys i n name minor told (subst (λ (l : List Deed). Runs s (opening held) l) is runs));
     once = calls-once (after_deeds s (opening held) ds) (calls-are-taken s (opening held) ds runs refl);
     now = calls-now (after_deeds s (opening held) ds) (calls-are-taken s (opening held) ds runs refl);
+    stand = let g = after_deeds s (opening held) ds in calls-are-taken s (opening held) ds runs refl ∙ ((pasts-stand s).table g.held g.past).1.state;
     told = λ n. told-once s stay (opening held) ds n runs (λ m. refl);
     theirs = λ xs ms ys i j n outcome told is low held-there none.
         theirs-later s (opening held) xs ms ys i j n outcome told (λ i j n less. absurd (omega (arith, less))) (subst (λ (l : List Deed). Runs s (opening held) l) is runs) low held-there none;

@@ -12,6 +12,7 @@ use Rattle.ft_orb.specs.declared.events.Note.{Note}
 use Rattle.ft_orb.specs.declared.events.Note.TheVariants.{Done, Memory}
 use Rattle.ft_orb.specs.declared.parked.Waiter.{Waiter}
 use Rattle.ft_orb.specs.Engines.{Awaited}
+use Rattle.ft_orb.specs.Declined.{asks_by, brought, room_by, standing}
 use Rattle.ft_orb.specs.ExactlyOnce.{Arrival, OneExpiration}
 use Rattle.ft_orb.specs.History.{Close, Event, KeepsAll, Lost, Opened, Piece, Withdrew, arrivals, completed, connection_of, shortened}
 use Rattle.ft_orb.specs.Outputs.{Noted, WritesBy, after, output_cut}
@@ -21,6 +22,7 @@ use Rattle.ft_orb.specs.Parking.{Settings, by_number, goes_on, not_now, numberin
 use Rattle.ft_orb.specs.Requests.{Call, Wanted, asked_of, asking}
 use Rattle.ft_orb.specs.Table.{table_after, table_step}
 use Rattle.ft_orb.specs.Tellings.{Later, nothing_yet, reply_by}
+use Rattle.ft_orb.specs.Withdrawing.{number_answers}
 
 -- a request that waits for its outcome: the octets that it came in, at this moment, what was written for those before it in them, and
 -- how it asks
@@ -352,6 +354,11 @@ module _ (s : Settings) where
   abbrev pub WrittenOnce : Type 0
   WrittenOnce = (late : Later) (held : ℕ → Holding) (past : List Event) (e : Event) (written : List ℕ) (note : Note) → KeepsAll past → OneExpiration (arrivals s.limits (after s.limits past e note)) → Wrote late held past e written note
       → WritesBy s.limits (numbering s late held).tell (owned_law (numbering s late held)) past e written note
+
+  -- .. and, also where some were withdrawn, what stands says.
+  abbrev pub WrittenStanding : Type 0
+  WrittenStanding = (late : Later) (held : ℕ → Holding) (past : List Event) (e : Event) (written : List ℕ) (note : Note) → Wrote late held past e written note
+      → WritesBy s.limits (numbering s late held).tell (λ p f. number_answers (asks_by s) (room_by s) (standing s p) (brought s.limits p f)) past e written note
 
   -- those who wait do so on connections that go on
   abbrev pub AreGoing : Ledger → Type 0

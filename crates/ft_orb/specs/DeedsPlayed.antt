@@ -20,6 +20,7 @@ use Rattle.ft_orb.specs.declared.error.ParkError.TheVariants as unparked
 use Rattle.ft_orb.specs.declared.events.Event.TheVariants as happening
 use Rattle.ft_orb.specs.declared.events.Note.{Note}
 use Rattle.ft_orb.specs.declared.events.Written.{Written}
+use Rattle.ft_orb.specs.Declined.{standing}
 use Rattle.ft_orb.specs.Deeds.{AreTold, Answered, Asking, Declined, Deed, GivenUp, Happened, IsDeed, IsLeftOf, Joined, Ledger, Parked, Runs, Settled, Stopped, Told, Withdrawn, after_deed, after_deeds, came_to, note_told, notes_of, opening, reply_to, settles, told_all, told_of}
 use Rattle.ft_orb.specs.Engines.{Awaited, CanAnswer, asks_in, waits_in}
 use Rattle.ft_orb.specs.ExactlyOnce.{OneExpiration, state_after, state_of}
@@ -173,6 +174,7 @@ pub record IsAnsweredLate (s : Settings) (held : ℕ → Holding) (ds : List Dee
   pub once : KeepsAll (after_deeds s (opening held) ds).past → OneExpiration (arrivals s.limits (after_deeds s (opening held) ds).past)
       → (after_deeds s (opening held) ds).calls ≡ state_of (owned_rules (by_number s held)) [] (arrivals s.limits (after_deeds s (opening held) ds).past)
   pub now : KeepsAll (after_deeds s (opening held) ds).past → (after_deeds s (opening held) ds).calls ≡ state_after (owned_rules (by_number s held)) [] (performed_now (owned_rules (by_number s held)) (arrivals s.limits (after_deeds s (opening held) ds).past))
+  pub stand : (after_deeds s (opening held) ds).calls ≡ (standing s (after_deeds s (opening held) ds).past).calls
   pub told : (n : ℕ) → IsLeftOf (goes_on s.limits (after_deeds s (opening held) ds).past) (flat_map (came_to n) ds) (flat_map (told_of n) ds ++ (after_deeds s (opening held) ds).waiting n)
   pub theirs : (xs ms ys : List Deed) (i j n : ℕ) (outcome : Performed) (told : List Told) → ds ≡ xs ++ (ms ++ Settled j n outcome told ∷ ys)
       → i < length (after_deeds s (opening held) xs).calls → (after_deeds s (opening held) xs).held i ≡ parked n → list_any (settles n) ms ≡ false → i ≡ j

@@ -6,6 +6,7 @@ ghost use Rattle.ft_log.specs.Holding.{Holding, known, parked};
 ghost use Rattle.ft_log.specs.Performed.{Performed};
 ghost use Rattle.ft_log.specs.View.{performed_in};
 ghost use Rattle.ft_objects.specs.Replies.{IsRenderable};
+ghost use Rattle.ft_orb.specs.Declined.{standing};
 ghost use Rattle.ft_orb.specs.ExactlyOnce.{OneExpiration, state_after, state_of};
 ghost use Rattle.ft_orb.specs.History as history;
 ghost use Rattle.ft_orb.specs.History.{KeepsAll, arrivals};
@@ -269,5 +270,10 @@ impl<C: Catalogue + Drop> Engine<C> {
     pub fn calls_are_taken_now(&self)
         ensures { (s : Settings) (held : ℕ → Holding) (calls : List Call) (past : List history.Event) (waiting : ℕ → List Waiting) → Stays C.offers s held calls self.now past waiting → KeepsAll past
             → calls ≡ state_after (owned_rules (by_number s held)) [] (performed_now (owned_rules (by_number s held)) (arrivals s.limits past)) }
+    {}
+
+    /// .. and, also where some were declined, those of the requests for which there was room beside what stood when they came.
+    pub fn calls_stand(&self)
+        ensures { (s : Settings) (held : ℕ → Holding) (calls : List Call) (past : List history.Event) (waiting : ℕ → List Waiting) → Stays C.offers s held calls self.now past waiting → calls ≡ (standing s past).calls }
     {}
 }
