@@ -41,7 +41,10 @@ fn take_step<S: Servant + Drop>(
     match step {
         Step::Call { now, call, .. } => called(client, wire, *now, call),
         Step::Recall {
-            number, now, call, ..
+            number,
+            now,
+            call,
+            ..
         } => recalled(client, wire, *number, *now, call),
         Step::Skip { number, .. } => {
             client.skip_to(*number);

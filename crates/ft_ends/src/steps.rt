@@ -19,7 +19,11 @@ pub struct Call {
 #[derive(Debug, Drop)]
 pub enum Step {
     /// The client calls.
-    Call { client: u32, now: u64, call: Call },
+    Call {
+        client: u32,
+        now: u64,
+        call: Call,
+    },
     /// The client takes a call of before up again, under its number.
     Recall {
         client: u32,
@@ -28,21 +32,44 @@ pub enum Step {
         call: Call,
     },
     /// It learns up to which number calls of before were numbered.
-    Skip { client: u32, number: u32 },
+    Skip {
+        client: u32,
+        number: u32,
+    },
     /// It connects.
-    Connect { client: u32, now: u64 },
+    Connect {
+        client: u32,
+        now: u64,
+    },
     /// The next octets that it wrote come to the server, at most so many.
-    Up { client: u32, count: u32, now: u64 },
+    Up {
+        client: u32,
+        count: u32,
+        now: u64,
+    },
     /// The next octets that the server wrote come to it, at most so many.
-    Down { client: u32, count: u32 },
+    Down {
+        client: u32,
+        count: u32,
+    },
     /// Its connection is cut: what is on its way is gone.
-    Cut { client: u32 },
+    Cut {
+        client: u32,
+    },
     /// The server closes its connection.
-    Shut { client: u32 },
+    Shut {
+        client: u32,
+    },
     /// It cancels the call of a number.
-    Cancel { client: u32, id: i32 },
+    Cancel {
+        client: u32,
+        id: i32,
+    },
     /// It learns of a moment.
-    Tick { client: u32, now: u64 },
+    Tick {
+        client: u32,
+        now: u64,
+    },
 }
 
 impl Step {

@@ -73,17 +73,12 @@ impl ListLog {
     }
 
     pub(crate) fn withdraw(&mut self, key: &Key, number: u64) {
-        self.entries
-            .retain(|entry| !key.is_same(&entry.key) || entry.held.number() != Some(number));
+        self.entries.retain(|entry| !key.is_same(&entry.key)
+            || entry.held.number() != Some(number));
     }
 
     /// Keeps an outcome, or its place, if room is made for its key.
-    pub(crate) fn keep(
-        &mut self,
-        key: Key,
-        expiration: u64,
-        held: Held,
-    ) -> Result<(), LogError> {
+    pub(crate) fn keep(&mut self, key: Key, expiration: u64, held: Held) -> Result<(), LogError> {
         let Some(room) = self.room.take() else {
             return Ok(());
         };
