@@ -82,6 +82,28 @@ fn tick<W: Write>(engine: &mut Engine<HeardCounter>, now: u64, out: &mut W) -> R
     }
 }
 
+/// Takes a line for an engine.
+fn take_deed<W: Write>(
+    alloc: Global,
+    line: &str,
+    player: &mut Player,
+    out: &mut W,
+) -> Result<(), Stop> {
+    if let Some(word) = line.strip_prefix("ending ") {
+        let connection = number(word)?;
+        return Ok(print_ending(player.engine.ending(connection), out)?);
+    }
+    if let Some(word) = line.strip_prefix("tick ") {
+        return tick(&mut player.engine, number(word)?, out);
+    }
+    match line {
+        "play" => play(alloc, player, out),
+        "counts" => Ok(print_counts(&player.engine.counts(), out)?),
+        "heard" => Ok(player.engine.catalogue().print(out)?),
+        _ => Ok(player.deeds.push(deed_in(alloc, line)?)?),
+    }
+}
+
 /// Takes a line.
 fn take_line<W: Write>(
     alloc: Global,
@@ -97,21 +119,9 @@ fn take_line<W: Write>(
         *player = Some(player_in(alloc, hasher, words)?);
         return Ok(());
     }
-    let Some(player) = player else {
-        return Err(Stop::BadLine);
-    };
-    if let Some(word) = line.strip_prefix("ending ") {
-        let connection = number(word)?;
-        return Ok(print_ending(player.engine.ending(connection), out)?);
-    }
-    if let Some(word) = line.strip_prefix("tick ") {
-        return tick(&mut player.engine, number(word)?, out);
-    }
-    match line {
-        "play" => play(alloc, player, out),
-        "counts" => Ok(print_counts(&player.engine.counts(), out)?),
-        "heard" => Ok(player.engine.catalogue().print(out)?),
-        _ => Ok(player.deeds.push(deed_in(alloc, line)?)?),
+    match player {
+        Some(player) => take_deed(alloc, line, player, out),
+        None => Err(Stop::BadLine),
     }
 }
 
