@@ -4,6 +4,7 @@ pub mod Patching
 pub mod Contexts
 pub mod Marking
 pub mod Living
+pub mod Gapless
 pub mod Feeds
 pub mod Models
 pub mod Sent

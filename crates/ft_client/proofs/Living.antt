@@ -51,7 +51,7 @@ numbers-later : (last next : ℕ) (calls : List (ℕ × Call)) → last ≤ next
 numbers-later last next [] le h = tt
 numbers-later last next (x ∷ calls) le h = let low = h.0.1 in ((h.0.0, omega (arith, low, le)), numbers-later last next calls le h.1)
 
-called-append : (r : ℕ) (calls more : List (ℕ × Call)) → called_count r (calls ++ more) ≡ called_count r calls + called_count r more
+pub called-append : (r : ℕ) (calls more : List (ℕ × Call)) → called_count r (calls ++ more) ≡ called_count r calls + called_count r more
 called-append r [] more = omega arith
 called-append r (x ∷ calls) more = let rest = called-append r calls more in omega (arith, rest)
 

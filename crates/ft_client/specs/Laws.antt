@@ -1,16 +1,21 @@
 -- The laws, each over the definitions alone.
-use Rattle.std.specs.Prelude.{◌≡◌, ℕ, List, length}
+use Rattle.std.specs.Prelude.{◌≡◌, ℕ, false, List, length}
+use Rattle.std.specs.List.{list_any}
 use Rattle.giop_core.specs.declared.header.Version.{Version}
 use Rattle.giop_frames.specs.declared.limits.Limits.{Limits}
 use Rattle.ft_client.specs.Clients.{Happening, transmission}
 use Rattle.giop_link.specs.Hearing.{Hearing}
-use Rattle.ft_client.specs.Lives.{IsLife, Life, goes_on, lived, new_life}
+use Rattle.ft_client.specs.Lives.{HasNoGaps, IsLife, Life, goes_on, leaves_out, lived, new_life}
 use Rattle.ft_client.specs.Messages.{Answer, Call, request_behind}
 
 -- Whatever happens to a client, and whatever it hears: each call is pending or was completed once, and each transmission of it
 -- carries its content, none past its expiration.
 abbrev pub CallsCompleteOnce : Type 0
 CallsCompleteOnce = (client_id : List ℕ) (version : Version) (limits : Limits) (down : Hearing Answer) (happenings : List Happening) → IsLife client_id version (lived down happenings (new_life client_id version limits))
+
+-- Where no call of before is taken up again and no number is skipped, numbers have no gaps.
+abbrev pub NumbersHaveNoGaps : Type 0
+NumbersHaveNoGaps = (client_id : List ℕ) (version : Version) (limits : Limits) (down : Hearing Answer) (happenings : List Happening) → list_any leaves_out happenings ≡ false → HasNoGaps (lived down happenings (new_life client_id version limits))
 
 -- What holds of such a client holds after one happening more.
 abbrev pub LivesGoOn : Type 0

@@ -1,9 +1,9 @@
 -- A client with all that ever was, and what is true of it.
-use Rattle.std.specs.Prelude.{◌≡◌, ℕ, ◌+◌, ◌<◌, ◌≤◌, ◌==◌, Bool, true, false, if◌then◌else◌, List, [], ◌∷◌, ◌++◌, Option, Some, None}
+use Rattle.std.specs.Prelude.{◌≡◌, ℕ, ◌+◌, ◌<◌, ◌≤◌, ◌==◌, ◌&&◌, nat_le, nat_lt, Bool, true, false, if◌then◌else◌, List, [], ◌∷◌, ◌++◌, length, Option, Some, None}
 use Rattle.std.specs.List.{AllByRecursion}
 use Rattle.giop_core.specs.declared.header.Version.{Version}
 use Rattle.giop_frames.specs.declared.limits.Limits.{Limits}
-use Rattle.ft_client.specs.Clients.{Called, Client, Ended, Happening, Joined, Pending, Resumed, after, gives, made, new_client, says}
+use Rattle.ft_client.specs.Clients.{Called, Client, Ended, Fed, Happening, Joined, Parted, Pending, Recalled, Resumed, Skipped, Taken, Ticked, after, gives, made, new_client, says}
 use Rattle.giop_link.specs.Hearing.{Hearing}
 use Rattle.ft_client.specs.Messages.{Answer, Asked, Call, Said, Transmission, Withdrawn}
 
@@ -100,3 +100,20 @@ pub record IsLife (client_id : List ℕ) (version : Version) (l : Life) : Type 0
   pub alive : IsAlive client_id version l.calls l.taken l.client
   -- each transmission of a call carries this client's id and the call's content, and none was made past its expiration
   pub sent : AllByRecursion (λ x. IsOfCall client_id version l.calls x) l.sent
+
+-- what leaves numbers out: a call of before that is taken up again, and a number that is skipped
+abbrev pub leaves_out : Happening → Bool
+leaves_out (Called now call) = false
+leaves_out (Resumed now id call) = true
+leaves_out (Skipped id) = true
+leaves_out (Joined now) = false
+leaves_out (Fed octets) = false
+leaves_out Parted = false
+leaves_out (Recalled id) = false
+leaves_out (Ticked now) = false
+leaves_out Taken = false
+
+-- each number up to the last was given a call, and is pending, or was completed once; no other is
+pub record HasNoGaps (l : Life) : Type 0 where
+  pub count : length l.calls ≡ l.client.last
+  pub once : (r : ℕ) → pending_count r l.client.pending + (ended_count r l.taken + ended_count r l.client.completions) ≡ one_if (nat_lt 0 r && nat_le r l.client.last)

@@ -1,11 +1,16 @@
 //! Laws over the definitions: each is what a function with an empty body ensures.
 
-ghost use Rattle.ft_client.specs.Laws.{CallsCompleteOnce, LivesGoOn, RequestsAreAsLong};
+ghost use Rattle.ft_client.specs.Laws.{CallsCompleteOnce, LivesGoOn, NumbersHaveNoGaps, RequestsAreAsLong};
 
 /// Whatever happens to a client: each call is pending or was completed once, and each transmission of it carries its
 /// content, none past its expiration.
 pub fn a_call_completes_once()
     ensures { CallsCompleteOnce }
+{}
+
+/// Where no call of before is taken up again and no number is skipped, each number up to the last was given a call.
+pub fn numbers_have_no_gaps()
+    ensures { NumbersHaveNoGaps }
 {}
 
 /// What holds of such a client holds after one happening more.
