@@ -14,7 +14,7 @@ use Rattle.ft_client.specs.Directions.{stream}
 use Rattle.ft_client.specs.Lives.{IsLife, Life, goes_on, moment_of, sent_at}
 use Rattle.ft_client.specs.Messages.{Answer, Said, Transmission, located, octets_said, replied}
 use Rattle.ft_orb.specs.ExactlyOnce.{Arrival}
-use Rattle.ft_orb.specs.History.{Close, Event, Gone, Line, Lost, Opened, Piece, arrivals, clock, completed, connection_of, counted, does_count, line}
+use Rattle.ft_orb.specs.History.{Close, Event, Gone, Line, Lost, Opened, Piece, arrivals, clock, completed, connection_of, counted, does_count, line, origin}
 use Rattle.ft_orb.specs.Outputs.{Made}
 use Rattle.ft_orb.specs.Requests.{Wanted}
 use Rattle.ft_objects.specs.Servants.{Meaning}
@@ -77,7 +77,7 @@ off-here (Some z) x y is off = λ same. off (ap (λ (v : Wire). v.number) (same_
 from-sent : (sent : List (ℕ × Transmission)) (said : List Said) (a : Arrival Wanted) → AllByRecursion (λ s. IsAmong sent s) said → IsFrom said a → IsSentIn sent a
 from-sent sent said a among from =
     let at = asked_as-each (λ s. IsAmong sent s) said from.transmission.request_id from.transmission from.asked among in
-    record { now = at.0; transmission = from.transmission; connection = from.connection; among = at.1; content = from.content; field = from.field }
+    record { now = at.0; transmission = from.transmission; origin = from.origin; among = at.1; content = from.content; field = from.field }
 
 module _ {State : Type 0} (meaning : Meaning State) (made : Made State) (hears : Limits → Hearing Answer) where
   -- nothing was opened under this number yet
@@ -223,7 +223,7 @@ module _ {State : Type 0} (meaning : Meaning State) (made : Made State) (hears :
             let e = Piece x.number now octets in
             let x' : Wire = record x { went = x.went + length octets } in
             let more = completed made.limits past e in
-            let from : AllByRecursion (λ a. IsFrom x.said a) more = piece-from made.limits hears faithful grow x.said x.number (max (clock past) now) x.went n (line past x.number) link.served.up link.spoken.listed link.spoken.fine in
+            let from : AllByRecursion (λ a. IsFrom x.said a) more = piece-from made.limits hears faithful grow x.said (origin past x.number) (max (clock past) now) x.went n (line past x.number) link.served.up link.spoken.listed link.spoken.fine in
             let line_is : IsLine (line (e ∷ past) x.number) (stream octets_said x.said) (x.went + length octets) =
             subst (λ (l : Line). IsLine l (stream octets_said x.said) (x.went + length octets)) (sym (line-piece past x.number now octets)) (line-more (line past x.number) (stream octets_said x.said) x.went n link.served.up) in
             let after : IsLinked meaning made (e ∷ past) opened m.life.sent m.life.client.pending m.life.client.last k x' = record {

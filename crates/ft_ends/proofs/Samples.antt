@@ -13,7 +13,7 @@ use Rattle.ft_log.specs.declared.system_exception.Completion.TheVariants.{No}
 use Rattle.ft_log.specs.declared.system_exception.SystemName.TheVariants.{BadContext}
 use Rattle.ft_client.specs.Clients.{Cancelled, Ended, Expired}
 use Rattle.ft_client.specs.Messages.{Answer, Asked, Call, Said, Withdrawn, replied}
-use Rattle.ft_orb.specs.History.{Close, Event, Gone, Line, Lost, Opened, Piece, Shut as Closed, Up, Withdrew, clock, line}
+use Rattle.ft_orb.specs.History.{Changed, Close, Event, Gone, Line, Lost, Opened, Piece, Shut as Closed, Up, Withdrew, clock, line}
 use Rattle.ft_objects.specs.Replies.{body_of, order_of, status_of}
 use Rattle.ft_ends.specs.Both.{ended_of}
 use Rattle.ft_orb.specs.Tellings.{Closing, Failed, Located, Replied, Telling}
@@ -76,6 +76,7 @@ says past (Piece c moment octets) = answered_on (max (clock past) moment) (line 
 says past (Close c) = closed_on (line past c)
 says past (Lost c) = []
 says past (Withdrew i) = []
+says past Changed = []
 
 abbrev sides : Sides
 sides = record { said = octets_of_said; telling = octets_of_telling; hears = λ own. record { heard = heard_in; ending = ending_in }; says = says }

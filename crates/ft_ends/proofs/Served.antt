@@ -23,10 +23,10 @@ use Rattle.ft_client.specs.Clients.{Ended, ended_by}
 use Rattle.ft_client.specs.Directions.{stream}
 use Rattle.ft_client.specs.Messages.{Answer, Asked, Call, Said, fields_of, Transmission, Withdrawn, incoming_of, located, octets_said, question_of, replied}
 use Rattle.ft_orb.specs.ExactlyOnce.{Arrival, Present, answer_of, answers_after}
-use Rattle.ft_orb.specs.History.{Close, Event, Gone, Line, Lost, Opened, Piece, Shut, Up, Withdrew, arrivals, arrivals_in, arrivals_on, completed, connection_of, does_count, heard_after, line, longer, shut}
+use Rattle.ft_orb.specs.History.{Changed, Close, Event, Gone, Line, Lost, Opened, Piece, Shut, Up, Withdrew, arrivals, arrivals_in, arrivals_on, completed, connection_of, does_count, heard_after, line, longer, shut}
 use Rattle.ft_orb.specs.Outputs.{Made, close_told, close_told_on, error_told, error_told_on, farewell_told}
 use Rattle.ft_objects.specs.Replies.{answered_as, body_of, order_of, status_of}
-use Rattle.ft_orb.specs.Requests.{Wanted, arrival_of, asking, field_of, rules_of}
+use Rattle.ft_orb.specs.Requests.{Origin, Wanted, arrival_of, asking, field_of, rules_of}
 use Rattle.ft_objects.specs.Servants.{Meaning}
 use Rattle.ft_ends.specs.Both.{Answers, Explains, ended_of, key_of}
 use Rattle.ft_ends.specs.Fine.{AreFaithful, IsFine, IsFineCall, IsFineSaid, IsFineTelling, IsFront}
@@ -78,6 +78,7 @@ line-other (Piece d moment octets) past c h = ap (λ b. cond b (longer octets (l
 line-other (Close d) past c h = ap (λ b. cond b (shut (line past c)) (line past c)) h
 line-other (Lost d) past c h = ap (λ b. cond b Gone (line past c)) h
 line-other (Withdrew i) past c h = refl
+line-other Changed past c h = refl
 
 pub line-piece : (past : List Event) (c moment : ℕ) (octets : List ℕ) → line (Piece c moment octets ∷ past) c ≡ longer octets (line past c)
 line-piece past c moment octets = ap (λ b. cond b (longer octets (line past c)) (line past c)) (eq-eqb c c refl)
@@ -101,9 +102,9 @@ module _ (says : List Event → Event → List Telling) where
 -- an arrival is that of the request of an id
 pub record IsFrom (said : List Said) (a : Arrival Wanted) : Type 0 where
   pub transmission : Transmission
-  pub connection : ℕ
+  pub origin : Origin
   pub asked : asked_as said transmission.request_id ≡ Some transmission
-  pub content : a.content ≡ asking connection (question_of transmission)
+  pub content : a.content ≡ asking origin (question_of transmission)
   pub field : a.field ≡ Present (key_of transmission) transmission.call.expiration
   pub fine : IsFine transmission
 
@@ -124,10 +125,10 @@ module _ (limits : Limits) (hears : Limits → Hearing Answer) (faithful : AreFa
       let near : IsFront (heard limits s) (heard limits (stream octets_said said)) = subst (λ (o : List ℕ). IsFront (heard limits s) (heard limits o)) (sym is) (grow limits s rest) in
       each-front (λ x. IsHeardOf said x) (heard limits s) (map incoming_of said) (front-trans (heard limits s) (heard limits (stream octets_said said)) (map incoming_of said) near (faithful.asked said fine)) all
 
-  from-heard : (said : List Said) (c now : ℕ) (m : Incoming) → IsHeardOf said m → IfGiven (λ a. IsFrom said a) (arrival_of c now m)
+  from-heard : (said : List Said) (c : Origin) (now : ℕ) (m : Incoming) → IsHeardOf said m → IfGiven (λ a. IsFrom said a) (arrival_of c now m)
   from-heard said c now (asks q) h = record {
     transmission = h.0;
-    connection = c;
+    origin = c;
     asked = h.1;
     content = ap (asking c) h.2;
     field = ap field_of (λ i. (h.2 i).contexts) ∙ faithful.carried h.0 h.3;
@@ -136,7 +137,7 @@ module _ (limits : Limits) (hears : Limits → Hearing Answer) (faithful : AreFa
   from-heard said c now (locates version id to) h = absurd h
   from-heard said c now (cancels id) h = tt
 
-  arrivals-from : (said : List Said) (c now : ℕ) (s octets rest : List ℕ) → stream octets_said said ≡ (s ++ octets) ++ rest → AllByRecursion (λ m. IsListed said m) said → AllByRecursion IsFineSaid said
+  arrivals-from : (said : List Said) (c : Origin) (now : ℕ) (s octets rest : List ℕ) → stream octets_said said ≡ (s ++ octets) ++ rest → AllByRecursion (λ m. IsListed said m) said → AllByRecursion IsFineSaid said
       → AllByRecursion (λ a. IsFrom said a) (arrivals_in limits c now s octets)
   unfolding arrivals_in
   arrivals-from said c now s octets rest is listed fine =
@@ -144,7 +145,7 @@ module _ (limits : Limits) (hears : Limits → Hearing Answer) (faithful : AreFa
       (each-drop (λ x. IsHeardOf said x) (length (heard limits s)) (heard limits (s ++ octets)) (heard-all said (s ++ octets) rest is listed fine))
 
   -- what arrives with the next octets is what was said
-  pub piece-from : (said : List Said) (c now went n : ℕ) (l : Line) → IsLine l (stream octets_said said) went → AllByRecursion (λ m. IsListed said m) said → AllByRecursion IsFineSaid said
+  pub piece-from : (said : List Said) (c : Origin) (now went n : ℕ) (l : Line) → IsLine l (stream octets_said said) went → AllByRecursion (λ m. IsListed said m) said → AllByRecursion IsFineSaid said
       → AllByRecursion (λ a. IsFrom said a) (arrivals_on limits c now l (take n (drop went (stream octets_said said))))
   piece-from said c now went n Gone h listed fine = absurd h
   piece-from said c now went n Shut h listed fine = tt
@@ -213,6 +214,7 @@ module _ (P : List Telling → Type 0) (none : P []) (failed : P (Failed ∷ [])
   farewell-is limits past (Close c) = close_on-is limits (line past c)
   farewell-is limits past (Lost c) = none
   farewell-is limits past (Withdrew i) = none
+  farewell-is limits past Changed = none
 
 module _ {State : Type 0} (meaning : Meaning State) (made : Made State) where
   -- there is an arrival of the key whose answer this is

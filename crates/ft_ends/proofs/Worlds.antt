@@ -98,7 +98,7 @@ sent_in-more : (sent more : List (ℕ × Transmission)) (a : Arrival Wanted) →
 sent_in-more sent more a h = record {
   now = h.now;
   transmission = h.transmission;
-  connection = h.connection;
+  origin = h.origin;
   among = Contains-append_left sent more (h.now, h.transmission) h.among;
   content = h.content;
   field = h.field;

@@ -16,7 +16,7 @@ use Rattle.ft_orb.specs.ExactlyOnce.{Arrival, OneExpiration, Present, acts, answ
 use Rattle.ft_orb.specs.History.{Event, arrivals}
 use Rattle.ft_orb.specs.Outputs.{Made}
 use Rattle.ft_objects.specs.Replies.{answered_as, body_of, order_of}
-use Rattle.ft_orb.specs.Requests.{Wanted, asking, rules_of}
+use Rattle.ft_orb.specs.Requests.{Origin, Wanted, asking, rules_of}
 use Rattle.ft_objects.specs.Servants.{Meaning}
 use Rattle.ft_ends.specs.World.{Member, Newcomer, World}
 
@@ -58,13 +58,13 @@ ended_of (raw raw_status.UserException order body) = Told UserException (body_at
 ended_of (raw raw_status.SystemException order body) = Told SystemException (body_at (raw raw_status.SystemException order body))
 ended_of (raw raw_status.LocationForward order body) = Told LocationForward (body_at (raw raw_status.LocationForward order body))
 
--- an arrival is that of a transmission among these, on a connection, and carries its content, its key and its expiration
+-- an arrival is that of a transmission among these, wherever it came from, and carries its content, its key and its expiration
 pub record IsSentIn (sent : List (ℕ × Transmission)) (a : Arrival Wanted) : Type 0 where
   pub now : ℕ
   pub transmission : Transmission
-  pub connection : ℕ
+  pub origin : Origin
   pub among : Contains sent (now, transmission)
-  pub content : a.content ≡ asking connection (question_of transmission)
+  pub content : a.content ≡ asking origin (question_of transmission)
   pub field : a.field ≡ Present (key_of transmission) transmission.call.expiration
 
 -- .. of one that client k made for its call r

@@ -34,13 +34,13 @@ use Rattle.ft_orb.specs.DeedsPlayed.{AreOf, Holds, LeaveAtLast, RunsAreAnsweredL
 use Rattle.ft_orb.specs.Counts.{waiters_on}
 use Rattle.ft_orb.specs.Engines.{Awaited, CanAnswer, IsNumbered, asks_in, awaited_of, waits_in}
 use Rattle.ft_orb.specs.ExactlyOnce.{Absent, Arrival, Bad, Field, OneExpiration, Present, Rules, state_after, state_of}
-use Rattle.ft_orb.specs.History.{Close, Event, KeepsAll, Lost, Piece, Withdrew, arrivals, completed, connection_of, event_of}
+use Rattle.ft_orb.specs.History.{Close, Event, KeepsAll, Lost, Piece, Withdrew, arrivals, completed, connection_of, event_of, changes}
 use Rattle.ft_orb.specs.Now.{performed_now}
 use Rattle.ft_orb.specs.Outputs.{Noted, after, noted, output_cut}
 use Rattle.ft_orb.specs.Owners.{owned_rules, owned_says, owned_table, owner_rules}
 use Rattle.ft_orb.specs.Parked.{is_wished, on_going}
 use Rattle.ft_orb.specs.Parking.{AreParked, AsksLate, CanSettle, DeclinesLate, EndsLate, FeedsLate, IsDueLate, IsSettled, Parks, RepeatsLate, RepliesLate, ResumesLate, Settings, Stays, StopsLate, WithdrawsLate, by_number, goes_on, not_now, numbering, parked_at, parked_in, parked_count, parked_of, places_of, places_of_one, put_at, still, told_in, told_of as outcome_of, waiter_of, waits_on, own_of}
-use Rattle.ft_orb.specs.Requests.{Call, Wanted}
+use Rattle.ft_orb.specs.Requests.{Call, Wanted, Terms, asked_at}
 use Rattle.ft_orb.specs.Standing.{note_of}
 use Rattle.ft_orb.specs.Table.{Table, forgotten, keyed_step, performing_step, step_by_field, table_after, table_step}
 use Rattle.ft_orb.specs.Tellings.{Later, nothing_yet}
@@ -56,9 +56,9 @@ use Rattle.ft_orb.proofs.Numbers.{AreBelow, after-below, all-filter}
 use Rattle.ft_orb.proofs.Said.{past_now_by}
 
 -- The number that a table answers is that of a call that was taken.
-module _ (interface : List ℕ → List ℕ → Interface) (capacity share : ℕ) where
+module _ (ask : Wanted → Result Call SystemName) (capacity share : ℕ) where
   abbrev Numbered : Rules (List Call) Wanted Call ℕ
-  Numbered = owner_rules interface (λ calls call. length calls) capacity share
+  Numbered = owner_rules ask (λ calls call. length calls) capacity share
 
   kept-below : (m : ℕ) (key : RequestKey) (es : List (KeptOutcome ℕ)) (i : ℕ) → AreBelow m es → kept_for key es ≡ Some i → i < m
   kept-below m key [] i h is = absurd cc
@@ -252,7 +252,7 @@ module _ {C : Type 0} (offers : C → Offer) (s : Settings) where
       let all : owned_table (by_number s g.held) now ≡ (table_step rules mid x.last).0 =
       ap (λ (xs : List (Arrival Wanted)). table_after rules (owned_table (by_number s g.held) g.past) xs) x.completes
       ∙ table_after-append rules (owned_table (by_number s g.held) g.past) x.front (x.last ∷ []) in
-      let low : x.i < length (table_step rules mid x.last).0.state = step-below s.offer.interface s.capacity s.share mid x.last x.i (after-below s.offer.interface s.capacity s.share (owned_table (by_number s g.held) g.past) x.front (below-past s g.past)) x.says in
+      let low : x.i < length (table_step rules mid x.last).0.state = step-below (asked_at s.terms) s.capacity s.share mid x.last x.i (after-below (asked_at s.terms) s.capacity s.share (owned_table (by_number s g.held) g.past) x.front (below-past s g.past)) x.says in
       let count : length (table_step rules mid x.last).0.state ≡ length g.calls = ap (λ (t : Table (List Call) ℕ). length t.state) (sym all) ∙ ap (λ (l : List Call). length l) (tally-is offers s nothing_yet g.held g.calls new now x.stays.rests) in
       let there = there-is g old r x.i x.number (omega (arith, low, count)) x.is_parked in (
         Joined (record { connection = c; moment = moment; piece = piece; taken = taken }) x.ends.written x.number joined,
@@ -295,14 +295,14 @@ module _ {C : Type 0} (offers : C → Offer) (s : Settings) where
   feeds-deed g old new r c moment piece (Ok (fed.Repeats taken)) before out none x are number e of = repeats-deed g old new r c moment piece taken before out none x are number e of
   feeds-deed g old new r c moment piece (Err error) before out none x are number e of = ends-deed g old new r (Piece c moment piece) (note_of {A = Fed} (Err error)) before out none x are number tt (code.Event e) (sym of)
 
-  fits-here : (g : Ledger) (old : Engine C) (x : Awaiting g old) (o : Performed) → CanAnswer (offers old.catalogue) (waits_in old) x.a.request.number o → IsFor s (Some x.a.request) o
+  fits-here : (g : Ledger) (old : Engine C) (x : Awaiting g old) (o : Performed) → CanAnswer (offers old.offering.catalogue) (waits_in old) x.a.request.number o → IsFor s (s.terms (changes g.past)).interface (Some x.a.request) o
   fits-here g old x o can =
-      let y = subst (λ (w : Option Awaited). CanAnswer (offers old.catalogue) w x.a.request.number o) x.asks.asks.waits can in
-      (y.1, subst (λ (f : Offer). IsOutcomeOf (f.interface x.a.request.call.object_key x.a.request.call.operation) o) x.asks.asks.keeps.offer_is y.2)
+      let y = subst (λ (w : Option Awaited). CanAnswer (offers old.offering.catalogue) w x.a.request.number o) x.asks.asks.waits can in
+      (y.1, subst (λ (f : Terms). IsOutcomeOf (f.interface x.a.request.call.object_key x.a.request.call.operation) o) x.asks.asks.keeps.offer_is y.2)
 
   -- The request that waits is answered, parked or given up.
   pub answers-deed : (g : Ledger) (old new : Engine C) (x : Awaiting g old) (o : Performed) (note : Note) (before out : List ℕ) → before ≡ []
-      → ResumesLate offers s (put_at (length g.calls) (known o) g.held) (g.calls ++ x.a.request.call ∷ []) g.past g.waiting x.a.request.connection x.a.moment x.a.octets x.a.written note new before out → AreParked old new → asks_in new ≡ asks_in old → CanAnswer (offers old.catalogue) (waits_in old) x.a.request.number o
+      → ResumesLate offers s (put_at (length g.calls) (known o) g.held) (g.calls ++ x.a.request.call ∷ []) g.past g.waiting x.a.request.connection x.a.moment x.a.octets x.a.written note new before out → AreParked old new → asks_in new ≡ asks_in old → CanAnswer (offers old.offering.catalogue) (waits_in old) x.a.request.number o
       → (c : ℕ) → c ≡ x.a.request.connection → (told : CodeDeed) → IsOf told (Answered x.a o out note) → IsDone offers s g told None (record { connection = c; octets = out; note = note } ∷ []) new
   answers-deed g old new x o note before out none y are asks can c at told of =
       let wrote : out ≡ y.resumes.more = y.resumes.appended ∙ ap (λ (l : List ℕ). l ++ y.resumes.more) none in (
@@ -398,12 +398,12 @@ module _ {C : Type 0} (offers : C → Offer) (s : Settings) where
       one (Reached w) = here
       one (Missed w) = ap (on_going (goes_on s.limits (Lost w.connection ∷ g.past))) here
 
-  fits-there : (g : Ledger) (old : Engine C) (r : Resting g old) (n : ℕ) (o : Performed) → CanSettle (offers old.catalogue) (parked_at old n) o → IsFor s (g.there n) o
-  fits-there g old r n o can = subst (λ (w : Option Awaited). IsFor s w o) (r.shows.there n) (by (parked_at old n) can)
+  fits-there : (g : Ledger) (old : Engine C) (r : Resting g old) (n : ℕ) (o : Performed) → CanSettle (offers old.offering.catalogue) (parked_at old n) o → IsFor s (s.terms (changes g.past)).interface (g.there n) o
+  fits-there g old r n o can = subst (λ (w : Option Awaited). IsFor s (s.terms (changes g.past)).interface w o) (r.shows.there n) (by (parked_at old n) can)
     where
-      by : (p : Option CodeParked) → CanSettle (offers old.catalogue) p o → IsFor s (option_map (λ (p : CodeParked). awaited_of p.pending) p) o
+      by : (p : Option CodeParked) → CanSettle (offers old.offering.catalogue) p o → IsFor s (s.terms (changes g.past)).interface (option_map (λ (p : CodeParked). awaited_of p.pending) p) o
       by None can = absurd can
-      by (Some p) can = (can.1, subst (λ (f : Offer). IsOutcomeOf (f.interface (awaited_of p.pending).call.object_key (awaited_of p.pending).call.operation) o) r.stays.rests.offer_is can.2)
+      by (Some p) can = (can.1, subst (λ (f : Terms). IsOutcomeOf (f.interface (awaited_of p.pending).call.object_key (awaited_of p.pending).call.operation) o) r.stays.rests.offer_is can.2)
 
   shows-without : (g : Ledger) (old new : Engine C) → Shows offers s g.asked g.there old → (n : ℕ) → asks_in new ≡ asks_in old → parked_in new n ≡ None
       → ((q : ℕ) → (q == n) ≡ false → (parked_in new q ≡ parked_in old q) × (told_in new q ≡ told_in old q)) → Shows offers s g.asked (put_at n None g.there) new
@@ -422,7 +422,7 @@ module _ {C : Type 0} (offers : C → Offer) (s : Settings) where
   }
 
   pub settles-deed : (g : Ledger) (old new : Engine C) → Resting g old → (n : ℕ) (outcome : Performed) (before out : List Written) (t : IsTold offers s g n outcome new before out) → asks_in new ≡ asks_in old
-      → CanSettle (offers old.catalogue) (parked_at old n) outcome → parked_in new n ≡ None → ((q : ℕ) → (q == n) ≡ false → (parked_in new q ≡ parked_in old q) × (told_in new q ≡ told_in old q)) → (told : CodeDeed) → IsOf told (Settled t.i n outcome t.told)
+      → CanSettle (offers old.offering.catalogue) (parked_at old n) outcome → parked_in new n ≡ None → ((q : ℕ) → (q == n) ≡ false → (parked_in new q ≡ parked_in old q) × (told_in new q ≡ told_in old q)) → (told : CodeDeed) → IsOf told (Settled t.i n outcome t.told)
       → IsDone offers s g told None (map noted t.written) new
   settles-deed g old new r n outcome before out t asks can gone others told of = (
     Settled t.i n outcome t.told,
@@ -470,7 +470,7 @@ module _ {C : Type 0} (offers : C → Offer) (s : Settings) where
       (subst (λ (l : List ℕ). IsDone offers s g (code.Decline name minor) None (record { connection = c; octets = l; note = Memory handled handled } ∷ []) new) (sym (kept ∙ none)) d)
 
   pub withdraws-deed : (g : Ledger) (old mid new : Engine C) → Resting g old → (n : ℕ) (name : SystemName) (minor : ℕ) (before out : List Written) (y : WithdrawsLate offers s g.held g.calls g.past g.waiting n mid)
-      → (t : IsTold offers s (without_call y.i g) n (not_now name minor) new before out) → asks_in new ≡ asks_in old → CanSettle (offers old.catalogue) (parked_at old n) (not_now name minor)
+      → (t : IsTold offers s (without_call y.i g) n (not_now name minor) new before out) → asks_in new ≡ asks_in old → CanSettle (offers old.offering.catalogue) (parked_at old n) (not_now name minor)
       → parked_in new n ≡ None → ((q : ℕ) → (q == n) ≡ false → (parked_in new q ≡ parked_in old q) × (told_in new q ≡ told_in old q)) → IsDone offers s g (code.Withdraw n name minor) None (map noted t.written) new
   withdraws-deed g old mid new r n name minor before out y t asks can gone others =
       let one : t.i ≡ y.i = y.stays.parks.once t.i y.i n t.taken y.taken t.was y.was in

@@ -11,7 +11,7 @@ use Rattle.ft_orb.specs.ExactlyOnce.{Arrival, Rules}
 use Rattle.ft_orb.specs.History.{arrivals_in}
 use Rattle.ft_orb.specs.Pauses.{BringsBy}
 use Rattle.ft_orb.specs.Private.{IsEnd, Served}
-use Rattle.ft_orb.specs.Requests.{Call, Wanted}
+use Rattle.ft_orb.specs.Requests.{Call, Origin, Wanted}
 use Rattle.ft_orb.specs.Table.{Table, table_answers}
 use Rattle.ft_orb.specs.Tellings.{Teller, rendered}
 use Rattle.ft_orb.proofs.Going.{Stood, fewer-bring, front-exact, further, served-all}
@@ -25,7 +25,7 @@ not-enough before handled due most b by is more =
       | false ↦ λ at. leb-false most due at
     ]) refl
 
-module _ {S Outcome : Type 0} (rules : Rules S Wanted Call Outcome) (tell : Teller Outcome) (limits : Limits) (c now : ℕ) (t : Table S Outcome) (s start : List ℕ) (most : ℕ) where
+module _ {S Outcome : Type 0} (rules : Rules S Wanted Call Outcome) (tell : Teller Outcome) (limits : Limits) (c : Origin) (now : ℕ) (t : Table S Outcome) (s start : List ℕ) (most : ℕ) where
   abbrev Here : List ℕ → List (Arrival Wanted)
   Here p = arrivals_in limits c now s p
 

@@ -12,13 +12,13 @@ use Rattle.ft_log.specs.declared.system_exception.SystemName.{SystemName}
 use Rattle.ft_log.specs.declared.system_exception.SystemName.TheVariants.{BadContext}
 use Rattle.ft_objects.specs.Servants.{Meaning}
 use Rattle.ft_orb.specs.ExactlyOnce.{Absent, Arrival, Bad, Field, Present, Rules, answers_after}
-use Rattle.ft_orb.specs.History.{Close, Event, KeepsAll, Lost, Opened, Piece, Withdrew, arrivals, completed}
+use Rattle.ft_orb.specs.History.{Changed, Close, Event, KeepsAll, Lost, Opened, Piece, Withdrew, arrivals, completed}
 use Rattle.ft_orb.specs.Outputs.{Made, table_of_past}
-use Rattle.ft_orb.specs.Requests.{Call, Wanted, rules_of}
+use Rattle.ft_orb.specs.Requests.{Call, Wanted, rules_of, asked_at}
 use Rattle.ft_orb.specs.Seen.{TablesAreSeen, seen_answer, seen_entry, seen_rules, seen_table}
 use Rattle.ft_orb.specs.Standing.{Shown, StandsBy}
 use Rattle.ft_orb.specs.Table.{Table, forgotten, keyed_step, performing_step, step_by_field, table_after, table_answers, table_step}
-use Rattle.ft_orb.specs.Tellings.{Later, Teller, Telling, answer_told, answers_told, held_told, nothing_yet, octets_told, rendered}
+use Rattle.ft_orb.specs.Tellings.{Later, Teller, Telling, answer_told, answers_told, held_told, nothing_yet, octets_told, rendered, told_at}
 use Rattle.std.specs.List.{flat_map}
 use Rattle.ft_orb.specs.Now.{answers_now_after}
 use Rattle.ft_orb.specs.Owners.{Owner, OwnerOf, owned_rules, owned_table, owner_rules, owning, table_by as owner_table}
@@ -31,9 +31,10 @@ IsLive (Piece c moment octets) = Unit {0}
 IsLive (Close c) = Unit {0}
 IsLive (Lost c) = Unit {0}
 IsLive (Withdrew i) = ⊥
+IsLive Changed = Unit {0}
 
 -- limits of connections, how many outcomes are kept, how many of each client, the state at first, the rules, by how many are kept,
--- how an outcome is held, what is said where that is parked, which keys have objects, what is told, and the table of a past
+-- how an outcome is held, what is told of it as it is held, and as it is, and the table of a past
 pub record Book (S O : Type 0) : Type 0 where
   pub limits : Limits
   pub capacity : ℕ
@@ -41,10 +42,9 @@ pub record Book (S O : Type 0) : Type 0 where
   pub opening : S
   pub rules : ℕ → ℕ → Rules S Wanted Call O
   pub hold : O → Holding
-  pub late : Later
-  pub knows : List ℕ → Bool
+  pub said : Teller Holding
   pub tell : Teller O
-  pub tells : (w : Wanted) (a : Result O SystemName) → held_told late knows w (seen_answer hold a) ≡ tell w a
+  pub tells : (w : Wanted) (a : Result O SystemName) → said w (seen_answer hold a) ≡ tell w a
   pub table : List Event → Table S O
   pub next : (past : List Event) (e : Event) → IsLive e → table (e ∷ past) ≡ table_after (rules capacity share) (table past) (completed limits past e)
 
@@ -72,13 +72,13 @@ module _ {S O : Type 0} (b : Book S O) where
   abbrev pub StandsFor : Shown S → List Event → Type 0
   StandsFor server past = StandsBy b.limits b.capacity b.share (λ p. seen_table b.hold (table_by p)) server past
 
-  answers-seen : (xs : List (Arrival Wanted)) (answers : List (Result O SystemName)) → answers_told (held_told b.late b.knows) xs (map (seen_answer b.hold) answers) ≡ answers_told b.tell xs answers
+  answers-seen : (xs : List (Arrival Wanted)) (answers : List (Result O SystemName)) → answers_told b.said xs (map (seen_answer b.hold) answers) ≡ answers_told b.tell xs answers
   answers-seen [] answers = refl
   answers-seen (x ∷ xs) [] = refl
   answers-seen (x ∷ xs) (a ∷ answers) = λ i. cons_option (b.tells x.content a i) (answers-seen xs answers i)
 
   -- the octets of answers are those of what is held of them
-  pub rendered-seen : (xs : List (Arrival Wanted)) (answers : List (Result O SystemName)) → rendered (held_told b.late b.knows) xs (map (seen_answer b.hold) answers) ≡ rendered b.tell xs answers
+  pub rendered-seen : (xs : List (Arrival Wanted)) (answers : List (Result O SystemName)) → rendered b.said xs (map (seen_answer b.hold) answers) ≡ rendered b.tell xs answers
   rendered-seen xs answers = ap (λ (ts : List Telling). flat_map octets_told ts) (answers-seen xs answers)
 
 pub known-tells : (late : Later) (knows : List ℕ → Bool) (w : Wanted) (a : Result Performed SystemName) → held_told late knows w (seen_answer known a) ≡ answer_told knows w a
@@ -94,8 +94,7 @@ book_of meaning made = record {
   opening = made.opening;
   rules = λ capacity share. rules_of meaning capacity share;
   hold = known;
-  late = nothing_yet;
-  knows = meaning.knows;
+  said = held_told nothing_yet meaning.knows;
   tell = answer_told meaning.knows;
   tells = known-tells nothing_yet meaning.knows;
   table = table_of_past meaning made;
@@ -113,6 +112,7 @@ owned-next {O} o past e live = by o.is e live
     by (Some is) (Close c) live = refl
     by (Some is) (Lost c) live = refl
     by (Some is) (Withdrew i) live = absurd live
+    by (Some is) Changed live = refl
 
 folded-next : {O : Type 0} (o : OwnerOf O) (x : Option (O → ℕ → Bool)) (past : List Event) (e : Event) → owner_table (owned_rules o) o.limits x past ≡ table_after (owned_rules o) (record { state = []; entries = [] }) (arrivals o.limits past)
     → table_after (owned_rules o) (owner_table (owned_rules o) o.limits x past) (completed o.limits past e) ≡ table_after (owned_rules o) (record { state = []; entries = [] }) (arrivals o.limits (e ∷ past))
@@ -127,10 +127,9 @@ book_by o = record {
   capacity = o.capacity;
   share = o.share;
   opening = [];
-  rules = λ capacity share. owner_rules o.offer.interface o.answers capacity share;
+  rules = λ capacity share. owner_rules (asked_at o.terms) o.answers capacity share;
   hold = o.hold;
-  late = o.late;
-  knows = o.offer.knows;
+  said = told_at o.late o.terms;
   tell = o.tell;
   tells = λ w a. sym (o.tells w a);
   table = owned_table o;
@@ -149,6 +148,7 @@ kept-folded {O} o past kept = by o.is past kept
     by (Some is) (Close c ∷ past) kept = folded-next o (Some is) past (Close c) (by (Some is) past kept)
     by (Some is) (Lost c ∷ past) kept = folded-next o (Some is) past (Lost c) (by (Some is) past kept)
     by (Some is) (Withdrew i ∷ past) kept = absurd kept
+    by (Some is) (Changed ∷ past) kept = folded-next o (Some is) past Changed (by (Some is) past kept)
 
 -- .. and where nothing ever can be
 pub owning-folded : (o : Owner) (past : List Event) → IsFolded (book_by (owning o)) past

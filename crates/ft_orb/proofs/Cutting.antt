@@ -7,11 +7,11 @@ use Rattle.giop_link.specs.Laws.{EndingsStay, EndsAreSilent, HearingGrows}
 use Rattle.ft_log.specs.Performed.{Performed}
 use Rattle.ft_log.specs.declared.system_exception.SystemName.{SystemName}
 use Rattle.ft_orb.specs.ExactlyOnce.{Arrival, Rules, answers_after}
-use Rattle.ft_orb.specs.History.{Event, Gone, Line, Piece, Shut, Up, arrivals, arrivals_in, arrivals_on, clock, completed, line, longer}
+use Rattle.ft_orb.specs.History.{Event, Gone, Line, Piece, Shut, Up, arrivals, arrivals_in, arrivals_on, clock, completed, line, longer, origin}
 use Rattle.ft_orb.specs.Laws.{CutPiecesWriteTheSame, PiecesMayBeCut}
 use Rattle.ft_orb.specs.Outputs.{law_says, output_by, table_of_past, table_says}
 use Rattle.ft_orb.specs.Private.{error_at}
-use Rattle.ft_orb.specs.Requests.{Wanted, rules_of}
+use Rattle.ft_orb.specs.Requests.{Wanted, rules_of, Origin}
 use Rattle.ft_objects.specs.Servants.{Meaning}
 use Rattle.ft_orb.specs.Table.{Table, table_after, table_answers}
 use Rattle.ft_orb.specs.Tellings.{Teller, answer_told, rendered}
@@ -31,10 +31,7 @@ module _ {S C K O : Type 0} (rules : Rules S C K O) where
   answers_after-length opening before [] = refl
   answers_after-length opening before (x ∷ xs) = ap suc (answers_after-length opening (before ++ x ∷ []) xs)
 
-module _ (limits : Limits) (past : List Event) (c moment : ℕ) (x y : List ℕ) where
-  abbrev pub First : List Event
-  First = Piece c moment x ∷ past
-
+module _ (limits : Limits) (c : Origin) (x y : List ℕ) where
   pub on-cut : HearingGrows meaning_in → (now : ℕ) (l : Line) → arrivals_on limits c now l (x ++ y) ≡ arrivals_on limits c now l x ++ arrivals_on limits c now (longer x l) y
   on-cut grow now Gone = refl
   on-cut grow now Shut = refl
@@ -42,17 +39,21 @@ module _ (limits : Limits) (past : List Event) (c moment : ℕ) (x y : List ℕ)
       let g = grow limits (s ++ x) y in
       arrivals_in-message limits c now grow s x y g.0 g.1 ∙ ap (λ (l : List (Arrival Wanted)). arrivals_in limits c now s x ++ l) (sym (arrivals_in-by limits c now (s ++ x) y g.0 g.1))
 
+module _ (limits : Limits) (past : List Event) (c moment : ℕ) (x y : List ℕ) where
+  abbrev pub First : List Event
+  First = Piece c moment x ∷ past
+
   pub now-same : max (clock First) moment ≡ max (clock past) moment
   now-same = omega arith
 
   pub line-here : line First c ≡ longer x (line past c)
   line-here = same-by c (longer x (line past c)) (line past c)
 
-  second-is : completed limits First (Piece c moment y) ≡ arrivals_on limits c (max (clock past) moment) (longer x (line past c)) y
-  second-is = λ i. arrivals_on limits c (now-same i) (line-here i) y
+  second-is : completed limits First (Piece c moment y) ≡ arrivals_on limits (origin past c) (max (clock past) moment) (longer x (line past c)) y
+  second-is = λ i. arrivals_on limits (origin past c) (now-same i) (line-here i) y
 
   pub completed-cut : HearingGrows meaning_in → completed limits past (Piece c moment (x ++ y)) ≡ completed limits past (Piece c moment x) ++ completed limits First (Piece c moment y)
-  completed-cut grow = on-cut grow (max (clock past) moment) (line past c) ∙ ap (λ (l : List (Arrival Wanted)). completed limits past (Piece c moment x) ++ l) (sym second-is)
+  completed-cut grow = on-cut limits (origin past c) x y grow (max (clock past) moment) (line past c) ∙ ap (λ (l : List (Arrival Wanted)). completed limits past (Piece c moment x) ++ l) (sym second-is)
 
   arrivals-cut : HearingGrows meaning_in → arrivals limits (Piece c moment y ∷ First) ≡ arrivals limits (Piece c moment (x ++ y) ∷ past)
   arrivals-cut grow =
@@ -65,8 +66,8 @@ module _ (limits : Limits) (past : List Event) (c moment : ℕ) (x y : List ℕ)
       [ true ↦ longer-twice x y l | false ↦ refl ]
 
   -- what comes after the end of a stream brings nothing
-  silent-second : EndsAreSilent meaning_in → (now : ℕ) (s : List ℕ) (e : Ending) → ending limits (s ++ x) ≡ Some e → arrivals_on limits c now (longer x (Up s)) y ≡ []
-  silent-second silent now s e is = arrivals_in-ended limits c now silent (s ++ x) y e is
+  silent-second : EndsAreSilent meaning_in → (now : ℕ) (s : List ℕ) (e : Ending) → ending limits (s ++ x) ≡ Some e → arrivals_on limits (origin past c) now (longer x (Up s)) y ≡ []
+  silent-second silent now s e is = arrivals_in-ended limits (origin past c) now silent (s ++ x) y e is
 
   -- the answers of both, and mid-is MessageError where it is due
   up-errors : EndingsStay meaning_in → (s before more : List ℕ) (was mid : Option Ending) → ending limits s ≡ was → ending limits (s ++ x) ≡ mid → ((e : Ending) → mid ≡ Some e → more ≡ [])
@@ -109,7 +110,7 @@ module _ (limits : Limits) (past : List Event) (c moment : ℕ) (x y : List ℕ)
         (λ i. rendered tell (completed-cut grow i) (says i)) ∙ rendered-append tell (completed limits past (Piece c moment x)) (completed limits First (Piece c moment y)) (answers past (Piece c moment x)) (answers First (Piece c moment y)) size in
         output-is limits tell answers past (Piece c moment (x ++ y)) ∙ ap (λ (l : List ℕ). l ++ error_on limits (line past c) (x ++ y)) both
         ∙ errors-cut stays (line past c) before more (λ s e up is.
-        let none : completed limits First (Piece c moment y) ≡ [] = second-is ∙ ap (λ (l : Line). arrivals_on limits c (max (clock past) moment) (longer x l) y) up ∙ silent-second silent (max (clock past) moment) s e is in
+        let none : completed limits First (Piece c moment y) ≡ [] = second-is ∙ ap (λ (l : Line). arrivals_on limits (origin past c) (max (clock past) moment) (longer x l) y) up ∙ silent-second silent (max (clock past) moment) s e is in
         ap (λ (l : List (Arrival Wanted)). rendered tell l (answers First (Piece c moment y))) none)
         ∙ ap (λ (l : Line). (before ++ error_on limits (line past c) x) ++ (more ++ error_on limits l y)) (sym line-here)
         ∙ sym (λ i. output-is limits tell answers past (Piece c moment x) i ++ output-is limits tell answers First (Piece c moment y) i)

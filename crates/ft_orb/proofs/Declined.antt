@@ -11,7 +11,7 @@ use Rattle.ft_log.specs.Kept.{keys_of}
 use Rattle.ft_log.specs.declared.system_exception.SystemName.TheVariants.{NoResources}
 use Rattle.ft_orb.specs.ExactlyOnce.{Arrival, ClocksGrow, Present, clock_after, live_key, live_keys}
 use Rattle.ft_orb.specs.Declined.{AnswersAreNumbers, CallsAreTheirs, DeclinedAtOnce, DeclinedForGood, DeclinedIsFree, FirstsAreTaken, HeldTakeNothing, KeyStandsLaterInPast, KeyStandsOnceInPast, LiveKeysAreKept, NothingDeclined, PastsStand, RepeatsTakeNothing, RoomForStandingClients, StandsTillDeclined, TablesStandForItems, asks_by, brought, items, room_by, standing, standing_with}
-use Rattle.ft_orb.specs.History.{Close, Event, KeepsAll, Lost, Opened, Piece, Withdrew, arrivals, clock, completed}
+use Rattle.ft_orb.specs.History.{Close, Event, KeepsAll, Lost, Opened, Piece, Withdrew, arrivals, clock, completed, Changed}
 use Rattle.ft_orb.specs.Now.{OneExpirationOf, acts_now}
 use Rattle.ft_orb.specs.Owners.{owned_rules, owned_table}
 use Rattle.ft_orb.specs.Parking.{Settings, by_number}
@@ -20,7 +20,7 @@ use Rattle.ft_orb.specs.Table.{Table, table_after, table_answers, table_step}
 use Rattle.ft_orb.specs.Withdrawing.{Arrives, IsTableFor, Item, Numbered, Standing, Withdraws, all_but, arrivals_among, items_after, new_table, none_stands, number_answer, number_answers, number_by_field, number_held, number_rules, performed_too, requests_of, stand, stand_all, stands_after}
 use Rattle.ft_orb.proofs.Folded.{ClocksGrow-front}
 use Rattle.ft_orb.proofs.Headline.{arrivals-grow, event-clocks}
-use Rattle.ft_orb.proofs.Asking.{asked-never}
+use Rattle.ft_orb.proofs.Asking.{asked-at-never}
 use Rattle.ft_orb.proofs.Now.{grown_now}
 use Rattle.ft_orb.proofs.NowFirsts.{owners, owners-all, owners-length}
 use Rattle.ft_orb.proofs.Shares.{Within, held_of-cons, held_of-later, length-total, refused, total-below}
@@ -99,6 +99,7 @@ module _ (limits : Limits) where
   brought-arrivals past (Close c) = refl
   brought-arrivals past (Lost c) = refl
   brought-arrivals past (Withdrew i) = refl
+  brought-arrivals past Changed = refl
 
   items-arrivals : (past : List Event) → arrivals_among (items limits past) ≡ arrivals limits past
   items-arrivals [] = refl
@@ -120,6 +121,7 @@ module _ (limits : Limits) where
   brought-withdraws past (Piece c moment octets) n k lt at = absurd (no-withdrawal (completed limits past (Piece c moment octets)) n k lt at)
   brought-withdraws past (Close c) n k lt at = absurd (omega (arith, lt))
   brought-withdraws past (Lost c) n k lt at = absurd (omega (arith, lt))
+  brought-withdraws past Changed n k lt at = absurd (omega (arith, lt))
   brought-withdraws past (Withdrew i) n k lt at = ap (λ m. Withdrew m) (one-withdrawal i n k lt at)
 
   more-withdraws : (past later : List Event) (n : ℕ) → Contains (more past later) (Withdraws n) → Contains later (Withdrew n)
@@ -137,6 +139,7 @@ module _ (limits : Limits) where
   brings past (Close c) front rest a is = absurd (not-nil front rest a is)
   brings past (Lost c) front rest a is = absurd (not-nil front rest a is)
   brings past (Withdrew i) front rest a is = absurd (not-nil front rest a is)
+  brings past Changed front rest a is = absurd (not-nil front rest a is)
 
   plain-push : (past : List Event) (e : Event) → items limits past ≡ map (λ a. Arrives a) (arrivals limits past) → brought limits past e ≡ map (λ a. Arrives a) (completed limits past e)
       → items limits (e ∷ past) ≡ map (λ a. Arrives a) (arrivals limits (e ∷ past))
@@ -149,6 +152,7 @@ module _ (limits : Limits) where
   plain-items (Close c ∷ past) kept = plain-push past (Close c) (plain-items past kept) refl
   plain-items (Lost c ∷ past) kept = plain-push past (Lost c) (plain-items past kept) refl
   plain-items (Withdrew i ∷ past) kept = absurd kept
+  plain-items (Changed ∷ past) kept = plain-push past Changed (plain-items past kept) refl
 
 module _ (s : Settings) where
   items_after-append : (t : Table (List Call) ℕ) (xs ys : List (Item Wanted)) → items_after (asks_by s) (room_by s) t (xs ++ ys) ≡ items_after (asks_by s) (room_by s) (items_after (asks_by s) (room_by s) t xs) ys
@@ -166,6 +170,7 @@ module _ (s : Settings) where
     next-table past (Close c) = refl
     next-table past (Lost c) = refl
     next-table past (Withdrew i) = refl
+    next-table past Changed = refl
 
     pub table-of-items : (past : List Event) → Kept past ≡ items_after (asks_by s) (room_by s) new_table (items s.limits past)
     table-of-items [] = refl
@@ -203,6 +208,7 @@ module _ (s : Settings) where
     past-says past (Close c) = refl
     past-says past (Lost c) = refl
     past-says past (Withdrew i) = refl
+    past-says past Changed = refl
 
     -- one request of an event, after those before it
     in-event : (past : List Event) (e : Event) (front rest : List (Arrival Wanted)) (a : Arrival Wanted) → completed s.limits past e ≡ front ++ a ∷ rest
@@ -331,7 +337,7 @@ module _ (s : Settings) where
       ap (number_by_field (asks_by s) (room_by s) here a.clock (asks_by s a.content)) (sym is_a) ∙ sym (in-event held past e front rest a is).0 ∙ refusal in
       let no_room : has_room_for s.capacity s.share key live ≡ false =
       refused (asks_by s) (number_rules (asks_by s) (room_by s)).apply s.capacity s.share (nat_lt expiration a.clock) (number_held a.clock key here.performed) (asks_by s a.content)
-      (has_room_for s.capacity s.share key live) here.calls (asked-never s.offer.interface a.content) answer_is in
+      (has_room_for s.capacity s.share key live) here.calls (asked-at-never s.terms a.content) answer_is in
       elim (nat_lt (held_of key.client_id live) s.share) as (λ b. nat_lt (held_of key.client_id live) s.share ≡ b → s.share ≤ held_of key.client_id live) [
         | true ↦ λ own. absurd (true≢false (sym (and_from (nat_lt (length live) s.capacity) (nat_lt (held_of key.client_id live) s.share)
             (lt-ltb (length live) s.capacity (omega (arith, length-total clients live (owners-all keys).1, total-below clients live s.share key.client_id within (owners-all keys).0 (ltb-true _ _ own), enough_too))) own) ∙ no_room))

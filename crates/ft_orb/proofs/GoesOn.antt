@@ -10,7 +10,7 @@ use Rattle.giop_link.specs.Linking.{Linked}
 use Rattle.ft_orb.specs.declared.events.Note.{Note}
 use Rattle.ft_orb.specs.declared.events.Note.TheVariants.{Done, Memory, Refused}
 use Rattle.ft_orb.specs.declared.parked.Waiter.{Waiter}
-use Rattle.ft_orb.specs.History.{Close, Event, Gone, Line, Lost, Opened, Piece, Shut, Up, Withdrew, counted, does_count, line, longer, shortened, shut}
+use Rattle.ft_orb.specs.History.{Close, Event, Gone, Line, Lost, Opened, Piece, Shut, Up, Withdrew, counted, does_count, line, longer, shortened, shut, Changed}
 use Rattle.ft_orb.specs.Outputs.{after, is_going, is_gone}
 use Rattle.ft_orb.specs.Parked.{on_going}
 use Rattle.ft_orb.specs.Parking.{goes_on}
@@ -57,6 +57,7 @@ counts-later past (Piece d moment octets) c h = h
 counts-later past (Close d) c h = h
 counts-later past (Lost d) c h = h
 counts-later past (Withdrew i) c h = h
+counts-later past Changed c h = h
 
 module _ (limits : Limits) (stay : EndingsStay meaning_in) where
   longer-goes : (octets : List ℕ) (l : Line) → is_going limits (longer octets l) ≡ true → is_going limits l ≡ true
@@ -96,6 +97,7 @@ module _ (limits : Limits) (stay : EndingsStay meaning_in) where
       by false g = g
       by true g = absurd cc
   went-on past (Withdrew i) c h g = g
+  went-on past Changed c h g = g
 
   -- what happened, and how it ended
   pub went-after : (past : List Event) (e : Event) (note : Note) (c : ℕ) → does_count past c ≡ false → goes_on limits (after limits past e note) c ≡ true → goes_on limits past c ≡ true
@@ -107,6 +109,7 @@ module _ (limits : Limits) (stay : EndingsStay meaning_in) where
   went-after past (Close d) (Memory handled answered) c h g = went-on past (Lost d) c h g
   went-after past (Lost d) (Memory handled answered) c h g = went-on past (Lost d) c h g
   went-after past (Withdrew i) (Memory handled answered) c h g = g
+  went-after past Changed (Memory handled answered) c h g = g
 
 pub counts-after : (limits : Limits) (past : List Event) (e : Event) (note : Note) (c : ℕ) → does_count past c ≡ false → does_count (after limits past e note) c ≡ false
 counts-after limits past e Done c h = counts-later past e c h
@@ -116,6 +119,7 @@ counts-after limits past (Piece d moment octets) (Memory handled answered) c h =
 counts-after limits past (Close d) (Memory handled answered) c h = h
 counts-after limits past (Lost d) (Memory handled answered) c h = h
 counts-after limits past (Withdrew i) (Memory handled answered) c h = h
+counts-after limits past Changed (Memory handled answered) c h = h
 
 -- a connection that is there was opened
 pub was-counted : (past : List Event) (c : ℕ) → is_gone (line past c) ≡ false → does_count past c ≡ false
@@ -154,3 +158,4 @@ was-counted (Lost d ∷ past) c h = was-counted past c (by (d == c) h)
     by true h = absurd cc
     by false h = h
 was-counted (Withdrew i ∷ past) c h = was-counted past c h
+was-counted (Changed ∷ past) c h = was-counted past c h

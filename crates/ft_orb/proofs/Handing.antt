@@ -22,7 +22,7 @@ use Rattle.ft_orb.specs.History.{Event, Gone, Line, Piece, Shut, Up, line, longe
 use Rattle.ft_orb.specs.Laws.{is_memory}
 use Rattle.ft_orb.specs.Outputs.{after, is_going, is_gone, table_says}
 use Rattle.ft_orb.specs.Owners.{Owner, made_of, meaning_of}
-use Rattle.ft_orb.specs.Requests.{Call, Wanted}
+use Rattle.ft_orb.specs.Requests.{Call, Wanted, Terms, offer_in}
 use Rattle.ft_orb.specs.Standing.{note_of}
 use Rattle.ft_orb.specs.Sessions.{Attends, EndsSo, IsEnded, StayParked, calls_with}
 use Rattle.ft_orb.specs.Visits.{HandsIn, IsShortest, IsTakenTo, TakesPart, count_to}
@@ -139,13 +139,13 @@ asked-same x w o is at = ap (held-in x) (is ∙ at)
 
 module _ {C : Type 0} (offers : C → Offer) (owner : Owner) where
   -- What the owner answered was handed in ..
-  pub ask-answered : (old : Engine C) (x : Awaited) (gave handed : Performed) → Some x ≡ waits_in old → HandsIn (offers old.catalogue) (waits_in old) gave handed
+  pub ask-answered : (old : Engine C) (x : Awaited) (gave handed : Performed) → Some x ≡ waits_in old → HandsIn (offers old.offering.catalogue) (waits_in old) gave handed
       → (calls : List Call) (past : List Event) (moment : ℕ) (octets written : List ℕ) (w : Awaited) → Asks offers owner calls old past moment octets written w
       → Agrees owner.answers calls (handed_in (record { call = x.call; gave = gave; handed = handed } ∷ []))
       → AreHandedIn owner.offer (record { call = x.call; gave = gave; handed = handed } ∷ []) × (w ≡ x) × (owner.answers calls w.call ≡ handed)
   ask-answered old x gave handed waits hands calls past moment octets written w a agrees =
       let same = asked-same x w (waits_in old) waits a.waits in
-      let here : HandsIn owner.offer (Some x) gave handed = subst (λ (o : Option Awaited). HandsIn owner.offer o gave handed) (sym waits) (subst (λ (o : Offer). HandsIn o (waits_in old) gave handed) a.keeps.offer_is hands) in
+      let here : HandsIn owner.offer (Some x) gave handed = subst (λ (o : Option Awaited). HandsIn owner.offer o gave handed) (sym waits) (subst (λ (t : Terms). HandsIn (offer_in t) (waits_in old) gave handed) a.keeps.offer_is hands) in
       ((here, tt), sym same, ap (λ (v : Awaited). owner.answers calls v.call) (sym same) ∙ agrees.0)
 
   pub ask-resumes : (calls : List Call) (past : List Event) (c moment : ℕ) (octets written : List ℕ) (w x : Awaited) (gave handed : Performed) (note : Note) (engine : Engine C) (before out : List ℕ) → w ≡ x

@@ -10,10 +10,10 @@ use Rattle.giop_link.specs.Laws.{EndingsStay, EndsAreSilent, HearingGrows}
 use Rattle.ft_log.specs.Performed.{Performed}
 use Rattle.ft_orb.specs.declared.events.Note.TheVariants.{Done}
 use Rattle.ft_orb.specs.ExactlyOnce.{Arrival, Rules}
-use Rattle.ft_orb.specs.History.{Event, Gone, Line, Lost, Piece, Shut, Up, arrivals, arrivals_in, arrivals_on, clock, completed, counted, front_in, front_on, least, line, longer, shortened}
+use Rattle.ft_orb.specs.History.{Event, Gone, Line, Lost, Piece, Shut, Up, arrivals, arrivals_in, arrivals_on, clock, completed, counted, front_in, front_on, least, line, longer, shortened, origin}
 use Rattle.ft_orb.specs.Outputs.{IsCutShort, Made, Writes, is_going, needs_memory, output_cut, table_of_past, table_says}
 use Rattle.ft_orb.specs.Tellings.{Teller, answer_told, rendered}
-use Rattle.ft_orb.specs.Requests.{Call, Wanted, rules_of}
+use Rattle.ft_orb.specs.Requests.{Call, Wanted, rules_of, Origin}
 use Rattle.ft_objects.specs.Servants.{Meaning}
 use Rattle.ft_orb.specs.Standing.{IsFor, Shown, Stands, held_in, table_of}
 use Rattle.ft_orb.specs.Table.{AreAlike, Table, table_after, table_answers}
@@ -58,7 +58,7 @@ needs-going limits past c moment [] h = absurd cc
 needs-going limits past c moment (x ∷ xs) h = (omega arith, h)
 
 -- The shortest front of octets that completes so many arrivals after a stream.
-module _ {S Outcome : Type 0} (rules : Rules S Wanted Call Outcome) (tell : Teller Outcome) (limits : Limits) (c now : ℕ) (t : Table S Outcome) (s : List ℕ) where
+module _ {S Outcome : Type 0} (rules : Rules S Wanted Call Outcome) (tell : Teller Outcome) (limits : Limits) (c : Origin) (now : ℕ) (t : Table S Outcome) (s : List ℕ) where
   abbrev Here : List ℕ → List (Arrival Wanted)
   Here p = arrivals_in limits c now s p
 
@@ -93,7 +93,7 @@ module _ {S Outcome : Type 0} (rules : Rules S Wanted Call Outcome) (tell : Tell
       (λ i less. subst (λ (l : List ℕ). length (Here l) < k) (take-take i n octets (omega (arith, less, small))) (f.4 i less))
       ∙ sym (f.2 ∙ same)
 
-module _ {S Outcome : Type 0} (rules : Rules S Wanted Call Outcome) (tell : Teller Outcome) (limits : Limits) (c now : ℕ) (t : Table S Outcome) (s octets : List ℕ) (j : ℕ) (grow : HearingGrows meaning_in) where
+module _ {S Outcome : Type 0} (rules : Rules S Wanted Call Outcome) (tell : Teller Outcome) (limits : Limits) (c : Origin) (now : ℕ) (t : Table S Outcome) (s octets : List ℕ) (j : ℕ) (grow : HearingGrows meaning_in) where
   abbrev Size : ℕ → ℕ
   Size n = length (arrivals_in limits c now s (take n octets))
 
@@ -104,7 +104,7 @@ module _ {S Outcome : Type 0} (rules : Rules S Wanted Call Outcome) (tell : Tell
   size-rest : (n : ℕ) → Size (j + n) ≡ Size j + length (Rest (take n (drop j octets)))
   size-rest n =
       ap (λ (l : List ℕ). length (arrivals_in limits c now s l)) (take-add j n octets)
-      ∙ ap (λ (l : List (Arrival Wanted)). length l) (on-cut limits [] c 0 (take j octets) (take n (drop j octets)) grow now (Up s))
+      ∙ ap (λ (l : List (Arrival Wanted)). length l) (on-cut limits c (take j octets) (take n (drop j octets)) grow now (Up s))
       ∙ length-append (arrivals_in limits c now s (take j octets)) (Rest (take n (drop j octets)))
 
   fewer-rest : (h n : ℕ) → ((m : ℕ) → m < j → Size m < Size j) → ((m : ℕ) → m < n → length (Rest (take m (drop j octets))) < h) → (m : ℕ) → m < j + n → Size m < Size j + h
@@ -197,7 +197,7 @@ module _ {S : Type 0} (meaning : Meaning S) (made : Made S) (past : List Event) 
   Mid = Piece c moment Before ∷ past
 
   abbrev Front : ℕ → List ℕ
-  Front h = front_on made.limits c (max (clock Mid) moment) (line Mid c) Left h
+  Front h = front_on made.limits (origin past c) (max (clock Mid) moment) (line Mid c) Left h
 
   abbrev Count : ℕ
   Count = count_to made.limits past c moment piece j
@@ -211,18 +211,18 @@ module _ {S : Type 0} (meaning : Meaning S) (made : Made S) (past : List Event) 
       ∙ ap (λ (l : List (Arrival Wanted)). length l) (completed-cut made.limits past c moment Before Left grow)
       ∙ length-append (completed made.limits past (Piece c moment Before)) (completed made.limits Mid (Piece c moment Left))
 
-  shortened-up : (s : List ℕ) → line past c ≡ Up s → (h : ℕ) → h ≤ length (completed made.limits Mid (Piece c moment Left)) → front_on made.limits c (max (clock past) moment) (line past c) piece (Count + h) ≡ Before ++ Front h
+  shortened-up : (s : List ℕ) → line past c ≡ Up s → (h : ℕ) → h ≤ length (completed made.limits Mid (Piece c moment Left)) → front_on made.limits (origin past c) (max (clock past) moment) (line past c) piece (Count + h) ≡ Before ++ Front h
   shortened-up s up h enough =
       let now = max (clock past) moment in
-      let on : (xs : List ℕ) → length (completed made.limits past (Piece c moment xs)) ≡ length (arrivals_in made.limits c now s xs) = λ xs. ap (λ (l : Line). length (arrivals_on made.limits c now l xs)) up in
+      let on : (xs : List ℕ) → length (completed made.limits past (Piece c moment xs)) ≡ length (arrivals_in made.limits (origin past c) now s xs) = λ xs. ap (λ (l : Line). length (arrivals_on made.limits (origin past c) now l xs)) up in
       let later : line Mid c ≡ Up (s ++ Before) = line-here made.limits past c moment Before Left ∙ ap (λ (l : Line). longer Before l) up in
       let same : max (clock Mid) moment ≡ now = now-same made.limits past c moment Before Left in
-      let rest : length (completed made.limits Mid (Piece c moment Left)) ≡ length (arrivals_in made.limits c now (s ++ Before) Left) = λ i. length (arrivals_on made.limits c (same i) (later i) Left) in
-      (λ i. front_on made.limits c now (up i) piece (on Before i + h))
-      ∙ front-shift (rules_of meaning made.capacity made.share) (answer_told meaning.knows) made.limits c now (table_of_past meaning made past) s piece j grow h within
+      let rest : length (completed made.limits Mid (Piece c moment Left)) ≡ length (arrivals_in made.limits (origin past c) now (s ++ Before) Left) = λ i. length (arrivals_on made.limits (origin past c) (same i) (later i) Left) in
+      (λ i. front_on made.limits (origin past c) now (up i) piece (on Before i + h))
+      ∙ front-shift (rules_of meaning made.capacity made.share) (answer_told meaning.knows) made.limits (origin past c) now (table_of_past meaning made past) s piece j grow h within
       (λ m less. let few = shortest m less in let a = on (take m piece) in let b = on Before in omega (arith, few, a, b))
       (omega (arith, enough, rest))
-      ∙ sym (λ i. Before ++ front_on made.limits c (same i) (later i) Left h)
+      ∙ sym (λ i. Before ++ front_on made.limits (origin past c) (same i) (later i) Left h)
 
   shortened-joined : is_going made.limits (line past c) ≡ true → (h : ℕ) → h ≤ length (completed made.limits Mid (Piece c moment Left)) → shortened made.limits past (Piece c moment piece) (Count + h) ≡ Piece c moment (Before ++ Front h)
   shortened-joined going h enough =
@@ -272,7 +272,7 @@ module _ {S : Type 0} (meaning : Meaning S) (made : Made S) (past : List Event) 
           omega (arith, less, a, b, all);
     }
       where
-        shortened-is : (s : List ℕ) × (line past c ≡ Up s) → front_on made.limits c (max (clock past) moment) (line past c) piece (Count + handled) ≡ Before ++ Front handled
+        shortened-is : (s : List ℕ) × (line past c ≡ Up s) → front_on made.limits (origin past c) (max (clock past) moment) (line past c) piece (Count + handled) ≡ Before ++ Front handled
         shortened-is up = shortened-up up.0 up.1 handled cut.few
 
     pub cut-stands : (server : Shown S) → Stands meaning made server (Lost c ∷ Piece c moment (Front handled) ∷ Mid) → Stands meaning made server (Lost c ∷ shortened made.limits past (Piece c moment piece) (Count + handled) ∷ past)
@@ -286,16 +286,16 @@ module _ {S : Type 0} (meaning : Meaning S) (made : Made S) (past : List Event) 
   going-here : (0 < length (take n piece)) × (is_going made.limits (line past c) ≡ true)
   going-here = needs-going made.limits past c moment (take n piece) cut.needs
 
-  front-here : (s : List ℕ) × (line past c ≡ Up s) → front_on made.limits c (max (clock past) moment) (line past c) piece handled ≡ front_on made.limits c (max (clock past) moment) (line past c) (take n piece) handled
+  front-here : (s : List ℕ) × (line past c ≡ Up s) → front_on made.limits (origin past c) (max (clock past) moment) (line past c) piece handled ≡ front_on made.limits (origin past c) (max (clock past) moment) (line past c) (take n piece) handled
   front-here up =
       let now = max (clock past) moment in
-      let size = ap (λ (l : Line). length (arrivals_on made.limits c now l (take n piece))) up.1 in
+      let size = ap (λ (l : Line). length (arrivals_on made.limits (origin past c) now l (take n piece))) up.1 in
       let few = cut.few in
-      ap (λ (l : Line). front_on made.limits c now l piece handled) up.1
-      ∙ front-within (rules_of meaning made.capacity made.share) (answer_told meaning.knows) made.limits c now (table_of_past meaning made past) up.0 piece n handled within (omega (arith, size, few))
-      ∙ sym (ap (λ (l : Line). front_on made.limits c now l (take n piece) handled) up.1)
+      ap (λ (l : Line). front_on made.limits (origin past c) now l piece handled) up.1
+      ∙ front-within (rules_of meaning made.capacity made.share) (answer_told meaning.knows) made.limits (origin past c) now (table_of_past meaning made past) up.0 piece n handled within (omega (arith, size, few))
+      ∙ sym (ap (λ (l : Line). front_on made.limits (origin past c) now l (take n piece) handled) up.1)
 
-  front-same : front_on made.limits c (max (clock past) moment) (line past c) piece handled ≡ front_on made.limits c (max (clock past) moment) (line past c) (take n piece) handled
+  front-same : front_on made.limits (origin past c) (max (clock past) moment) (line past c) piece handled ≡ front_on made.limits (origin past c) (max (clock past) moment) (line past c) (take n piece) handled
   front-same = front-here (up-going made.limits (line past c) going-here.1)
 
   same-short : shortened made.limits past (Piece c moment piece) handled ≡ shortened made.limits past (Piece c moment (take n piece)) handled
@@ -355,7 +355,7 @@ module _ (limits : Limits) (past : List Event) (c moment : ℕ) (piece : List �
               omega (arith, few, all, at, both)
         ]) refl
 
-  pub up-brings : (now : ℕ) (l : Line) (xs : List ℕ) → 0 < length (arrivals_on limits c now l xs) → (s : List ℕ) × (l ≡ Up s)
+  pub up-brings : (now : ℕ) (l : Line) (xs : List ℕ) → 0 < length (arrivals_on limits (origin past c) now l xs) → (s : List ℕ) × (l ≡ Up s)
   up-brings now Gone xs some = absurd (omega (arith, some))
   up-brings now Shut xs some = absurd (omega (arith, some))
   up-brings now (Up s) xs some = (s, refl)
@@ -369,12 +369,12 @@ module _ (limits : Limits) (past : List Event) (c moment : ℕ) (piece : List �
   shortest-by meaning made n k within some count shown m less =
       let now = max (clock past) moment in
       let up = up-brings now (line past c) (take n piece) (omega (arith, some, count)) in
-      let on : (xs : List ℕ) → length (completed limits past (Piece c moment xs)) ≡ length (arrivals_in limits c now up.0 xs) = λ xs. ap (λ (l : Line). length (arrivals_on limits c now l xs)) up.1 in
-      let front : front_in limits c now up.0 piece k ≡ take n piece = sym (ap (λ (l : Line). front_on limits c now l piece k) up.1) ∙ ap octets_in shown in
+      let on : (xs : List ℕ) → length (completed limits past (Piece c moment xs)) ≡ length (arrivals_in limits (origin past c) now up.0 xs) = λ xs. ap (λ (l : Line). length (arrivals_on limits (origin past c) now l xs)) up.1 in
+      let front : front_in limits (origin past c) now up.0 piece k ≡ take n piece = sym (ap (λ (l : Line). front_on limits (origin past c) now l piece k) up.1) ∙ ap octets_in shown in
       let whole = ap (λ (l : List ℕ). length (completed limits past (Piece c moment l))) (take-append-drop n piece) in
       let all = ap (λ (l : List (Arrival Wanted)). length l) (completed-cut limits past c moment (take n piece) (drop n piece) grow) in
       let size = length-append (completed limits past (Piece c moment (take n piece))) (completed limits (Piece c moment (take n piece) ∷ past) (Piece c moment (drop n piece))) in
       let here = on piece in
-      let few = front-least (rules_of meaning made.capacity made.share) (answer_told meaning.knows) limits c now (table_of_past meaning made past) up.0 piece n k within (omega (arith, count, whole, all, size, here)) front m less in
+      let few = front-least (rules_of meaning made.capacity made.share) (answer_told meaning.knows) limits (origin past c) now (table_of_past meaning made past) up.0 piece n k within (omega (arith, count, whole, all, size, here)) front m less in
       let there = on (take m piece) in
       omega (arith, few, there, count)

@@ -38,16 +38,16 @@ use Rattle.ft_orb.specs.declared.pausing.Place.{Place}
 use Rattle.ft_orb.specs.declared.serving.Cut.{Cut}
 use Rattle.ft_orb.specs.declared.waiters.Join.{Join}
 use Rattle.ft_orb.specs.declared.waiters.Join.TheVariants as join
-use Rattle.ft_orb.specs.Engines.{AsksOf, Awaited, EndsOf, KeepsOf, RestsOf, StandsOf, StopsOf, as_server, asks_in, awaited_of, waits_in, pending_in}
+use Rattle.ft_orb.specs.Engines.{AsksOf, Awaited, EndsOf, KeepsOf, RestsOf, StandsOf, StopsOf, as_server, asks_in, awaited_of, waits_in, pending_in, terms_in}
 use Rattle.ft_orb.specs.ExactlyOnce.{Absent, Arrival, Bad, Field, Present, Rules}
-use Rattle.ft_orb.specs.History.{Close, Event, Gone, Line, Lost, Opened, Piece, Shut, Up, Withdrew, completed, does_count, line, shortened}
+use Rattle.ft_orb.specs.History.{Close, Event, Gone, Line, Lost, Opened, Piece, Shut, Up, Withdrew, completed, does_count, line, shortened, Changed, origin, changes}
 use Rattle.ft_orb.specs.Outputs.{after, is_gone, output_cut}
 use Rattle.ft_orb.specs.Owners.{Voice, answered_so_far, owned_says, owned_table, owner_rules, table_over}
 use Rattle.ft_orb.specs.Parked.{AreOf, IsSaid, IsStepOf, JoinsAs, JoinsBy, going_in, is_wished, on_going}
 use Rattle.ft_orb.specs.Parking.{AreKeyed, by_number, EndsLate, Parks, RepeatsLate, Settings, Stays, StopsLate, goes_on, key_kept, numbering, parked_at, put_at, still, unless_placed, waiter_of, was_opened}
 use Rattle.ft_orb.specs.Pauses.{Reaches}
 use Rattle.ft_orb.specs.Private.{IsPut, all_answered, counted_by}
-use Rattle.ft_orb.specs.Requests.{Call, Wanted, asking}
+use Rattle.ft_orb.specs.Requests.{Call, Wanted, asking, Origin, asked_at}
 use Rattle.ft_orb.specs.Seen.{seen_answer, seen_table}
 use Rattle.ft_orb.specs.Standing.{IsFor, IsSameBut, Shown, table_of}
 use Rattle.ft_orb.specs.Table.{AreAlike, Table, forgotten, keyed_step, keyless_step, new_step, performing_step, step_by_field, table_after, table_step}
@@ -72,7 +72,7 @@ put-else n x f m apart = by (m == n) refl
 
 module _ (s : Settings) where
   abbrev pub Numbered : Rules (List Call) Wanted Call ℕ
-  Numbered = owner_rules s.offer.interface (λ calls call. length calls) s.capacity s.share
+  Numbered = owner_rules (asked_at s.terms) (λ calls call. length calls) s.capacity s.share
 
   -- the table of the numbers of calls
   abbrev pub Tally : List Event → Table (List Call) ℕ
@@ -80,7 +80,7 @@ module _ (s : Settings) where
 
   pub below-past : (past : List Event) → AreBelow (length (Tally past).state) (Tally past).entries
   below-past [] = tt
-  below-past (e ∷ past) = below-less e (table_after Numbered (Tally past) (completed s.limits past e)) (after-below s.offer.interface s.capacity s.share (Tally past) (completed s.limits past e) (below-past past))
+  below-past (e ∷ past) = below-less e (table_after Numbered (Tally past) (completed s.limits past e)) (after-below (asked_at s.terms) s.capacity s.share (Tally past) (completed s.limits past e) (below-past past))
 
   table-known : (held other : ℕ → Holding) (past : List Event) → ((i : ℕ) → i < length (Tally past).state → held i ≡ other i) → seen_table held (Tally past) ≡ seen_table other (Tally past)
   table-known held other past same = ap (λ (es : List (KeptOutcome Holding)). record { state = (Tally past).state; entries = es }) (seen-agree held other (length (Tally past).state) (Tally past).entries same (below-past past))
@@ -132,7 +132,7 @@ module _ (s : Settings) where
 
   keyed-next : (i : ℕ) (key : Option RequestKey) (past : List Event) (e : Event) → i < length (Tally past).state → AreKeyed i key (Tally past).entries → (i < length (Tally (e ∷ past)).state) × AreKeyed i key (Tally (e ∷ past)).entries
   keyed-next i key past e less h =
-      let next = after-keyed s.offer.interface s.capacity s.share i key (Tally past) (completed s.limits past e) less h in
+      let next = after-keyed (asked_at s.terms) s.capacity s.share i key (Tally past) (completed s.limits past e) less h in
       keyed-less i key e (table_after Numbered (Tally past) (completed s.limits past e)) next
 
   keyed-later : (i : ℕ) (key : Option RequestKey) (past : List Event) (e : Event) (note : Note) → i < length (Tally past).state → AreKeyed i key (Tally past).entries → AreKeyed i key (Tally (after s.limits past e note)).entries
@@ -144,6 +144,7 @@ module _ (s : Settings) where
   keyed-later i key past (Close c) (Memory handled answered) less h = h
   keyed-later i key past (Lost c) (Memory handled answered) less h = h
   keyed-later i key past (Withdrew j) (Memory handled answered) less h = h
+  keyed-later i key past Changed (Memory handled answered) less h = h
 
   -- who still waits
   pub still-later : (stay : EndingsStay meaning_in) (past : List Event) (e : Event) (note : Note) (ws now : List Waiter) → on_going (goes_on s.limits past) ws ≡ now → list_all (was_opened past) ws ≡ true
@@ -269,26 +270,26 @@ module _ {C : Type 0} (offers : C → Offer) (s : Settings) where
   wish-is wish.Full h version id p = absurd cc
 
   -- what is said to it ..
-  pub said-put : (most c : ℕ) (goes : ℕ → Bool) (r : Repeat) (old new : Parked) (j : Join) (step : Step) (mid grown : List ℕ) → JoinsBy goes most (record { connection = c; asker = r.asker }) old j new → IsStepOf j r.asker step mid grown → (step ≡ Unhandled → ⊥)
-      → (q : Question) → r.asker ≡ asker_of q → IsPut (octets_if (unless_placed (not (nat_lt most (length (on_going goes old.waiters.items)))) s.offer.knows (asking c q) r.number)) step mid grown
-  said-put most c goes r old new join.Silent step mid grown h is some q same =
+  pub said-put : (most c : ℕ) (knows : List ℕ → Bool) (from : Origin) (goes : ℕ → Bool) (r : Repeat) (old new : Parked) (j : Join) (step : Step) (mid grown : List ℕ) → JoinsBy goes most (record { connection = c; asker = r.asker }) old j new → IsStepOf j r.asker step mid grown → (step ≡ Unhandled → ⊥)
+      → (q : Question) → r.asker ≡ asker_of q → IsPut (octets_if (unless_placed (not (nat_lt most (length (on_going goes old.waiters.items)))) knows (asking from q) r.number)) step mid grown
+  said-put most c knows from goes r old new join.Silent step mid grown h is some q same =
       let silent : is_wished q.wish ≡ false = ap (λ (a : Asker). is_wished a.wish) (sym same) ∙ h.0 in
-      let none : octets_if (unless_placed (not (nat_lt most (length (on_going goes old.waiters.items)))) s.offer.knows (asking c q) r.number) ≡ [] =
-      (elim (not (nat_lt most (length (on_going goes old.waiters.items)))) as (λ (b : Bool). octets_if (unless_placed b s.offer.knows (asking c q) r.number) ≡ []) [ true ↦ refl | false ↦ ap (λ (o : Option Telling). octets_if o) (wish-is q.wish silent q.version q.id (system Transient 0 Maybe)) ]) in
+      let none : octets_if (unless_placed (not (nat_lt most (length (on_going goes old.waiters.items)))) knows (asking from q) r.number) ≡ [] =
+      (elim (not (nat_lt most (length (on_going goes old.waiters.items)))) as (λ (b : Bool). octets_if (unless_placed b knows (asking from q) r.number) ≡ []) [ true ↦ refl | false ↦ ap (λ (o : Option Telling). octets_if o) (wish-is q.wish silent q.version q.id (system Transient 0 Maybe)) ]) in
       subst (λ (l : List ℕ). IsPut l step mid grown) (sym none) (subst (λ (x : Step). IsPut [] x mid grown) (sym is.0) (is.1 ∙ sym (append-nil mid)))
-  said-put most c goes r old new join.Waits step mid grown h is some q same =
+  said-put most c knows from goes r old new join.Waits step mid grown h is some q same =
       let room : not (nat_lt most (length (on_going goes old.waiters.items))) ≡ true = ap not (le-ltb most (length (on_going goes old.waiters.items)) h.1) in
-      subst (λ (b : Bool). IsPut (octets_if (unless_placed b s.offer.knows (asking c q) r.number)) step mid grown) (sym room) (subst (λ (x : Step). IsPut [] x mid grown) (sym is.0) (is.1 ∙ sym (append-nil mid)))
-  said-put most c goes r old new join.Full step mid grown h is some q same =
+      subst (λ (b : Bool). IsPut (octets_if (unless_placed b knows (asking from q) r.number)) step mid grown) (sym room) (subst (λ (x : Step). IsPut [] x mid grown) (sym is.0) (is.1 ∙ sym (append-nil mid)))
+  said-put most c knows from goes r old new join.Full step mid grown h is some q same =
       let full : not (nat_lt most (length (on_going goes old.waiters.items))) ≡ false = ap not (lt-ltb most (length (on_going goes old.waiters.items)) h.1) in
-      subst (λ (b : Bool). IsPut (octets_if (unless_placed b s.offer.knows (asking c q) r.number)) step mid grown) (sym full) (subst (λ (a : Asker). IsPut (reply_by a.wish a.version a.request_id (system Transient 0 Maybe)) step mid grown) same (said-is step is some))
+      subst (λ (b : Bool). IsPut (octets_if (unless_placed b knows (asking from q) r.number)) step mid grown) (sym full) (subst (λ (a : Asker). IsPut (reply_by a.wish a.version a.request_id (system Transient 0 Maybe)) step mid grown) same (said-is step is some))
     where
       said-is : (x : Step) → IsSaid (reply_by r.asker.wish r.asker.version r.asker.request_id (system Transient 0 Maybe)) x mid grown → (x ≡ Unhandled → ⊥) → IsPut (reply_by r.asker.wish r.asker.version r.asker.request_id (system Transient 0 Maybe)) x mid grown
       said-is Answered h apart = h
       said-is Unhandled h apart = absurd (apart refl)
       said-is Unanswered h apart = absurd h
       said-is Quiet h apart = absurd h
-  said-put most c goes r old new join.Memory step mid grown h is some q same = absurd (some is.0)
+  said-put most c knows from goes r old new join.Memory step mid grown h is some q same = absurd (some is.0)
 
   -- .. and who waits then
   pub joined-list : (most c : ℕ) (goes : ℕ → Bool) (r : Repeat) (old new : Parked) (j : Join) (step : Step) (mid grown : List ℕ) → JoinsBy goes most (record { connection = c; asker = r.asker }) old j new → IsStepOf j r.asker step mid grown → (step ≡ Unhandled → ⊥)
@@ -464,10 +465,10 @@ module _ {C : Type 0} (offers : C → Offer) (s : Settings) where
   cut-list most c goes r old new join.Memory n step cut mid grown h is by = (h.3, h.4)
 
   module _ (stay : EndingsStay meaning_in) (grow : HearingGrows meaning_in) (held : ℕ → Holding) (calls : List Call) (old new : Engine C) (past : List Event) (c moment : ℕ) (piece : List ℕ) (now : ℕ) (out mid : List ℕ) (was link : Linked) (r : Repeat) (place : Place) (waiting : ℕ → List Waiter)
-      (h : Stays offers s held calls old past waiting) (are : offers new.catalogue ≡ s.offer) (idle : waits_in new ≡ None) (same : IsSameBut c (as_server old calls) (as_server new calls)) (at : now ≡ max old.keeper.clock moment) (then-at : new.keeper.clock ≡ now) (stood : get nat_cmp old.links c ≡ Some was)
+      (h : Stays offers s held calls old past waiting) (are : terms_in offers new ≡ s.terms (changes past)) (idle : waits_in new ≡ None) (same : IsSameBut c (as_server old calls) (as_server new calls)) (at : now ≡ max old.keeper.clock moment) (then-at : new.keeper.clock ≡ now) (stood : get nat_cmp old.links c ≡ Some was)
       (live : was.is_closed ≡ false) (some : 0 < place.taken) (within : place.taken ≤ length piece)
       (reaches : (voice : Voice) (x : List ℕ) (t : Table (List Call) Holding) → LinkStands s.limits was x → AreAlike now (answered_so_far calls (logged old.keeper.log).entries) t
-      → Reaches s.offer voice (logged old.keeper.log).capacity (logged old.keeper.log).share s.limits c now t x out piece calls (pause.Repeats r place) link (logged new.keeper.log).entries mid)
+      → Reaches s.terms voice (logged old.keeper.log).capacity (logged old.keeper.log).share s.limits (origin past c) now t x out piece calls (pause.Repeats r place) link (logged new.keeper.log).entries mid)
       (places : new.places ≡ old.places) (asks : asks_in new ≡ asks_in old) (goes : ℕ → Bool) (step : Step) (grown : List ℕ) (joins : JoinsAs goes old.places.joined c r (parked_at old r.number) step (parked_at new r.number) mid grown)
       (others : (q : ℕ) → (q == r.number) ≡ false → parked_at new q ≡ parked_at old q) where
     turned : (written : List ℕ) × (mid ≡ out ++ written) × Turns offers (numbering s nothing_yet held) calls past c moment (take place.taken piece) written place.handled r
@@ -493,7 +494,7 @@ module _ {C : Type 0} (offers : C → Offer) (s : Settings) where
     whose-taken =
         let t = turned.2 in
         let u = table_after (Numbered s) (Tally s past) t.front in
-        let below : AreBelow (length u.state) u.entries = after-below s.offer.interface s.capacity s.share (Tally s past) t.front (below-past s past) in
+        let below : AreBelow (length u.state) u.entries = after-below (asked_at s.terms) s.capacity s.share (Tally s past) t.front (below-past s past) in
         let less = answered-below u t.last whose.0 below (t.then ∙ sym t.before) whose.1 in
         subst (λ (l : List Call). whose.0 < length l) t.before less
 
@@ -517,9 +518,9 @@ module _ {C : Type 0} (offers : C → Offer) (s : Settings) where
         let past2 = Fed ∷ past in
         let g2 = goes_on s.limits past2 in
         let placed = not (nat_lt old.places.joined (length (on_going goes p.waiters.items))) in
-        let put = said-put old.places.joined c goes r p j.next j.join step mid grown j.by j.said apart in
-        let ends = turns-end offers (numbering s (unless_placed placed s.offer.knows) held) grow calls old new past c moment piece now out mid was link r place (rests-known s offers nothing_yet (unless_placed placed s.offer.knows) held held calls old past (λ i less. refl) h.rests) are idle same at then-at stood live some within reaches grown step n link-is put by in
-        let rests = rests-known s offers (unless_placed placed s.offer.knows) nothing_yet held held calls new past2 (λ i less. refl) ends.rests in
+        let put = said-put old.places.joined c (s.terms (changes past)).knows (origin past c) goes r p j.next j.join step mid grown j.by j.said apart in
+        let ends = turns-end offers (numbering s (unless_placed placed (s.terms (changes past)).knows) held) grow calls old new past c moment piece now out mid was link r place (rests-known s offers nothing_yet (unless_placed placed (s.terms (changes past)).knows) held held calls old past (λ i less. refl) h.rests) are idle same at then-at stood live some within reaches grown step n link-is put by in
+        let rests = rests-known s offers (unless_placed placed (s.terms (changes past)).knows) nothing_yet held held calls new past2 (λ i less. refl) ends.rests in
         let go : goes ≡ g2 = goes-are ∙ links-go nothing_yet held calls new past2 rests in
         let old-tally = tally-is nothing_yet held calls old past h.rests in
         let between : Engine C = record new { parked = old.parked } in

@@ -14,11 +14,11 @@ use Rattle.ft_orb.specs.declared.parked.Waiter.{Waiter}
 use Rattle.ft_orb.specs.Deeds.{AnsweredAreKnown, AreApart, AreTaken, AreTold, Answered, CallsAreTaken, CallsGrow, Declined, DeclinedAreKnown, Deed, DeedsAreRuns, GivenUp, Happened, IsDeed, IsLeftOf, IsUnawaited, Joined, JoinedAreNoCalls, KnownGrows, Ledger, Missed, Parked, Reached, RefusedAreKnown, Runs, RunsJoin, RunsKeepAll, Settled, SettledAreTheirs, Stopped, Told, ToldAreKnown, ToldOnce, Withdrawn, WithdrawnAreTheirs, WrittenNow, WrittenOnce, after_deed, after_deeds, came_to, declines, part_of, piece_of, reached, rest_of, settles, told_all, told_of, told_one, without_call}
 use Rattle.ft_orb.specs.ExactlyOnce.{Arrival}
 use Rattle.ft_orb.specs.History as history
-use Rattle.ft_orb.specs.History.{Close, Event, Gone, KeepsAll, Line, Lost, Piece, Shut, Up, Withdrew, arrivals_on, does_count, line}
+use Rattle.ft_orb.specs.History.{Close, Event, Gone, KeepsAll, Line, Lost, Piece, Shut, Up, Withdrew, arrivals_on, does_count, line, Changed, origin}
 use Rattle.ft_orb.specs.Outputs.{after, is_going, is_gone}
 use Rattle.ft_orb.specs.Parked.{is_wished, on_going}
 use Rattle.ft_orb.specs.Parking.{Settings, goes_on, not_now, numbering, put_at, waiter_of, own_of}
-use Rattle.ft_orb.specs.Requests.{Call, Wanted}
+use Rattle.ft_orb.specs.Requests.{Call, Wanted, Origin}
 use Rattle.ft_orb.proofs.Books.{book_by, kept-folded}
 use Rattle.ft_orb.proofs.Headline.{writes_agree_by}
 use Rattle.ft_orb.proofs.Said.{writes_now_by}
@@ -228,7 +228,7 @@ module _ (s : Settings) (stay : EndingsStay meaning_in) where
   opened-deed g (Withdrawn i m name minor told) h n = told-opened m (without_call i g) told h n
 
   -- a connection on which something arrived is there
-  arrived-there : (c now : ℕ) (octets : List ℕ) (front : List (Arrival Wanted)) (last : Arrival Wanted) (l : Line) → arrivals_on s.limits c now l octets ≡ front ++ last ∷ [] → is_gone l ≡ false
+  arrived-there : (c : Origin) (now : ℕ) (octets : List ℕ) (front : List (Arrival Wanted)) (last : Arrival Wanted) (l : Line) → arrivals_on s.limits c now l octets ≡ front ++ last ∷ [] → is_gone l ≡ false
   arrived-there c now octets front last Gone h = absurd (let size = length-append front (last ∷ []) in let none = ap (λ (xs : List (Arrival Wanted)). length xs) h in omega (arith, size, none))
   arrived-there c now octets front last Shut h = refl
   arrived-there c now octets front last (Up x) h = refl
@@ -250,7 +250,7 @@ module _ (s : Settings) (stay : EndingsStay meaning_in) where
     where
       by : (b : Bool) → (n == m) ≡ b → IsLeftOf (goes_on s.limits end) (g.waiting n ++ cond b joined []) (on_going (goes_on s.limits (part_of p ∷ g.past)) (cond b (g.waiting m ++ joined) (g.waiting n)))
       by true is =
-          let there = arrived-there p.connection _ _ h.1.front h.1.last (line g.past p.connection) h.1.completes in
+          let there = arrived-there (origin g.past p.connection) _ _ h.1.front h.1.last (line g.past p.connection) h.1.completes in
           let opened = was-counted g.past p.connection there in
           let own : Opens g.past joined = subst (λ (l : List Waiter). Opens g.past l) (sym h.1.joined_are) (joined-opens g.past p.connection h.1.question (is_wished h.1.question.wish) h.1.placed opened) in
           let next = later-event g.past (part_of p) in
@@ -408,6 +408,7 @@ module _ (s : Settings) where
   keeps-event past (Close c) waiting free kept = kept
   keeps-event past (Lost c) waiting free kept = kept
   keeps-event past (Withdrew i) waiting free kept = absurd free
+  keeps-event past Changed waiting free kept = absurd free
 
   keeps-after : (past : List Event) (e : Event) (note : Note) (waiting : ℕ → List Waiter) → IsUnawaited e waiting → KeepsAll past → KeepsAll (after s.limits past e note)
   keeps-after past e Done waiting free kept = keeps-event past e waiting free kept
@@ -417,6 +418,7 @@ module _ (s : Settings) where
   keeps-after past (Close c) (Memory handled answered) waiting free kept = kept
   keeps-after past (Lost c) (Memory handled answered) waiting free kept = kept
   keeps-after past (Withdrew i) (Memory handled answered) waiting free kept = kept
+  keeps-after past Changed (Memory handled answered) waiting free kept = kept
 
   keeps-told : (n : ℕ) (g : Ledger) (told : List Told) → KeepsAll g.past → KeepsAll (told_all s n g told).past
   keeps-told n g [] kept = kept

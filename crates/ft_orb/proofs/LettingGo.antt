@@ -9,6 +9,7 @@ use Rattle.ft_log.specs.Kept.{KeptOutcome, is_parked, is_parked_at, unexpired, w
 use Rattle.ft_log.specs.Logged.{logged}
 use Rattle.ft_log.specs.View.{key_of}
 use Rattle.ft_objects.specs.Catalogues.{Offer}
+use Rattle.ft_orb.specs.Offerings.{terms_by}
 use Rattle.ft_orb.specs.declared.engine.Engine.{Engine}
 use Rattle.ft_orb.specs.declared.keeper.Retained.{Retained}
 use Rattle.ft_orb.specs.declared.parked.Parked.{Parked}
@@ -119,13 +120,13 @@ module _ (held : ℕ → Holding) (calls : List Call) (i n : ℕ) (less : i < le
 pub withdraws : {C : Type 0} (offers : C → Offer) (s : Settings) (held : ℕ → Holding) (calls : List Call) (old new : Engine C) (past : List Event) (waiting : ℕ → List Waiter) (n : ℕ) (p now : Parked) → Stays offers s held calls old past waiting
     → parked_at old n ≡ Some p → parked_at new n ≡ Some now → ((q : ℕ) → (q == n) ≡ false → parked_at new q ≡ parked_at old q) → now.pending.waiting.retained ≡ None → now.waiters ≡ p.waiters
     → (logged new.keeper.log).entries ≡ without_parked p.pending.waiting.retained n (logged old.keeper.log).entries → (logged new.keeper.log).capacity ≡ (logged old.keeper.log).capacity → (logged new.keeper.log).share ≡ (logged old.keeper.log).share
-    → new.keeper.clock ≡ old.keeper.clock → new.catalogue ≡ old.catalogue → waits_in new ≡ waits_in old → new.limits ≡ old.limits → new.greatest ≡ old.greatest → new.links ≡ old.links → new.places ≡ old.places → asks_in new ≡ asks_in old
+    → new.keeper.clock ≡ old.keeper.clock → new.offering ≡ old.offering → waits_in new ≡ waits_in old → new.limits ≡ old.limits → new.greatest ≡ old.greatest → new.links ≡ old.links → new.places ≡ old.places → asks_in new ≡ asks_in old
     → WithdrawsLate offers s held calls past waiting n new
 withdraws {C} offers s held calls old new past waiting n p now h was is others none waiters entries capacity share clock catalogue idle limits greatest links places asks = record {
   i = here.0;
   taken = here.1;
   was = here.2;
-  stays = record { rests = record { offer_is = ap offers catalogue ∙ h.rests.offer_is; idle = idle ∙ h.rests.idle; stands = stands }; parks = parks };
+  stays = record { rests = record { offer_is = ap (terms_by offers) catalogue ∙ h.rests.offer_is; idle = idle ∙ h.rests.idle; stands = stands }; parks = parks };
 }
   where
     here : (i : ℕ) × (i < length calls) × (held i ≡ parked n) × AreKeyed i (key_kept p.pending.waiting.retained) (owned_table (by_number s held) past).entries

@@ -16,6 +16,7 @@ use Rattle.ft_log.specs.Kept.{unexpired}
 use Rattle.ft_log.specs.Logged.{logged}
 use Rattle.ft_log.specs.Performed.{Performed}
 use Rattle.ft_objects.specs.Catalogues.{Offer}
+use Rattle.ft_orb.specs.Offerings.{terms_by}
 use Rattle.ft_orb.specs.declared.desk.Step.{Step}
 use Rattle.ft_orb.specs.declared.desk.Step.TheVariants.{Answered, Quiet, Unanswered, Unhandled}
 use Rattle.ft_orb.specs.declared.engine.Engine.{Engine}
@@ -39,10 +40,10 @@ use Rattle.ft_orb.proofs.GoesOn.{not-not}
 use Rattle.ft_orb.proofs.Late.{Tally, asks-known, ends-late, parks-later, parks-more, put-else, tally-is}
 
 -- A connection is lost.
-pub rests-lost : {C Outcome : Type 0} (offers : C → Offer) (o : OwnerOf Outcome) (calls : List Call) (old new : Engine C) (past : List Event) (c : ℕ) → RestsOf offers o calls old past → new.catalogue ≡ old.catalogue → waits_in new ≡ waits_in old → IsSameBut c (as_server old calls) (as_server new calls)
+pub rests-lost : {C Outcome : Type 0} (offers : C → Offer) (o : OwnerOf Outcome) (calls : List Call) (old new : Engine C) (past : List Event) (c : ℕ) → RestsOf offers o calls old past → new.offering ≡ old.offering → waits_in new ≡ waits_in old → IsSameBut c (as_server old calls) (as_server new calls)
     → new.keeper.clock ≡ old.keeper.clock → (logged new.keeper.log).entries ≡ (logged old.keeper.log).entries → get nat_cmp new.links c ≡ None → RestsOf offers o calls new (Lost c ∷ past)
 rests-lost {C} {Outcome} offers o calls old new past c h are idle same clock entries gone = record {
-  offer_is = ap offers are ∙ h.offer_is;
+  offer_is = ap (terms_by offers) are ∙ h.offer_is;
   idle = idle ∙ h.idle;
   stands = record {
     limits_are = same.limits ∙ h.stands.limits_are;
@@ -157,14 +158,14 @@ closed-written limits link (Up x) h = (ap (λ (b : Bool). if b then [] else clos
     by None = sym (append-nil close_connection)
     by (Some e) = refl
 
-module _ {C : Type 0} (offers : C → Offer) (s : Settings) (late : Later) (held : ℕ → Holding) (calls : List Call) (old new : Engine C) (past : List Event) (c : ℕ) (r : RestsOf offers (numbering s late held) calls old past) (are : new.catalogue ≡ old.catalogue) (idle : waits_in new ≡ waits_in old)
+module _ {C : Type 0} (offers : C → Offer) (s : Settings) (late : Later) (held : ℕ → Holding) (calls : List Call) (old new : Engine C) (past : List Event) (c : ℕ) (r : RestsOf offers (numbering s late held) calls old past) (are : new.offering ≡ old.offering) (idle : waits_in new ≡ waits_in old)
     (same : IsSameBut c (as_server old calls) (as_server new calls)) (clock : new.keeper.clock ≡ old.keeper.clock) (entries : (logged new.keeper.log).entries ≡ (logged old.keeper.log).entries) where
   abbrev Owned : OwnerOf ℕ
   Owned = numbering s late held
 
   rests-closed : IsFor s.limits (get nat_cmp new.links c) (shut (line past c)) → RestsOf offers Owned calls new (Close c ∷ past)
   rests-closed here = record {
-    offer_is = ap offers are ∙ r.offer_is;
+    offer_is = ap (terms_by offers) are ∙ r.offer_is;
     idle = idle ∙ r.idle;
     stands = record {
       limits_are = same.limits ∙ r.stands.limits_are;

@@ -8,7 +8,7 @@ use Rattle.ft_log.specs.declared.system_exception.SystemName.{SystemName}
 use Rattle.ft_log.specs.declared.system_exception.SystemName.TheVariants.{BadContext}
 use Rattle.ft_objects.specs.Interfaces.{Interface}
 use Rattle.ft_orb.specs.ExactlyOnce.{Absent, Arrival, Bad, Field, Present, Rules}
-use Rattle.ft_orb.specs.History.{Close, Event, Lost, Opened, Piece, Withdrew}
+use Rattle.ft_orb.specs.History.{Close, Event, Lost, Opened, Piece, Withdrew, Changed}
 use Rattle.ft_orb.specs.Owners.{let_go, owner_rules}
 use Rattle.ft_orb.specs.Parking.{AreKeyed}
 use Rattle.ft_orb.specs.Requests.{Call, Wanted}
@@ -32,10 +32,10 @@ all-push : (P : KeptOutcome ℕ → Type 0) (es : List (KeptOutcome ℕ)) (e : K
 all-push P [] e h is = (is, tt)
 all-push P (x ∷ es) e h is = (h.0, all-push P es e h.1 is)
 
-module _ (interface : List ℕ → List ℕ → Interface) (capacity share : ℕ) (Q : ℕ → KeptOutcome ℕ → Type 0) (m0 : ℕ) (mono : (m n : ℕ) (e : KeptOutcome ℕ) → m ≤ n → Q m e → Q n e)
+module _ (ask : Wanted → Result Call SystemName) (capacity share : ℕ) (Q : ℕ → KeptOutcome ℕ → Type 0) (m0 : ℕ) (mono : (m n : ℕ) (e : KeptOutcome ℕ) → m ≤ n → Q m e → Q n e)
     (new : (m : ℕ) (key : RequestKey) (x : ℕ) → m0 ≤ m → Q (m + 1) (record { key = key; expiration = x; outcome = m })) where
   abbrev Numbers : Rules (List Call) Wanted Call ℕ
-  Numbers = owner_rules interface (λ calls call. length calls) capacity share
+  Numbers = owner_rules ask (λ calls call. length calls) capacity share
 
   -- at least so many calls were handed over, and each entry is as Q says of how many were
   abbrev pub Fits : Table (List Call) ℕ → Type 0
@@ -78,15 +78,15 @@ module _ (interface : List ℕ → List ℕ → Interface) (capacity share : ℕ
 abbrev pub AreBelow : ℕ → List (KeptOutcome ℕ) → Type 0
 AreBelow m es = AllByRecursion (λ e. e.outcome < m) es
 
-pub after-below : (interface : List ℕ → List ℕ → Interface) (capacity share : ℕ) (t : Table (List Call) ℕ) (xs : List (Arrival Wanted)) → AreBelow (length t.state) t.entries
-    → AreBelow (length (table_after (owner_rules interface (λ calls call. length calls) capacity share) t xs).state) (table_after (owner_rules interface (λ calls call. length calls) capacity share) t xs).entries
-after-below interface capacity share t xs h = (after-fits interface capacity share (λ m e. e.outcome < m) 0 (λ m n e w q. omega (arith, w, q)) (λ m key x w. omega arith) t xs (omega arith, h)).1
+pub after-below : (ask : Wanted → Result Call SystemName) (capacity share : ℕ) (t : Table (List Call) ℕ) (xs : List (Arrival Wanted)) → AreBelow (length t.state) t.entries
+    → AreBelow (length (table_after (owner_rules ask (λ calls call. length calls) capacity share) t xs).state) (table_after (owner_rules ask (λ calls call. length calls) capacity share) t xs).entries
+after-below ask capacity share t xs h = (after-fits ask capacity share (λ m e. e.outcome < m) 0 (λ m n e w q. omega (arith, w, q)) (λ m key x w. omega arith) t xs (omega arith, h)).1
 
 -- .. and that of a call handed over before is under the key that it was
-pub after-keyed : (interface : List ℕ → List ℕ → Interface) (capacity share : ℕ) (n : ℕ) (key : Option RequestKey) (t : Table (List Call) ℕ) (xs : List (Arrival Wanted)) → n < length t.state → AreKeyed n key t.entries
-    → (n < length (table_after (owner_rules interface (λ calls call. length calls) capacity share) t xs).state) × AreKeyed n key (table_after (owner_rules interface (λ calls call. length calls) capacity share) t xs).entries
-after-keyed interface capacity share n key t xs some h =
-    let f = after-fits interface capacity share (λ m e. e.outcome ≡ n → key ≡ Some e.key) (n + 1) (λ m k e w q. q) (λ m own x w is. absurd (omega (arith, w, is))) t xs (omega (arith, some), h) in
+pub after-keyed : (ask : Wanted → Result Call SystemName) (capacity share : ℕ) (n : ℕ) (key : Option RequestKey) (t : Table (List Call) ℕ) (xs : List (Arrival Wanted)) → n < length t.state → AreKeyed n key t.entries
+    → (n < length (table_after (owner_rules ask (λ calls call. length calls) capacity share) t xs).state) × AreKeyed n key (table_after (owner_rules ask (λ calls call. length calls) capacity share) t xs).entries
+after-keyed ask capacity share n key t xs some h =
+    let f = after-fits ask capacity share (λ m e. e.outcome ≡ n → key ≡ Some e.key) (n + 1) (λ m k e w q. q) (λ m own x w is. absurd (omega (arith, w, is))) t xs (omega (arith, some), h) in
     (let low = f.0 in omega (arith, low), f.1)
 
 -- what is known of numbers below, by two that agree there
@@ -97,30 +97,30 @@ seen-agree f g m (e ∷ es) same h =
     ∙ ap (λ (xs : List (KeptOutcome Holding)). record { key = e.key; expiration = e.expiration; outcome = g e.outcome } ∷ xs) (seen-agree f g m es same h.1)
 
 -- What a step adds has the key of its field.
-module _ (interface : List ℕ → List ℕ → Interface) (capacity share : ℕ) (n : ℕ) (own : Option RequestKey) where
-  performing-keyed : (t : Table (List Call) ℕ) (key : RequestKey) (x : ℕ) (call : Call) (room : Bool) → own ≡ Some key → AreKeyed n own t.entries → AreKeyed n own (performing_step (owner_rules interface (λ calls call. length calls) capacity share) t key x call room).0.entries
+module _ (ask : Wanted → Result Call SystemName) (capacity share : ℕ) (n : ℕ) (own : Option RequestKey) where
+  performing-keyed : (t : Table (List Call) ℕ) (key : RequestKey) (x : ℕ) (call : Call) (room : Bool) → own ≡ Some key → AreKeyed n own t.entries → AreKeyed n own (performing_step (owner_rules ask (λ calls call. length calls) capacity share) t key x call room).0.entries
   performing-keyed t key x call false is h = h
   performing-keyed t key x call true is h = all-push (λ e. e.outcome ≡ n → own ≡ Some e.key) t.entries (record { key = key; expiration = x; outcome = length t.state }) h (λ same. is)
 
-  keyed-keyed : (t : Table (List Call) ℕ) (key : RequestKey) (x : ℕ) (asked : Result Call SystemName) (kept : Option ℕ) → own ≡ Some key → AreKeyed n own t.entries → AreKeyed n own (keyed_step (owner_rules interface (λ calls call. length calls) capacity share) t key x asked kept).0.entries
+  keyed-keyed : (t : Table (List Call) ℕ) (key : RequestKey) (x : ℕ) (asked : Result Call SystemName) (kept : Option ℕ) → own ≡ Some key → AreKeyed n own t.entries → AreKeyed n own (keyed_step (owner_rules ask (λ calls call. length calls) capacity share) t key x asked kept).0.entries
   keyed-keyed t key x asked (Some outcome) is h = h
   keyed-keyed t key x (Err refusal) None is h = h
-  keyed-keyed t key x (Ok call) None is h = performing-keyed t key x call ((owner_rules interface (λ calls call. length calls) capacity share).has_room key (keys_of t.entries)) is h
+  keyed-keyed t key x (Ok call) None is h = performing-keyed t key x call ((owner_rules ask (λ calls call. length calls) capacity share).has_room key (keys_of t.entries)) is h
 
   field-keyed : (t : Table (List Call) ℕ) (clock : ℕ) (asked : Result Call SystemName) (f : Field) → ((key : RequestKey) (x : ℕ) → f ≡ Present key x → own ≡ Some key) → AreKeyed n own t.entries
-      → AreKeyed n own (step_by_field (owner_rules interface (λ calls call. length calls) capacity share) t clock asked f).0.entries
+      → AreKeyed n own (step_by_field (owner_rules ask (λ calls call. length calls) capacity share) t clock asked f).0.entries
   field-keyed t clock asked Bad is h = h
   field-keyed t clock (Err refusal) Absent is h = h
   field-keyed t clock (Ok call) Absent is h = h
   field-keyed t clock asked (Present key x) is h =
       let live = all-filter (λ e. e.outcome ≡ n → own ≡ Some e.key) clock t.entries h in
-      (elim (nat_lt x clock) as (λ (b : Bool). AreKeyed n own (cond b (t, Err BadContext) (keyed_step (owner_rules interface (λ calls call. length calls) capacity share) (forgotten clock t) key x asked (kept_for key (unexpired clock t.entries)))).0.entries) [
+      (elim (nat_lt x clock) as (λ (b : Bool). AreKeyed n own (cond b (t, Err BadContext) (keyed_step (owner_rules ask (λ calls call. length calls) capacity share) (forgotten clock t) key x asked (kept_for key (unexpired clock t.entries)))).0.entries) [
         | true ↦ h
         | false ↦ keyed-keyed (forgotten clock t) key x asked (kept_for key (unexpired clock t.entries)) (is key x refl) live
       ])
 
-  pub step-keyed : (t : Table (List Call) ℕ) (a : Arrival Wanted) → ((key : RequestKey) (x : ℕ) → a.field ≡ Present key x → own ≡ Some key) → AreKeyed n own t.entries → AreKeyed n own (table_step (owner_rules interface (λ calls call. length calls) capacity share) t a).0.entries
-  step-keyed t a is h = field-keyed t a.clock ((owner_rules interface (λ calls call. length calls) capacity share).asked a.content) a.field is h
+  pub step-keyed : (t : Table (List Call) ℕ) (a : Arrival Wanted) → ((key : RequestKey) (x : ℕ) → a.field ≡ Present key x → own ≡ Some key) → AreKeyed n own t.entries → AreKeyed n own (table_step (owner_rules ask (λ calls call. length calls) capacity share) t a).0.entries
+  step-keyed t a is h = field-keyed t a.clock ((owner_rules ask (λ calls call. length calls) capacity share).asked a.content) a.field is h
 
 -- nothing is kept yet for a later call
 pub later-keyed : (n : ℕ) (own : Option RequestKey) (m : ℕ) (es : List (KeptOutcome ℕ)) → m ≤ n → AreBelow m es → AreKeyed n own es
@@ -144,6 +144,7 @@ below-less (Opened c) t h = h
 below-less (Piece c moment octets) t h = h
 below-less (Close c) t h = h
 below-less (Lost c) t h = h
+below-less Changed t h = h
 below-less (Withdrew i) t h = all-but (λ e. e.outcome < length t.state) (λ e. not (e.outcome == i)) t.entries h
 
 pub keyed-less : (n : ℕ) (key : Option RequestKey) (e : Event) (t : Table (List Call) ℕ) → (n < length t.state) × AreKeyed n key t.entries → (n < length (let_go Is e t).state) × AreKeyed n key (let_go Is e t).entries
@@ -151,4 +152,5 @@ keyed-less n key (Opened c) t h = h
 keyed-less n key (Piece c moment octets) t h = h
 keyed-less n key (Close c) t h = h
 keyed-less n key (Lost c) t h = h
+keyed-less n key Changed t h = h
 keyed-less n key (Withdrew i) t h = (h.0, all-but (λ e. e.outcome ≡ n → key ≡ Some e.key) (λ e. not (e.outcome == i)) t.entries h.1)

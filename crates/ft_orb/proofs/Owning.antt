@@ -31,16 +31,17 @@ use Rattle.ft_orb.specs.Pause.{pending_of}
 use Rattle.ft_orb.specs.declared.pausing.Place.{Place}
 use Rattle.ft_orb.specs.declared.serving.Cut.{Cut}
 use Rattle.ft_objects.specs.Catalogues.{Offer}
-use Rattle.ft_orb.specs.Engines.{AsksOf, AsksOnceOf, Awaited, EndsOf, EndsOnceOf, IsDueOf, IsOnceOf, KeepsOf, RestsOf, ResumesOf, ResumesOnceOf, StandsOf, StopsOf, as_server, awaited_of, waits_in, pending_in}
+use Rattle.ft_orb.specs.Offerings.{terms_by}
+use Rattle.ft_orb.specs.Engines.{AsksOf, AsksOnceOf, Awaited, EndsOf, EndsOnceOf, IsDueOf, IsOnceOf, KeepsOf, RestsOf, ResumesOf, ResumesOnceOf, StandsOf, StopsOf, as_server, awaited_of, waits_in, pending_in, terms_in}
 use Rattle.ft_orb.specs.ExactlyOnce.{Arrival, ClocksGrow, OneExpiration, Rules, state_of}
-use Rattle.ft_orb.specs.History.{Event, Gone, Line, Piece, Shut, Up, arrivals, arrivals_in, arrivals_on, clock, completed, front_on, line, longer, shortened}
+use Rattle.ft_orb.specs.History.{Event, Gone, Line, Piece, Shut, Up, arrivals, arrivals_in, arrivals_on, changes, clock, completed, front_on, line, longer, origin, shortened}
 use Rattle.ft_objects.specs.Interfaces.{AreArgumentsOf}
 use Rattle.ft_orb.specs.Outputs.{WritesBy, after, output_cut}
 use Rattle.ft_orb.specs.Owners.{OwnerOf, Voice, answered_so_far, kept_of, owned_rules, owned_says, owned_table, owner_rules, voice_of}
 use Rattle.ft_orb.specs.Pauses.{Breaks, IsServedTo, Joined, Paused, Reaches}
 use Rattle.ft_orb.specs.Private.{IsPut, Served, counted_by, all_answered}
-use Rattle.ft_orb.specs.Tellings.{held_told, octets_if, rendered, reply_by}
-use Rattle.ft_orb.specs.Requests.{Call, Wanted, asked_of, asking}
+use Rattle.ft_orb.specs.Tellings.{octets_if, rendered, reply_by, told_at}
+use Rattle.ft_orb.specs.Requests.{Call, Origin, Terms, Wanted, asked_at, asking}
 use Rattle.ft_orb.specs.Standing.{IsFor, IsSameBut, Shown, capacity_of, share_of, table_of}
 use Rattle.ft_orb.specs.Table.{AreAlike, Table, table_after, table_answers, table_step}
 use Rattle.ft_orb.specs.Waits.{Finishes, asker_of, call_of, field_with, kept_with}
@@ -54,40 +55,37 @@ use Rattle.ft_orb.proofs.Pieces.{alike-then, apart-by, fed-err, fed-ok, same-by}
 use Rattle.ft_orb.proofs.Stopping.{reach-breaks, reach-goes, reach-left, reach-parks, repeat-goes, repeat-left}
 use Rattle.ft_log.specs.Holding.{Holding, known, parked}
 use Rattle.ft_orb.specs.Seen.{seen_answer, seen_entry, seen_rules, seen_table}
+use Rattle.ft_orb.proofs.Changes.{changes-piece}
 use Rattle.ft_orb.proofs.Books.{IsFolded, book_by, rendered-seen, step-seen, tables-are-seen}
 
 -- where a piece comes, nothing of it is served
-pub start-at : (offer : Offer) (voice : Voice) (capacity share : ℕ) (limits : Limits) (c now : ℕ) (t : Table (List Call) Holding) (s piece : List ℕ) (link : Linked) (calls : List Call) (entries : List (KeptOutcome Holding)) (out : List ℕ)
-    → LinkStands limits link s → AreAlike now (answered_so_far calls entries) t → IsServedTo offer voice capacity share limits c now t s out piece (record { taken = 0; handled = 0 }) calls link entries out
-start-at offer voice capacity share limits c now t s piece link calls entries out st al =
-    ([], sym (append-nil out), goes-start (owner_rules offer.interface voice.answers capacity share) (held_told voice.late offer.knows) limits c now t s link (answered_so_far calls entries) st al)
+pub start-at : (terms : ℕ → Terms) (voice : Voice) (capacity share : ℕ) (limits : Limits) (c : Origin) (now : ℕ) (t : Table (List Call) Holding) (s piece : List ℕ) (link : Linked) (calls : List Call) (entries : List (KeptOutcome Holding)) (out : List ℕ)
+    → LinkStands limits link s → AreAlike now (answered_so_far calls entries) t → IsServedTo terms voice capacity share limits c now t s out piece (record { taken = 0; handled = 0 }) calls link entries out
+start-at terms voice capacity share limits c now t s piece link calls entries out st al =
+    ([], sym (append-nil out), goes-start (owner_rules (asked_at terms) voice.answers capacity share) (told_at voice.late terms) limits c now t s link (answered_so_far calls entries) st al)
 
 -- .. and it is served whole, or up to what waits
-pub whole-is : (offer given : Offer) (voice : Voice) (capacity share : ℕ) (limits : Limits) (c now : ℕ) (t : Table (List Call) Holding) (s start piece : List ℕ) (calls : List Call) (p : Pause) (link : Linked) (entries : List (KeptOutcome Holding)) (out : List ℕ)
-    → offer ≡ given → p ≡ pause.Whole → Reaches offer voice capacity share limits c now t s start piece calls p link entries out
-    → (written : List ℕ) × (out ≡ start ++ written) × Served (owner_rules given.interface voice.answers capacity share) (held_told voice.late given.knows) limits c now t s piece link (answered_so_far calls entries) written
-whole-is offer given voice capacity share limits c now t s start piece calls p link entries out are is h =
-    subst (λ (o : Offer). Reaches o voice capacity share limits c now t s start piece calls pause.Whole link entries out) are
-    (subst (λ (x : Pause). Reaches offer voice capacity share limits c now t s start piece calls x link entries out) is h)
+pub whole-is : (terms : ℕ → Terms) (voice : Voice) (capacity share : ℕ) (limits : Limits) (c : Origin) (now : ℕ) (t : Table (List Call) Holding) (s start piece : List ℕ) (calls : List Call) (p : Pause) (link : Linked) (entries : List (KeptOutcome Holding)) (out : List ℕ)
+    → p ≡ pause.Whole → Reaches terms voice capacity share limits c now t s start piece calls p link entries out
+    → (written : List ℕ) × (out ≡ start ++ written) × Served (owner_rules (asked_at terms) voice.answers capacity share) (told_at voice.late terms) limits c now t s piece link (answered_so_far calls entries) written
+whole-is terms voice capacity share limits c now t s start piece calls p link entries out is h =
+    subst (λ (x : Pause). Reaches terms voice capacity share limits c now t s start piece calls x link entries out) is h
 
-pub asks-is : (offer given : Offer) (voice : Voice) (capacity share : ℕ) (limits : Limits) (c now : ℕ) (t : Table (List Call) Holding) (s start piece : List ℕ) (calls : List Call) (p : Pause) (w : Waiting) (place : Place) (link : Linked) (entries : List (KeptOutcome Holding)) (out : List ℕ)
-    → offer ≡ given → p ≡ pause.Asks w place → Reaches offer voice capacity share limits c now t s start piece calls p link entries out
-    → Reaches given voice capacity share limits c now t s start piece calls (pause.Asks w place) link entries out
-asks-is offer given voice capacity share limits c now t s start piece calls p w place link entries out are is h =
-    subst (λ (o : Offer). Reaches o voice capacity share limits c now t s start piece calls (pause.Asks w place) link entries out) are
-    (subst (λ (x : Pause). Reaches offer voice capacity share limits c now t s start piece calls x link entries out) is h)
+pub asks-is : (terms : ℕ → Terms) (voice : Voice) (capacity share : ℕ) (limits : Limits) (c : Origin) (now : ℕ) (t : Table (List Call) Holding) (s start piece : List ℕ) (calls : List Call) (p : Pause) (w : Waiting) (place : Place) (link : Linked) (entries : List (KeptOutcome Holding)) (out : List ℕ)
+    → p ≡ pause.Asks w place → Reaches terms voice capacity share limits c now t s start piece calls p link entries out
+    → Reaches terms voice capacity share limits c now t s start piece calls (pause.Asks w place) link entries out
+asks-is terms voice capacity share limits c now t s start piece calls p w place link entries out is h =
+    subst (λ (x : Pause). Reaches terms voice capacity share limits c now t s start piece calls x link entries out) is h
 
-pub repeats-is : (offer given : Offer) (voice : Voice) (capacity share : ℕ) (limits : Limits) (c now : ℕ) (t : Table (List Call) Holding) (s start piece : List ℕ) (calls : List Call) (p : Pause) (r : Repeat) (place : Place) (link : Linked) (entries : List (KeptOutcome Holding)) (out : List ℕ)
-    → offer ≡ given → p ≡ pause.Repeats r place → Reaches offer voice capacity share limits c now t s start piece calls p link entries out
-    → Reaches given voice capacity share limits c now t s start piece calls (pause.Repeats r place) link entries out
-repeats-is offer given voice capacity share limits c now t s start piece calls p r place link entries out are is h =
-    subst (λ (o : Offer). Reaches o voice capacity share limits c now t s start piece calls (pause.Repeats r place) link entries out) are
-    (subst (λ (x : Pause). Reaches offer voice capacity share limits c now t s start piece calls x link entries out) is h)
+pub repeats-is : (terms : ℕ → Terms) (voice : Voice) (capacity share : ℕ) (limits : Limits) (c : Origin) (now : ℕ) (t : Table (List Call) Holding) (s start piece : List ℕ) (calls : List Call) (p : Pause) (r : Repeat) (place : Place) (link : Linked) (entries : List (KeptOutcome Holding)) (out : List ℕ)
+    → p ≡ pause.Repeats r place → Reaches terms voice capacity share limits c now t s start piece calls p link entries out
+    → Reaches terms voice capacity share limits c now t s start piece calls (pause.Repeats r place) link entries out
+repeats-is terms voice capacity share limits c now t s start piece calls p r place link entries out is h =
+    subst (λ (x : Pause). Reaches terms voice capacity share limits c now t s start piece calls x link entries out) is h
 
-pub breaks-is : (offer given : Offer) (voice : Voice) (capacity share : ℕ) (limits : Limits) (c now : ℕ) (t : Table (List Call) Holding) (s start piece : List ℕ) (calls : List Call) (at : Cut) (entries : List (KeptOutcome Holding)) (out : List ℕ)
-    → offer ≡ given → Breaks offer voice capacity share limits c now t s start piece calls at entries out → Breaks given voice capacity share limits c now t s start piece calls at entries out
-breaks-is offer given voice capacity share limits c now t s start piece calls at entries out are h =
-    subst (λ (o : Offer). Breaks o voice capacity share limits c now t s start piece calls at entries out) are h
+pub breaks-is : (terms : ℕ → Terms) (voice : Voice) (capacity share : ℕ) (limits : Limits) (c : Origin) (now : ℕ) (t : Table (List Call) Holding) (s start piece : List ℕ) (calls : List Call) (at : Cut) (entries : List (KeptOutcome Holding)) (out : List ℕ)
+    → Breaks terms voice capacity share limits c now t s start piece calls at entries out → Breaks terms voice capacity share limits c now t s start piece calls at entries out
+breaks-is terms voice capacity share limits c now t s start piece calls at entries out h = h
 
 -- nothing is pending, so nothing waits
 -- .. whatever is in the slot
@@ -118,7 +116,7 @@ module _ {C Outcome : Type 0} (offers : C → Offer) (owner : OwnerOf Outcome) w
   abbrev Seen : List Event → Table (List Call) Holding
   Seen past = seen_table owner.hold (Folded past)
 
-  pub rests-ends : (calls : List Call) (past : List Event) (e : Event) (note : Note) (new : Engine C) (out grown : List ℕ) → offers new.catalogue ≡ owner.offer → waits_in new ≡ None
+  pub rests-ends : (calls : List Call) (past : List Event) (e : Event) (note : Note) (new : Engine C) (out grown : List ℕ) → terms_in offers new ≡ owner.terms (changes (after owner.limits past e note)) → waits_in new ≡ None
       → ((written : List ℕ) × (grown ≡ out ++ written) × WritesBy owner.limits owner.tell Says past e written note × StandsOf owner (as_server new calls) (after owner.limits past e note))
       → EndsOf offers owner calls past e note new out grown
   rests-ends calls past e note new out grown are idle x = record { written = x.0; appended = x.1; writes = x.2; rests = record { offer_is = are; idle = idle; stands = x.3 } }
@@ -128,16 +126,16 @@ module _ {C Outcome : Type 0} (offers : C → Offer) (owner : OwnerOf Outcome) w
     pub front : List (Arrival Wanted)
     pub last : Arrival Wanted
     pub completes : completed owner.limits past (Piece c moment octets) ≡ front ++ last ∷ []
-    pub asks : asked_of owner.offer.interface last.content ≡ Ok (call_of w)
+    pub asks : asked_at owner.terms last.content ≡ Ok (call_of w)
     pub field : last.field ≡ field_with w.retained
-    pub fit : AreArgumentsOf (owner.offer.interface w.object_key.items w.operation.items) (values_of w.arguments.items)
+    pub fit : AreArgumentsOf ((owner.terms (changes past)).interface w.object_key.items w.operation.items) (values_of w.arguments.items)
     pub out : written ≡ output_cut owner.limits owner.tell Says past (Piece c moment octets) (length front)
     pub count : handled ≡ length front
     pub first : (n : ℕ) → n < length octets → length (completed owner.limits past (Piece c moment (take n octets))) ≤ length front
     pub before : (table_after Theirs (Folded past) front).state ≡ calls
     pub then : (table_after Theirs (Folded past) (front ++ last ∷ [])).state ≡ calls ++ call_of w ∷ []
     pub question : Question
-    pub content : last.content ≡ asking c question
+    pub content : last.content ≡ asking (origin past c) question
     pub heard : link.inbound ≡ Some (says (hearing.asks question))
     pub asker : w.asker ≡ asker_of question
     pub clock_is : last.clock ≡ max (clock past) moment
@@ -146,25 +144,26 @@ module _ {C Outcome : Type 0} (offers : C → Offer) (owner : OwnerOf Outcome) w
     pub kept : unexpired (max (clock past) moment) entries ≡ unexpired (max (clock past) moment) (map (seen_entry owner.hold) (table_after Theirs (Folded past) front).entries)
 
   brings-at : (past : List Event) (c moment : ℕ) (octets written : List ℕ) (s : List ℕ) (link : Linked) (calls : List Call) (entries : List (KeptOutcome Holding)) (handled : ℕ) (w : Waiting) → line past c ≡ Up s
-      → Paused owner.offer (voice_of owner) owner.capacity owner.share owner.limits c (max (clock past) moment) (Seen past) s octets link calls entries written handled w
+      → Paused owner.terms (voice_of owner) owner.capacity owner.share owner.limits (origin past c) (max (clock past) moment) (Seen past) s octets link calls entries written handled w
       → Brings calls past c moment octets written handled w link
   brings-at past c moment octets written s link calls entries handled w up p =
       let now = max (clock past) moment in
-      let on : (xs : List ℕ) → completed owner.limits past (Piece c moment xs) ≡ arrivals_in owner.limits c now s xs = λ xs. ap (λ (l : Line). arrivals_on owner.limits c now l xs) up in
+      let on : (xs : List ℕ) → completed owner.limits past (Piece c moment xs) ≡ arrivals_in owner.limits (origin past c) now s xs = λ xs. ap (λ (l : Line). arrivals_on owner.limits (origin past c) now l xs) up in
       let all : completed owner.limits past (Piece c moment octets) ≡ p.before ++ p.a ∷ [] = on octets ∙ p.arrivals in
       let one = tables-are-seen owner.hold Theirs (Folded past) p.before in
       let two = tables-are-seen owner.hold Theirs (Folded past) (p.before ++ p.a ∷ []) in
       let both = folded_step (seen_rules owner.hold Theirs) now (answered_so_far calls p.old) (Seen past) p.before p.a (subst (λ (i : ℕ). now ≤ i) (sym p.clock) (omega arith)) p.alike in
-      let here : asking c p.question ≡ asking p.waits.c p.waits.q = sym p.content ∙ p.waits.content in
+      let here : asking (origin past c) p.question ≡ asking p.waits.c p.waits.q = sym p.content ∙ p.waits.content in
       let same : p.waits.q ≡ p.question = cc in
+      let from : p.waits.c ≡ origin past c = cc in
       record {
         front = p.before;
         last = p.a;
         completes = all;
-        asks = ap (λ (x : Wanted). asked_of owner.offer.interface x) p.waits.content ∙ p.waits.spells.asks;
+        asks = p.waits.asks;
         field = p.waits.field;
-        fit = p.waits.spells.fit;
-        out = p.out ∙ ap (rendered (held_told owner.late owner.offer.knows) p.before) one.1 ∙ rendered-seen (book_by owner) p.before (table_answers Theirs (Folded past) p.before) ∙ sym (rendered-more Theirs owner.tell (Folded past) p.before (p.a ∷ []))
+        fit = subst (λ (o : Origin). AreArgumentsOf ((owner.terms o.changes).interface w.object_key.items w.operation.items) (values_of w.arguments.items)) from p.waits.spells.fit;
+        out = p.out ∙ ap (rendered (told_at owner.late owner.terms) p.before) one.1 ∙ rendered-seen (book_by owner) p.before (table_answers Theirs (Folded past) p.before) ∙ sym (rendered-more Theirs owner.tell (Folded past) p.before (p.a ∷ []))
             ∙ sym (ap (λ (xs : List (Arrival Wanted)). rendered owner.tell (take (length p.before) xs) (table_answers Theirs (Folded past) xs)) all
             ∙ ap (λ (xs : List (Arrival Wanted)). rendered owner.tell xs (table_answers Theirs (Folded past) (p.before ++ p.a ∷ []))) (take-append_seam p.before (p.a ∷ [])));
         count = p.count;
@@ -191,7 +190,7 @@ module _ {C Outcome : Type 0} (offers : C → Offer) (owner : OwnerOf Outcome) w
       let paused = k.paused (voice_of owner) up.0 (Seen past) up.2 (alike-then (book_by owner) k.server k.server past c moment octets k.stands now k.clock) in
       let at : now ≡ max (clock past) moment = k.clock ∙ ap (λ (n : ℕ). max n moment) k.stands.moment in
       brings-at past c moment octets written up.0 k.link calls (logged engine.keeper.log).entries p.place.handled p.waiting up.1
-      (at-first (λ a b n. Paused owner.offer (voice_of owner) a b owner.limits c n (Seen past) up.0 octets k.link calls (logged engine.keeper.log).entries written p.place.handled p.waiting) _ _ _ _ _ _ k.stands.capacity_is k.stands.share_is at paused)
+      (at-first (λ a b n. Paused owner.terms (voice_of owner) a b owner.limits (origin past c) n (Seen past) up.0 octets k.link calls (logged engine.keeper.log).entries written p.place.handled p.waiting) _ _ _ _ _ _ k.stands.capacity_is k.stands.share_is at paused)
 
   pub brings-kept : (calls : List Call) (engine : Engine C) (past : List Event) (moment : ℕ) (octets written : List ℕ) (p : Pending) → (k : KeepsOf offers owner calls engine past moment octets written p)
       → unexpired (max (clock past) moment) (logged engine.keeper.log).entries ≡ unexpired (max (clock past) moment) (map (seen_entry owner.hold) (table_after Theirs (Folded past) (brings-of calls engine past moment octets written p k).front).entries)
@@ -228,25 +227,25 @@ module _ {C Outcome : Type 0} (offers : C → Offer) (owner : OwnerOf Outcome) w
       → k ≡ length (completed owner.limits past (Piece c moment (take taken piece))) → shortened owner.limits past (Piece c moment piece) k ≡ Piece c moment (take taken piece)
   short-by past c moment piece taken s k front last up within completes first count =
       let now = max (clock past) moment in
-      let on : (xs : List ℕ) → completed owner.limits past (Piece c moment xs) ≡ arrivals_in owner.limits c now s xs = λ xs. ap (λ (l : Line). arrivals_on owner.limits c now l xs) up in
+      let on : (xs : List ℕ) → completed owner.limits past (Piece c moment xs) ≡ arrivals_in owner.limits (origin past c) now s xs = λ xs. ap (λ (l : Line). arrivals_on owner.limits (origin past c) now l xs) up in
       let size = length-take taken piece in
       let here = ap (λ (xs : List (Arrival Wanted)). length xs) (on (take taken piece)) in
       let all = ap (λ (xs : List (Arrival Wanted)). length xs) completes in
       let both = length-append front (last ∷ []) in
-      let exact = front-exact Theirs owner.tell owner.limits c now (Folded past) s piece taken k within (omega (arith, count, here))
+      let exact = front-exact Theirs owner.tell owner.limits (origin past c) now (Folded past) s piece taken k within (omega (arith, count, here))
       (λ m less.
       let few = first m (omega (arith, size, within, less)) in
       let there = ap (λ (xs : List (Arrival Wanted)). length xs) (on (take m (take taken piece))) in
-      let same = ap (λ (l : List ℕ). length (arrivals_in owner.limits c now s l)) (take-take m taken piece (omega (arith, less))) in
+      let same = ap (λ (l : List ℕ). length (arrivals_in owner.limits (origin past c) now s l)) (take-take m taken piece (omega (arith, less))) in
       omega (arith, few, there, same, all, both, count)) in
-      ap (λ (l : Line). Piece c moment (front_on owner.limits c now l piece k)) up ∙ ap (λ (l : List ℕ). Piece c moment l) exact
+      ap (λ (l : Line). Piece c moment (front_on owner.limits (origin past c) now l piece k)) up ∙ ap (λ (l : List ℕ). Piece c moment l) exact
 
   -- a request waits
-  pub stops-now : (calls : List Call) (old new : Engine C) (past : List Event) (c moment : ℕ) (piece : List ℕ) (now : ℕ) (out grown : List ℕ) (was link : Linked) (w : Waiting) (place : Place) (number : ℕ) (p : Pending) → RestsOf offers owner calls old past → offers new.catalogue ≡ owner.offer → pending_in new ≡ Some p
+  pub stops-now : (calls : List Call) (old new : Engine C) (past : List Event) (c moment : ℕ) (piece : List ℕ) (now : ℕ) (out grown : List ℕ) (was link : Linked) (w : Waiting) (place : Place) (number : ℕ) (p : Pending) → RestsOf offers owner calls old past → terms_in offers new ≡ owner.terms (changes past) → pending_in new ≡ Some p
       → p ≡ record { number = number; connection = c; waiting = w; place = place } → IsSameBut c (as_server old calls) (as_server new calls) → now ≡ max old.keeper.clock moment → new.keeper.clock ≡ now → get nat_cmp old.links c ≡ Some was → get nat_cmp new.links c ≡ Some link → was.is_closed ≡ false
       → 0 < place.taken → place.taken ≤ length piece
       → ((voice : Voice) (s : List ℕ) (t : Table (List Call) Holding) → LinkStands owner.limits was s → AreAlike now (answered_so_far calls (logged old.keeper.log).entries) t
-      → Reaches owner.offer voice (logged old.keeper.log).capacity (logged old.keeper.log).share owner.limits c now t s out piece calls (pause.Asks w place) link (logged new.keeper.log).entries grown)
+      → Reaches owner.terms voice (logged old.keeper.log).capacity (logged old.keeper.log).share owner.limits (origin past c) now t s out piece calls (pause.Asks w place) link (logged new.keeper.log).entries grown)
       → StopsOf offers owner calls past c moment piece place.taken new out grown
   stops-now calls old new past c moment piece now out grown was link w place number p h are waits is same at then-at stood held live some within reaches =
       let server : Shown (List Call) = as_server old calls in
@@ -274,8 +273,8 @@ module _ {C Outcome : Type 0} (offers : C → Offer) (owner : OwnerOf Outcome) w
             let al0 : AreAlike now (table_of server) t = subst (λ (n : ℕ). AreAlike n (table_of server) t) then-at al in
             let r = reaches voice s t st al0 in
             let eq : r.0 ≡ first.0 = append_cancel_left out r.0 first.0 (sym r.1 ∙ first.1) in
-            subst (λ (n : ℕ). Paused owner.offer voice (capacity_of server) (share_of server) owner.limits c n t s (take place.taken piece) link calls (logged new.keeper.log).entries first.0 place.handled w) (sym then-at)
-            (subst (λ (l : List ℕ). Paused owner.offer voice (capacity_of server) (share_of server) owner.limits c now t s (take place.taken piece) link calls (logged new.keeper.log).entries l place.handled w) eq r.2);
+            subst (λ (n : ℕ). Paused owner.terms voice (capacity_of server) (share_of server) owner.limits (origin past c) n t s (take place.taken piece) link calls (logged new.keeper.log).entries first.0 place.handled w) (sym then-at)
+            (subst (λ (l : List ℕ). Paused owner.terms voice (capacity_of server) (share_of server) owner.limits (origin past c) now t s (take place.taken piece) link calls (logged new.keeper.log).entries l place.handled w) eq r.2);
       } in
       stops-by calls new past c moment piece out grown w place number up.0 first.0 up.1 within first.1 keeps
     where
@@ -306,29 +305,29 @@ module _ {C Outcome : Type 0} (offers : C → Offer) (owner : OwnerOf Outcome) w
     pub out : written ≡ output_cut owner.limits owner.tell Says past (Piece c moment octets) (length front)
     pub first : (n : ℕ) → n < length octets → length (completed owner.limits past (Piece c moment (take n octets))) ≤ length front
     pub question : Question
-    pub content : last.content ≡ asking c question
+    pub content : last.content ≡ asking (origin past c) question
     pub asker : r.asker ≡ asker_of question
     pub says : seen_answer owner.hold (table_step Theirs (table_after Theirs (Folded past) front) last).1 ≡ Ok (parked r.number)
     pub before : (table_after Theirs (Folded past) front).state ≡ calls
     pub then : (table_step Theirs (table_after Theirs (Folded past) front) last).0.state ≡ calls
 
   turns-at : (past : List Event) (c moment : ℕ) (octets written : List ℕ) (s : List ℕ) (link : Linked) (calls : List Call) (entries : List (KeptOutcome Holding)) (handled : ℕ) (r : Repeat) → line past c ≡ Up s
-      → Joined owner.offer (voice_of owner) owner.capacity owner.share owner.limits c (max (clock past) moment) (Seen past) s octets link calls entries written handled r
+      → Joined owner.terms (voice_of owner) owner.capacity owner.share owner.limits (origin past c) (max (clock past) moment) (Seen past) s octets link calls entries written handled r
       → Turns calls past c moment octets written handled r
   turns-at past c moment octets written s link calls entries handled r up p =
       let now = max (clock past) moment in
-      let on : (xs : List ℕ) → completed owner.limits past (Piece c moment xs) ≡ arrivals_in owner.limits c now s xs = λ xs. ap (λ (l : Line). arrivals_on owner.limits c now l xs) up in
+      let on : (xs : List ℕ) → completed owner.limits past (Piece c moment xs) ≡ arrivals_in owner.limits (origin past c) now s xs = λ xs. ap (λ (l : Line). arrivals_on owner.limits (origin past c) now l xs) up in
       let all : completed owner.limits past (Piece c moment octets) ≡ p.before ++ p.a ∷ [] = on octets ∙ p.arrivals in
       let one = tables-are-seen owner.hold Theirs (Folded past) p.before in
       let two = tables-are-seen owner.hold Theirs (Folded past) (p.before ++ p.a ∷ []) in
       let both = folded_step (seen_rules owner.hold Theirs) now (answered_so_far calls p.old) (Seen past) p.before p.a (subst (λ (i : ℕ). now ≤ i) (sym p.clock) (omega arith)) p.alike in
-      let here : asking c p.question ≡ asking p.waits.c p.waits.q = sym p.content ∙ p.waits.content in
+      let here : asking (origin past c) p.question ≡ asking p.waits.c p.waits.q = sym p.content ∙ p.waits.content in
       let same : p.waits.q ≡ p.question = cc in
       record {
         front = p.before;
         last = p.a;
         completes = all;
-        out = p.out ∙ ap (rendered (held_told owner.late owner.offer.knows) p.before) one.1 ∙ rendered-seen (book_by owner) p.before (table_answers Theirs (Folded past) p.before) ∙ sym (rendered-more Theirs owner.tell (Folded past) p.before (p.a ∷ []))
+        out = p.out ∙ ap (rendered (told_at owner.late owner.terms) p.before) one.1 ∙ rendered-seen (book_by owner) p.before (table_answers Theirs (Folded past) p.before) ∙ sym (rendered-more Theirs owner.tell (Folded past) p.before (p.a ∷ []))
             ∙ sym (ap (λ (xs : List (Arrival Wanted)). rendered owner.tell (take (length p.before) xs) (table_answers Theirs (Folded past) xs)) all
             ∙ ap (λ (xs : List (Arrival Wanted)). rendered owner.tell xs (table_answers Theirs (Folded past) (p.before ++ p.a ∷ []))) (take-append_seam p.before (p.a ∷ [])));
         first = λ n less. let few = p.first n less in let size = ap (λ (xs : List (Arrival Wanted)). length xs) (on (take n octets)) in omega (arith, few, size);
@@ -347,7 +346,7 @@ module _ {C Outcome : Type 0} (offers : C → Offer) (owner : OwnerOf Outcome) w
   pub turns-of : (calls : List Call) (old : Engine C) (past : List Event) (c moment : ℕ) (piece : List ℕ) (now : ℕ) (out mid : List ℕ) (was link : Linked) (r : Repeat) (place : Place) (entries : List (KeptOutcome Holding)) (h : RestsOf offers owner calls old past) → now ≡ max old.keeper.clock moment
       → get nat_cmp old.links c ≡ Some was → was.is_closed ≡ false
       → ((voice : Voice) (s : List ℕ) (t : Table (List Call) Holding) → LinkStands owner.limits was s → AreAlike now (answered_so_far calls (logged old.keeper.log).entries) t
-      → Reaches owner.offer voice (logged old.keeper.log).capacity (logged old.keeper.log).share owner.limits c now t s out piece calls (pause.Repeats r place) link entries mid)
+      → Reaches owner.terms voice (logged old.keeper.log).capacity (logged old.keeper.log).share owner.limits (origin past c) now t s out piece calls (pause.Repeats r place) link entries mid)
       → (written : List ℕ) × (mid ≡ out ++ written) × Turns calls past c moment (take place.taken piece) written place.handled r
   turns-of calls old past c moment piece now out mid was link r place entries h at stood live reaches =
       let up = up-by owner.limits (line past c) was (subst (λ (o : Option Linked). IsFor owner.limits o (line past c)) stood (h.stands.lines c)) live in
@@ -356,15 +355,15 @@ module _ {C Outcome : Type 0} (offers : C → Offer) (owner : OwnerOf Outcome) w
         x.0,
         x.1,
         turns-at past c moment (take place.taken piece) x.0 up.0 link calls entries place.handled r up.1
-            (at-first (λ a b n. Joined owner.offer (voice_of owner) a b owner.limits c n (Seen past) up.0 (take place.taken piece) link calls entries x.0 place.handled r) _ _ _ _ _ _ h.stands.capacity_is h.stands.share_is is x.2),
+            (at-first (λ a b n. Joined owner.terms (voice_of owner) a b owner.limits (origin past c) n (Seen past) up.0 (take place.taken piece) link calls entries x.0 place.handled r) _ _ _ _ _ _ h.stands.capacity_is h.stands.share_is is x.2),
       )
 
   -- Of a piece so many octets were served, up to a repeat.
   module _ (grow : HearingGrows meaning_in) (calls : List Call) (old new : Engine C) (past : List Event) (c moment : ℕ) (piece : List ℕ) (now : ℕ) (out mid : List ℕ) (was link : Linked) (r : Repeat) (place : Place) (h : RestsOf offers owner calls old past)
-      (are : offers new.catalogue ≡ owner.offer) (idle : waits_in new ≡ None) (same : IsSameBut c (as_server old calls) (as_server new calls)) (at : now ≡ max old.keeper.clock moment) (then-at : new.keeper.clock ≡ now) (stood : get nat_cmp old.links c ≡ Some was) (live : was.is_closed ≡ false)
+      (are : terms_in offers new ≡ owner.terms (changes past)) (idle : waits_in new ≡ None) (same : IsSameBut c (as_server old calls) (as_server new calls)) (at : now ≡ max old.keeper.clock moment) (then-at : new.keeper.clock ≡ now) (stood : get nat_cmp old.links c ≡ Some was) (live : was.is_closed ≡ false)
       (some : 0 < place.taken) (within : place.taken ≤ length piece)
       (reaches : (voice : Voice) (s : List ℕ) (t : Table (List Call) Holding) → LinkStands owner.limits was s → AreAlike now (answered_so_far calls (logged old.keeper.log).entries) t
-      → Reaches owner.offer voice (logged old.keeper.log).capacity (logged old.keeper.log).share owner.limits c now t s out piece calls (pause.Repeats r place) link (logged new.keeper.log).entries mid) where
+      → Reaches owner.terms voice (logged old.keeper.log).capacity (logged old.keeper.log).share owner.limits (origin past c) now t s out piece calls (pause.Repeats r place) link (logged new.keeper.log).entries mid) where
     abbrev Taken : List ℕ
     Taken = take place.taken piece
 
@@ -387,7 +386,7 @@ module _ {C Outcome : Type 0} (offers : C → Offer) (owner : OwnerOf Outcome) w
 
     -- what is said to the repeat is appended ..
     pub turns-end : (grown : List ℕ) (step : Step) (n : ℕ) → get nat_cmp new.links c ≡ Some link
-        → ((q : Question) → r.asker ≡ asker_of q → IsPut (octets_if (owner.late (asking c q) r.number)) step mid grown) → counted_by place.handled step ≡ Ok n
+        → ((q : Question) → r.asker ≡ asker_of q → IsPut (octets_if (owner.late (asking (origin past c) q) r.number)) step mid grown) → counted_by place.handled step ≡ Ok n
         → EndsOf offers owner calls past (Piece c moment Taken) Done new out grown
     turns-end grown step n held put by =
         let size = length-take place.taken piece in
@@ -395,10 +394,10 @@ module _ {C Outcome : Type 0} (offers : C → Offer) (owner : OwnerOf Outcome) w
         (fed-ok (book_by owner) (as_server old calls) (as_server new calls) past c moment Taken now out grown was link h.stands same at then-at stood held live
         (λ s t st al.
         let x = reaches (voice_of owner) s t st al in
-        stood-whole (owner_rules owner.offer.interface (kept_of owner) (logged old.keeper.log).capacity (logged old.keeper.log).share) (held_told owner.late owner.offer.knows) owner.limits c now t s out Taken place.taken link (answered_so_far calls (logged new.keeper.log).entries) grown n
+        stood-whole (owner_rules (asked_at owner.terms) (kept_of owner) (logged old.keeper.log).capacity (logged old.keeper.log).share) (told_at owner.late owner.terms) owner.limits (origin past c) now t s out Taken place.taken link (answered_so_far calls (logged new.keeper.log).entries) grown n
         (omega (arith, size))
-        (repeat-goes owner.offer (voice_of owner) (logged old.keeper.log).capacity (logged old.keeper.log).share owner.limits c now t s out Taken place n link calls (logged new.keeper.log).entries mid grown r step
-        (x.0, x.1, subst (λ (l : List ℕ). Joined owner.offer (voice_of owner) (logged old.keeper.log).capacity (logged old.keeper.log).share owner.limits c now t s l link calls (logged new.keeper.log).entries x.0 place.handled r) (sym (take_all place.taken Taken (omega (arith, size)))) x.2)
+        (repeat-goes owner.terms (voice_of owner) (logged old.keeper.log).capacity (logged old.keeper.log).share owner.limits (origin past c) now t s out Taken place n link calls (logged new.keeper.log).entries mid grown r step
+        (x.0, x.1, subst (λ (l : List ℕ). Joined owner.terms (voice_of owner) (logged old.keeper.log).capacity (logged old.keeper.log).share owner.limits (origin past c) now t s l link calls (logged new.keeper.log).entries x.0 place.handled r) (sym (take_all place.taken Taken (omega (arith, size)))) x.2)
         put by)))
 
     -- or nothing was done for it
@@ -407,7 +406,7 @@ module _ {C Outcome : Type 0} (offers : C → Offer) (owner : OwnerOf Outcome) w
         rests-ends calls past (Piece c moment piece) (Memory place.handled place.handled) new out mid are idle
         (fed-err (book_by owner) (as_server old calls) (as_server new calls) past c moment piece now out mid was (all_answered place.handled) h.stands same at then-at stood gone live (omega (arith, some, within))
         (λ s t st al.
-        repeat-left owner.offer (voice_of owner) (logged old.keeper.log).capacity (logged old.keeper.log).share owner.limits c now t s out piece grow place link calls (logged new.keeper.log).entries mid r within (reaches (voice_of owner) s t st al)))
+        repeat-left owner.terms (voice_of owner) (logged old.keeper.log).capacity (logged old.keeper.log).share owner.limits (origin past c) now t s out piece grow place link calls (logged new.keeper.log).entries mid r within (reaches (voice_of owner) s t st al)))
 
   -- what `finish` appended, behind what was written before
   finishes-more : (w : Waiting) (outcome : Performed) (mid new : List (KeptOutcome Holding)) (step : Step) (out grown written : List ℕ) → Finishes w outcome mid step new out grown
@@ -420,7 +419,7 @@ module _ {C Outcome : Type 0} (offers : C → Offer) (owner : OwnerOf Outcome) w
   module _ (grow : HearingGrows meaning_in) (calls : List Call) (old new : Engine C) (past : List Event) (moment : ℕ) (octets written : List ℕ) (p : Pending) (a : KeepsOf offers owner calls old past moment octets written p) (outcome : Performed)
       (gave : kept_of owner calls (call_of p.waiting) ≡ known outcome) (step : Step) (out grown : List ℕ) (r : Result ℕ Cut)
       (done : Finishes p.waiting outcome (logged old.keeper.log).entries step (logged new.keeper.log).entries out grown) (by : r ≡ counted_by p.place.handled step)
-      (are : new.catalogue ≡ old.catalogue) (idle : waits_in new ≡ None) (same : IsSameBut p.connection (as_server old calls) (as_server new (calls ++ call_of p.waiting ∷ []))) (clock : new.keeper.clock ≡ old.keeper.clock) where
+      (are : new.offering ≡ old.offering) (idle : waits_in new ≡ None) (same : IsSameBut p.connection (as_server old calls) (as_server new (calls ++ call_of p.waiting ∷ []))) (clock : new.keeper.clock ≡ old.keeper.clock) where
     abbrev Later : List Call
     Later = calls ++ call_of p.waiting ∷ []
 
@@ -441,11 +440,11 @@ module _ {C Outcome : Type 0} (offers : C → Offer) (owner : OwnerOf Outcome) w
 
     -- what waited, as it was reached
     reached : (s : List ℕ) (t : Table (List Call) Holding) → LinkStands owner.limits a.was s → AreAlike old.keeper.clock (table_of a.server) t
-        → Reaches owner.offer (voice_of owner) (capacity_of a.server) (share_of a.server) owner.limits p.connection old.keeper.clock t s [] octets calls (pause.Asks p.waiting p.place) a.link (logged old.keeper.log).entries written
+        → Reaches owner.terms (voice_of owner) (capacity_of a.server) (share_of a.server) owner.limits (origin past p.connection) old.keeper.clock t s [] octets calls (pause.Asks p.waiting p.place) a.link (logged old.keeper.log).entries written
     reached s t st al = (
       written,
       refl,
-      subst (λ (l : List ℕ). Paused owner.offer (voice_of owner) (capacity_of a.server) (share_of a.server) owner.limits p.connection old.keeper.clock t s l a.link calls (logged old.keeper.log).entries written p.place.handled p.waiting) (sym here) (a.paused (voice_of owner) s t st al),
+      subst (λ (l : List ℕ). Paused owner.terms (voice_of owner) (capacity_of a.server) (share_of a.server) owner.limits (origin past p.connection) old.keeper.clock t s l a.link calls (logged old.keeper.log).entries written p.place.handled p.waiting) (sym here) (a.paused (voice_of owner) s t st al),
     )
 
     resumes-by : (note : Note)
@@ -455,7 +454,7 @@ module _ {C Outcome : Type 0} (offers : C → Offer) (owner : OwnerOf Outcome) w
       more = more-written.0;
       appended = more-written.1;
       writes = subst (λ (l : List ℕ). WritesBy owner.limits owner.tell (owned_says owner) past (Piece p.connection moment octets) l note) (sym x.1) x.2;
-      rests = record { offer_is = ap offers are ∙ a.offer_is; idle = idle; stands = x.3 };
+      rests = record { offer_is = ap (terms_by offers) are ∙ a.offer_is ∙ ap owner.terms (sym (changes-piece owner.limits past p.connection moment octets note)); idle = idle; stands = x.3 };
     }
 
     -- it is answered ..
@@ -465,9 +464,9 @@ module _ {C Outcome : Type 0} (offers : C → Offer) (owner : OwnerOf Outcome) w
         resumes-by Done
         (fed-ok (book_by owner) a.server (as_server new Later) past p.connection moment octets old.keeper.clock [] (written ++ more-written.0) a.was a.link a.stands both-same a.clock clock a.stood held a.live
         (λ s t st al.
-        stood-whole (owner_rules owner.offer.interface (kept_of owner) (capacity_of a.server) (share_of a.server)) (held_told owner.late owner.offer.knows) owner.limits p.connection old.keeper.clock t s [] octets p.place.taken a.link (answered_so_far Later (logged new.keeper.log).entries) (written ++ more-written.0) h
+        stood-whole (owner_rules (asked_at owner.terms) (kept_of owner) (capacity_of a.server) (share_of a.server)) (told_at owner.late owner.terms) owner.limits (origin past p.connection) old.keeper.clock t s [] octets p.place.taken a.link (answered_so_far Later (logged new.keeper.log).entries) (written ++ more-written.0) h
         (omega (arith, size))
-        (reach-goes owner.offer (voice_of owner) (capacity_of a.server) (share_of a.server) owner.limits p.connection old.keeper.clock t s [] octets p.place h a.link calls (logged old.keeper.log).entries (logged new.keeper.log).entries written (written ++ more-written.0) p.waiting step r outcome
+        (reach-goes owner.terms (voice_of owner) (capacity_of a.server) (share_of a.server) owner.limits (origin past p.connection) old.keeper.clock t s [] octets p.place h a.link calls (logged old.keeper.log).entries (logged new.keeper.log).entries written (written ++ more-written.0) p.waiting step r outcome
         (reached s t st al) gave more-written.2 by is)))
 
     -- .. or its answer is not appended, and the connection is lost
@@ -477,7 +476,7 @@ module _ {C Outcome : Type 0} (offers : C → Offer) (owner : OwnerOf Outcome) w
         resumes-by (Memory at.handled at.answered)
         (fed-err (book_by owner) a.server (as_server new Later) past p.connection moment octets old.keeper.clock [] (written ++ more-written.0) a.was at a.stands both-same a.clock clock a.stood gone a.live a.some
         (λ s t st al.
-        reach-breaks owner.offer (voice_of owner) (capacity_of a.server) (share_of a.server) owner.limits p.connection old.keeper.clock t s [] octets grow p.place at a.link calls (logged old.keeper.log).entries (logged new.keeper.log).entries written (written ++ more-written.0) p.waiting step r outcome
+        reach-breaks owner.terms (voice_of owner) (capacity_of a.server) (share_of a.server) owner.limits (origin past p.connection) old.keeper.clock t s [] octets grow p.place at a.link calls (logged old.keeper.log).entries (logged new.keeper.log).entries written (written ++ more-written.0) p.waiting step r outcome
         (omega (arith, size)) (reached s t st al) gave more-written.2 by is))
 
   -- what waits is what the engine keeps
@@ -493,7 +492,7 @@ module _ {C Outcome : Type 0} (offers : C → Offer) (owner : OwnerOf Outcome) w
   pub answered-done : HearingGrows meaning_in → (calls : List Call) (old new : Engine C) (past : List Event) (moment : ℕ) (octets written : List ℕ) (x : Pending) (w : Awaited) → pending_in old ≡ Some x → AsksOf offers owner calls old past moment octets written w
       → (outcome : Performed) → kept_of owner calls w.call ≡ known outcome → (step : Step) (out grown : List ℕ) (r : Result ℕ Cut)
       → Finishes x.waiting outcome (logged old.keeper.log).entries step (logged new.keeper.log).entries out grown → r ≡ counted_by x.place.handled step
-      → new.catalogue ≡ old.catalogue → waits_in new ≡ None → IsSameBut x.connection (as_server old calls) (as_server new (calls ++ call_of x.waiting ∷ [])) → new.keeper.clock ≡ old.keeper.clock
+      → new.offering ≡ old.offering → waits_in new ≡ None → IsSameBut x.connection (as_server old calls) (as_server new (calls ++ call_of x.waiting ∷ [])) → new.keeper.clock ≡ old.keeper.clock
       → (h : ℕ) → r ≡ Ok h → new.links ≡ old.links → ResumesOf offers owner (calls ++ w.call ∷ []) past w.connection moment octets written Done new out grown
   answered-done grow calls old new past moment octets written x w is a outcome gave step out grown r done by are idle same clock h ok held =
       let k = kept-as calls old past moment octets written x w is a in
@@ -504,7 +503,7 @@ module _ {C Outcome : Type 0} (offers : C → Offer) (owner : OwnerOf Outcome) w
   pub answered-cut : HearingGrows meaning_in → (calls : List Call) (old new : Engine C) (past : List Event) (moment : ℕ) (octets written : List ℕ) (x : Pending) (w : Awaited) → pending_in old ≡ Some x → AsksOf offers owner calls old past moment octets written w
       → (outcome : Performed) → kept_of owner calls w.call ≡ known outcome → (step : Step) (out grown : List ℕ) (r : Result ℕ Cut)
       → Finishes x.waiting outcome (logged old.keeper.log).entries step (logged new.keeper.log).entries out grown → r ≡ counted_by x.place.handled step
-      → new.catalogue ≡ old.catalogue → waits_in new ≡ None → IsSameBut x.connection (as_server old calls) (as_server new (calls ++ call_of x.waiting ∷ [])) → new.keeper.clock ≡ old.keeper.clock
+      → new.offering ≡ old.offering → waits_in new ≡ None → IsSameBut x.connection (as_server old calls) (as_server new (calls ++ call_of x.waiting ∷ [])) → new.keeper.clock ≡ old.keeper.clock
       → (at : Cut) → r ≡ Err at → get nat_cmp new.links x.connection ≡ None → ResumesOf offers owner (calls ++ w.call ∷ []) past w.connection moment octets written (Memory at.handled at.answered) new out grown
   answered-cut grow calls old new past moment octets written x w is a outcome gave step out grown r done by are idle same clock at err gone =
       let k = kept-as calls old past moment octets written x w is a in
@@ -606,16 +605,16 @@ module _ {C Outcome : Type 0} (offers : C → Offer) (owner : OwnerOf Outcome) w
       fed-err (book_by owner) b.server (as_server new calls) past x.connection moment octets old.keeper.clock [] written b.was (all_answered x.place.handled) b.stands same
       b.clock at b.stood gone b.live b.some
       (λ s t st al.
-      reach-left owner.offer (voice_of owner) (capacity_of b.server) (share_of b.server) owner.limits x.connection old.keeper.clock t s [] octets grow x.place b.link calls (logged old.keeper.log).entries (logged new.keeper.log).entries written x.waiting
+      reach-left owner.terms (voice_of owner) (capacity_of b.server) (share_of b.server) owner.limits (origin past x.connection) old.keeper.clock t s [] octets grow x.place b.link calls (logged old.keeper.log).entries (logged new.keeper.log).entries written x.waiting
       (omega (arith, size)) (
         written,
         refl,
-        subst (λ (l : List ℕ). Paused owner.offer (voice_of owner) (capacity_of b.server) (share_of b.server) owner.limits x.connection old.keeper.clock t s l b.link calls (logged old.keeper.log).entries written x.place.handled x.waiting)
+        subst (λ (l : List ℕ). Paused owner.terms (voice_of owner) (capacity_of b.server) (share_of b.server) owner.limits (origin past x.connection) old.keeper.clock t s l b.link calls (logged old.keeper.log).entries written x.place.handled x.waiting)
             (sym (take_all x.place.taken octets (omega (arith, size)))) (b.paused (voice_of owner) s t st al),
       )
       kept)
 
-  gave-up : (calls : List Call) (new : Engine C) (past : List Event) (moment : ℕ) (octets written : List ℕ) (x : Pending) (note : Note) → offers new.catalogue ≡ owner.offer → waits_in new ≡ None
+  gave-up : (calls : List Call) (new : Engine C) (past : List Event) (moment : ℕ) (octets written : List ℕ) (x : Pending) (note : Note) → terms_in offers new ≡ owner.terms (changes past) → waits_in new ≡ None
       → ((w : List ℕ) × (written ≡ [] ++ w) × WritesBy owner.limits owner.tell (owned_says owner) past (Piece x.connection moment octets) w note
       × StandsOf owner (as_server new calls) (after owner.limits past (Piece x.connection moment octets) note))
       → ResumesOf offers owner calls past x.connection moment octets written note new [] []
@@ -623,20 +622,20 @@ module _ {C Outcome : Type 0} (offers : C → Offer) (owner : OwnerOf Outcome) w
     more = [];
     appended = refl;
     writes = subst (λ (l : List ℕ). WritesBy owner.limits owner.tell (owned_says owner) past (Piece x.connection moment octets) l note) (sym (append-nil written ∙ r.1)) r.2;
-    rests = record { offer_is = are; idle = idle; stands = r.3 };
+    rests = record { offer_is = are ∙ ap owner.terms (sym (changes-piece owner.limits past x.connection moment octets note)); idle = idle; stands = r.3 };
   }
 
   give-up-here : HearingGrows meaning_in → (calls : List Call) (old new : Engine C) (past : List Event) (moment : ℕ) (octets written : List ℕ) (x : Pending) → KeepsOf offers owner calls old past moment octets written x
-      → new.catalogue ≡ old.catalogue → waits_in new ≡ None → IsSameBut x.connection (as_server old calls) (as_server new calls) → new.keeper.clock ≡ old.keeper.clock → (logged new.keeper.log).entries ≡ (logged old.keeper.log).entries → get nat_cmp new.links x.connection ≡ None
+      → new.offering ≡ old.offering → waits_in new ≡ None → IsSameBut x.connection (as_server old calls) (as_server new calls) → new.keeper.clock ≡ old.keeper.clock → (logged new.keeper.log).entries ≡ (logged old.keeper.log).entries → get nat_cmp new.links x.connection ≡ None
       → ResumesOf offers owner calls past x.connection moment octets written (Memory x.place.handled x.place.handled) new [] []
   give-up-here grow calls old new past moment octets written x b are idle same at kept gone =
-      gave-up calls new past moment octets written x (Memory x.place.handled x.place.handled) (ap offers are ∙ b.offer_is) idle
+      gave-up calls new past moment octets written x (Memory x.place.handled x.place.handled) (ap (terms_by offers) are ∙ b.offer_is) idle
       (give-up-cut grow calls old new past moment octets written x b
       (record { limits = same.limits ∙ b.same.limits; capacity = same.capacity ∙ b.same.capacity; share = same.share ∙ b.same.share; greatest = same.greatest ∙ b.same.greatest; others = λ q n. same.others q n ∙ b.same.others q n })
       at kept gone)
 
   pub given-up : HearingGrows meaning_in → (calls : List Call) (old new : Engine C) (past : List Event) (moment : ℕ) (octets written : List ℕ) (x : Pending) (w : Awaited) → pending_in old ≡ Some x → AsksOf offers owner calls old past moment octets written w
-      → new.catalogue ≡ old.catalogue → waits_in new ≡ None → IsSameBut x.connection (as_server old calls) (as_server new calls) → new.keeper.clock ≡ old.keeper.clock → (logged new.keeper.log).entries ≡ (logged old.keeper.log).entries → get nat_cmp new.links x.connection ≡ None
+      → new.offering ≡ old.offering → waits_in new ≡ None → IsSameBut x.connection (as_server old calls) (as_server new calls) → new.keeper.clock ≡ old.keeper.clock → (logged new.keeper.log).entries ≡ (logged old.keeper.log).entries → get nat_cmp new.links x.connection ≡ None
       → ResumesOf offers owner calls past w.connection moment octets written (Memory x.place.handled x.place.handled) new [] []
   given-up grow calls old new past moment octets written x w is a are idle same at kept gone =
       let k = kept-as calls old past moment octets written x w is a in
@@ -645,23 +644,23 @@ module _ {C Outcome : Type 0} (offers : C → Offer) (owner : OwnerOf Outcome) w
 
   -- what waited is parked: its call is taken, and nothing is said of it yet
   pub parked-done : (calls : List Call) (old new : Engine C) (past : List Event) (moment : ℕ) (octets written : List ℕ) (p : Pending) (a : KeepsOf offers owner calls old past moment octets written p) (number : ℕ) → kept_of owner calls (call_of p.waiting) ≡ parked number → ((x : Wanted) → owner.late x number ≡ None)
-      → (logged new.keeper.log).entries ≡ kept_with p.waiting.retained (parked number) (logged old.keeper.log).entries → new.catalogue ≡ old.catalogue → waits_in new ≡ None → IsSameBut p.connection (as_server old calls) (as_server new (calls ++ call_of p.waiting ∷ []))
+      → (logged new.keeper.log).entries ≡ kept_with p.waiting.retained (parked number) (logged old.keeper.log).entries → new.offering ≡ old.offering → waits_in new ≡ None → IsSameBut p.connection (as_server old calls) (as_server new (calls ++ call_of p.waiting ∷ []))
       → new.keeper.clock ≡ old.keeper.clock → new.links ≡ old.links → ResumesOf offers owner (calls ++ call_of p.waiting ∷ []) past p.connection moment octets written Done new [] []
   parked-done calls old new past moment octets written p a number gave silent kept are idle same clock links =
       let size = a.whole in
       let later = calls ++ call_of p.waiting ∷ [] in
       let held : get nat_cmp new.links p.connection ≡ Some a.link = ap (λ e. get nat_cmp e p.connection) links ∙ a.held in
-      gave-up later new past moment octets written p Done (ap offers are ∙ a.offer_is) idle
+      gave-up later new past moment octets written p Done (ap (terms_by offers) are ∙ a.offer_is) idle
       (fed-ok (book_by owner) a.server (as_server new later) past p.connection moment octets old.keeper.clock [] written a.was a.link a.stands
       (record { limits = same.limits ∙ a.same.limits; capacity = same.capacity ∙ a.same.capacity; share = same.share ∙ a.same.share; greatest = same.greatest ∙ a.same.greatest; others = λ q is. same.others q is ∙ a.same.others q is })
       a.clock clock a.stood held a.live
       (λ s t st al.
-      stood-whole (owner_rules owner.offer.interface (kept_of owner) (capacity_of a.server) (share_of a.server)) (held_told owner.late owner.offer.knows) owner.limits p.connection old.keeper.clock t s [] octets p.place.taken a.link (answered_so_far later (logged new.keeper.log).entries) written (p.place.handled + 1)
+      stood-whole (owner_rules (asked_at owner.terms) (kept_of owner) (capacity_of a.server) (share_of a.server)) (told_at owner.late owner.terms) owner.limits (origin past p.connection) old.keeper.clock t s [] octets p.place.taken a.link (answered_so_far later (logged new.keeper.log).entries) written (p.place.handled + 1)
       (omega (arith, size))
-      (reach-parks owner.offer (voice_of owner) (capacity_of a.server) (share_of a.server) owner.limits p.connection old.keeper.clock t s [] octets p.place a.link calls (logged old.keeper.log).entries (logged new.keeper.log).entries written p.waiting number (
+      (reach-parks owner.terms (voice_of owner) (capacity_of a.server) (share_of a.server) owner.limits (origin past p.connection) old.keeper.clock t s [] octets p.place a.link calls (logged old.keeper.log).entries (logged new.keeper.log).entries written p.waiting number (
         written,
         refl,
-        subst (λ (l : List ℕ). Paused owner.offer (voice_of owner) (capacity_of a.server) (share_of a.server) owner.limits p.connection old.keeper.clock t s l a.link calls (logged old.keeper.log).entries written p.place.handled p.waiting)
+        subst (λ (l : List ℕ). Paused owner.terms (voice_of owner) (capacity_of a.server) (share_of a.server) owner.limits (origin past p.connection) old.keeper.clock t s l a.link calls (logged old.keeper.log).entries written p.place.handled p.waiting)
             (sym (take_all p.place.taken octets (omega (arith, size)))) (a.paused (voice_of owner) s t st al),
       )
       gave silent kept)))

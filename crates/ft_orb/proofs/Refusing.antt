@@ -21,6 +21,7 @@ use Rattle.ft_log.specs.declared.system_exception.SystemName.{SystemName}
 use Rattle.ft_log.specs.declared.system_exception.SystemName.TheVariants.{BadContext}
 use Rattle.ft_objects.specs.Catalogues.{Offer}
 use Rattle.ft_objects.specs.Interfaces.{Interface}
+use Rattle.ft_orb.specs.Offerings.{terms_by}
 use Rattle.ft_orb.specs.declared.desk.Step.{Step}
 use Rattle.ft_orb.specs.declared.desk.Step.TheVariants.{Answered, Quiet, Unanswered, Unhandled}
 use Rattle.ft_orb.specs.declared.engine.Engine.{Engine}
@@ -30,17 +31,17 @@ use Rattle.ft_orb.specs.declared.parked.Waiter.{Waiter}
 use Rattle.ft_orb.specs.declared.pausing.Pending.{Pending}
 use Rattle.ft_orb.specs.Engines.{Awaited, KeepsOf, StandsOf, as_server, asks_in, awaited_of, pending_in, waits_in}
 use Rattle.ft_orb.specs.ExactlyOnce.{Absent, Arrival, Bad, Field, Present, Rules}
-use Rattle.ft_orb.specs.History.{Event, Piece, Withdrew, clock}
+use Rattle.ft_orb.specs.History.{Event, Piece, Withdrew, clock, origin}
 use Rattle.ft_orb.specs.Outputs.{WritesBy}
 use Rattle.ft_orb.specs.Owners.{OwnerOf, answered_so_far, kept_of, owned_says, owned_table, owner_rules, voice_of}
 use Rattle.ft_orb.specs.Parking.{AsksLate, DeclinesLate, Parks, ResumesLate, Settings, by_number, key_kept, not_now, numbering, put_at, still}
 use Rattle.ft_orb.specs.Pauses.{Paused}
 use Rattle.ft_orb.specs.Private.{IsPut}
-use Rattle.ft_orb.specs.Requests.{Call, Wanted}
+use Rattle.ft_orb.specs.Requests.{Call, Wanted, asked_at}
 use Rattle.ft_orb.specs.Seen.{seen_entry, seen_table}
 use Rattle.ft_orb.specs.Standing.{Shown, StandsBy, capacity_of, share_of}
 use Rattle.ft_orb.specs.Table.{Table, forgotten, keyed_step, performing_step, step_by_field, table_after, table_step}
-use Rattle.ft_orb.specs.Tellings.{held_told, nothing_yet, reply_by}
+use Rattle.ft_orb.specs.Tellings.{nothing_yet, reply_by, told_at}
 use Rattle.ft_orb.specs.Waits.{call_of, kept_with}
 use Rattle.ft_orb.proofs.Books.{book_by, seen-unexpired}
 use Rattle.ft_orb.proofs.Folded.{table_after-append}
@@ -68,9 +69,9 @@ none-of n (e ∷ es) low =
 all-live : (clock n : ℕ) (es : List (KeptOutcome ℕ)) → AreBelow n es → AreBelow n (unexpired clock es)
 all-live clock n es low = all-but (λ e. e.outcome < n) (λ e. nat_le clock e.expiration) es low
 
-module _ (interface : List ℕ → List ℕ → Interface) (capacity share : ℕ) where
+module _ (ask : Wanted → Result Call SystemName) (capacity share : ℕ) where
   abbrev Numbers : Rules (List Call) Wanted Call ℕ
-  Numbers = owner_rules interface (λ calls call. length calls) capacity share
+  Numbers = owner_rules ask (λ calls call. length calls) capacity share
 
   abbrev Others : ℕ → List (KeptOutcome ℕ) → List (KeptOutcome ℕ)
   Others n es = filter (λ e. not (e.outcome == n)) es
@@ -142,7 +143,7 @@ cut-as offers s held calls past waiting c moment octets written n m e same h = s
 -- What waits is declined.
 module _ {C : Type 0} (offers : C → Offer) (s : Settings) (grow : HearingGrows meaning_in) (stay : EndingsStay meaning_in) (held : ℕ → Holding) (calls : List Call) (old new : Engine C) (past : List Event) (waiting : ℕ → List Waiter) (moment : ℕ) (octets written : List ℕ) (w : Awaited) (x : Pending)
     (was : pending_in old ≡ Some x) (a : AsksLate offers s held calls old past waiting moment octets written w) (name : SystemName) (minor : ℕ)
-    (catalogue : new.catalogue ≡ old.catalogue) (idle : waits_in new ≡ None) (limits : new.limits ≡ old.limits) (greatest : new.greatest ≡ old.greatest) (links : new.links ≡ old.links) (clocks : new.keeper.clock ≡ old.keeper.clock) (logs : new.keeper.log ≡ old.keeper.log)
+    (catalogue : new.offering ≡ old.offering) (idle : waits_in new ≡ None) (limits : new.limits ≡ old.limits) (greatest : new.greatest ≡ old.greatest) (links : new.links ≡ old.links) (clocks : new.keeper.clock ≡ old.keeper.clock) (logs : new.keeper.log ≡ old.keeper.log)
     (parks : new.parked ≡ old.parked) (places : new.places ≡ old.places) (asks : asks_in new ≡ asks_in old) where
   abbrev Refusal : Performed
   Refusal = not_now name minor
@@ -191,12 +192,12 @@ module _ {C : Type 0} (offers : C → Offer) (s : Settings) (grow : HearingGrows
       })
       K.clock clocks K.stood (ap (λ e. get nat_cmp e x.connection) links ∙ K.held) K.live
       (λ y t st al.
-      stood-whole (owner_rules s.offer.interface (kept_of Own) (capacity_of K.server) (share_of K.server)) (held_told Own.late s.offer.knows) s.limits x.connection old.keeper.clock t y [] octets x.place.taken K.link (answered_so_far Later (logged more-log.0).entries) (written ++ Reply) (x.place.handled + 1)
+      stood-whole (owner_rules (asked_at s.terms) (kept_of Own) (capacity_of K.server) (share_of K.server)) (told_at Own.late s.terms) s.limits (origin past x.connection) old.keeper.clock t y [] octets x.place.taken K.link (answered_so_far Later (logged more-log.0).entries) (written ++ Reply) (x.place.handled + 1)
       (omega (arith, size))
-      (reach-goes s.offer (voice_of Own) (capacity_of K.server) (share_of K.server) s.limits x.connection old.keeper.clock t y [] octets x.place (x.place.handled + 1) K.link calls (logged old.keeper.log).entries (logged more-log.0).entries written (written ++ Reply) x.waiting Answered (Ok (x.place.handled + 1)) Refusal (
+      (reach-goes s.terms (voice_of Own) (capacity_of K.server) (share_of K.server) s.limits (origin past x.connection) old.keeper.clock t y [] octets x.place (x.place.handled + 1) K.link calls (logged old.keeper.log).entries (logged more-log.0).entries written (written ++ Reply) x.waiting Answered (Ok (x.place.handled + 1)) Refusal (
         written,
         refl,
-        subst (λ (l : List ℕ). Paused s.offer (voice_of Own) (capacity_of K.server) (share_of K.server) s.limits x.connection old.keeper.clock t y l K.link calls (logged old.keeper.log).entries written x.place.handled x.waiting)
+        subst (λ (l : List ℕ). Paused s.terms (voice_of Own) (capacity_of K.server) (share_of K.server) s.limits (origin past x.connection) old.keeper.clock t y l K.link calls (logged old.keeper.log).entries written x.place.handled x.waiting)
             (sym (take_all x.place.taken octets (omega (arith, size)))) (K.paused (voice_of Own) y t st al),
       ) (put-here (length calls) (known Refusal) held) (more-log.1, refl) refl refl))
 
@@ -208,14 +209,14 @@ module _ {C : Type 0} (offers : C → Offer) (s : Settings) (grow : HearingGrows
       let now = max (clock past) moment in
       let at : new.keeper.clock ≡ now = clocks ∙ K.clock ∙ ap (λ (n : ℕ). max n moment) K.stands.moment in
       let state : mid.state ≡ calls = brought.before in
-      let low : AreBelow (length mid.state) mid.entries = after-below s.offer.interface s.capacity s.share (Tally s past) brought.front (below-past s past) in
+      let low : AreBelow (length mid.state) mid.entries = after-below (asked_at s.terms) s.capacity s.share (Tally s past) brought.front (below-past s past) in
       let last : brought.last.clock ≡ now = brought.clock_is in
       let all : owned_table Own (Here ∷ past) ≡ (table_step (Numbered s) mid brought.last).0 =
       ap (λ (xs : List (Arrival Wanted)). table_after (Numbered s) (Tally s past) xs) brought.completes ∙ table_after-append (Numbered s) (Tally s past) brought.front (brought.last ∷ []) in
       let gone : unexpired now (filter (λ e. not (e.outcome == length calls)) (owned_table Own (Here ∷ past)).entries) ≡ unexpired now mid.entries =
       ap (λ (t : Table (List Call) ℕ). unexpired now (filter (λ e. not (e.outcome == length calls)) t.entries)) all
       ∙ ap (λ (l : List Call). unexpired now (filter (λ e. not (e.outcome == length l)) (table_step (Numbered s) mid brought.last).0.entries)) (sym state)
-      ∙ subst (λ (k : ℕ). unexpired k (filter (λ e. not (e.outcome == length mid.state)) (table_step (Numbered s) mid brought.last).0.entries) ≡ unexpired k mid.entries) last (step-others s.offer.interface s.capacity s.share mid brought.last low) in
+      ∙ subst (λ (k : ℕ). unexpired k (filter (λ e. not (e.outcome == length mid.state)) (table_step (Numbered s) mid brought.last).0.entries) ≡ unexpired k mid.entries) last (step-others (asked_at s.terms) s.capacity s.share mid brought.last low) in
       ap (λ (l : log.Shown). unexpired new.keeper.clock (logged l).entries) logs
       ∙ ap (λ (k : ℕ). unexpired k (logged old.keeper.log).entries) at
       ∙ brings-kept offers Own calls old past moment octets written x K
@@ -245,7 +246,7 @@ module _ {C : Type 0} (offers : C → Offer) (s : Settings) (grow : HearingGrows
         appended = put;
         writes = subst (λ (l : List ℕ). WritesBy s.limits Own.tell (owned_says Own) past Here l Done) (sym fed.1) fed.2;
         stays = record {
-          rests = record { offer_is = ap offers catalogue ∙ K.offer_is; idle = idle; stands = stands };
+          rests = record { offer_is = ap (terms_by offers) catalogue ∙ K.offer_is; idle = idle; stands = stands };
           parks = parks-withdrawn s Learnt Later new (Here ∷ past) (asks_in new) (still s.limits (Here ∷ past) waiting) (length calls)
               (parks-more s stay held calls old new past Here Done w.number (asks_in new) waiting (sym a.asks.keeps.stands.table.state ∙ a.asks.keeps.answered) a.parks places (omega (arith, low, asks)) (known Refusal) (call_of x.waiting) parks (λ m is. cc));
         };

@@ -28,11 +28,11 @@ use Rattle.ft_orb.specs.declared.events.Note.{Note}
 use Rattle.ft_orb.specs.declared.events.Note.TheVariants.{Done, Memory, Refused}
 use Rattle.ft_orb.specs.Engines.{Asks, Awaited, Ends, IsThen, Resumes, Stops, as_server, awaited_of, shown_in, waits_in, pending_in}
 use Rattle.ft_orb.specs.ExactlyOnce.{Arrival}
-use Rattle.ft_orb.specs.History.{Event, Gone, Line, Piece, Shut, Up, clock, completed, line, longer}
+use Rattle.ft_orb.specs.History.{Event, Gone, Line, Piece, Shut, Up, clock, completed, line, longer, origin}
 use Rattle.ft_orb.specs.Outputs.{Made, Writes, after, is_going, is_gone, table_says}
 use Rattle.ft_orb.specs.Pauses.{Paused}
 use Rattle.ft_orb.specs.Performing.{EndsBy, IsDoneTo, Performs, Resumed, TakesFront}
-use Rattle.ft_orb.specs.Requests.{Call, Wanted}
+use Rattle.ft_orb.specs.Requests.{Call, Wanted, terms_of}
 use Rattle.ft_orb.specs.Runs.{answers_by, offer_by, owner_by, run}
 use Rattle.ft_orb.specs.Standing.{IsFor, IsNew, IsSameBut, Shown, Stands, capacity_of, note_of, note_of_closing, share_of, table_of}
 use Rattle.ft_orb.specs.Table.{AreAlike}
@@ -80,21 +80,21 @@ module _ {S : Type 0} (meaning : Meaning S) (made : Made S) where
   }
 
   -- what happened in an engine
-  pub then-shown : (calls : List Call) (past : List Event) (e : Event) (note : Note) (old new : Engine S) (written : List ℕ) → new.catalogue ≡ old.catalogue → old.catalogue ≡ run meaning made.opening calls
+  pub then-shown : (calls : List Call) (past : List Event) (e : Event) (note : Note) (old new : Engine S) (written : List ℕ) → new.offering ≡ old.offering → old.offering.catalogue ≡ run meaning made.opening calls
       → IsThen (offer_by meaning) (owner_by meaning made) calls past e note new written
       → Writes made.limits meaning.knows (table_says meaning made) past e written note × Stands meaning made (shown_in new) (after made.limits past e note)
   then-shown calls past e note old new written same state t =
-      (writes-shown meaning made past e written note t.0, rests-shown meaning made calls new (after made.limits past e note) (same ∙ state) t.1)
+      (writes-shown meaning made past e written note t.0, rests-shown meaning made calls new (after made.limits past e note) (ap (λ o. o.catalogue) same ∙ state) t.1)
 
-  pub ends-shown : (calls : List Call) (past : List Event) (e : Event) (note : Note) (engine : Engine S) (before out : List ℕ) → engine.catalogue ≡ run meaning made.opening calls
+  pub ends-shown : (calls : List Call) (past : List Event) (e : Event) (note : Note) (engine : Engine S) (before out : List ℕ) → engine.offering.catalogue ≡ run meaning made.opening calls
       → Ends (offer_by meaning) (owner_by meaning made) calls past e note engine before out → EndsBy meaning made past e note (shown_in engine) before out
   ends-shown calls past e note engine before out state x =
       (x.written, x.appended, writes-shown meaning made past e x.written note x.writes, rests-shown meaning made calls engine (after made.limits past e note) state x.rests)
 
   -- What waits waits still where the catalogue is another state of the servant.
-  pub asked-by : (calls : List Call) (old new : Engine S) (past : List Event) (moment : ℕ) (octets written : List ℕ) (w : Awaited) → new.keeper ≡ old.keeper → pending_in new ≡ pending_in old → new.links ≡ old.links → new.limits ≡ old.limits → new.greatest ≡ old.greatest
+  pub asked-by : (calls : List Call) (old new : Engine S) (past : List Event) (moment : ℕ) (octets written : List ℕ) (w : Awaited) → new.offering.longest ≡ old.offering.longest → new.keeper ≡ old.keeper → pending_in new ≡ pending_in old → new.links ≡ old.links → new.limits ≡ old.limits → new.greatest ≡ old.greatest
       → Asks (offer_by meaning) (owner_by meaning made) calls old past moment octets written w → Asks (offer_by meaning) (owner_by meaning made) calls new past moment octets written w
-  asked-by calls old new past moment octets written w keeper pending links limits greatest x =
+  asked-by calls old new past moment octets written w free keeper pending links limits greatest x =
       let shown : as_server new calls ≡ as_server old calls = λ i. record { servant = calls; clock = (keeper i).clock; limits = limits i; greatest = greatest i; links = (links i).entries; log = (keeper i).log } in
       record {
         waits = ap (λ (p : Option Pending). option_map awaited_of p) pending ∙ x.waits;
@@ -114,7 +114,7 @@ module _ {S : Type 0} (meaning : Meaning S) (made : Made S) where
         is = x.is;
         asker = x.asker;
         keeps = record {
-          offer_is = refl;
+          offer_is = ap (λ (o : Option ℕ). terms_of o (offer_by meaning made.opening)) free ∙ x.keeps.offer_is;
           waits = pending ∙ x.keeps.waits;
           server = x.keeps.server;
           answered = x.keeps.answered;
@@ -129,22 +129,22 @@ module _ {S : Type 0} (meaning : Meaning S) (made : Made S) where
           whole = x.keeps.whole;
           some = x.keeps.some;
           paused = λ voice s t stands alike.
-              let of : Keeper → Type 0 = λ k. Paused (offer_by meaning made.opening) voice (capacity_of x.keeps.server) (share_of x.keeps.server) made.limits x.pending.connection k.clock t s octets x.keeps.link calls (logged k.log).entries written x.pending.place.handled x.pending.waiting in
+              let of : Keeper → Type 0 = λ k. Paused (λ n. terms_of None (offer_by meaning made.opening)) voice (capacity_of x.keeps.server) (share_of x.keeps.server) made.limits (origin past x.pending.connection) k.clock t s octets x.keeps.link calls (logged k.log).entries written x.pending.place.handled x.pending.waiting in
               subst of (sym keeper) (x.keeps.paused voice s t stands (subst (λ (k : Keeper). AreAlike k.clock (table_of x.keeps.server) t) keeper alike));
         };
       }
 
   -- The servant performed what waited: that is what its owner is to have answered.
-  pub performed-is : (calls : List Call) (old : Engine S) (p : Pending) (w : Awaited) (next : S) (outcome : Performed) → pending_in old ≡ Some p → waits_in old ≡ Some w → old.catalogue ≡ run meaning made.opening calls
-      → meaning.apply old.catalogue p.waiting.object_key.items p.waiting.operation.items (values_of p.waiting.arguments.items) ≡ (next, outcome)
+  pub performed-is : (calls : List Call) (old : Engine S) (p : Pending) (w : Awaited) (next : S) (outcome : Performed) → pending_in old ≡ Some p → waits_in old ≡ Some w → old.offering.catalogue ≡ run meaning made.opening calls
+      → meaning.apply old.offering.catalogue p.waiting.object_key.items p.waiting.operation.items (values_of p.waiting.arguments.items) ≡ (next, outcome)
       → (answers_by meaning made.opening calls w.call ≡ outcome) × (next ≡ run meaning made.opening (calls ++ w.call ∷ []))
   performed-is calls old p w next outcome is waits state did =
       let same = asked-same (awaited_of p) w (waits_in old) (sym (ap (λ (o : Option Pending). option_map awaited_of o) is)) waits in
       subst (λ (v : Awaited). (answers_by meaning made.opening calls v.call ≡ outcome) × (next ≡ run meaning made.opening (calls ++ v.call ∷ []))) same
-      (gave-is meaning made.opening made.capacity made.share old.catalogue next calls (call_of p.waiting) outcome state did)
+      (gave-is meaning made.opening made.capacity made.share old.offering.catalogue next calls (call_of p.waiting) outcome state did)
 
   -- an answer that failed, or a request that was given up
-  pub resumed-by : (calls : List Call) (past : List Event) (c moment : ℕ) (octets written : List ℕ) (note : Note) (engine : Engine S) (before out : List ℕ) → engine.catalogue ≡ run meaning made.opening calls
+  pub resumed-by : (calls : List Call) (past : List Event) (c moment : ℕ) (octets written : List ℕ) (note : Note) (engine : Engine S) (before out : List ℕ) → engine.offering.catalogue ≡ run meaning made.opening calls
       → Resumes (offer_by meaning) (owner_by meaning made) calls past c moment octets written note engine before out → Resumed meaning made past c moment octets written note engine before out
   resumed-by calls past c moment octets written note engine before out state r = (calls, r, state)
 

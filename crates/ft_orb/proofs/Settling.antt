@@ -17,6 +17,7 @@ use Rattle.ft_log.specs.Performed.{Performed}
 use Rattle.ft_log.specs.View.{key_of, performed_in}
 use Rattle.ft_log.specs.declared.outcome.Outcome.{Outcome}
 use Rattle.ft_objects.specs.Catalogues.{Offer}
+use Rattle.ft_orb.specs.Offerings.{terms_by}
 use Rattle.ft_orb.specs.declared.engine.Engine.{Engine}
 use Rattle.ft_orb.specs.declared.error.ServeError.TheVariants as serving
 use Rattle.ft_orb.specs.declared.events.Note.TheVariants.{Done}
@@ -33,7 +34,7 @@ use Rattle.ft_orb.specs.History.{Event, Lost, Piece, does_count, line}
 use Rattle.ft_orb.specs.Outputs.{is_gone}
 use Rattle.ft_orb.specs.Parked.{IsClear, IsCleared, IsCopy, going_in, is_wished, on_going, own_waiters}
 use Rattle.ft_orb.specs.Parking.{AreKeyed, AsksLate, IsDueLate, IsSettled, Parks, RepliesLate, ResumesLate, Settings, Stays, goes_on, key_kept, numbering, own_of, parked_at, put_at, still, told_in, told_of, was_opened}
-use Rattle.ft_orb.specs.Requests.{Call, Wanted}
+use Rattle.ft_orb.specs.Requests.{Call, Wanted, asked_at}
 use Rattle.ft_orb.specs.Seen.{seen_entry}
 use Rattle.ft_orb.specs.Standing.{IsFor, IsSameBut, held_in}
 use Rattle.ft_orb.specs.Table.{Table, table_after, table_step}
@@ -74,9 +75,9 @@ module _ {C : Type 0} (offers : C → Offer) (s : Settings) where
       → AreKeyed (length calls) (key_kept w.retained) (Tally s (Piece c moment octets ∷ past)).entries
   own-keyed held calls past c moment octets written handled w link b =
       let u = table_after (Numbered s) (Tally s past) b.front in
-      let below : AreBelow (length u.state) u.entries = after-below s.offer.interface s.capacity s.share (Tally s past) b.front (below-past s past) in
+      let below : AreBelow (length u.state) u.entries = after-below (asked_at s.terms) s.capacity s.share (Tally s past) b.front (below-past s past) in
       let first = later-keyed (length calls) (key_kept w.retained) (length u.state) u.entries (let size = ap (λ (l : List Call). length l) b.before in omega (arith, size)) below in
-      let here = step-keyed s.offer.interface s.capacity s.share (length calls) (key_kept w.retained) u b.last (λ key x is. key-of-field w.retained key x (sym b.field ∙ is)) first in
+      let here = step-keyed (asked_at s.terms) s.capacity s.share (length calls) (key_kept w.retained) u b.last (λ key x is. key-of-field w.retained key x (sym b.field ∙ is)) first in
       let all : (Tally s (Piece c moment octets ∷ past)) ≡ (table_step (Numbered s) u b.last).0 =
       ap (λ (xs : List (Arrival Wanted)). table_after (Numbered s) (Tally s past) xs) b.completes ∙ table_after-push (Numbered s) (Tally s past) b.front b.last in
       subst (λ (t : Table (List Call) ℕ). AreKeyed (length calls) (key_kept w.retained) t.entries) (sym all) here
@@ -178,7 +179,7 @@ module _ {C : Type 0} (offers : C → Offer) (s : Settings) where
         by-opened n p false here there = before.opened n p (sym (others n here) ∙ there)
 
     -- what waited is parked
-    pub parks-late : new.catalogue ≡ old.catalogue → waits_in new ≡ None → IsSameBut x.connection (as_server old calls) (as_server new (calls ++ call_of x.waiting ∷ [])) → new.keeper.clock ≡ old.keeper.clock → new.links ≡ old.links
+    pub parks-late : new.offering ≡ old.offering → waits_in new ≡ None → IsSameBut x.connection (as_server old calls) (as_server new (calls ++ call_of x.waiting ∷ [])) → new.keeper.clock ≡ old.keeper.clock → new.links ≡ old.links
         → (logged new.keeper.log).entries ≡ kept_with x.waiting.retained (parked w.number) (logged old.keeper.log).entries
         → ResumesLate offers s Learnt (calls ++ w.call ∷ []) past (put_at w.number (own_of w.connection a.asks.question) waiting) w.connection moment octets written Done new [] []
     parks-late are idle same clock links entries =
@@ -248,7 +249,7 @@ filled-seen (Some r) n i o held m clock log es below once is keyed same =
 
 module _ {C : Type 0} (offers : C → Offer) (s : Settings) (held : ℕ → Holding) (calls : List Call) (old new : Engine C) (past : List Event) (waiting : ℕ → List Waiter) (h : Stays offers s held calls old past waiting) (n : ℕ) (p : Parked) (was : parked_at old n ≡ Some p) where
   -- its outcome is told to all
-  pub settled-late : (o : Performed) → waiting n ≡ [] → new.catalogue ≡ old.catalogue → waits_in new ≡ waits_in old → new.limits ≡ old.limits → new.greatest ≡ old.greatest → new.links ≡ old.links → new.keeper.clock ≡ old.keeper.clock → new.places ≡ old.places → asks_in new ≡ asks_in old
+  pub settled-late : (o : Performed) → waiting n ≡ [] → new.offering ≡ old.offering → waits_in new ≡ waits_in old → new.limits ≡ old.limits → new.greatest ≡ old.greatest → new.links ≡ old.links → new.keeper.clock ≡ old.keeper.clock → new.places ≡ old.places → asks_in new ≡ asks_in old
       → (logged new.keeper.log).capacity ≡ (logged old.keeper.log).capacity → (logged new.keeper.log).share ≡ (logged old.keeper.log).share → (logged new.keeper.log).entries ≡ filled_with p.pending.waiting.retained n o (logged old.keeper.log).entries
       → parked_at new n ≡ None → ((q : ℕ) → (q == n) ≡ false → parked_at new q ≡ parked_at old q) → IsSettled offers s held calls past waiting n o new
   settled-late o none are idle limits greatest links clock places asks capacity share entries gone others =
@@ -269,7 +270,7 @@ module _ {C : Type 0} (offers : C → Offer) (s : Settings) (held : ℕ → Hold
         told = none;
         stays = record {
           rests = record {
-            offer_is = ap offers are ∙ h.rests.offer_is;
+            offer_is = ap (terms_by offers) are ∙ h.rests.offer_is;
             idle = idle ∙ h.rests.idle;
             stands = record {
               limits_are = limits ∙ st.limits_are;

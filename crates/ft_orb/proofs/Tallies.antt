@@ -9,7 +9,6 @@ use Rattle.giop_link.specs.Linking.{LinkStands, Linked, meaning_at}
 use Rattle.giop_link.specs.Listening.{heard_in}
 use Rattle.ft_log.specs.Holding.{Holding}
 use Rattle.ft_log.specs.Kept.{KeptOutcome, unexpired}
-use Rattle.ft_objects.specs.Catalogues.{Offer}
 use Rattle.ft_objects.specs.declared.decided.Decision.{Decision}
 use Rattle.ft_objects.specs.declared.decided.Decision.TheVariants.{Dropped}
 use Rattle.ft_orb.specs.Begun.{Begun}
@@ -18,48 +17,49 @@ use Rattle.ft_orb.specs.Decided.{AreCountsOf, AreCountsTo, AreTallied, decided_b
 use Rattle.ft_orb.specs.Decisions.{counted_all, counted_with, decision_by, decision_for, decision_on}
 use Rattle.ft_orb.specs.Engines.{StandsOf}
 use Rattle.ft_orb.specs.ExactlyOnce.{Arrival, Rules}
-use Rattle.ft_orb.specs.History.{Event, Gone, Line, Piece, Shut, Up, arrivals_in, arrivals_on, clock, front_in, front_on, line}
+use Rattle.ft_orb.specs.History.{Event, Gone, Line, Piece, Shut, Up, arrivals_in, arrivals_on, clock, front_in, front_on, line, origin}
 use Rattle.ft_orb.specs.Owners.{Voice, kept_of, owned_table, owner_rules}
 use Rattle.ft_orb.specs.Parking.{Settings, by_number}
 use Rattle.ft_orb.specs.Private.{IsEnd, IsPut, Steps, all_answered, arrivals_at, counted_by, heard_by}
-use Rattle.ft_orb.specs.Requests.{Call, Wanted, asked_of}
+use Rattle.ft_orb.specs.Requests.{Call, Origin, Terms, Wanted, asked_at}
 use Rattle.ft_orb.specs.Seen.{seen_table}
 use Rattle.ft_orb.specs.Standing.{IsFor, Shown, capacity_of, held_in, share_of, table_of}
 use Rattle.ft_orb.specs.Table.{AreAlike, Table, table_after, table_step}
 use Rattle.ft_orb.specs.Tallies.{AreCountedTo, counts_after}
-use Rattle.ft_orb.specs.Tellings.{Teller, held_told}
+use Rattle.ft_orb.specs.Tellings.{Teller, told_at}
 use Rattle.ft_orb.specs.declared.counts.Counts.{Counts}
 use Rattle.ft_orb.specs.declared.desk.Step.{Step}
 use Rattle.ft_orb.specs.declared.desk.Step.TheVariants.{Answered, Quiet, Unanswered, Unhandled}
 use Rattle.ft_orb.specs.declared.serving.Cut.{Cut}
+use Rattle.ft_orb.proofs.Terms.{tallied-served}
 use Rattle.ft_orb.proofs.Books.{book_by}
 use Rattle.ft_orb.proofs.Going.{Took, arriving-one, few-in, front-is, further, took-arrivals}
 use Rattle.ft_orb.proofs.Hearing.{arriving, arrivals_in-ended, arrivals_in-message, arrivals_in-nothing}
 use Rattle.ft_orb.proofs.Pieces.{alike-then}
 
-module _ (offer : Offer) (answers : List Call → Call → Holding) (capacity share : ℕ) where
+module _ (terms : ℕ → Terms) (answers : List Call → Call → Holding) (capacity share : ℕ) where
   -- one more
   pub counted-push : (t : Table (List Call) Holding) (before : List (Arrival Wanted)) (a : Arrival Wanted) (n : Counts)
-      → counted_all offer answers capacity share t (before ++ a ∷ []) n
-      ≡ counted_with (counted_all offer answers capacity share t before n) (decision_on offer capacity share (table_after (owner_rules offer.interface answers capacity share) t before).entries a)
+      → counted_all terms answers capacity share t (before ++ a ∷ []) n
+      ≡ counted_with (counted_all terms answers capacity share t before n) (decision_on terms capacity share (table_after (owner_rules (asked_at terms) answers capacity share) t before).entries a)
   counted-push t [] a n = refl
-  counted-push t (b ∷ bs) a n = counted-push (table_step (owner_rules offer.interface answers capacity share) t b).0 bs a (counted_with n (decision_on offer capacity share t.entries b))
+  counted-push t (b ∷ bs) a n = counted-push (table_step (owner_rules (asked_at terms) answers capacity share) t b).0 bs a (counted_with n (decision_on terms capacity share t.entries b))
 
 -- what is expired decides nothing
-decision-alike : (offer : Offer) (capacity share now : ℕ) (t u : Table (List Call) Holding) (a : Arrival Wanted) → a.clock ≡ now → AreAlike now t u
-    → decision_on offer capacity share t.entries a ≡ decision_on offer capacity share u.entries a
-decision-alike offer capacity share now t u a clock al =
+decision-alike : (terms : ℕ → Terms) (capacity share now : ℕ) (t u : Table (List Call) Holding) (a : Arrival Wanted) → a.clock ≡ now → AreAlike now t u
+    → decision_on terms capacity share t.entries a ≡ decision_on terms capacity share u.entries a
+decision-alike terms capacity share now t u a clock al =
     let live : unexpired a.clock t.entries ≡ unexpired a.clock u.entries = subst (λ (i : ℕ). unexpired i t.entries ≡ unexpired i u.entries) (sym clock) al.entries in
-    ap (λ (l : List (KeptOutcome Holding)). decision_for a.content (decision_by capacity share l a.clock (asked_of offer.interface a.content) a.field)) live
+    ap (λ (l : List (KeptOutcome Holding)). decision_for a.content (decision_by capacity share l a.clock (asked_at terms a.content) a.field)) live
 
 -- what was counted, where room, share and clock are as at the beginning
-pub tallied-at : (offer : Offer) (capacity capacity0 share share0 now now0 c : ℕ) (entries : List (KeptOutcome Holding)) (o : Option Incoming) (b : Begun) (old new : Counts)
-    → capacity ≡ capacity0 → share ≡ share0 → now ≡ now0 → AreTallied offer capacity share entries (arrivals_at c now o) b old new
-    → AreTallied offer capacity0 share0 entries (arrivals_at c now0 o) b old new
-tallied-at offer capacity capacity0 share share0 now now0 c entries o b old new same_c same_s same_n h =
-    subst (λ (n : ℕ). AreTallied offer capacity0 share0 entries (arrivals_at c n o) b old new) same_n
-    (subst (λ (x : ℕ). AreTallied offer capacity0 x entries (arrivals_at c now o) b old new) same_s
-    (subst (λ (x : ℕ). AreTallied offer x share entries (arrivals_at c now o) b old new) same_c h))
+pub tallied-at : (terms : ℕ → Terms) (served : Terms) (capacity capacity0 share share0 now now0 : ℕ) (c : Origin) (entries : List (KeptOutcome Holding)) (o : Option Incoming) (b : Begun) (old new : Counts)
+    → terms c.changes ≡ served → capacity ≡ capacity0 → share ≡ share0 → now ≡ now0 → AreTallied (λ n. served) capacity share entries (arrivals_at c now o) b old new
+    → AreTallied terms capacity0 share0 entries (arrivals_at c now0 o) b old new
+tallied-at terms served capacity capacity0 share share0 now now0 c entries o b old new is same_c same_s same_n h =
+    subst (λ (n : ℕ). AreTallied terms capacity0 share0 entries (arrivals_at c n o) b old new) same_n
+    (subst (λ (x : ℕ). AreTallied terms capacity0 x entries (arrivals_at c now o) b old new) same_s
+    (subst (λ (x : ℕ). AreTallied terms x share entries (arrivals_at c now o) b old new) same_c (tallied-served terms served capacity share now c o entries b old new is h)))
 
 -- what becomes of a request, where no allocation failed before that was known
 pub decided-known : (b : Begun) (d : Decision) → (b ≡ begun.Done Unhandled → ⊥) → decided_by b d ≡ d
@@ -85,24 +85,24 @@ goes-handled n h step r b is by ok un =
     cc
 
 -- One piece after the stream s of connection c, from a table t on.
-module _ (offer : Offer) (voice : Voice) (capacity share : ℕ) (limits : Limits) (c now : ℕ) (t : Table (List Call) Holding) (s : List ℕ) where
+module _ (terms : ℕ → Terms) (voice : Voice) (capacity share : ℕ) (limits : Limits) (c : Origin) (now : ℕ) (t : Table (List Call) Holding) (s : List ℕ) where
   abbrev Over : Rules (List Call) Wanted Call Holding
-  Over = owner_rules offer.interface voice.answers capacity share
+  Over = owner_rules (asked_at terms) voice.answers capacity share
 
   abbrev Tell : Teller Holding
-  Tell = held_told voice.late offer.knows
+  Tell = told_at voice.late terms
 
   abbrev Here : List ℕ → List (Arrival Wanted)
   Here p = arrivals_in limits c now s p
 
   abbrev summed : List (Arrival Wanted) → Counts → Counts
-  summed xs n = counted_all offer voice.answers capacity share t xs n
+  summed xs n = counted_all terms voice.answers capacity share t xs n
 
   abbrev Sums : List ℕ → Counts → Counts → Type 0
-  Sums p old new = AreCountsOf offer voice.answers capacity share limits c now t s p old new
+  Sums p old new = AreCountsOf terms voice.answers capacity share limits c now t s p old new
 
   abbrev SumsTo : List ℕ → Cut → Counts → Counts → Type 0
-  SumsTo piece at old new = AreCountsTo offer voice.answers capacity share limits c now t s piece at old new
+  SumsTo piece at old new = AreCountsTo terms voice.answers capacity share limits c now t s piece at old new
 
   -- octets that bring the same arrivals
   sums-same : (p q : List ℕ) (old new : Counts) → Here p ≡ Here q → Sums p old new → Sums q old new
@@ -114,11 +114,11 @@ module _ (offer : Offer) (voice : Voice) (capacity share : ℕ) (limits : Limits
 
   -- one more
   sums-push : (p : List ℕ) (before : List (Arrival Wanted)) (a : Arrival Wanted) (held : Table (List Call) Holding) (old mid new : Counts) → Here p ≡ before ++ a ∷ [] → mid ≡ summed before old → a.clock ≡ now
-      → AreAlike now held (table_after Over t before) → new ≡ counted_with mid (decision_on offer capacity share held.entries a) → Sums p old new
+      → AreAlike now held (table_after Over t before) → new ≡ counted_with mid (decision_on terms capacity share held.entries a) → Sums p old new
   sums-push p before a held old mid new last sum at al by =
-      by ∙ ap (λ (n : Counts). counted_with n (decision_on offer capacity share held.entries a)) sum
-      ∙ ap (λ (d : Decision). counted_with (summed before old) d) (decision-alike offer capacity share now held (table_after Over t before) a at al)
-      ∙ sym (counted-push offer voice.answers capacity share t before a old) ∙ ap (λ (l : List (Arrival Wanted)). summed l old) (sym last)
+      by ∙ ap (λ (n : Counts). counted_with n (decision_on terms capacity share held.entries a)) sum
+      ∙ ap (λ (d : Decision). counted_with (summed before old) d) (decision-alike terms capacity share now held (table_after Over t before) a at al)
+      ∙ sym (counted-push terms voice.answers capacity share t before a old) ∙ ap (λ (l : List (Arrival Wanted)). summed l old) (sym last)
 
   -- all octets were taken
   pub sums-whole : (piece : List ℕ) (i : ℕ) (old new : Counts) → length piece ≤ i → Sums (take i piece) old new → Sums piece old new
@@ -176,7 +176,7 @@ module _ (offer : Offer) (voice : Voice) (capacity share : ℕ) (limits : Limits
     Brings xs = arriving limits c now (heard_in (Some (meaning_at m))) ≡ xs
 
     abbrev Tallied : List (Arrival Wanted) → Type 0
-    Tallied xs = AreTallied offer capacity share held.entries xs b mid new
+    Tallied xs = AreTallied terms capacity share held.entries xs b mid new
 
     more-bring : (xs : List (Arrival Wanted)) → Brings xs → Here (take (i + j) piece) ≡ Here (take i piece) ++ xs
     more-bring xs one =
@@ -186,7 +186,7 @@ module _ (offer : Offer) (voice : Voice) (capacity share : ℕ) (limits : Limits
     none-push : Brings [] → new ≡ mid → Sums (take (i + j) piece) old new
     none-push none same = same ∙ sum ∙ ap (λ (l : List (Arrival Wanted)). summed l old) (sym (more-bring [] none ∙ append-nil (Here (take i piece))))
 
-    one-push : (a : Arrival Wanted) → a.clock ≡ now → Brings (a ∷ []) → new ≡ counted_with mid (decision_on offer capacity share held.entries a) → Sums (take (i + j) piece) old new
+    one-push : (a : Arrival Wanted) → a.clock ≡ now → Brings (a ∷ []) → new ≡ counted_with mid (decision_on terms capacity share held.entries a) → Sums (take (i + j) piece) old new
     one-push a at one by = sums-push (take (i + j) piece) (Here (take i piece)) a held old mid new (more-bring (a ∷ []) one) sum at al by
 
     one-known : (a : Arrival Wanted) → a.clock ≡ now → Brings (a ∷ []) → Tallied (a ∷ []) → (b ≡ begun.Done Unhandled → ⊥) → Sums (take (i + j) piece) old new
@@ -221,7 +221,7 @@ module _ (offer : Offer) (voice : Voice) (capacity share : ℕ) (limits : Limits
         (inr (
           refl,
           omega (arith, few),
-          inr (d ∙ ap (λ (x : Begun). counted_with mid (decided_by x (decision_on offer capacity share held.entries a))) is ∙ ap (λ (n : Counts). counted_with n Dropped) (sum ∙ ap (λ (l : List (Arrival Wanted)). summed l old) (sym front))),
+          inr (d ∙ ap (λ (x : Begun). counted_with mid (decided_by x (decision_on terms capacity share held.entries a))) is ∙ ap (λ (n : Counts). counted_with n Dropped) (sum ∙ ap (λ (l : List (Arrival Wanted)). summed l old) (sym front))),
         ))
 
     none-cut : (n : ℕ) (at : Cut) (step : Step) → step ≡ Quiet → counted_by n step ≡ Err at → ⊥
@@ -248,7 +248,7 @@ module _ (offer : Offer) (voice : Voice) (capacity share : ℕ) (limits : Limits
       sums-same (take i piece) (take (i + j) piece) old mid (sym same) sum
 
 -- what holds of what arrives after any stream that a link stands for holds of what arrives on its line
-line-has : (P : (List ℕ → List (Arrival Wanted)) → (List ℕ → ℕ → List ℕ) → Type 0) (limits : Limits) (c now : ℕ) (l : Line) (link : Linked) → IsFor limits (Some link) l → link.is_closed ≡ false
+line-has : (P : (List ℕ → List (Arrival Wanted)) → (List ℕ → ℕ → List ℕ) → Type 0) (limits : Limits) (c : Origin) (now : ℕ) (l : Line) (link : Linked) → IsFor limits (Some link) l → link.is_closed ≡ false
     → ((x : List ℕ) → LinkStands limits link x → P (λ o. arrivals_in limits c now x o) (λ o k. front_in limits c now x o k))
     → P (λ o. arrivals_on limits c now l o) (λ o k. front_on limits c now l o k)
 line-has P limits c now Gone link held live f = absurd held
@@ -256,7 +256,7 @@ line-has P limits c now Shut link held live f = absurd (let k : true ≡ false =
 line-has P limits c now (Up x) link held live f = f x held
 
 -- An engine, of whose calls so much is known, after a piece.
-module _ (s : Settings) (held : ℕ → Holding) (server : Shown (List Call)) (past : List Event) (c moment now : ℕ) (link : Linked) (offer : Offer) (are : offer ≡ s.offer) (st : StandsOf (by_number s held) server past)
+module _ (s : Settings) (held : ℕ → Holding) (server : Shown (List Call)) (past : List Event) (c moment now : ℕ) (link : Linked) (st : StandsOf (by_number s held) server past)
     (at : now ≡ max server.clock moment) (was : held_in server.links c ≡ Some link) where
   abbrev Known : Table (List Call) Holding
   Known = seen_table held (owned_table (by_number s held) past)
@@ -267,49 +267,48 @@ module _ (s : Settings) (held : ℕ → Holding) (server : Shown (List Call)) (p
   then-at : now ≡ max (clock past) moment
   then-at = at ∙ ap (λ (n : ℕ). max n moment) st.moment
 
-  pub counts-on : (P : Offer → ℕ → ℕ → (List ℕ → List (Arrival Wanted)) → (List ℕ → ℕ → List ℕ) → Type 0) → link.is_closed ≡ false
-      → ((x : List ℕ) → LinkStands s.limits link x → AreAlike now (table_of server) Known → P offer (capacity_of server) (share_of server) (λ o. arrivals_in s.limits c now x o) (λ o k. front_in s.limits c now x o k))
-      → P s.offer s.capacity s.share (λ o. arrivals_on s.limits c (max (clock past) moment) (line past c) o) (λ o k. front_on s.limits c (max (clock past) moment) (line past c) o k)
+  pub counts-on : (P : ℕ → ℕ → (List ℕ → List (Arrival Wanted)) → (List ℕ → ℕ → List ℕ) → Type 0) → link.is_closed ≡ false
+      → ((x : List ℕ) → LinkStands s.limits link x → AreAlike now (table_of server) Known → P (capacity_of server) (share_of server) (λ o. arrivals_in s.limits (origin past c) now x o) (λ o k. front_in s.limits (origin past c) now x o k))
+      → P s.capacity s.share (λ o. arrivals_on s.limits (origin past c) (max (clock past) moment) (line past c) o) (λ o k. front_on s.limits (origin past c) (max (clock past) moment) (line past c) o k)
   counts-on P live f =
       let known = alike-then (book_by (by_number s held)) server server past c moment [] st now at in
-      let here = line-has (P offer (capacity_of server) (share_of server)) s.limits c now (line past c) link line-for live (λ x ls. f x ls known) in
-      let later = subst (λ (n : ℕ). P offer (capacity_of server) (share_of server) (λ o. arrivals_on s.limits c n (line past c) o) (λ o k. front_on s.limits c n (line past c) o k)) then-at here in
-      let room = subst (λ (n : ℕ). P offer n (share_of server) (λ o. arrivals_on s.limits c (max (clock past) moment) (line past c) o) (λ o k. front_on s.limits c (max (clock past) moment) (line past c) o k)) st.capacity_is later in
-      let each = subst (λ (n : ℕ). P offer s.capacity n (λ o. arrivals_on s.limits c (max (clock past) moment) (line past c) o) (λ o k. front_on s.limits c (max (clock past) moment) (line past c) o k)) st.share_is room in
-      subst (λ (o : Offer). P o s.capacity s.share (λ o. arrivals_on s.limits c (max (clock past) moment) (line past c) o) (λ o k. front_on s.limits c (max (clock past) moment) (line past c) o k)) are each
+      let here = line-has (P (capacity_of server) (share_of server)) s.limits (origin past c) now (line past c) link line-for live (λ x ls. f x ls known) in
+      let later = subst (λ (n : ℕ). P (capacity_of server) (share_of server) (λ o. arrivals_on s.limits (origin past c) n (line past c) o) (λ o k. front_on s.limits (origin past c) n (line past c) o k)) then-at here in
+      let room = subst (λ (n : ℕ). P n (share_of server) (λ o. arrivals_on s.limits (origin past c) (max (clock past) moment) (line past c) o) (λ o k. front_on s.limits (origin past c) (max (clock past) moment) (line past c) o k)) st.capacity_is later in
+      subst (λ (n : ℕ). P s.capacity n (λ o. arrivals_on s.limits (origin past c) (max (clock past) moment) (line past c) o) (λ o k. front_on s.limits (origin past c) (max (clock past) moment) (line past c) o k)) st.share_is room
 
   -- so many octets of it were taken
   pub counts-fed : (octets : List ℕ) (old new : Counts) → link.is_closed ≡ false
-      → ((x : List ℕ) → LinkStands s.limits link x → AreAlike now (table_of server) Known → AreCountsOf offer (kept_of (by_number s held)) (capacity_of server) (share_of server) s.limits c now Known x octets old new)
+      → ((x : List ℕ) → LinkStands s.limits link x → AreAlike now (table_of server) Known → AreCountsOf s.terms (kept_of (by_number s held)) (capacity_of server) (share_of server) s.limits (origin past c) now Known x octets old new)
       → new ≡ counts_after s held past (Piece c moment octets) old
   counts-fed octets old new live f =
-      counts-on (λ (o : Offer) (capacity share : ℕ) (bring : List ℕ → List (Arrival Wanted)) (front : List ℕ → ℕ → List ℕ). new ≡ counted_all o (kept_of (by_number s held)) capacity share Known (bring octets) old) live f
+      counts-on (λ (capacity share : ℕ) (bring : List ℕ → List (Arrival Wanted)) (front : List ℕ → ℕ → List ℕ). new ≡ counted_all s.terms (kept_of (by_number s held)) capacity share Known (bring octets) old) live f
 
   -- an allocation failed
   pub counts-cut : (piece : List ℕ) (at : Cut) (old new : Counts) → link.is_closed ≡ false
-      → ((x : List ℕ) → LinkStands s.limits link x → AreAlike now (table_of server) Known → AreCountsTo offer (kept_of (by_number s held)) (capacity_of server) (share_of server) s.limits c now Known x piece at old new)
+      → ((x : List ℕ) → LinkStands s.limits link x → AreAlike now (table_of server) Known → AreCountsTo s.terms (kept_of (by_number s held)) (capacity_of server) (share_of server) s.limits (origin past c) now Known x piece at old new)
       → AreCountedTo s held past (Piece c moment piece) at.handled at.answered old new
   counts-cut piece at old new live f =
-      counts-on (λ (o : Offer) (capacity share : ℕ) (bring : List ℕ → List (Arrival Wanted)) (front : List ℕ → ℕ → List ℕ).
-      (new ≡ counted_all o (kept_of (by_number s held)) capacity share Known (bring (front piece at.handled)) old)
+      counts-on (λ (capacity share : ℕ) (bring : List ℕ → List (Arrival Wanted)) (front : List ℕ → ℕ → List ℕ).
+      (new ≡ counted_all s.terms (kept_of (by_number s held)) capacity share Known (bring (front piece at.handled)) old)
       ⊎ ((at.handled ≡ at.answered)
       × (at.handled < length (bring piece))
-      × ((new ≡ counted_all o (kept_of (by_number s held)) capacity share Known (bring (front piece (at.handled + 1))) old)
-      ⊎ (new ≡ counted_with (counted_all o (kept_of (by_number s held)) capacity share Known (bring (front piece at.handled)) old) Dropped))))
+      × ((new ≡ counted_all s.terms (kept_of (by_number s held)) capacity share Known (bring (front piece (at.handled + 1))) old)
+      ⊎ (new ≡ counted_with (counted_all s.terms (kept_of (by_number s held)) capacity share Known (bring (front piece at.handled)) old) Dropped))))
       live f
 
   -- its connection was closed
-  pub closed-brings : EndsAreSilent meaning_in → (octets : List ℕ) → link.is_closed ≡ true → arrivals_on s.limits c (max (clock past) moment) (line past c) octets ≡ []
+  pub closed-brings : EndsAreSilent meaning_in → (octets : List ℕ) → link.is_closed ≡ true → arrivals_on s.limits (origin past c) (max (clock past) moment) (line past c) octets ≡ []
   closed-brings silent octets closed = none (line past c) line-for
     where
-      ended : (x : List ℕ) (o : Option Ending) → ending s.limits x ≡ o → LinkStands s.limits link x → arrivals_in s.limits c (max (clock past) moment) x octets ≡ []
+      ended : (x : List ℕ) (o : Option Ending) → ending s.limits x ≡ o → LinkStands s.limits link x → arrivals_in s.limits (origin past c) (max (clock past) moment) x octets ≡ []
       ended x None is ls = absurd (let e : true ≡ is_some (ending s.limits x) = sym closed ∙ ls.is_ended in let k : true ≡ false = e ∙ ap is_some is in cc)
-      ended x (Some e) is ls = arrivals_in-ended s.limits c (max (clock past) moment) silent x octets e is
+      ended x (Some e) is ls = arrivals_in-ended s.limits (origin past c) (max (clock past) moment) silent x octets e is
 
-      none : (l : Line) → IsFor s.limits (Some link) l → arrivals_on s.limits c (max (clock past) moment) l octets ≡ []
+      none : (l : Line) → IsFor s.limits (Some link) l → arrivals_on s.limits (origin past c) (max (clock past) moment) l octets ≡ []
       none Gone held = absurd held
       none Shut held = refl
       none (Up x) ls = ended x (ending s.limits x) refl ls
 
   pub counts-closed : EndsAreSilent meaning_in → (octets : List ℕ) (old : Counts) → link.is_closed ≡ true → old ≡ counts_after s held past (Piece c moment octets) old
-  counts-closed silent octets old closed = sym (ap (λ (l : List (Arrival Wanted)). counted_all s.offer (kept_of (by_number s held)) s.capacity s.share Known l old) (closed-brings silent octets closed))
+  counts-closed silent octets old closed = sym (ap (λ (l : List (Arrival Wanted)). counted_all s.terms (kept_of (by_number s held)) s.capacity s.share Known l old) (closed-brings silent octets closed))

@@ -8,12 +8,13 @@ use Rattle.ft_log.specs.Holding.{Holding}
 use Rattle.ft_log.specs.Logged as log-shown
 use Rattle.ft_log.specs.Logged.{logged}
 use Rattle.ft_objects.specs.Catalogues.{Offer}
+use Rattle.ft_orb.specs.Offerings.{terms_by}
 use Rattle.ft_orb.specs.declared.engine.Engine.{Engine}
 use Rattle.ft_orb.specs.declared.parked.Parked.{Parked}
 use Rattle.ft_orb.specs.declared.parked.Waiter.{Waiter}
 use Rattle.ft_orb.specs.declared.pausing.Pending.{Pending}
 use Rattle.ft_orb.specs.Engines.{AsksOf, Awaited, KeepsOf, as_server, asks_in, awaited_of, pending_in}
-use Rattle.ft_orb.specs.History.{Event}
+use Rattle.ft_orb.specs.History.{Event, origin}
 use Rattle.ft_orb.specs.Owners.{Voice}
 use Rattle.ft_orb.specs.Parking.{AsksLate, Settings, by_number, parked_at}
 use Rattle.ft_orb.specs.Pauses.{Paused}
@@ -23,13 +24,13 @@ use Rattle.ft_orb.specs.Table.{AreAlike, Table}
 
 module _ {C : Type 0} (offers : C → Offer) (s : Settings) (held : ℕ → Holding) (calls : List Call) (old : Engine C) (past : List Event) (waiting : ℕ → List Waiter) (moment : ℕ) (octets written : List ℕ) (w : Awaited) (a : AsksLate offers s held calls old past waiting moment octets written w) where
   -- nothing changed, but where what is parked lies in memory
-  module _ (new : Engine C) (clock : new.keeper.clock ≡ old.keeper.clock) (log : new.keeper.log ≡ old.keeper.log) (catalogue : new.catalogue ≡ old.catalogue) (limits : new.limits ≡ old.limits) (greatest : new.greatest ≡ old.greatest) (links : new.links ≡ old.links) (pending : pending_in new ≡ pending_in old) (asks : asks_in new ≡ asks_in old) (places : new.places ≡ old.places)
+  module _ (new : Engine C) (clock : new.keeper.clock ≡ old.keeper.clock) (log : new.keeper.log ≡ old.keeper.log) (catalogue : new.offering ≡ old.offering) (limits : new.limits ≡ old.limits) (greatest : new.greatest ≡ old.greatest) (links : new.links ≡ old.links) (pending : pending_in new ≡ pending_in old) (asks : asks_in new ≡ asks_in old) (places : new.places ≡ old.places)
       (parks : (q : ℕ) → parked_at new q ≡ parked_at old q) where
     keeps-kept : (p : Pending) → KeepsOf offers (by_number s held) calls old past moment octets written p → KeepsOf offers (by_number s held) calls new past moment octets written p
     keeps-kept p k =
         let shown : as_server old calls ≡ as_server new calls = λ i. record { servant = calls; clock = sym clock i; limits = sym limits i; greatest = sym greatest i; links = (sym links i).entries; log = sym log i } in
         record {
-          offer_is = ap offers catalogue ∙ k.offer_is;
+          offer_is = ap (terms_by offers) catalogue ∙ k.offer_is;
           waits = pending ∙ k.waits;
           server = k.server;
           answered = k.answered;
@@ -44,7 +45,7 @@ module _ {C : Type 0} (offers : C → Offer) (s : Settings) (held : ℕ → Hold
           whole = k.whole;
           some = k.some;
           paused = subst (λ (x : ℕ × log-shown.Shown). (voice : Voice) (t : List ℕ) (u : Table (List Call) Holding) → LinkStands s.limits k.was t → AreAlike x.0 (table_of k.server) u
-              → Paused s.offer voice (capacity_of k.server) (share_of k.server) s.limits p.connection x.0 u t octets k.link calls (logged x.1).entries written p.place.handled p.waiting) (λ i. (sym clock i, sym log i)) k.paused;
+              → Paused s.terms voice (capacity_of k.server) (share_of k.server) s.limits (origin past p.connection) x.0 u t octets k.link calls (logged x.1).entries written p.place.handled p.waiting) (λ i. (sym clock i, sym log i)) k.paused;
         }
 
     asks-kept : AsksOf offers (by_number s held) calls new past moment octets written w

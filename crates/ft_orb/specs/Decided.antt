@@ -3,7 +3,6 @@ use Rattle.std.specs.Prelude.{◌≡◌, ◌⊎◌, ℕ, ◌+◌, ◌<◌, List,
 use Rattle.giop_frames.specs.declared.limits.Limits.{Limits}
 use Rattle.ft_log.specs.Holding.{Holding}
 use Rattle.ft_log.specs.Kept.{KeptOutcome}
-use Rattle.ft_objects.specs.Catalogues.{Offer}
 use Rattle.ft_objects.specs.declared.decided.Decision.{Decision}
 use Rattle.ft_objects.specs.declared.decided.Decision.TheVariants.{Dropped}
 use Rattle.ft_orb.specs.Begun.{Asks, Begun, Done, Repeats}
@@ -12,7 +11,7 @@ use Rattle.ft_orb.specs.ExactlyOnce.{Arrival}
 use Rattle.ft_orb.specs.History.{arrivals_in, front_in}
 use Rattle.ft_orb.specs.Pause.{Pause}
 use Rattle.ft_orb.specs.Pause as pause
-use Rattle.ft_orb.specs.Requests.{Call, Wanted}
+use Rattle.ft_orb.specs.Requests.{Call, Origin, Terms, Wanted}
 use Rattle.ft_orb.specs.Table.{Table}
 use Rattle.ft_orb.specs.declared.counts.Counts.{Counts}
 use Rattle.ft_orb.specs.declared.desk.Step.TheVariants.{Answered, Quiet, Unanswered, Unhandled}
@@ -28,9 +27,9 @@ decided_by (Asks w) d = d
 decided_by (Repeats r) d = d
 
 -- the counts after a message, which is an arrival or none
-abbrev pub AreTallied : Offer → (capacity share : ℕ) → List (KeptOutcome Holding) → List (Arrival Wanted) → Begun → Counts → Counts → Type 0
-AreTallied offer capacity share entries [] b old new = new ≡ old
-AreTallied offer capacity share entries (a ∷ later) b old new = new ≡ counted_with old (decided_by b (decision_on offer capacity share entries a))
+abbrev pub AreTallied : (ℕ → Terms) → (capacity share : ℕ) → List (KeptOutcome Holding) → List (Arrival Wanted) → Begun → Counts → Counts → Type 0
+AreTallied terms capacity share entries [] b old new = new ≡ old
+AreTallied terms capacity share entries (a ∷ later) b old new = new ≡ counted_with old (decided_by b (decision_on terms capacity share entries a))
 
 -- the octets of a piece that were taken
 abbrev pub octets_to : List ℕ → Pause → List ℕ
@@ -40,10 +39,10 @@ octets_to piece (pause.Repeats r place) = take place.taken piece
 octets_to piece (pause.Due place) = take place.taken piece
 
 -- One piece after the stream s of connection c, from a table t on: the counts before it, and now.
-module _ (offer : Offer) (answers : List Call → Call → Holding) (capacity share : ℕ) (limits : Limits) (c now : ℕ) (t : Table (List Call) Holding) (s : List ℕ) where
+module _ (terms : ℕ → Terms) (answers : List Call → Call → Holding) (capacity share : ℕ) (limits : Limits) (c : Origin) (now : ℕ) (t : Table (List Call) Holding) (s : List ℕ) where
   -- the arrivals that these octets complete were counted
   abbrev pub AreCountsOf : List ℕ → Counts → Counts → Type 0
-  AreCountsOf octets old new = new ≡ counted_all offer answers capacity share t (arrivals_in limits c now s octets) old
+  AreCountsOf octets old new = new ≡ counted_all terms answers capacity share t (arrivals_in limits c now s octets) old
 
   -- An allocation failed where so many were handled. They were counted; and where one more had begun, so was what becomes of it, or that
   -- it was dropped.
@@ -52,4 +51,4 @@ module _ (offer : Offer) (answers : List Call → Call → Holding) (capacity sh
       ⊎ ((at.handled ≡ at.answered)
       × (at.handled < length (arrivals_in limits c now s piece))
       × (AreCountsOf (front_in limits c now s piece (at.handled + 1)) old new
-      ⊎ (new ≡ counted_with (counted_all offer answers capacity share t (arrivals_in limits c now s (front_in limits c now s piece at.handled)) old) Dropped)))
+      ⊎ (new ≡ counted_with (counted_all terms answers capacity share t (arrivals_in limits c now s (front_in limits c now s piece at.handled)) old) Dropped)))

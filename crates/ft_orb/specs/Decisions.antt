@@ -5,12 +5,11 @@ use Rattle.ft_log.specs.Holding.{Holding, known, parked}
 use Rattle.ft_log.specs.Keys.{RequestKey, held_of}
 use Rattle.ft_log.specs.Kept.{KeptOutcome, kept_for, keys_of, unexpired}
 use Rattle.ft_log.specs.declared.system_exception.SystemName.{SystemName}
-use Rattle.ft_objects.specs.Catalogues.{Offer}
 use Rattle.ft_objects.specs.declared.decided.Decision.{Decision}
 use Rattle.ft_objects.specs.declared.decided.Decision.TheVariants as decision
 use Rattle.ft_orb.specs.ExactlyOnce.{Absent, Arrival, Bad, Field, Present}
 use Rattle.ft_orb.specs.Owners.{owner_rules}
-use Rattle.ft_orb.specs.Requests.{Call, Wanted, asked_of, asking, locating}
+use Rattle.ft_orb.specs.Requests.{Call, Terms, Wanted, asked_at, asking, locating}
 use Rattle.ft_orb.specs.Table.{Table, table_step}
 use Rattle.ft_orb.specs.declared.counts.Counts.{Counts}
 
@@ -51,8 +50,8 @@ decision_for (asking c q) d = d
 decision_for (locating c version id to) d = decision.Located
 
 -- what becomes of what arrives, where the log keeps these, unless memory runs out before
-abbrev pub decision_on : Offer → (capacity share : ℕ) → List (KeptOutcome Holding) → Arrival Wanted → Decision
-decision_on offer capacity share entries a = decision_for a.content (decision_by capacity share (unexpired a.clock entries) a.clock (asked_of offer.interface a.content) a.field)
+abbrev pub decision_on : (ℕ → Terms) → (capacity share : ℕ) → List (KeptOutcome Holding) → Arrival Wanted → Decision
+decision_on terms capacity share entries a = decision_for a.content (decision_by capacity share (unexpired a.clock entries) a.clock (asked_at terms a.content) a.field)
 
 -- one more, in 64 bits
 abbrev pub one_more : ℕ → ℕ
@@ -76,7 +75,7 @@ counted_with n decision.Dropped = record n { dropped = one_more n.dropped }
 
 -- the counts after all of these, which are served one after the other from a table on: what is kept when it comes decides what becomes
 -- of each
-module _ (offer : Offer) (answers : List Call → Call → Holding) (capacity share : ℕ) where
+module _ (terms : ℕ → Terms) (answers : List Call → Call → Holding) (capacity share : ℕ) where
   abbrev pub counted_all : Table (List Call) Holding → List (Arrival Wanted) → Counts → Counts
   counted_all t [] n = n
-  counted_all t (a ∷ later) n = counted_all (table_step (owner_rules offer.interface answers capacity share) t a).0 later (counted_with n (decision_on offer capacity share t.entries a))
+  counted_all t (a ∷ later) n = counted_all (table_step (owner_rules (asked_at terms) answers capacity share) t a).0 later (counted_with n (decision_on terms capacity share t.entries a))

@@ -8,11 +8,11 @@ use Rattle.ft_log.specs.Kept.{keys_of, unexpired}
 use Rattle.ft_log.specs.declared.system_exception.SystemName.{SystemName}
 use Rattle.ft_log.specs.declared.system_exception.SystemName.TheVariants.{NoResources}
 use Rattle.ft_orb.specs.ExactlyOnce.{Arrival, Present, live_keys}
-use Rattle.ft_orb.specs.History.{Close, Event, KeepsAll, Lost, Opened, Piece, Withdrew, arrivals, clock, completed}
+use Rattle.ft_orb.specs.History.{Changed, Close, Event, KeepsAll, Lost, Opened, Piece, Withdrew, arrivals, clock, completed}
 use Rattle.ft_orb.specs.Now.{OneExpirationOf, acts_now, is_held}
 use Rattle.ft_orb.specs.Owners.{owned_rules, owned_says, owned_table}
 use Rattle.ft_orb.specs.Parking.{Settings, by_number}
-use Rattle.ft_orb.specs.Requests.{Call, Wanted, asked_of}
+use Rattle.ft_orb.specs.Requests.{Call, Wanted, asked_at}
 use Rattle.ft_orb.specs.Table.{table_after, table_step}
 use Rattle.ft_orb.specs.Withdrawing.{Arrives, IsTableFor, Item, Numbered, Standing, Withdraws, items_after, new_table, number_answers, number_rules, requests_of, stand_all, stands_after}
 
@@ -22,6 +22,7 @@ brought limits past (Opened c) = []
 brought limits past (Piece c moment octets) = map (λ a. Arrives a) (completed limits past (Piece c moment octets))
 brought limits past (Close c) = []
 brought limits past (Lost c) = []
+brought limits past Changed = []
 brought limits past (Withdrew i) = Withdraws i ∷ []
 
 -- all items of a past, the first first
@@ -32,7 +33,7 @@ items limits (e ∷ past) = items limits past ++ brought limits past e
 module _ (s : Settings) where
   -- what an engine with these settings is asked, and when a further key has room
   abbrev pub asks_by : Wanted → Result Call SystemName
-  asks_by w = asked_of s.offer.interface w
+  asks_by w = asked_at s.terms w
 
   abbrev pub room_by : RequestKey → List RequestKey → Bool
   room_by key live = has_room_for s.capacity s.share key live

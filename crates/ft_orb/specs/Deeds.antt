@@ -6,7 +6,7 @@ use Rattle.giop_link.specs.Hearing.{Question}
 use Rattle.ft_log.specs.Holding.{Holding, known, parked}
 use Rattle.ft_log.specs.Performed.{Performed}
 use Rattle.ft_log.specs.declared.system_exception.SystemName.{SystemName}
-use Rattle.ft_objects.specs.Interfaces.{IsOutcomeOf}
+use Rattle.ft_objects.specs.Interfaces.{Interface, IsOutcomeOf}
 use Rattle.ft_objects.specs.Replies.{IsRenderable}
 use Rattle.ft_orb.specs.declared.events.Note.{Note}
 use Rattle.ft_orb.specs.declared.events.Note.TheVariants.{Done, Memory}
@@ -14,12 +14,12 @@ use Rattle.ft_orb.specs.declared.parked.Waiter.{Waiter}
 use Rattle.ft_orb.specs.Engines.{Awaited}
 use Rattle.ft_orb.specs.Declined.{asks_by, brought, room_by, standing}
 use Rattle.ft_orb.specs.ExactlyOnce.{Arrival, OneExpiration}
-use Rattle.ft_orb.specs.History.{Close, Event, KeepsAll, Lost, Opened, Piece, Withdrew, arrivals, completed, connection_of, shortened}
+use Rattle.ft_orb.specs.History.{Changed, Close, Event, KeepsAll, Lost, Opened, Piece, Withdrew, arrivals, changes, completed, connection_of, origin, shortened}
 use Rattle.ft_orb.specs.Outputs.{Noted, WritesBy, after, output_cut}
 use Rattle.ft_orb.specs.Owners.{owned_law, owned_now, owned_rules, owned_says, owned_table}
 use Rattle.ft_orb.specs.Parked.{is_wished, on_going}
 use Rattle.ft_orb.specs.Parking.{Settings, by_number, goes_on, not_now, numbering, put_at, still, unless_placed, waiter_of, own_of}
-use Rattle.ft_orb.specs.Requests.{Call, Wanted, asked_of, asking}
+use Rattle.ft_orb.specs.Requests.{Call, Wanted, asked_at, asking}
 use Rattle.ft_orb.specs.Table.{table_after, table_step}
 use Rattle.ft_orb.specs.Tellings.{Later, nothing_yet, reply_by}
 use Rattle.ft_orb.specs.Withdrawing.{number_answers}
@@ -143,6 +143,7 @@ IsUnawaited (Piece c moment octets) waiting = Unit {0}
 IsUnawaited (Close c) waiting = (n : ℕ) → list_any (λ w. w.connection == c) (waiting n) ≡ false
 IsUnawaited (Lost c) waiting = Unit {0}
 IsUnawaited (Withdrew i) waiting = ⊥
+IsUnawaited Changed waiting = ⊥
 
 -- something was settled, or declined, under number n
 abbrev pub settles : ℕ → Deed → Bool
@@ -233,8 +234,8 @@ module _ (s : Settings) where
     pub last : Arrival Wanted
     pub completes : completed s.limits g.past (part_of p) ≡ front ++ last ∷ []
     pub short : shortened s.limits g.past (Piece p.connection p.moment p.piece) (length front + 1) ≡ part_of p
-    pub content : last.content ≡ asking p.connection question
-    pub asks : asked_of s.offer.interface last.content ≡ Ok w.call
+    pub content : last.content ≡ asking (origin g.past p.connection) question
+    pub asks : asked_at s.terms last.content ≡ Ok w.call
     pub field : last.field ≡ w.field
     pub out : (late : Later) → written ≡ output_cut s.limits (numbering s late g.held).tell (owned_says (numbering s late g.held)) g.past (part_of p) (length front)
     pub before : (table_after (owned_rules (by_number s g.held)) (owned_table (by_number s g.held) g.past) front).state ≡ g.calls
@@ -248,7 +249,7 @@ module _ (s : Settings) where
     pub completes : completed s.limits g.past (part_of p) ≡ front ++ last ∷ []
     pub short : shortened s.limits g.past (Piece p.connection p.moment p.piece) (length front + 1) ≡ part_of p
     pub question : Question
-    pub content : last.content ≡ asking p.connection question
+    pub content : last.content ≡ asking (origin g.past p.connection) question
     pub i : ℕ
     pub taken : i < length g.calls
     pub is_parked : g.held i ≡ parked number
@@ -258,7 +259,7 @@ module _ (s : Settings) where
     pub placed : Bool
     pub place_is : placed ≡ not (nat_lt s.places.joined (length (still s.limits (part_of p ∷ g.past) g.waiting number)))
     pub joined_are : joined ≡ (if is_wished question.wish && placed then waiter_of p.connection question ∷ [] else [])
-    pub wrote : Wrote (unless_placed placed s.offer.knows) g.held g.past (part_of p) written Done
+    pub wrote : Wrote (unless_placed placed (s.terms (changes g.past)).knows) g.held g.past (part_of p) written Done
 
   -- These waited under number n, one after another, and were told this. No memory is taken for a reply without octets.
   abbrev pub AreTold : ℕ → Performed → Ledger → List Told → Type 0
@@ -271,10 +272,10 @@ module _ (s : Settings) where
     pub call : (i : ℕ) → i < length g.calls → g.held i ≡ parked n → ⊥
     pub nobody : g.waiting n ≡ []
 
-  -- the outcome can be sent, and is one of the operation of the request
-  abbrev pub IsFor : Option Awaited → Performed → Type 0
-  IsFor None outcome = ⊥
-  IsFor (Some w) outcome = IsRenderable outcome × IsOutcomeOf (s.offer.interface w.call.object_key w.call.operation) outcome
+  -- the outcome can be sent, and is one of the operation of the request, as it is on offer now
+  abbrev pub IsFor : (interface : List ℕ → List ℕ → Interface) → Option Awaited → Performed → Type 0
+  IsFor interface None outcome = ⊥
+  IsFor interface (Some w) outcome = IsRenderable outcome × IsOutcomeOf (interface w.call.object_key w.call.operation) outcome
 
   -- no more are parked than there are places, in all and of the request's connection: all numbers are below that of the next
   abbrev pub HasPlace : Ledger → Awaited → Type 0
@@ -287,15 +288,15 @@ module _ (s : Settings) where
   IsDeed g (Stopped p written w q) = (g.asking ≡ None) × Stops g p written w q
   IsDeed g (Joined p written n joined) = (g.asking ≡ None) × Joins g p written n joined × AreTaken (after_deed g (Joined p written n joined))
   IsDeed g (Answered a outcome written note) = (g.asking ≡ Some a) × Wrote nothing_yet (put_at (length g.calls) (known outcome) g.held) g.past (piece_of a) (a.written ++ written) note
-      × AreTaken (after_deed g (Answered a outcome written note)) × IsFor (Some a.request) outcome
+      × AreTaken (after_deed g (Answered a outcome written note)) × IsFor (s.terms (changes g.past)).interface (Some a.request) outcome
   IsDeed g (Parked a own) = (g.asking ≡ Some a) × IsFree g a.request.number × (own ≡ on_going (goes_on s.limits (piece_of a ∷ g.past)) (own_of a.request.connection a.question))
       × Wrote nothing_yet (put_at (length g.calls) (parked a.request.number) g.held) g.past (piece_of a) a.written Done × AreTaken (after_deed g (Parked a own)) × HasPlace g a.request
   IsDeed g (GivenUp a handled) = (g.asking ≡ Some a) × Wrote nothing_yet g.held g.past (piece_of a) a.written (Memory handled handled) × AreTaken (after_deed g (GivenUp a handled))
       × (handled + 1 ≡ length (completed s.limits g.past (piece_of a)))
   IsDeed g (Declined a name minor written) = (g.asking ≡ Some a) × Wrote nothing_yet (put_at (length g.calls) (known (not_now name minor)) g.held) g.past (piece_of a) (a.written ++ written) Done × AreTaken (after_deed g (Declined a name minor written))
   IsDeed g (Withdrawn i n name minor told) = (g.asking ≡ None) × (i < length g.calls) × (g.held i ≡ parked n) × AreTold n (not_now name minor) (without_call i g) told × ((told_all n (without_call i g) told).waiting n ≡ [])
-      × AreTaken (after_deed g (Withdrawn i n name minor told)) × IsFor (g.there n) (not_now name minor)
-  IsDeed g (Settled i n outcome told) = (g.asking ≡ None) × (i < length g.calls) × (g.held i ≡ parked n) × AreTold n outcome g told × ((told_all n g told).waiting n ≡ []) × AreTaken (after_deed g (Settled i n outcome told)) × IsFor (g.there n) outcome
+      × AreTaken (after_deed g (Withdrawn i n name minor told)) × IsFor (s.terms (changes g.past)).interface (g.there n) (not_now name minor)
+  IsDeed g (Settled i n outcome told) = (g.asking ≡ None) × (i < length g.calls) × (g.held i ≡ parked n) × AreTold n outcome g told × ((told_all n g told).waiting n ≡ []) × AreTaken (after_deed g (Settled i n outcome told)) × IsFor (s.terms (changes g.past)).interface (g.there n) outcome
 
   -- deeds one after another, from a ledger on
   abbrev pub Runs : Ledger → List Deed → Type 0

@@ -85,14 +85,14 @@ abbrev pub IsRefused : {C : Type 0} → (C → Offer) → Engine C → CodeDeed 
 IsRefused offers e (code.Event happening) refused.Asking = IsSome (waits_in e)
 IsRefused offers e (code.Event (happening.Close c)) refused.Waits = 0 < waits_on e c
 IsRefused offers e (code.Settle n o) refused.Asking = IsSome (waits_in e)
-IsRefused offers e (code.Settle n o) refused.NotParked = CanSettle (offers e.catalogue) (parked_at e n) (performed_in o) → ⊥
+IsRefused offers e (code.Settle n o) refused.NotParked = CanSettle (offers e.offering.catalogue) (parked_at e n) (performed_in o) → ⊥
 IsRefused offers e (code.Withdraw n name minor) refused.Asking = IsSome (waits_in e)
-IsRefused offers e (code.Withdraw n name minor) refused.NotParked = CanSettle (offers e.catalogue) (parked_at e n) (not_now name minor) → ⊥
+IsRefused offers e (code.Withdraw n name minor) refused.NotParked = CanSettle (offers e.offering.catalogue) (parked_at e n) (not_now name minor) → ⊥
 IsRefused offers e (code.Decline name minor) refused.NothingAsked = waits_in e ≡ None
 IsRefused offers e (code.Answer o) refused.NothingAsked = waits_in e ≡ None
 IsRefused offers e code.Park refused.NothingAsked = waits_in e ≡ None
 IsRefused offers e code.GiveUp refused.NothingAsked = waits_in e ≡ None
-IsRefused offers e (code.Answer o) refused.NotFit = (w : Awaited) × (waits_in e ≡ Some w) × (CanAnswer (offers e.catalogue) (waits_in e) w.number (performed_in o) → ⊥)
+IsRefused offers e (code.Answer o) refused.NotFit = (w : Awaited) × (waits_in e ≡ Some w) × (CanAnswer (offers e.offering.catalogue) (waits_in e) w.number (performed_in o) → ⊥)
 IsRefused offers e code.Park (refused.Unparked unparked.Full) = IsSome (waits_in e) × (places_of e ≤ parked_count e)
 IsRefused offers e code.Park (refused.Unparked unparked.Share) = IsSome (waits_in e) × (parked_count e < places_of e) × IfSome (waits_in e) (λ w. places_of_one e ≤ parked_of e w.connection)
 IsRefused offers e code.Park (refused.Unparked unparked.Memory) = IsSome (waits_in e)

@@ -11,7 +11,7 @@ use Rattle.ft_orb.specs.History.{Event, Piece, arrivals, completed}
 use Rattle.ft_orb.specs.Now.{acts_now, performed_now}
 use Rattle.ft_orb.specs.Outputs.{WritesBy, after, output_cut}
 use Rattle.ft_orb.specs.Owners.{Owner, OwnerOf, owned_now, owned_rules, owning}
-use Rattle.ft_orb.specs.Requests.{Call, Wanted, asked_of}
+use Rattle.ft_orb.specs.Requests.{Call, Wanted, asked_at}
 use Rattle.ft_orb.specs.Standing.{note_of}
 
 module _ {Outcome : Type 0} (owner : OwnerOf Outcome) where
@@ -44,7 +44,7 @@ module _ {Outcome : Type 0} (owner : OwnerOf Outcome) where
     pub front : List (Arrival Wanted)
     pub last : Arrival Wanted
     pub completes : completed owner.limits past (Piece c moment octets) ≡ front ++ last ∷ []
-    pub asks : asked_of owner.offer.interface last.content ≡ Ok call
+    pub asks : asked_at owner.terms last.content ≡ Ok call
     pub carries : last.field ≡ field
     pub due : IsDueNowOf calls past (Piece c moment octets) front last written
 

@@ -6,22 +6,21 @@ use Rattle.ft_log.specs.Kept.{KeptOutcome}
 use Rattle.ft_log.specs.Performed.{Performed}
 use Rattle.ft_objects.specs.Catalogues.{Offer}
 use Rattle.ft_orb.specs.ExactlyOnce.{Rules, answers_after}
-use Rattle.ft_objects.specs.Interfaces.{Interface}
 use Rattle.ft_orb.specs.Outputs.{Made}
-use Rattle.ft_orb.specs.Requests.{Call, Wanted, asked_of}
+use Rattle.ft_orb.specs.Requests.{Call, Terms, Wanted, asked_at, asked_of, terms_of}
 use Rattle.ft_objects.specs.Servants.{Meaning}
 use Rattle.ft_orb.specs.Table.{Table, table_after, table_answers}
 use Rattle.ft_log.specs.Holding.{Holding, known}
-use Rattle.ft_orb.specs.Tellings.{Later, Teller, answer_told, held_told, nothing_yet}
+use Rattle.ft_orb.specs.Tellings.{Later, Teller, answer_told, held_told, nothing_yet, told_at}
 use Rattle.ft_orb.specs.Seen.{seen_answer}
 use Rattle.ft_log.specs.declared.system_exception.SystemName.{SystemName}
-use Rattle.ft_orb.specs.History.{Close, Event, Lost, Opened, Piece, Withdrew, arrivals, completed}
+use Rattle.ft_orb.specs.History.{Changed, Close, Event, Lost, Opened, Piece, Withdrew, arrivals, completed}
 use Rattle.ft_orb.specs.Now.{answers_now_after}
 
 -- the rules of an owner that answers a call by the calls answered before, in any way whatever
-abbrev pub owner_rules : {Outcome : Type 0} → (List ℕ → List ℕ → Interface) → (List Call → Call → Outcome) → ℕ → ℕ → Rules (List Call) Wanted Call Outcome
-owner_rules interface answers capacity share = record {
-  asked = asked_of interface;
+abbrev pub owner_rules : {Outcome : Type 0} → (Wanted → Result Call SystemName) → (List Call → Call → Outcome) → ℕ → ℕ → Rules (List Call) Wanted Call Outcome
+owner_rules asked answers capacity share = record {
+  asked = asked;
   apply = λ calls call. (calls ++ call ∷ [], answers calls call);
   has_room = has_room_for capacity share;
 }
@@ -37,7 +36,7 @@ pub record Owner : Type 0 where
 
 -- its rules
 abbrev pub rules_with : Owner → Rules (List Call) Wanted Call Performed
-rules_with o = owner_rules o.offer.interface o.answers o.capacity o.share
+rules_with o = owner_rules (asked_of o.offer.interface) o.answers o.capacity o.share
 
 -- an owner as a servant, whose state is the list of the calls answered so far
 abbrev pub meaning_of : Owner → Meaning (List Call)
@@ -57,11 +56,11 @@ pub record Voice : Type 0 where
   pub answers : List Call → Call → Holding
   pub late : Later
 
--- An owner whose answers are of any kind: how its engine's log holds each, what is said where that is parked, and what is told for it.
+-- An owner whose answers are of any kind: what its engine serves, by how often that has changed; how its log holds each answer, what is said where that is parked, and what is told for it.
 -- An outcome is held as known. Where it withdraws calls, it is known of each answer whether it is that of the call before which so
 -- many were taken.
 pub record OwnerOf (Outcome : Type 0) : Type 0 where
-  pub offer : Offer
+  pub terms : ℕ → Terms
   pub answers : List Call → Call → Outcome
   pub limits : Limits
   pub capacity : ℕ
@@ -70,7 +69,7 @@ pub record OwnerOf (Outcome : Type 0) : Type 0 where
   pub is : Option (Outcome → ℕ → Bool)
   pub late : Later
   pub tell : Teller Outcome
-  pub tells : (w : Wanted) (answer : Result Outcome SystemName) → tell w answer ≡ held_told late offer.knows w (seen_answer hold answer)
+  pub tells : (w : Wanted) (answer : Result Outcome SystemName) → tell w answer ≡ told_at late terms w (seen_answer hold answer)
 
 pub tells_known : (late : Later) (knows : List ℕ → Bool) (w : Wanted) (answer : Result Performed SystemName) → answer_told knows w answer ≡ held_told late knows w (seen_answer known answer)
 tells_known late knows w (Ok outcome) = refl
@@ -78,7 +77,7 @@ tells_known late knows w (Err refusal) = refl
 
 abbrev pub owning : Owner → OwnerOf Performed
 owning o = record {
-  offer = o.offer;
+  terms = λ n. terms_of None o.offer;
   answers = o.answers;
   limits = o.limits;
   capacity = o.capacity;
@@ -97,6 +96,7 @@ module _ {Outcome : Type 0} where
   let_go is (Piece c moment octets) t = t
   let_go is (Close c) t = t
   let_go is (Lost c) t = t
+  let_go is Changed t = t
   let_go is (Withdrew i) t = record { state = t.state; entries = filter (λ e. not (is e.outcome i)) t.entries }
 
   -- the table of a new engine, folded over the arrivals of a past and what is withdrawn in it
@@ -112,7 +112,7 @@ module _ {Outcome : Type 0} where
 module _ {Outcome : Type 0} (o : OwnerOf Outcome) where
   -- its rules
   abbrev pub owned_rules : Rules (List Call) Wanted Call Outcome
-  owned_rules = owner_rules o.offer.interface o.answers o.capacity o.share
+  owned_rules = owner_rules (asked_at o.terms) o.answers o.capacity o.share
 
   -- what its engine keeps of its answers
   abbrev pub kept_of : List Call → Call → Holding

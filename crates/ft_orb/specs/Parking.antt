@@ -31,21 +31,21 @@ use Rattle.ft_orb.specs.declared.parked.Waiter.{Waiter}
 use Rattle.ft_orb.specs.Counts.{parked_on, waiters_on}
 use Rattle.ft_orb.specs.Engines.{AsksOf, Awaited, EndsOf, RestsOf, ResumesOf, StopsOf, asks_in, awaited_of}
 use Rattle.ft_orb.specs.ExactlyOnce.{Absent, Arrival}
-use Rattle.ft_orb.specs.History.{Event, Lost, Piece, Withdrew, completed, does_count, line, shortened}
+use Rattle.ft_orb.specs.History.{Event, Lost, Piece, Withdrew, changes, completed, does_count, line, origin, shortened}
 use Rattle.ft_orb.specs.Outputs.{WritesBy, after, is_going, output_cut}
 use Rattle.ft_orb.specs.Owners.{OwnerOf, owned_rules, owned_says, owned_table}
 use Rattle.ft_orb.specs.Parked.{elsewhere, going_in, is_wished, on_going}
-use Rattle.ft_orb.specs.Requests.{Call, Wanted, asking}
+use Rattle.ft_orb.specs.Requests.{Call, Terms, Wanted, asking}
 use Rattle.ft_orb.specs.Seen.{seen_answer}
 use Rattle.ft_orb.specs.Standing.{note_of}
 use Rattle.ft_orb.specs.Table.{table_after, table_step}
-use Rattle.ft_orb.specs.Tellings.{Later, answer_told, held_told, nothing_yet, reply_by}
+use Rattle.ft_orb.specs.Tellings.{Later, answer_told, nothing_yet, reply_by, told_at}
 use Rattle.ft_orb.specs.Waits.{asker_of}
 
--- an engine, as it was made: what is on offer, the limits of connections, how many outcomes may be kept, how many of each client, and
+-- an engine: what it serves, by how often that has changed, the limits of connections, how many outcomes may be kept, how many of each client, and
 -- how many requests may be parked, in all and of one connection, and repeats wait for one outcome
 pub record Settings : Type 0 where
-  pub offer : Offer
+  pub terms : ℕ → Terms
   pub limits : Limits
   pub capacity : ℕ
   pub share : ℕ
@@ -56,7 +56,7 @@ pub record Settings : Type 0 where
 -- outcome.
 abbrev pub numbering : Settings → Later → (ℕ → Holding) → OwnerOf ℕ
 numbering s late held = record {
-  offer = s.offer;
+  terms = s.terms;
   answers = λ calls call. length calls;
   limits = s.limits;
   capacity = s.capacity;
@@ -64,7 +64,7 @@ numbering s late held = record {
   hold = held;
   is = Some (λ n i. n == i);
   late = late;
-  tell = λ w answer. held_told late s.offer.knows w (seen_answer held answer);
+  tell = λ w answer. told_at late s.terms w (seen_answer held answer);
   tells = λ w answer. refl;
 }
 
@@ -220,7 +220,7 @@ module _ {C : Type 0} (offers : C → Offer) (s : Settings) where
     pub completes : completed s.limits past (Piece c moment (take taken piece)) ≡ front ++ last ∷ []
     pub short : shortened s.limits past (Piece c moment piece) (length front + 1) ≡ Piece c moment (take taken piece)
     pub question : Question
-    pub content : last.content ≡ asking c question
+    pub content : last.content ≡ asking (origin past c) question
     pub i : ℕ
     pub number : ℕ
     pub is_parked : held i ≡ parked number
@@ -230,7 +230,7 @@ module _ {C : Type 0} (offers : C → Offer) (s : Settings) where
         ≡ output_cut s.limits (by_number s held).tell (owned_says (by_number s held)) past (Piece c moment (take taken piece)) (length front)
     pub placed : Bool
     pub place_is : placed ≡ not (nat_lt s.places.joined (length (still s.limits (Piece c moment (take taken piece) ∷ past) waiting number)))
-    pub ends : EndsOf offers (numbering s (unless_placed placed s.offer.knows) held) calls past (Piece c moment (take taken piece)) Done engine before out
+    pub ends : EndsOf offers (numbering s (unless_placed placed (s.terms (changes past)).knows) held) calls past (Piece c moment (take taken piece)) Done engine before out
     pub stays : Stays held calls engine (Piece c moment (take taken piece) ∷ past)
         (still s.limits (Piece c moment (take taken piece) ∷ past) (put_at number (waiting number ++ (if is_wished question.wish && placed then waiter_of c question ∷ [] else [])) waiting))
 

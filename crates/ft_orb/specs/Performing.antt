@@ -35,7 +35,7 @@ module _ {S : Type 0} (meaning : Meaning S) (made : Made S) (past : List Event) 
   abbrev pub Resumed : (c moment : ℕ) → (octets written : List ℕ) → Note → Engine S → (before out : List ℕ) → Type 0
   Resumed c moment octets written note engine before out = (calls : List Call)
       × Resumes (offer_by meaning) (owner_by meaning made) calls past c moment octets written note engine before out
-      × (engine.catalogue ≡ run meaning made.opening calls)
+      × (engine.offering.catalogue ≡ run meaning made.opening calls)
 
   abbrev pub Performs : (c moment : ℕ) → (octets written : List ℕ) → Result ℕ ServeError → Engine S → (before out : List ℕ) → Type 0
   Performs c moment octets written (Ok handled) engine before out = (handled ≡ length (completed made.limits past (Piece c moment octets))) × Resumed c moment octets written Done engine before out

@@ -17,7 +17,7 @@ use Rattle.ft_orb.specs.declared.error.ServeError.TheVariants as serving
 module _ (s : Settings) (held : ℕ → Holding) (past : List Event) where
   -- the counts after the arrivals that an event completes
   abbrev pub counts_after : Event → Counts → Counts
-  counts_after e n = counted_all s.offer (kept_of (by_number s held)) s.capacity s.share (seen_table held (owned_table (by_number s held) past)) (completed s.limits past e) n
+  counts_after e n = counted_all s.terms (kept_of (by_number s held)) s.capacity s.share (seen_table held (owned_table (by_number s held) past)) (completed s.limits past e) n
 
   -- Memory ran out where so many were handled, and so many answered. What was handled is counted. Where all of it is answered the piece may
   -- have brought one more, which may be counted too: as what becomes of it, or as dropped.

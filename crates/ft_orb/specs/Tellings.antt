@@ -14,7 +14,7 @@ use Rattle.ft_log.specs.declared.outcome.RawStatus.TheVariants.{NoException}
 use Rattle.ft_log.specs.declared.system_exception.SystemName.{SystemName}
 use Rattle.ft_orb.specs.ExactlyOnce.{Arrival}
 use Rattle.ft_objects.specs.Replies.{answered_as, body_of, locate_reply, locate_status, message_error, order_of, reply, status_of}
-use Rattle.ft_orb.specs.Requests.{Wanted, asking, locating}
+use Rattle.ft_orb.specs.Requests.{Terms, Wanted, asking, locating, origin_of}
 use Rattle.ft_log.specs.Holding.{Holding, known, parked}
 
 -- a Reply to the request of an id, with its byte order, its status and the values of its body; the status of the target of a locate
@@ -69,6 +69,10 @@ abbrev pub held_told : Later → (List ℕ → Bool) → Teller Holding
 held_told late knows w (Ok (known outcome)) = answer_told knows w (Ok outcome)
 held_told late knows w (Ok (parked number)) = late w number
 held_told late knows w (Err refusal) = answer_told knows w (Err refusal)
+
+-- .. where what was served when it arrived says which keys name objects
+abbrev pub told_at : Later → (ℕ → Terms) → Teller Holding
+told_at late terms w answer = held_told late (terms (origin_of w).changes).knows w answer
 
 module _ {Outcome : Type 0} (tell : Teller Outcome) where
   -- its octets

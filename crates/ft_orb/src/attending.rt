@@ -28,10 +28,10 @@ use std::alloc::Global;
 
 /// The outcome to hand in for the request that waits: the owner's, or INTERNAL where that one can't answer it.
 fn fitting<C: Catalogue + Drop>(engine: &Engine<C>, number: u64, outcome: Outcome) -> Outcome
-    requires fit { IsFit (C.offers engine.now.catalogue) (waits_in engine.now) }
+    requires fit { IsFit (C.offers engine.now.offering.catalogue) (waits_in engine.now) }
     requires open { IsOpen number (waits_in engine.now) }
-    ensures can { CanAnswer (C.offers engine.now.catalogue) (waits_in engine.now) number (performed_in result) }
-    ensures handed { HandsIn (C.offers engine.now.catalogue) (waits_in engine.now) (performed_in outcome) (performed_in result) }
+    ensures can { CanAnswer (C.offers engine.now.offering.catalogue) (waits_in engine.now) number (performed_in result) }
+    ensures handed { HandsIn (C.offers engine.now.offering.catalogue) (waits_in engine.now) (performed_in outcome) (performed_in result) }
 {
     if engine.can_answer(number, &outcome) {
         return outcome;
@@ -46,7 +46,7 @@ fn attend_ask<C: Catalogue + Drop, O: Performer>(
     owner: &mut O,
     out: &mut Vec<u8>,
 ) -> Result<(), StreamEnd>
-    requires fit { IsFit (C.offers engine.old.catalogue) (waits_in engine.old) }
+    requires fit { IsFit (C.offers engine.old.offering.catalogue) (waits_in engine.old) }
     requires asking { IsSome (waits_in engine.old) }
     ensures idle { waits_in engine.new ≡ None }
     ensures parked { AreParked engine.old engine.new }

@@ -63,7 +63,7 @@ impl<C: Catalogue + Drop> Engine<C> {
         ensures asks { asks_in self.new ≡ asks_in self.old }
         ensures parked { AreParked self.old self.new }
         ensures waiting { (w : Awaited) → waits_in self.old ≡ Some w → (q : ℕ) → others_under self.new w.connection q ≡ others_under self.old w.connection q }
-        ensures catalogue { self.new.catalogue ≡ self.old.catalogue }
+        ensures catalogue { self.new.offering ≡ self.old.offering }
         ensures counted { counts_in self.new ≡ record (counts_in self.old) { declined = one_more (counts_in self.old).declined } }
         ensures ended { OnOk result (AreEndings self.old self.new) }
         ensures short { (w : Awaited) → waits_in self.old ≡ Some w → OnErr result (EndsLast self.new w.connection OutOfMemory) }
@@ -91,7 +91,7 @@ impl<C: Catalogue + Drop> Engine<C> {
     /// told. What `decline` says of COMPLETED_NO holds here too.
     pub fn withdraw(&mut self, number: u64, name: SystemName, minor: u32)
         requires idle { waits_in self.old ≡ None }
-        requires can { CanSettle (C.offers self.old.catalogue) (parked_at self.old number) (not_now name minor) }
+        requires can { CanSettle (C.offers self.old.offering.catalogue) (parked_at self.old number) (not_now name minor) }
         ensures late { (s : Settings) (held : ℕ → Holding) (calls : List Call) (past : List history.Event) (waiting : ℕ → List Waiter) → Stays C.offers s held calls self.old past waiting → WithdrawsLate C.offers s held calls past waiting number self.new }
         ensures told { told_in self.new number ≡ Some (not_now name minor) }
         ensures others { (q : ℕ) → (q == number) ≡ false → (parked_in self.new q ≡ parked_in self.old q) × (told_in self.new q ≡ told_in self.old q) }
@@ -99,7 +99,7 @@ impl<C: Catalogue + Drop> Engine<C> {
         ensures left { (q : ℕ) → left_in self.new q ≡ left_in self.old q }
         ensures waits { waits_in self.new ≡ waits_in self.old }
         ensures asks { asks_in self.new ≡ asks_in self.old }
-        ensures catalogue { self.new.catalogue ≡ self.old.catalogue }
+        ensures catalogue { self.new.offering ≡ self.old.offering }
         ensures counted { counts_in self.new ≡ record (counts_in self.old) { withdrawn = one_more (counts_in self.old).withdrawn } }
         ensures ended { AreEndings self.old self.new }
     {
@@ -141,7 +141,7 @@ impl<C: Catalogue + Drop> Engine<C> {
         ensures asks { asks_in self.new ≡ asks_in self.old }
         ensures parked { AreParked self.old self.new }
         ensures waiting { (w : Awaited) → waits_in self.old ≡ Some w → (q : ℕ) → others_under self.new w.connection q ≡ others_under self.old w.connection q }
-        ensures catalogue { self.new.catalogue ≡ self.old.catalogue }
+        ensures catalogue { self.new.offering ≡ self.old.offering }
         ensures counted { OnOk result (counts_in self.new ≡ record (counts_in self.old) { given_up = one_more (counts_in self.old).given_up }) }
         ensures ended { (w : Awaited) → waits_in self.old ≡ Some w → OnOk result (EndsLast self.new w.connection GivenUp) }
     {

@@ -123,7 +123,7 @@ fn do_close<C: Catalogue + Drop>(
     requires idle { waits_in engine.old ≡ None }
     ensures ok { IfOk result (λ written. Becomes C.offers (code.Event (happening.Close connection)) None (noted written ∷ []) engine.old engine.new) }
     ensures err { IfErr result (λ why. IsRefused C.offers engine.new (code.Event (happening.Close connection)) why × Remains C.offers engine.old engine.new) }
-    ensures catalogue { engine.new.catalogue ≡ engine.old.catalogue }
+    ensures catalogue { engine.new.offering ≡ engine.old.offering }
 {
     let mut octets = Vec::new(alloc);
     let Some(note) = closed(engine.close(connection, &mut octets)) else {
@@ -145,7 +145,7 @@ fn do_event<C: Catalogue + Drop>(
     requires idle { waits_in engine.old ≡ None }
     ensures ok { IfOk result (λ done. Becomes C.offers (code.Event event.now) done.1 (noted done.0 ∷ []) engine.old engine.new) }
     ensures err { IfErr result (λ why. IsRefused C.offers engine.new (code.Event event.now) why × Remains C.offers engine.old engine.new) }
-    ensures catalogue { engine.new.catalogue ≡ engine.old.catalogue }
+    ensures catalogue { engine.new.offering ≡ engine.old.offering }
 {
     let mut octets = Vec::new(alloc);
     let (connection, note, left) = match event {
@@ -177,7 +177,7 @@ fn do_answer<C: Catalogue + Drop>(
 ) -> Result<Written, DeedError>
     ensures ok { IfOk result (λ written. Becomes C.offers (code.Answer outcome.now) None (noted written ∷ []) engine.old engine.new) }
     ensures err { IfErr result (λ why. IsRefused C.offers engine.new (code.Answer outcome.now) why × Remains C.offers engine.old engine.new) }
-    ensures catalogue { engine.new.catalogue ≡ engine.old.catalogue }
+    ensures catalogue { engine.new.offering ≡ engine.old.offering }
 {
     let Some(asked) = engine.asked() else {
         return Err(DeedError::NothingAsked);
@@ -203,7 +203,7 @@ fn do_answer<C: Catalogue + Drop>(
 fn do_park<C: Catalogue + Drop>(engine: &mut Engine<C>) -> Result<(), DeedError>
     ensures ok { OnOk result (Becomes C.offers code.Park None [] engine.old engine.new) }
     ensures err { IfErr result (λ why. IsRefused C.offers engine.new code.Park why × Remains C.offers engine.old engine.new) }
-    ensures catalogue { engine.new.catalogue ≡ engine.old.catalogue }
+    ensures catalogue { engine.new.offering ≡ engine.old.offering }
 {
     let Some(asked) = engine.asked() else {
         return Err(DeedError::NothingAsked);
@@ -222,7 +222,7 @@ fn do_give_up<C: Catalogue + Drop>(
 ) -> Result<Written, DeedError>
     ensures ok { IfOk result (λ written. Becomes C.offers code.GiveUp None (noted written ∷ []) engine.old engine.new) }
     ensures err { IfErr result (λ why. IsRefused C.offers engine.new code.GiveUp why × Remains C.offers engine.old engine.new) }
-    ensures catalogue { engine.new.catalogue ≡ engine.old.catalogue }
+    ensures catalogue { engine.new.offering ≡ engine.old.offering }
 {
     let Some(asked) = engine.asked() else {
         return Err(DeedError::NothingAsked);
@@ -250,7 +250,7 @@ fn do_decline<C: Catalogue + Drop>(
 ) -> Result<Written, DeedError>
     ensures ok { IfOk result (λ written. Becomes C.offers (code.Decline name minor) None (noted written ∷ []) engine.old engine.new) }
     ensures err { IfErr result (λ why. IsRefused C.offers engine.new (code.Decline name minor) why × Remains C.offers engine.old engine.new) }
-    ensures catalogue { engine.new.catalogue ≡ engine.old.catalogue }
+    ensures catalogue { engine.new.offering ≡ engine.old.offering }
 {
     let Some(asked) = engine.asked() else {
         return Err(DeedError::NothingAsked);
@@ -276,7 +276,7 @@ fn do_deed<C: Catalogue + Drop>(
     ensures ok { IfOk result (λ left. (s : Settings) (g : Ledger) → Holds C.offers s g engine.old → (written : List Written) × (out.new.items ≡ out.old.items ++ written)
         × IsDone C.offers s g deed.now left (map noted written) engine.new) }
     ensures err { IfErr result (λ why. (out.new.items ≡ out.old.items) × IsRefused C.offers engine.new deed.now why × Remains C.offers engine.old engine.new) }
-    ensures catalogue { engine.new.catalogue ≡ engine.old.catalogue }
+    ensures catalogue { engine.new.offering ≡ engine.old.offering }
 {
     if out.reserve(1).is_err() {
         return Err(DeedError::Memory);
@@ -343,7 +343,7 @@ pub fn play_deeds<C: Catalogue + Drop>(
         × IsAnsweredLate s held ds }
     ensures done { deeds_done (length deeds.now) result ≤ length deeds.now }
     ensures refused { IsRefusedIn C.offers engine.new deeds.now result }
-    ensures catalogue { engine.new.catalogue ≡ engine.old.catalogue }
+    ensures catalogue { engine.new.offering ≡ engine.old.offering }
 {
     giop_link::laws::streams_are_heard::<giop_link::Server>();
     for (i, deed) in deeds.iter().enumerate() {

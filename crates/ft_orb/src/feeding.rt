@@ -60,12 +60,12 @@ impl<C: Catalogue + Drop> Engine<C> {
         // the connection ends where its stream does, for that reason, and no other ends
         ensures heard { (s : Settings) (held : ℕ → Holding) (calls : List Call) (past : List history.Event) (waiting : ℕ → List Waiter) → Stays C.offers s held calls self.old past waiting
             → IfOk result (λ fed. EndsHeard self.old self.new connection s.limits (history.line past connection) piece.now fed) }
-        ensures fit { IsFit (C.offers self.new.catalogue) (waits_in self.new) }
+        ensures fit { IsFit (C.offers self.new.offering.catalogue) (waits_in self.new) }
         ensures parked { AreParked self.old self.new }
         ensures waiting { (q : ℕ) → others_under self.new connection q ≡ others_under self.old connection q }
         // no more wait for one outcome than may
         ensures few_wait { (q : ℕ) → left_in self.old q ≤ self.old.places.joined + 1 → left_in self.new q ≤ self.old.places.joined + 1 }
-        ensures catalogue { self.new.catalogue ≡ self.old.catalogue }
+        ensures catalogue { self.new.offering ≡ self.old.offering }
     {
         match self.feed_within(connection, moment, piece, usize::MAX, out) {
             Ok(Taken::Fed(fed)) => Ok(fed),
@@ -111,12 +111,12 @@ impl<C: Catalogue + Drop> Engine<C> {
         // the connection ends where its stream does, for that reason, and no other ends
         ensures heard { (s : Settings) (held : ℕ → Holding) (calls : List Call) (past : List history.Event) (waiting : ℕ → List Waiter) → Stays C.offers s held calls self.old past waiting
             → IfOk (fed_in result) (λ fed. EndsHeard self.old self.new connection s.limits (history.line past connection) (piece_in piece.now result) fed) }
-        ensures fit { IsFit (C.offers self.new.catalogue) (waits_in self.new) }
+        ensures fit { IsFit (C.offers self.new.offering.catalogue) (waits_in self.new) }
         ensures parked { AreParked self.old self.new }
         ensures waiting { (q : ℕ) → others_under self.new connection q ≡ others_under self.old connection q }
         // no more wait for one outcome than may
         ensures few_wait { (q : ℕ) → left_in self.old q ≤ self.old.places.joined + 1 → left_in self.new q ≤ self.old.places.joined + 1 }
-        ensures catalogue { self.new.catalogue ≡ self.old.catalogue }
+        ensures catalogue { self.new.offering ≡ self.old.offering }
         // it is left only where so many octets are due, and with the first answer with which they are
         ensures due { ComesDue most (length out.new.items) (length piece.now) result }
         ensures below { (s : Settings) (held : ℕ → Holding) (calls : List Call) (past : List history.Event) (waiting : ℕ → List Waiter) → Stays C.offers s held calls self.old past waiting
@@ -136,7 +136,7 @@ impl<C: Catalogue + Drop> Engine<C> {
         };
         match serve_until_ask(
             &mut self.keeper,
-            &self.catalogue,
+            &self.offering,
             connection,
             link,
             piece,

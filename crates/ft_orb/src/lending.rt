@@ -57,9 +57,9 @@ impl<C: Catalogue + Drop> Engine<C> {
 
     /// The catalogue, as for an answer to `_is_a` (`Interfaces::is_a`).
     pub fn catalogue(&self) -> &C
-        ensures { result.now ≡ self.now.catalogue }
+        ensures { result.now ≡ self.now.offering.catalogue }
     {
-        &self.catalogue
+        &self.offering.catalogue
     }
 
     /// What became of the requests and locates so far, counted.
@@ -96,7 +96,7 @@ impl<C: Catalogue + Drop> Engine<C> {
 
     /// Whether an outcome can answer the request of this number: that waits, and the outcome can be sent, and fits it.
     pub fn can_answer(&self, number: u64, outcome: &Outcome) -> bool
-        ensures { IsTrue result ↔ CanAnswer (C.offers self.now.catalogue) (waits_in self.now) number (performed_in outcome.now) }
+        ensures { IsTrue result ↔ CanAnswer (C.offers self.now.offering.catalogue) (waits_in self.now) number (performed_in outcome.now) }
     {
         let Some(ask) = self.asking else {
             return false;
@@ -107,6 +107,7 @@ impl<C: Catalogue + Drop> Engine<C> {
         let keeper = &self.keeper;
         let waiting = &keeper.slot;
         let lookup = self
+            .offering
             .catalogue
             .interface(&waiting.object_key, &waiting.operation);
         is_renderable(outcome) && is_outcome_of(lookup, outcome)

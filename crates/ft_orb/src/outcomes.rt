@@ -1,6 +1,6 @@
 //! Which outcomes can be sent, and which are those of an operation.
 
-ghost use Rattle.std.specs.Prelude.{◌≡◌, ◌↔◌, ◌+◌, ◌≤◌, IsTrue, length, map};
+ghost use Rattle.std.specs.Prelude.{◌≡◌, ◌↔◌, ◌+◌, ◌≤◌, IfSome, IsSome, IsTrue, Some, length, map};
 ghost use Rattle.std.specs.List.{AllByRecursion};
 ghost use Rattle.cdr_core.specs.Fitting.{AreValid, FitsMembers};
 ghost use Rattle.cdr_core.specs.View.{forms_of, values_of};
@@ -10,7 +10,7 @@ ghost use Rattle.giop_core.specs.Written.{exception_body};
 ghost use Rattle.ft_log.specs.Performed.{system};
 ghost use Rattle.ft_log.specs.View.{performed_in};
 ghost use Rattle.ft_objects.specs.Interfaces.{IsOutcomeOf, IsRaised, IsValidInterface, interface_of, raise_of};
-ghost use Rattle.ft_objects.specs.Replies.{IsRenderable, body_limit};
+ghost use Rattle.ft_objects.specs.Replies.{IsRenderable, body_limit, body_of, order_of};
 
 use cdr_core::{Ty, Val, are_writable, end_of_list, fits, has_no_nul};
 use ft_log::{Completion, Outcome, SystemName};
@@ -61,6 +61,40 @@ pub(crate) fn is_renderable(outcome: &Outcome) -> bool
         Outcome::Raised(id, members) => can_raise(id, members),
         Outcome::System(name, minor, completion) => can_refuse(*name, *minor, *completion),
         Outcome::Raw(_, _, body) => body.len() as u64 <= MOST,
+    }
+}
+
+/// How many octets the body of an exception takes: its repository id, and then its members.
+fn raised_len(id: &[u8], members: &[Val]) -> Option<u64>
+    ensures { (length (octets_of_all Big (exception_body id.now (values_of members.now)) 24) ≤ body_limit) → result ≡ Some (length (octets_of_all Big (exception_body id.now (values_of members.now)) 24)) }
+{
+    let begin = BODY + 5 + (id.len() as u64).min(MOST);
+    Some(end_of_list(begin, members)? - BODY)
+}
+
+/// How many octets the body of a system exception takes.
+fn refused_len(name: SystemName, minor: u32, completion: Completion) -> Option<u64>
+    ensures { IsRenderable (system name minor completion) → result ≡ Some (length (octets_of_all Big (body_of (system name minor completion)) 24)) }
+{
+    let members = [Val::ULong(minor), Val::Enum(completion.number())];
+    raised_len(name.repository_id(), &members)
+}
+
+/// How many octets the body of a Reply takes that tells an outcome, in that order and from the place 24 on (GIOP 9.4.3).
+/// None where the outcome can't be sent.
+pub fn outcome_len(outcome: &Outcome) -> Option<u64>
+    ensures some { IfSome result (λ n. n ≡ length (octets_of_all (order_of (performed_in outcome.now)) (body_of (performed_in outcome.now)) 24)) }
+    ensures can { IsSome result ↔ IsRenderable (performed_in outcome.now) }
+{
+    giop_core::laws::octets_bodies();
+    if !is_renderable(outcome) {
+        return None;
+    }
+    match outcome {
+        Outcome::Returned(results) => Some(end_of_list(BODY, results)? - BODY),
+        Outcome::Raised(id, members) => raised_len(id, members),
+        Outcome::System(name, minor, completion) => refused_len(*name, *minor, *completion),
+        Outcome::Raw(_, _, body) => Some(body.len() as u64),
     }
 }
 

@@ -82,13 +82,14 @@ impl<C: Catalogue + Drop> Engine<C> {
     /// Whether an outcome can be that of the request that is parked under this number: it has none yet, and the outcome can be
     /// sent, and fits it.
     pub fn can_settle(&self, number: u64, outcome: &Outcome) -> bool
-        ensures { IsTrue result ↔ CanSettle (C.offers self.now.catalogue) (parked_at self.now number) (performed_in outcome.now) }
+        ensures { IsTrue result ↔ CanSettle (C.offers self.now.offering.catalogue) (parked_at self.now number) (performed_in outcome.now) }
     {
         let Some(parked) = self.parked.requests.get(&number) else {
             return false;
         };
         let waiting = &parked.pending.waiting;
         let lookup = self
+            .offering
             .catalogue
             .interface(&waiting.object_key, &waiting.operation);
         parked.outcome.is_none() && is_renderable(outcome) && is_outcome_of(lookup, outcome)
@@ -111,7 +112,7 @@ impl<C: Catalogue + Drop> Engine<C> {
         ensures idle { OnOk result (waits_in self.new ≡ None) }
         ensures err { OnErr result ((waits_in self.new ≡ waits_in self.old) × AreParked self.old self.new) }
         ensures asks { asks_in self.new ≡ asks_in self.old }
-        ensures catalogue { self.new.catalogue ≡ self.old.catalogue }
+        ensures catalogue { self.new.offering ≡ self.old.offering }
         ensures counted { OnOk result (counts_in self.new ≡ record (counts_in self.old) { parked = one_more (counts_in self.old).parked }) }
         ensures uncounted { OnErr result (counts_in self.new ≡ counts_in self.old) }
         ensures handled { OnErr result (handled_in self.new ≡ handled_in self.old) }
@@ -160,7 +161,7 @@ impl<C: Catalogue + Drop> Engine<C> {
     /// to all who wait for it.
     pub fn settle(&mut self, number: u64, outcome: Outcome)
         requires idle { waits_in self.old ≡ None }
-        requires can { CanSettle (C.offers self.old.catalogue) (parked_at self.old number) (performed_in outcome) }
+        requires can { CanSettle (C.offers self.old.offering.catalogue) (parked_at self.old number) (performed_in outcome) }
         ensures late { (s : Settings) (held : ℕ → Holding) (calls : List Call) (past : List history.Event) (waiting : ℕ → List Waiting) → Stays C.offers s held calls self.old past waiting → Stays C.offers s held calls self.new past waiting }
         ensures told { told_in self.new number ≡ Some (performed_in outcome) }
         ensures others { (q : ℕ) → (q == number) ≡ false → told_in self.new q ≡ told_in self.old q }
@@ -168,7 +169,7 @@ impl<C: Catalogue + Drop> Engine<C> {
         ensures parked { (q : ℕ) → parked_in self.new q ≡ parked_in self.old q }
         ensures waits { waits_in self.new ≡ waits_in self.old }
         ensures asks { asks_in self.new ≡ asks_in self.old }
-        ensures catalogue { self.new.catalogue ≡ self.old.catalogue }
+        ensures catalogue { self.new.offering ≡ self.old.offering }
         ensures counted { counts_in self.new ≡ record (counts_in self.old) { settled = one_more (counts_in self.old).settled } }
         ensures ended { AreEndings self.old self.new }
     {
@@ -191,7 +192,7 @@ impl<C: Catalogue + Drop> Engine<C> {
         ensures done { IsSome (told_in self.old number) → result ≡ None → parked_in self.new number ≡ None }
         ensures waits { waits_in self.new ≡ waits_in self.old }
         ensures asks { asks_in self.new ≡ asks_in self.old }
-        ensures catalogue { self.new.catalogue ≡ self.old.catalogue }
+        ensures catalogue { self.new.offering ≡ self.old.offering }
         ensures counts { counts_in self.new ≡ counts_in self.old }
         ensures ended { AreEndings self.old self.new }
     {
@@ -230,7 +231,7 @@ impl<C: Catalogue + Drop> Engine<C> {
         ensures fewer { IsSome (told_in self.old number) → 0 < left_in self.old number → left_in self.new number < left_in self.old number }
         ensures waits { waits_in self.new ≡ waits_in self.old }
         ensures asks { asks_in self.new ≡ asks_in self.old }
-        ensures catalogue { self.new.catalogue ≡ self.old.catalogue }
+        ensures catalogue { self.new.offering ≡ self.old.offering }
         ensures counts { counts_in self.new ≡ counts_in self.old }
         ensures ended { OnOk result (AreEndings self.old self.new) }
         ensures short { (s : Settings) (held : ℕ → Holding) (calls : List Call) (past : List history.Event) (waiting : ℕ → List Waiting) (w : Waiting) (rest : List Waiting) → Stays C.offers s held calls self.old past waiting

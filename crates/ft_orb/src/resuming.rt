@@ -48,7 +48,7 @@ impl<C: Catalogue + Drop> Engine<C> {
         ensures asks { asks_in self.new ≡ asks_in self.old }
         ensures parked { AreParked self.old self.new }
         ensures waiting { (w : Awaited) → waits_in self.old ≡ Some w → (q : ℕ) → others_under self.new w.connection q ≡ others_under self.old w.connection q }
-        ensures catalogue { self.new.catalogue ≡ self.old.catalogue }
+        ensures catalogue { self.new.offering ≡ self.old.offering }
         ensures counted { counts_in self.new ≡ record (counts_in self.old) { given_up = one_more (counts_in self.old).given_up } }
         ensures ended { (w : Awaited) → waits_in self.old ≡ Some w → EndsLast self.new w.connection GivenUp }
         ensures few { result ≡ handled_in self.old }
@@ -74,7 +74,7 @@ impl<C: Catalogue + Drop> Engine<C> {
         outcome: Outcome,
         out: &mut Vec<u8>,
     ) -> Result<(), ServeError>
-        requires can { CanAnswer (C.offers self.old.catalogue) (waits_in self.old) number (performed_in outcome) }
+        requires can { CanAnswer (C.offers self.old.offering.catalogue) (waits_in self.old) number (performed_in outcome) }
         ensures table { (owner : Owner) (calls : List Call) (past : List history.Event) (moment : ℕ) (octets written : List ℕ) (w : Awaited) → Asks C.offers owner calls self.old past moment octets written w
             → owner.answers calls w.call ≡ performed_in outcome
             → Resumes C.offers owner (calls ++ w.call ∷ []) past w.connection moment octets written (note_of result) self.new out.old.items out.new.items }
@@ -93,7 +93,7 @@ impl<C: Catalogue + Drop> Engine<C> {
         ensures asks { asks_in self.new ≡ asks_in self.old }
         ensures parked { AreParked self.old self.new }
         ensures waiting { (w : Awaited) → waits_in self.old ≡ Some w → (q : ℕ) → others_under self.new w.connection q ≡ others_under self.old w.connection q }
-        ensures catalogue { self.new.catalogue ≡ self.old.catalogue }
+        ensures catalogue { self.new.offering ≡ self.old.offering }
         ensures counted { counts_in self.new ≡ record (counts_in self.old) { answered = one_more (counts_in self.old).answered } }
         ensures few { IfErr result (λ e. e ≡ Short (handled_in self.old + 1) (handled_in self.old)) }
         ensures ended { OnOk result (AreEndings self.old self.new) }

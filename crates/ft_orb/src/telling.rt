@@ -42,7 +42,7 @@ fn tell_all<C: Catalogue + Drop>(
     ensures others { (q : ℕ) → (q == number) ≡ false → (parked_in engine.new q ≡ parked_in engine.old q) × (told_in engine.new q ≡ told_in engine.old q) }
     ensures told { (s : Settings) (g : Ledger) (outcome : Performed) → Stays C.offers s g.held g.calls engine.old g.past g.waiting → told_in engine.old number ≡ Some outcome
         → IsTold C.offers s g number outcome engine.new out.old.items out.new.items }
-    ensures catalogue { engine.new.catalogue ≡ engine.old.catalogue }
+    ensures catalogue { engine.new.offering ≡ engine.old.offering }
 {
     while let Some(connection) = engine.due(number) {
         let mut octets = Vec::new(alloc);
@@ -68,7 +68,7 @@ pub(crate) fn do_settle<C: Catalogue + Drop>(
     ensures ok { OnOk result ((s : Settings) (g : Ledger) → Holds C.offers s g engine.old → (written : List Written) × (out.new.items ≡ out.old.items ++ written)
         × IsDone C.offers s g (code.Settle number outcome.now) None (map noted written) engine.new) }
     ensures err { IfErr result (λ why. (out.new.items ≡ out.old.items) × IsRefused C.offers engine.new (code.Settle number outcome.now) why × Remains C.offers engine.old engine.new) }
-    ensures catalogue { engine.new.catalogue ≡ engine.old.catalogue }
+    ensures catalogue { engine.new.offering ≡ engine.old.offering }
 {
     if !engine.can_settle(number, outcome) {
         return Err(DeedError::NotParked);
@@ -97,7 +97,7 @@ pub(crate) fn do_withdraw<C: Catalogue + Drop>(
     ensures ok { OnOk result ((s : Settings) (g : Ledger) → Holds C.offers s g engine.old → (written : List Written) × (out.new.items ≡ out.old.items ++ written)
         × IsDone C.offers s g (code.Withdraw number name minor) None (map noted written) engine.new) }
     ensures err { IfErr result (λ why. (out.new.items ≡ out.old.items) × IsRefused C.offers engine.new (code.Withdraw number name minor) why × Remains C.offers engine.old engine.new) }
-    ensures catalogue { engine.new.catalogue ≡ engine.old.catalogue }
+    ensures catalogue { engine.new.offering ≡ engine.old.offering }
 {
     if !engine.can_settle(number, &Outcome::System(name, minor, Completion::No)) {
         return Err(DeedError::NotParked);

@@ -41,7 +41,7 @@ impl<C: Catalogue + Drop> Engine<C> {
         ensures asks { asks_in self.new ≡ asks_in self.old }
         ensures parked { AreParked self.old self.new }
         ensures waiting { (c q : ℕ) → others_under self.new c q ≡ others_under self.old c q }
-        ensures catalogue { self.new.catalogue ≡ self.old.catalogue }
+        ensures catalogue { self.new.offering ≡ self.old.offering }
         ensures counts { counts_in self.new ≡ counts_in self.old }
         ensures ended { AreEndings self.old self.new }
     {

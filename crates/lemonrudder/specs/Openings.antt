@@ -1,5 +1,5 @@
 -- A server to which nothing has happened.
-use Rattle.std.specs.Prelude.{◌≡◌, ℕ, List, []}
+use Rattle.std.specs.Prelude.{◌≡◌, ℕ, List, [], None}
 use Rattle.giop_frames.specs.declared.limits.Limits.{Limits}
 use Rattle.ft_log.specs.Performed.{Performed}
 use Rattle.ft_objects.specs.declared.interfaces.Interfaces.{Interfaces}
@@ -12,5 +12,5 @@ use Rattle.lemonrudder.specs.Serves.{IsIdle}
 
 -- a server of these objects, to which nothing has happened
 abbrev pub IsNew : Interfaces → Limits → (capacity share : ℕ) → Serving → Type 0
-IsNew i limits capacity share t = IsIdle t × (t.engine.catalogue ≡ i) × (owed t.due ≡ []) × IsPlaced t.due
+IsNew i limits capacity share t = IsIdle t × (t.engine.offering ≡ record { catalogue = i; longest = None }) × (owed t.due ≡ []) × IsPlaced t.due
     × ((answers : List Call → Call → Performed) → Rests offer_of (record { offer = offer_of i; answers = answers; limits = limits; capacity = capacity; share = share }) [] t.engine [])

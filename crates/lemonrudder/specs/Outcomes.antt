@@ -38,7 +38,7 @@ Answers outcome s t o = (owner : Owner) (calls : List Call) (past : List Event) 
 
 -- an outcome can answer what waits
 abbrev pub CanBe : Performed → Serving → Type 0
-CanBe outcome s = (number : ℕ) × CanAnswer (offer_of s.engine.catalogue) (waits_in s.engine) number outcome
+CanBe outcome s = (number : ℕ) × CanAnswer (offer_of s.engine.offering.catalogue) (waits_in s.engine) number outcome
 
 -- an outcome is handed in, and the number n is answered: not where nothing waits, nor where it can't be that of the operation
 abbrev pub HandsIn : ℕ → Performed → Serving → Serving → Result ℕ Refusal → Type 0
@@ -63,7 +63,7 @@ ByAwaited (Some w) s t r Does = Does w
 
 -- what the operation of a call is
 abbrev pub interface_at : Serving → Awaited → Interface
-interface_at s w = (offer_of s.engine.catalogue).interface w.call.object_key w.call.operation
+interface_at s w = (offer_of s.engine.offering.catalogue).interface w.call.object_key w.call.operation
 
 -- the types of the results of an operation, if it has types
 abbrev pub result_types : Interface → Option Forms
@@ -113,7 +113,7 @@ abbrev pub identity_by : Option (List (List ℕ)) → Call → Option Bool
 identity_by ids call = if not (names_id ids (codes "IDL:omg.org/CORBA/Object:1.0")) then None else (if bytes_eq call.operation non_existent_name then Some false else (if bytes_eq call.operation is_a_name then option_map (names_id ids) (read_at string_of 0 call.arguments) else None))
 
 abbrev pub identity_at : Serving → Awaited → Option Bool
-identity_at s w = identity_by (ids_of s.engine.catalogue w.call.object_key) w.call
+identity_at s w = identity_by (ids_of s.engine.offering.catalogue w.call.object_key) w.call
 
 -- the answer to `_is_a` or `_non_existent`; where the request is neither, nothing changes
 abbrev pub Identifies : Option Bool → Serving → Serving → Result ℕ Refusal → Type 0

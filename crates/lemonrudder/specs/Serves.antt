@@ -48,7 +48,7 @@ KeepsDue s t = (t.due ≡ s.due) × (t.due_on ≡ s.due_on)
 
 -- no call changes what is on offer: it stays the catalogue that the server was opened with
 abbrev pub KeepsCatalogue : Serving → Serving → Type 0
-KeepsCatalogue s t = t.engine.catalogue ≡ s.engine.catalogue
+KeepsCatalogue s t = t.engine.offering ≡ s.engine.offering
 
 -- what a call answers: a number where it was done, or why it was not
 abbrev pub done_of : {A E : Type 0} → ℕ → (E → Refusal) → Result A E → Result ℕ Refusal
@@ -95,7 +95,7 @@ taken_of size (Err e) = Err (refusal_of_serving e)
 -- the engine takes octets, and what it writes is due after what was
 abbrev pub Takes : (c moment : ℕ) → List ℕ → Serving → Serving → Result Fed ServeError → Type 0
 Takes c moment octets s t f =
-    IsLeftAt c (length octets) f (waits_in t.engine) × IsFit (offer_of t.engine.catalogue) (waits_in t.engine)
+    IsLeftAt c (length octets) f (waits_in t.engine) × IsFit (offer_of t.engine.offering.catalogue) (waits_in t.engine)
     × ((owner : Owner) (calls : List Call) (past : List Event) → Rests offer_of owner calls s.engine past → IsPlaced s.due
     → IsPlaced t.due × Feeds offer_of owner calls past c moment octets f t.engine (owed s.due) (owed t.due)
     × FeedsOnce offer_of owner calls past c moment octets f (waits_in t.engine) (owed s.due) (owed t.due)

@@ -1,13 +1,16 @@
-//! Offer ten thousand accounts as one object: a family, an account with a key of its own, and a default object.
+//! Offer ten thousand accounts as one object: a family, an account with a key of its own, and a default object. Accounts of
+//! their own come and go while an engine serves.
 
-ghost use Rattle.std.specs.Prelude.{◌≡◌, IfOk, codes};
+ghost use Rattle.std.specs.Prelude.{◌≡◌, IfOk, None, OnOk, OnErr, codes};
 ghost use Rattle.ft_objects.specs.Families.{families_offer};
-ghost use Rattle.ft_objects.specs.Filling.{offer_of};
+ghost use Rattle.ft_objects.specs.Filling.{offer_of, with_raw_object, without_object};
 ghost use Rattle.ft_objects.specs.Interfaces.{no_operation, operation, raw_operation, types_of};
+ghost use Rattle.ft_orb.specs.Engines.{waits_in};
 ghost use Rattle.uses.specs.Accounts.{account_types, family_offers, own_offer};
 
 use cdr_core::Ty;
 use ft_objects::{Families, Interfaces, InterfacesError, Signature};
+use ft_orb::Engine;
 use std::alloc::{AllocError, Global};
 
 /// The types of `balance`: it takes nothing, and returns cents.
@@ -56,4 +59,25 @@ pub fn offer_accounts(alloc: Global) -> Result<Families, InterfacesError>
         objects: own_accounts(alloc)?,
         families: account_families(alloc)?,
     })
+}
+
+/// Gives an account an object of its own while the engine serves. What comes for it from now on is raw; a repeat of what came
+/// before gets the outcome that is kept.
+pub fn open_account(engine: &mut Engine<Families>, key: &[u8]) -> Result<(), InterfacesError>
+    requires idle { waits_in engine.old ≡ None }
+    ensures idle { waits_in engine.new ≡ None }
+    ensures ok { OnOk result (offer_of engine.new.offering.catalogue.objects ≡ with_raw_object key.now (offer_of engine.old.offering.catalogue.objects)) }
+    ensures err { OnErr result (offer_of engine.new.offering.catalogue.objects ≡ offer_of engine.old.offering.catalogue.objects) }
+{
+    engine.change(|accounts| accounts.objects.add_raw_object(key))
+}
+
+/// Takes an account's own object away again, so that the account is one of its family. Returns whether it had one.
+pub fn close_account(engine: &mut Engine<Families>, key: &[u8]) -> bool
+    requires idle { waits_in engine.old ≡ None }
+    ensures idle { waits_in engine.new ≡ None }
+    ensures was { result ≡ (offer_of engine.old.offering.catalogue.objects).knows key.now }
+    ensures gone { offer_of engine.new.offering.catalogue.objects ≡ without_object key.now (offer_of engine.old.offering.catalogue.objects) }
+{
+    engine.change(|accounts| accounts.objects.remove(key))
 }

@@ -1,10 +1,11 @@
 //! A life of an engine from a list of deeds: its owner answers at once, parks and settles, in any order.
 
-ghost use Rattle.std.specs.Prelude.{◌≡◌, ◌++◌, ℕ, List, flat_map, length, map, take};
+ghost use Rattle.std.specs.Prelude.{◌≡◌, ◌++◌, ℕ, List, None, flat_map, length, map, take};
 ghost use Rattle.ft_log.specs.Holding.{Holding};
 ghost use Rattle.ft_orb.specs.Deeds.{Deed as History, notes_of};
 ghost use Rattle.ft_orb.specs.DeedsPlayed.{AreOf, IsAnsweredLate, deeds_done};
 ghost use Rattle.ft_orb.specs.Outputs.{noted};
+ghost use Rattle.ft_orb.specs.Requests.{terms_of};
 
 use crate::banking::{BankingError, bank_interfaces};
 use ft_log::Retention;
@@ -42,7 +43,7 @@ pub fn live<C: Catalogue + Drop>(
         × (out.new.items ≡ out.old.items ++ written)
         × AreOf (take (deeds_done (length deeds.now) result) deeds.now) ds
         × (flat_map notes_of ds ≡ map noted written)
-        × IsAnsweredLate (record { offer = C.offers catalogue; limits = limits; capacity = 100; share = 100; places = record { parked = 100; of_one = 20; joined = 10 } }) held ds }
+        × IsAnsweredLate (record { terms = λ n. terms_of None (C.offers catalogue); limits = limits; capacity = 100; share = 100; places = record { parked = 100; of_one = 20; joined = 10 } }) held ds }
 {
     let retention = Retention {
         capacity: 100,

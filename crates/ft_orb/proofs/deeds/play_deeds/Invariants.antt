@@ -9,5 +9,5 @@ use Rattle.ft_orb.proofs.deeds.play_deeds.Given as goal
 abbrev pub invariant-loop-i : goal.invariant-loop-i
 invariant-loop-i g l = record {
   run : (s : Settings) (h : Ledger) → Holds g.C.Catalogue.offers s h l.fn.engine → AreDone g.C.Catalogue.offers s h (take l.i l.deeds) None l.engine l.fn.out.items l.out.items;
-  catalogue : l.engine.catalogue ≡ l.fn.engine.catalogue;
+  catalogue : l.engine.offering ≡ l.fn.engine.offering;
 }

@@ -10,7 +10,7 @@ use Rattle.ft_log.specs.Exceptions.{completion_number, repository_id}
 use Rattle.ft_objects.specs.Replies.{system_members}
 use Rattle.ft_orb.proofs.outcomes.can_refuse.Goals as goal
 
-members : (minor n : ℕ) → values_of (ULong minor ∷ Enum n ∷ []) ≡ system_members minor n
+pub members : (minor n : ℕ) → values_of (ULong minor ∷ Enum n ∷ []) ≡ system_members minor n
 members minor n = search (rules, the_lemmas)
 
 abbrev Can : Bool → List ℕ → Values → Type 0

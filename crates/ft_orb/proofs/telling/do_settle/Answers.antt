@@ -19,7 +19,7 @@ returns-clause-ok g c s h holds =
       t.written,
       t.appended ∙ ap (λ (l : List Written). l ++ t.written) c.reserve.ensures.items,
       settles-deed g.C.Catalogue.offers s h c.args.engine.now c.tell_all.new.engine r c.args.number (performed_in c.in-Ok.copy) c.reserve.new.self.items c.tell_all.new.out.items t (c.tell_all.ensures.asks ∙ c.settle.ensures.asks)
-          (subst (λ (o : Performed). CanSettle (g.C.Catalogue.offers c.args.engine.now.catalogue) (parked_at c.args.engine.now c.args.number) o) (sym c.in-Ok.ensures) (c.can_settle.ensures.0 c.if-not-can_settle.false))
+          (subst (λ (o : Performed). CanSettle (g.C.Catalogue.offers c.args.engine.now.offering.catalogue) (parked_at c.args.engine.now c.args.number) o) (sym c.in-Ok.ensures) (c.can_settle.ensures.0 c.if-not-can_settle.false))
           (c.tell_all.ensures.done (subst (λ (o : Option Performed). IsSome o) (sym c.settle.ensures.told) refl))
           (λ q apart. let a = c.tell_all.ensures.others q apart in (a.0 ∙ c.settle.ensures.parked q, a.1 ∙ c.settle.ensures.others q apart))
           (code.Settle c.args.number c.args.outcome.now) (refl, c.in-Ok.ensures),

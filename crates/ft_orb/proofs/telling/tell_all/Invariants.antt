@@ -13,7 +13,7 @@ invariant-loop-connection g l = record {
   idle : waits_in l.engine ≡ None;
   room : length l.out.items + left_in l.engine l.number ≤ vec_capacity l.out;
   asks : asks_in l.engine ≡ asks_in l.fn.engine;
-  catalogue : l.engine.catalogue ≡ l.fn.engine.catalogue;
+  catalogue : l.engine.offering ≡ l.fn.engine.offering;
   telling : told_in l.engine l.number ≡ told_in l.fn.engine l.number;
   others : (q : ℕ) → (q == l.number) ≡ false → (parked_in l.engine q ≡ parked_in l.fn.engine q) × (told_in l.engine q ≡ told_in l.fn.engine q);
   told : (s : Settings) (h : Ledger) (outcome : Performed) → Stays g.C.Catalogue.offers s h.held h.calls l.fn.engine h.past h.waiting → told_in l.fn.engine l.number ≡ Some outcome

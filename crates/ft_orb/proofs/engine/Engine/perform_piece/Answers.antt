@@ -46,6 +46,7 @@ loop-part-preserved g c =
       within = omega (arith, within, size, small);
       few = omega (arith, few, fewer);
       idle = c.perform_part.ensures.idle;
+      free = c.perform_part.ensures.free;
       goes = λ made past st.
           done-more g.S.Servant.meaning made c.streams_are_heard.ensures.grows c.streams_are_heard.ensures.stays c.streams_are_heard.ensures.silent past c.args.connection c.args.moment c.args.piece.now c.loop-part.done (shown_in c.loop-part.self) (shown_in c.perform_part.new.self)
           c.args.out.now.items c.loop-part.out.items c.perform_part.new.out.items (v.goes made past st) c.in-Ok-Some.part some

@@ -12,6 +12,7 @@ invariant-loop-part g l = record {
   within : l.done.taken ≤ length l.piece;
   few : l.done.handled ≤ l.done.taken;
   idle : waits_in l.self ≡ None;
+  free : l.self.offering.longest ≡ None;
   goes : (made : Made g.row.S.Denot) (past : List history.Event) → Stands g.S.Servant.meaning made (shown_in l.fn.self) past → IsDoneTo g.S.Servant.meaning made past l.connection l.moment l.piece l.done (shown_in l.self) l.fn.out.items l.out.items;
 }
 

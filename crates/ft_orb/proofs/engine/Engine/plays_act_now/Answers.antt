@@ -8,5 +8,5 @@ use Rattle.ft_orb.proofs.engine.Engine.plays_act_now.Goals as goal
 
 pub returns : goal.returns
 returns g c limits capacity share answers es entries plays h =
-    let owner : Owner = owner_of (g.C.Catalogue.offers c.args.self.now.catalogue) limits capacity share answers in
+    let owner : Owner = owner_of (g.C.Catalogue.offers c.args.self.now.offering.catalogue) limits capacity share answers in
     (plays-act-now (meaning_of owner) (made_of owner) [] es entries plays, servant-now (meaning_of owner) (made_of owner) (as_server c.args.self.now (calls_of answers)) (past_after limits [] es entries) h.stands)

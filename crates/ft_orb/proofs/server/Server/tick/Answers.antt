@@ -12,7 +12,7 @@ use Rattle.ft_orb.proofs.server.Server.tick.Goals as goal
 pub returns-clause-table : goal.returns-clause-table
 returns-clause-table g c made past other st gone =
     let stood : Stands g.S.Servant.meaning made (shown_in c.rest.new.self) past = subst (λ (s : Shown g.row.S.Denot). Stands g.S.Servant.meaning made s past) (sym (c.rest.ensures.shown ∙ c.self.view_is)) st in
-    let r = shown-rests g.S.Servant.meaning made c.rest.new.self past c.rest.ensures.idle stood in
+    let r = shown-rests g.S.Servant.meaning made c.rest.new.self past c.rest.ensures.free c.rest.ensures.idle stood in
     then-shown g.S.Servant.meaning made (calls_at g.S.Servant.meaning made past) past (Piece other c.args.moment []) Refused c.rest.new.self c.tick.new.self [] c.tick.ensures.catalogue r.1
     (c.tick.ensures.table _ (calls_at g.S.Servant.meaning made past) past other r.0 gone)
 

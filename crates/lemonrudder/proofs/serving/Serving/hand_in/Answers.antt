@@ -15,14 +15,14 @@ pub returns-in_default : goal.returns-in_default
 returns-in_default c = (
   λ idle. (refl, refl),
   λ some cannot. absurd (not_both _ some (sym c.in_default.ensures)),
-  λ can. absurd (none_can (offer_of c.args.self.now.engine.catalogue) _ can.0 (performed_in c.args.outcome) (sym c.in_default.ensures) can.1),
+  λ can. absurd (none_can (offer_of c.args.self.now.engine.offering.catalogue) _ can.0 (performed_in c.args.outcome) (sym c.in_default.ensures) can.1),
 )
 
 pub returns-then-not-can_answer : goal.returns-then-not-can_answer
 returns-then-not-can_answer c = (
   λ idle. absurd (none-some _ (sym (c.in-Some.ensures ∙ idle))),
   λ some cannot. (refl, refl),
-  λ can. absurd (not_so c.if-not-can_answer.true (c.can_answer.ensures.1 (can_at (offer_of c.args.self.now.engine.catalogue) _ (awaited_lent c.in-Some.asked) can.0 (performed_in c.args.outcome) c.in-Some.ensures can.1))),
+  λ can. absurd (not_so c.if-not-can_answer.true (c.can_answer.ensures.1 (can_at (offer_of c.args.self.now.engine.offering.catalogue) _ (awaited_lent c.in-Some.asked) can.0 (performed_in c.args.outcome) c.in-Some.ensures can.1))),
 )
 
 pub returns-in_err-answer : goal.returns-in_err-answer

@@ -20,5 +20,5 @@ returns c =
     let is : interface_at s w ≡ operation t = sym c.lookup.ensures ∙ ap interface_of c.in-Operation.is in
     let lent : members_in id (map raise_of c.deref.result.now) ≡ Some ts = sym c.types_of_exception.ensures ∙ ap forms_in found in
     let declared : members_in id t.raises ≡ Some ts = rw c.deref.ensures.value at lent in
-    let promised : IsValidInterface (operation t) = subst IsValidInterface is ((offer-is s.engine.catalogue).valid w.call.object_key w.call.operation) in
+    let promised : IsValidInterface (operation t) = subst IsValidInterface is ((offer-is s.engine.offering.catalogue).valid w.call.object_key w.call.operation) in
     found-some (λ x. member_types id (interface_at s x)) c.args.order c.args.octets.now _ w ts c.values.result (sym (rw here at c.asked.ensures)) (ap (member_types id) is ∙ declared) (c.values.ensures (members-valid id t.raises ts promised.2 declared))

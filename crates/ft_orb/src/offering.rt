@@ -1,0 +1,65 @@
+//! What an engine serves, and how that changes.
+
+ghost use Rattle.std.specs.Prelude.{◌≡◌, ◌∷◌, ℕ, suc, List, None, Some};
+ghost use Rattle.std.specs.Fn.{FnOnceReturnsAtMut};
+ghost use Rattle.ft_log.specs.Holding.{Holding};
+ghost use Rattle.ft_orb.specs.History as history;
+ghost use Rattle.ft_orb.specs.History.{changes};
+ghost use Rattle.ft_orb.specs.Offerings.{terms_by};
+ghost use Rattle.ft_orb.specs.Requests.{Call};
+ghost use Rattle.ft_orb.specs.declared.parked.Waiter.{Waiter};
+
+use crate::engine::Engine;
+use ft_objects::Catalogue;
+
+/// What is on offer, and how many octets a client's id may have, where that is bounded.
+#[derive(Drop)]
+pub(crate) struct Offering<C: Drop> {
+    pub(crate) catalogue: C,
+    pub(crate) longest: Option<usize>,
+}
+
+impl<C: Catalogue + Drop> Engine<C> {
+    ghost use Rattle.ft_orb.specs.Engines.{AreEndings, asks_in, counts_in, waits_in};
+    ghost use Rattle.ft_orb.specs.Parking.{AreParked, Settings, Stays, others_under};
+
+    /// Changes what is on offer: calls `change` with the catalogue, to add objects to it or take some away. What comes from
+    /// now on is served by what it is then. What is kept stays: a repeat is known by its key alone, so it gets the outcome of
+    /// its first performance though its object is gone.
+    ///
+    /// A request that is parked is settled with an outcome of its operation as that is on offer when it is settled:
+    /// `is_wanted` says whether one asks for an object.
+    pub fn change<R, F: FnOnce(&mut C) -> R>(&mut self, change: F) -> R
+        requires idle { waits_in self.old ≡ None }
+        requires callable { F.IsAlwaysCallable change }
+        ensures changed { FnOnceReturnsAtMut F.FnOnce change self.old.offering.catalogue result self.new.offering.catalogue }
+        ensures late { (s : Settings) (held : ℕ → Holding) (calls : List Call) (past : List history.Event) (waiting : ℕ → List Waiter) → Stays C.offers s held calls self.old past waiting
+            → s.terms (suc (changes past)) ≡ terms_by C.offers self.new.offering → Stays C.offers s held calls self.new (history.Changed ∷ past) waiting }
+        ensures bound { self.new.offering.longest ≡ self.old.offering.longest }
+        ensures idle { waits_in self.new ≡ None }
+        ensures asks { asks_in self.new ≡ asks_in self.old }
+        ensures parked { AreParked self.old self.new }
+        ensures waiting { (c q : ℕ) → others_under self.new c q ≡ others_under self.old c q }
+        ensures counts { counts_in self.new ≡ counts_in self.old }
+        ensures ended { AreEndings self.old self.new }
+    {
+        change(&mut self.offering.catalogue)
+    }
+
+    /// Bounds the ids of clients, in octets. From now on a request whose FT_REQUEST context names a client by more is refused
+    /// BAD_CONTEXT, unless its key is one under which an outcome is kept. An engine is made without a bound.
+    pub fn bound_client_ids(&mut self, octets: usize)
+        requires idle { waits_in self.old ≡ None }
+        ensures bound { self.new.offering ≡ record { catalogue = self.old.offering.catalogue; longest = Some octets } }
+        ensures late { (s : Settings) (held : ℕ → Holding) (calls : List Call) (past : List history.Event) (waiting : ℕ → List Waiter) → Stays C.offers s held calls self.old past waiting
+            → s.terms (suc (changes past)) ≡ terms_by C.offers self.new.offering → Stays C.offers s held calls self.new (history.Changed ∷ past) waiting }
+        ensures idle { waits_in self.new ≡ None }
+        ensures asks { asks_in self.new ≡ asks_in self.old }
+        ensures parked { AreParked self.old self.new }
+        ensures waiting { (c q : ℕ) → others_under self.new c q ≡ others_under self.old c q }
+        ensures counts { counts_in self.new ≡ counts_in self.old }
+        ensures ended { AreEndings self.old self.new }
+    {
+        self.offering.longest = Some(octets);
+    }
+}
