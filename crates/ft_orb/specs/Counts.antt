@@ -1,6 +1,6 @@
--- How many requests are parked, by the connections that they came on, and how many wait for their outcomes.
-use Rattle.std.specs.Prelude.{◌≡◌, ◌==◌, ℕ, List}
-use Rattle.std.specs.List.{count_by, sum_by}
+-- How many requests are parked, by the connections that they came on, and how many wait for their outcomes; and for which objects.
+use Rattle.std.specs.Prelude.{◌≡◌, ◌==◌, ℕ, Bool, List, bytes_eq}
+use Rattle.std.specs.List.{count_by, list_any, sum_by}
 use Rattle.std.specs.Map.{count_at}
 use Rattle.std.specs.Ordering.{nat_cmp}
 use Rattle.std.specs.BTreeMap.{BTreeMap, get, values}
@@ -22,3 +22,7 @@ waiters_on requests c = sum_by (λ (p : Parked). on_connection c p.waiters.items
 -- each connection has its count
 abbrev pub AreCounted : BTreeMap ℕ Parked → BTreeMap ℕ ℕ → Type 0
 AreCounted requests counts = (c : ℕ) → count_at (get nat_cmp counts) c ≡ parked_on requests c
+
+-- one of them is a request of the object under this key
+abbrev pub is_parked_for : List ℕ → BTreeMap ℕ Parked → Bool
+is_parked_for key requests = list_any (λ (p : Parked). bytes_eq p.pending.waiting.object_key.items key) (values requests)

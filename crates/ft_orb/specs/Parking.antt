@@ -28,7 +28,7 @@ use Rattle.ft_orb.specs.declared.keeper.Retained.{Retained}
 use Rattle.ft_orb.specs.declared.parked.Parked.{Parked}
 use Rattle.ft_orb.specs.declared.parked.Places.{Places}
 use Rattle.ft_orb.specs.declared.parked.Waiter.{Waiter}
-use Rattle.ft_orb.specs.Counts.{parked_on, waiters_on}
+use Rattle.ft_orb.specs.Counts.{is_parked_for, parked_on, waiters_on}
 use Rattle.ft_orb.specs.Engines.{AsksOf, Awaited, EndsOf, RestsOf, ResumesOf, StopsOf, asks_in, awaited_of}
 use Rattle.ft_orb.specs.ExactlyOnce.{Absent, Arrival}
 use Rattle.ft_orb.specs.History.{Event, Lost, Piece, Withdrew, changes, completed, does_count, line, origin, shortened}
@@ -102,6 +102,10 @@ parked_in e n = option_map (λ (p : Parked). awaited_of p.pending) (parked_at e 
 
 abbrev pub parked_count : {C : Type 0} → Engine C → ℕ
 parked_count e = btree_map_len e.parked.requests
+
+-- whether one of these is a request of an object
+abbrev pub is_wanted_in : {C : Type 0} → Engine C → List ℕ → Bool
+is_wanted_in e key = is_parked_for key e.parked.requests
 
 -- how many of these came on a connection; and how many wait on it, which goes on, for outcomes of any of them
 abbrev pub parked_of : {C : Type 0} → Engine C → ℕ → ℕ

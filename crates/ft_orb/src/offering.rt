@@ -1,6 +1,6 @@
 //! What an engine serves, and how that changes.
 
-ghost use Rattle.std.specs.Prelude.{◌≡◌, ◌∷◌, ℕ, suc, List, None, Some};
+ghost use Rattle.std.specs.Prelude.{◌≡◌, ◌∷◌, ℕ, suc, true, false, List, None, Some, IfOk, OnErr, OnOk};
 ghost use Rattle.std.specs.Fn.{FnOnceReturnsAtMut};
 ghost use Rattle.ft_log.specs.Holding.{Holding};
 ghost use Rattle.ft_orb.specs.History as history;
@@ -10,6 +10,7 @@ ghost use Rattle.ft_orb.specs.Requests.{Call};
 ghost use Rattle.ft_orb.specs.declared.parked.Waiter.{Waiter};
 
 use crate::engine::Engine;
+use crate::error::ChangeError;
 use ft_objects::Catalogue;
 
 /// What is on offer, and how many octets a client's id may have, where that is bounded.
@@ -21,14 +22,14 @@ pub(crate) struct Offering<C: Drop> {
 
 impl<C: Catalogue + Drop> Engine<C> {
     ghost use Rattle.ft_orb.specs.Engines.{AreEndings, asks_in, counts_in, waits_in};
-    ghost use Rattle.ft_orb.specs.Parking.{AreParked, Settings, Stays, others_under};
+    ghost use Rattle.ft_orb.specs.Parking.{AreParked, Settings, Stays, is_wanted_in, others_under};
 
     /// Changes what is on offer: calls `change` with the catalogue, to add objects to it or take some away. What comes from
     /// now on is served by what it is then. What is kept stays: a repeat is known by its key alone, so it gets the outcome of
     /// its first performance though its object is gone.
     ///
-    /// A request that is parked is settled with an outcome of its operation as that is on offer when it is settled:
-    /// `is_wanted` says whether one asks for an object.
+    /// A request that is parked is settled with an outcome of its operation as that is on offer when it is settled
+    /// (`change_object`).
     pub fn change<R, F: FnOnce(&mut C) -> R>(&mut self, change: F) -> R
         requires idle { waits_in self.old ≡ None }
         requires callable { F.IsAlwaysCallable change }
@@ -44,6 +45,45 @@ impl<C: Catalogue + Drop> Engine<C> {
         ensures ended { AreEndings self.old self.new }
     {
         change(&mut self.offering.catalogue)
+    }
+
+    /// Whether a request of the object under this key is parked. It looks at each request that is.
+    pub fn is_wanted(&self, object_key: &[u8]) -> bool
+        ensures { result ≡ is_wanted_in self.now object_key.now }
+    {
+        self.parked
+            .requests
+            .values()
+            .any(|parked| parked.pending.waiting.object_key.as_slice() == object_key)
+    }
+
+    /// Changes what is on offer as `change` does, but for an object of which a request is parked: so one that is wanted is not
+    /// taken away. Where it is refused nothing has changed.
+    pub fn change_object<R, F: FnOnce(&mut C) -> R>(
+        &mut self,
+        object_key: &[u8],
+        change: F,
+    ) -> Result<R, ChangeError>
+        requires idle { waits_in self.old ≡ None }
+        requires callable { F.IsAlwaysCallable change }
+        ensures unwanted { OnOk result (is_wanted_in self.old object_key.now ≡ false) }
+        ensures wanted { OnErr result (is_wanted_in self.old object_key.now ≡ true) }
+        ensures same { OnErr result (self.new ≡ self.old) }
+        ensures changed { IfOk result (λ r. FnOnceReturnsAtMut F.FnOnce change self.old.offering.catalogue r self.new.offering.catalogue) }
+        ensures late { OnOk result ((s : Settings) (held : ℕ → Holding) (calls : List Call) (past : List history.Event) (waiting : ℕ → List Waiter) → Stays C.offers s held calls self.old past waiting
+            → s.terms (suc (changes past)) ≡ terms_by C.offers self.new.offering → Stays C.offers s held calls self.new (history.Changed ∷ past) waiting) }
+        ensures bound { self.new.offering.longest ≡ self.old.offering.longest }
+        ensures idle { waits_in self.new ≡ None }
+        ensures asks { asks_in self.new ≡ asks_in self.old }
+        ensures parked { AreParked self.old self.new }
+        ensures waiting { (c q : ℕ) → others_under self.new c q ≡ others_under self.old c q }
+        ensures counts { counts_in self.new ≡ counts_in self.old }
+        ensures ended { AreEndings self.old self.new }
+    {
+        if self.is_wanted(object_key) {
+            return Err(ChangeError::Wanted);
+        }
+        Ok(self.change(change))
     }
 
     /// Bounds the ids of clients, in octets. From now on a request whose FT_REQUEST context names a client by more is refused

@@ -1,17 +1,14 @@
-use Rattle.std.proofs.Common.{◌≡◌, ◌↔◌, ◌≤◌, IsTrue, Bool, ℕ, List, [], ◌∷◌, length, ap, subst, ◌∙◌, rules}
+use Rattle.std.proofs.Common.{◌≡◌, ◌↔◌, ◌≤◌, IsTrue, Bool, ℕ, List, [], ◌∷◌, length, ap, subst, ◌∙◌}
 use Rattle.cdr_core.specs.Value.{Values}
 use Rattle.cdr_core.specs.View.{values_of}
 use Rattle.cdr_core.specs.Writing.{AreWritable, octets_of_all}
 use Rattle.cdr_core.specs.declared.order.Order.TheVariants.{Big}
-use Rattle.cdr_core.specs.declared.values.Val.{the_lemmas}
 use Rattle.cdr_core.specs.declared.values.Val.TheVariants.{Enum, ULong}
 use Rattle.giop_core.specs.Written.{exception_body}
 use Rattle.ft_log.specs.Exceptions.{completion_number, repository_id}
 use Rattle.ft_objects.specs.Replies.{system_members}
+use Rattle.ft_orb.proofs.Measured.{members}
 use Rattle.ft_orb.proofs.outcomes.can_refuse.Goals as goal
-
-pub members : (minor n : ℕ) → values_of (ULong minor ∷ Enum n ∷ []) ≡ system_members minor n
-members minor n = search (rules, the_lemmas)
 
 abbrev Can : Bool → List ℕ → Values → Type 0
 Can b id vs = IsTrue b ↔ (AreWritable (exception_body id vs) × (length (octets_of_all Big (exception_body id vs) 24) ≤ 1048576))

@@ -7,7 +7,7 @@ use Rattle.cdr_core.specs.declared.values.Val.TheVariants.{Enum, ULong}
 use Rattle.giop_core.specs.Written.{exception_body}
 use Rattle.ft_log.specs.Exceptions.{completion_number, repository_id}
 use Rattle.ft_objects.specs.Replies.{system_members}
-use Rattle.ft_orb.proofs.outcomes.can_refuse.Answers.{members}
+use Rattle.ft_orb.proofs.Measured.{members}
 use Rattle.ft_orb.proofs.outcomes.refused_len.Goals as goal
 
 abbrev Measured : Option ℕ → List ℕ → Values → Type 0
