@@ -58,6 +58,7 @@ pub(crate) enum Done {
     System(&'static [u8]),
     Forwarded(&'static [u8]),
     NeedsAddressing,
+    Sent,
     Expired,
     Cancelled,
 }
@@ -75,6 +76,7 @@ pub(crate) fn is_done(ended: &Ended, done: Done) -> bool {
         | (Ended::System(body), Done::System(octets))
         | (Ended::Forwarded(body), Done::Forwarded(octets)) => is_body(body, Order::Big, octets),
         (Ended::NeedsAddressing, Done::NeedsAddressing)
+        | (Ended::Sent, Done::Sent)
         | (Ended::Expired, Done::Expired)
         | (Ended::Cancelled, Done::Cancelled) => true,
         _ => false,

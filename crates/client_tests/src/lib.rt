@@ -11,6 +11,8 @@ mod clients;
 #[cfg(test)]
 mod octets;
 #[cfg(test)]
+mod raw;
+#[cfg(test)]
 mod replies;
 #[cfg(test)]
 mod sessions;

@@ -1,14 +1,14 @@
 -- Numbers without gaps: where no call of before is taken up again and no number is skipped.
-use Rattle.std.proofs.Common.{◌≡◌, ℕ, suc, ◌+◌, ◌==◌, ◌&&◌, nat_le, nat_lt, Bool, true, false, cond, List, [], ◌∷◌, ◌++◌, length, Option, Some, None, refl, sym, ap, ◌∙◌, subst, arith, length-append}
+use Rattle.std.proofs.Common.{◌≡◌, ℕ, suc, ◌+◌, ◌==◌, ◌&&◌, nat_le, nat_lt, Bool, true, false, cond, List, [], ◌∷◌, ◌++◌, length, Option, Some, None, refl, sym, ◌∙◌, subst, arith, length-append}
 use Rattle.std.specs.List.{list_any}
 use Rattle.std.proofs.lemmas.Bool.{or_parts, true≢false}
 use Rattle.std.proofs.lemmas.Bool.Decides.{nat_tests}
 use Rattle.std.proofs.lemmas.List.{append-nil}
 use Rattle.giop_link.specs.Hearing.{Ending, Hearing, news}
-use Rattle.ft_client.specs.Clients.{Called, Client, Ended, Fed, Happening, Joined, Linked, Parted, Pending, Recalled, Resumed, Skipped, Taken, Ticked, after, completed_if, ended_by, ending_of, fed_on, find_pending, is_taken, made, parted_at, placed, recalled, settled, settled_all, told_of, waiting}
+use Rattle.ft_client.specs.Clients.{Called, Client, Ended, Fed, Happening, Joined, Linked, Parted, Pending, Recalled, Resumed, Skipped, Taken, Ticked, after, completed_if, ended_by, ending_of, fed_on, find_pending, is_taken, made, parted_at, placed, placed_on, recalled, settled, settled_all, told_of, waiting}
 use Rattle.ft_client.specs.Laws.{NumbersHaveNoGaps}
 use Rattle.ft_client.specs.Lives.{Life, called_count, goes_on, leaves_out, lived, new_life, one_if}
-use Rattle.ft_client.specs.Messages.{Answer, Call, located, replied}
+use Rattle.ft_client.specs.Messages.{Answer, Call, is_oneway, located, replied, wish_of}
 use Rattle.ft_client.proofs.Living.{called-append, calls-complete-once}
 
 -- what was given is the numbers from 1 up to the last
@@ -33,9 +33,13 @@ counted-push calls last call h = (
 
 -- The last number, and what leaves it.
 
+last-placed_on : (b : Bool) (id : ℕ) (call : Call) (m : Client) (l : Linked) → (placed_on b id call m l).last ≡ id
+last-placed_on true id call m l = refl
+last-placed_on false id call m l = refl
+
 last-placed : (id : ℕ) (call : Call) (m : Client) (l : Option Linked) → (placed id call m l).last ≡ id
 last-placed id call m None = refl
-last-placed id call m (Some l) = refl
+last-placed id call m (Some l) = last-placed_on (is_oneway (wish_of call.form)) id call m l
 
 last-if : (o : Option ℕ) (ended : Ended) (m : Client) → (completed_if o ended m).last ≡ m.last
 last-if None ended m = refl

@@ -2,7 +2,10 @@ mod Samples
 pub mod Numbers
 pub mod Patching
 pub mod Contexts
+pub mod Octets
+pub mod Asking
 pub mod Marking
+pub mod Leaving
 pub mod Living
 pub mod Gapless
 pub mod Feeds
@@ -10,10 +13,12 @@ pub mod Models
 pub mod Sent
 pub mod Joining
 pub mod Placing
+pub mod RawCalls
 pub mod Places
 pub mod Withdrawing
 pub mod Cancelling
 pub mod Ticking
+pub mod SendingOff
 pub mod Awaiting
 pub mod Settled
 pub mod Fed

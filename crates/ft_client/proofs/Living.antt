@@ -1,5 +1,5 @@
 -- A client with all that ever was: each call is pending or was completed once.
-use Rattle.std.proofs.Common.{◌≡◌, ℕ, zero, suc, ◌+◌, ◌<◌, ◌≤◌, ◌==◌, ◌&&◌, nat_le, nat_lt, ℤ, pos, Bool, true, false, cond, List, [], ◌∷◌, ◌++◌, drop, length, take, Option, Some, None, refl, sym, ap, ◌∙◌, subst, arith, length-append}
+use Rattle.std.proofs.Common.{◌≡◌, ℕ, suc, ◌+◌, ◌<◌, ◌≤◌, ◌==◌, ◌&&◌, nat_le, nat_lt, ℤ, pos, Bool, true, false, cond, List, [], ◌∷◌, ◌++◌, drop, length, take, Option, Some, None, refl, sym, ap, ◌∙◌, subst, arith}
 use Rattle.std.specs.List.{AllByRecursion}
 use Rattle.std.specs.Ordering.{int_eq}
 use Rattle.std.proofs.lemmas.Bool.{and_parts, eq-eqb, eqb-true, leb-true, ltb-true}
@@ -9,10 +9,11 @@ use Rattle.std.proofs.lemmas.Option.{none-some, same_Some}
 use Rattle.giop_core.specs.declared.header.Version.{Version}
 use Rattle.giop_frames.specs.declared.limits.Limits.{Limits}
 use Rattle.giop_link.specs.Hearing.{Ending, Hearing, news}
-use Rattle.ft_client.specs.Clients.{Called, Cancelled, Client, Ended, Expired, Fed, Happening, Joined, Linked, Parted, Pending, Recalled, Resumed, Skipped, Taken, Ticked, after, completed, completed_if, ended_by, ending_of, fed_on, find_pending, fits, gives, ids_after, is_resumed, is_sent_as, is_taken, late, made, on_time, parted, parted_at, placed, recalled, resent, says, says_again, says_placed, says_recalled, settled, settled_all, skipped, told_of, transmission, unsent, waiting, withdrawn, without}
+use Rattle.ft_client.specs.Clients.{Called, Cancelled, Client, Ended, Expired, Fed, Happening, Joined, Linked, Parted, Pending, Recalled, Resumed, Sent, Skipped, Taken, Ticked, after, completed, completed_if, ended_by, ending_of, fed_on, find_pending, fits, gives, ids_after, is_in_time, is_resumed, is_sent_as, is_taken, is_unsettled, joined, leaving, made, parted, parted_at, placed, placed_on, recalled, resent, says, says_again, says_placed, says_recalled, settled, settled_all, skipped, stands_in, told_of, transmission, unsent, waiting, withdrawn, without}
 use Rattle.ft_client.specs.Laws.{CallsCompleteOnce}
 use Rattle.ft_client.specs.Lives.{AreRising, IsAlive, IsLife, IsOfCall, Life, call_at, called_count, ended_count, goes_on, lived, moment_of, new_life, one_if, pending_count, sent_at}
-use Rattle.ft_client.specs.Messages.{Answer, Asked, Call, Transmission, located, replied}
+use Rattle.ft_client.specs.Messages.{Answer, Asked, Call, Transmission, has_no_ft, is_oneway, located, replied, version_in, wish_of}
+use Rattle.ft_client.proofs.Leaving.{left_by, staying-count, staying-each, staying-rising}
 
 -- Lists.
 
@@ -89,14 +90,6 @@ without-count r id (p ∷ ps) h =
       | false ↦ λ is some. let rest = without-count r id ps (omega arith) in omega (arith, rest)
     ] refl h
 
--- what is past its expiration, and what isn't, are all
-pub on_time-count : (r now : ℕ) (ps : List Pending) → pending_count r ps ≡ pending_count r (on_time now ps) + ended_count r (late now ps)
-on_time-count r now [] = refl
-on_time-count r now (p ∷ ps) =
-    let rest = on_time-count r now ps in
-    elim (nat_le now p.call.expiration) as (λ b. one_if (p.id == r) + pending_count r ps ≡ pending_count r (cond b (p ∷ on_time now ps) (on_time now ps)) + ended_count r (cond b (late now ps) ((p.id, Expired) ∷ late now ps)))
-    [ true ↦ omega (arith, rest) | false ↦ omega (arith, rest) ]
-
 -- What is left of pending calls.
 
 -- the same calls under the same numbers, sent or not
@@ -148,18 +141,6 @@ without-rising last id (p ∷ ps) h =
     elim (p.id == id) as (λ b. AreRising last (cond b ps (p ∷ without id ps)))
     [ true ↦ h.2 | false ↦ (h.0, without-each (λ q. p.id < q.id) id ps h.1, without-rising last id ps h.2) ]
 
-pub on_time-each : (P : Pending → Type 0) (now : ℕ) (ps : List Pending) → AllByRecursion P ps → AllByRecursion P (on_time now ps)
-on_time-each P now [] h = tt
-on_time-each P now (p ∷ ps) h =
-    elim (nat_le now p.call.expiration) as (λ b. AllByRecursion P (cond b (p ∷ on_time now ps) (on_time now ps)))
-    [ true ↦ (h.0, on_time-each P now ps h.1) | false ↦ on_time-each P now ps h.1 ]
-
-pub on_time-rising : (last now : ℕ) (ps : List Pending) → AreRising last ps → AreRising last (on_time now ps)
-on_time-rising last now [] h = tt
-on_time-rising last now (p ∷ ps) h =
-    elim (nat_le now p.call.expiration) as (λ b. AreRising last (cond b (p ∷ on_time now ps) (on_time now ps)))
-    [ true ↦ (h.0, on_time-each (λ q. p.id < q.id) now ps h.1, on_time-rising last now ps h.2) | false ↦ on_time-rising last now ps h.2 ]
-
 -- numbers up to the last one are less than the next
 rising-each : (last : ℕ) (ps : List Pending) → AreRising last ps → AllByRecursion (λ q. q.id ≤ last) ps
 rising-each last [] h = tt
@@ -207,6 +188,13 @@ is-early : (now id : ℕ) (call : Call) (m : Client) → is_resumed now id call 
 is-early now id call m is =
     let rest = (and_parts (nat_lt m.last id && nat_lt id 2147483648) (nat_le now call.expiration && (nat_lt (length m.pending) 64 && fits id m call)) is).1 in
     leb-true now call.expiration (and_parts (nat_le now call.expiration) (nat_lt (length m.pending) 64 && fits id m call) rest).0
+
+-- what is taken is in time
+is-on_time : (now : ℕ) (call : Call) (m : Client) → is_taken now call m ≡ true → now ≤ call.expiration
+is-on_time now call m is =
+    let rest = nat_lt m.last 2147483647 && (nat_lt (length m.pending) 64 && (stands_in (suc m.last) m call && fits (suc m.last) m call)) in
+    let own = (and_parts (has_no_ft call.form) (nat_le now call.expiration && rest) is).1 in
+    leb-true now call.expiration (and_parts (nat_le now call.expiration) rest own).0
 
 -- A client that is alive, and what happens to it.
 
@@ -270,19 +258,20 @@ module _ (client_id : List ℕ) (version : Version) where
     alive-recalled id None m is h = h
     alive-recalled id (Some p) m is h = alive-completed p.id Cancelled m (found-there id p m.pending is) h
 
-    alive-ticked : (now : ℕ) (m : Client) → IsAlive client_id version calls taken m → IsAlive client_id version calls taken (record m { pending = on_time now m.pending; completions = m.completions ++ late now m.pending })
-    alive-ticked now m h = record {
+    -- calls that have left
+    alive-left : (stays : Pending → Bool) (ended : Ended) (m : Client) → IsAlive client_id version calls taken m → IsAlive client_id version calls taken (left_by stays ended m)
+    alive-left stays ended m h = record {
       client = h.client;
       writes = h.writes;
       numbers = h.numbers;
       single = h.single;
       once = λ r.
-          let left = on_time-count r now m.pending in
-          let more = ended-append r m.completions (late now m.pending) in
+          let left = staying-count stays ended r m.pending in
+          let more = ended-append r m.completions (leaving stays ended m.pending) in
           let was = h.once r in
           omega (arith, left, more, was);
-      pending = on_time-each (λ p. call_at calls p.id ≡ Some p.call) now m.pending h.pending;
-      rising = on_time-rising m.last now m.pending h.rising;
+      pending = staying-each stays (λ p. call_at calls p.id ≡ Some p.call) m.pending h.pending;
+      rising = staying-rising stays m.last m.pending h.rising;
     }
 
     alive-taken : (m : Client) → IsAlive client_id version calls taken m → IsAlive client_id version calls (taken ++ take 1 m.completions) (record m { completions = drop 1 m.completions })
@@ -322,9 +311,30 @@ module _ (client_id : List ℕ) (version : Version) where
           rising = rising-push m.last m.pending p lt h.rising;
         }
 
+    -- one more that has ended
+    alive-sent : (id : ℕ) (call : Call) (l : Option Linked) (m : Client) → m.last < id → IsAlive client_id version calls taken m
+        → IsAlive client_id version (calls ++ (id, call) ∷ []) taken (record m { last = id; completions = m.completions ++ (id, Sent) ∷ []; link = l })
+    alive-sent id call l m lt h = record {
+      client = h.client;
+      writes = h.writes;
+      numbers = each-append (λ x. (0 < x.0) × (x.0 ≤ id)) calls ((id, call) ∷ []) (numbers-later m.last id calls (omega (arith, lt)) h.numbers) ((omega (arith, lt), omega arith), tt);
+      single = λ r. let few = called-single r id m.last calls h.numbers lt (h.single r) in let more = called-append r calls ((id, call) ∷ []) in omega (arith, few, more);
+      once = λ r.
+          let more = ended-append r m.completions ((id, Sent) ∷ []) in
+          let was = h.once r in
+          let next = called-append r calls ((id, call) ∷ []) in
+          omega (arith, more, was, next);
+      pending = each-weaker (λ q. call_at calls q.id ≡ Some q.call) (λ q. call_at (calls ++ (id, call) ∷ []) q.id ≡ Some q.call) (λ q is. call_at-append calls ((id, call) ∷ []) q.id q.call is) m.pending h.pending;
+      rising = rising-later m.last id m.pending (omega (arith, lt)) h.rising;
+    }
+
+    alive-placed_on : (b : Bool) (id : ℕ) (call : Call) (m : Client) (l : Linked) → m.last < id → IsAlive client_id version calls taken m → IsAlive client_id version (calls ++ (id, call) ∷ []) taken (placed_on b id call m l)
+    alive-placed_on true id call m l lt h = alive-sent id call (Some (record l { given = suc l.given })) m lt h
+    alive-placed_on false id call m l lt h = alive-called id call (Some (suc l.given)) (Some (record l { given = suc l.given })) m lt h
+
     alive-placed : (id : ℕ) (call : Call) (m : Client) (l : Option Linked) → m.last < id → IsAlive client_id version calls taken m → IsAlive client_id version (calls ++ (id, call) ∷ []) taken (placed id call m l)
     alive-placed id call m None lt h = alive-called id call None None m lt h
-    alive-placed id call m (Some l) lt h = alive-called id call (Some (suc l.given)) (Some (record l { given = suc l.given })) m lt h
+    alive-placed id call m (Some l) lt h = alive-placed_on (is_oneway (wish_of call.form)) id call m l lt h
 
     -- greater numbers from now on
     alive-skipped : (id : ℕ) (m : Client) → IsAlive client_id version calls taken m → IsAlive client_id version calls taken (skipped id m)
@@ -359,11 +369,12 @@ module _ (client_id : List ℕ) (version : Version) where
     alive-after down (Resumed now id call) m a = alive-made (is_resumed now id call m) id call m (λ is. is-greater now id call m is) a
     alive-after down (Skipped id) m a = alive-plain (skipped id m) (alive-skipped id m a)
     alive-after down (Joined now) m a =
-        alive-plain (after down (Joined now) m) (alive-alike m (resent now 0 m.pending) (Some (record { given = ids_after now 0 m.pending; received = [] })) (alike-resent now 0 m.pending) a)
+        alive-plain (after down (Joined now) m)
+        (alive-left is_unsettled Sent (joined now m) (alive-alike m (resent now 0 m.pending) (Some (record { given = ids_after now 0 m.pending; received = [] })) (alike-resent now 0 m.pending) a))
     alive-after down (Fed octets) m a = alive-plain (fed_on down octets m) (alive-parted_at (ending_of down octets m.link) (told_of down octets m m.link) (alive-told down octets m m.link a))
     alive-after down Parted m a = alive-plain (parted m) (alive-parted m a)
     alive-after down (Recalled id) m a = alive-plain (recalled (find_pending id m.pending) m) (alive-recalled id (find_pending id m.pending) m refl a)
-    alive-after down (Ticked now) m a = alive-plain (after down (Ticked now) m) (alive-ticked now m a)
+    alive-after down (Ticked now) m a = alive-plain (after down (Ticked now) m) (alive-left (is_in_time now) Expired m a)
     alive-after down Taken m a = subst (λ (cs : List (ℕ × Call)). IsAlive client_id version cs (taken ++ take 1 m.completions) (after down Taken m)) (sym (append-nil calls)) (alive-taken m a)
 
   -- Transmissions.
@@ -380,14 +391,14 @@ module _ (client_id : List ℕ) (version : Version) where
   again-sent calls more v id now n (p ∷ ps) wrote is h =
       elim (nat_le now p.call.expiration) as (λ b. nat_le now p.call.expiration ≡ b
       → AreOfCalls (calls ++ more) (sent_at now (cond b (Asked (transmission v id p.id (suc n) p.call) ∷ says_again v id now (suc n) ps) (says_again v id now n ps)))) [
-        | true ↦ λ in_time. (record { client = is; written = wrote; call = call_at-append calls more p.id p.call h.0; in_time = leb-true now p.call.expiration in_time }, again-sent calls more v id now (suc n) ps wrote is h.1)
+        | true ↦ λ in_time. (record { client = is; written = ap (λ x. version_in x p.call.form) wrote; call = call_at-append calls more p.id p.call h.0; in_time = leb-true now p.call.expiration in_time }, again-sent calls more v id now (suc n) ps wrote is h.1)
         | false ↦ λ late. again-sent calls more v id now n ps wrote is h.1
       ] refl
 
   placed-sent : (calls : List (ℕ × Call)) (taken : List (ℕ × Ended)) (now id : ℕ) (call : Call) (m : Client) (l : Option Linked) → now ≤ call.expiration → m.last < id → IsAlive client_id version calls taken m
       → AreOfCalls (calls ++ (id, call) ∷ []) (sent_at now (says_placed id call m l))
   placed-sent calls taken now id call m None in_time lt h = tt
-  placed-sent calls taken now id call m (Some l) in_time lt h = (record { client = h.client; written = h.writes; call = call_at-push calls id call m.last h.numbers lt; in_time = in_time }, tt)
+  placed-sent calls taken now id call m (Some l) in_time lt h = (record { client = h.client; written = ap (λ x. version_in x call.form) h.writes; call = call_at-push calls id call m.last h.numbers lt; in_time = in_time }, tt)
 
   made-sent : (calls : List (ℕ × Call)) (taken : List (ℕ × Ended)) (b : Bool) (now id : ℕ) (call : Call) (m : Client) → (b ≡ true → now ≤ call.expiration) → (b ≡ true → m.last < id) → IsAlive client_id version calls taken m
       → AreOfCalls (calls ++ cond b ((id, call) ∷ []) []) (sent_at now (cond b (says_placed id call m m.link) []))
@@ -404,7 +415,7 @@ module _ (client_id : List ℕ) (version : Version) where
 
   sent-after : (calls : List (ℕ × Call)) (taken : List (ℕ × Ended)) (h : Happening) (m : Client) → IsAlive client_id version calls taken m → AreOfCalls (calls ++ made h m) (sent_at (moment_of h) (says h m))
   sent-after calls taken (Called now call) m a =
-      made-sent calls taken (is_taken now call m) now (suc m.last) call m (λ is. leb-true now call.expiration (and_parts (nat_le now call.expiration) (nat_lt m.last 2147483647 && (nat_lt (length m.pending) 64 && fits (suc m.last) m call)) is).0) (λ is. omega arith) a
+      made-sent calls taken (is_taken now call m) now (suc m.last) call m (λ is. is-on_time now call m is) (λ is. omega arith) a
   sent-after calls taken (Resumed now id call) m a = made-sent calls taken (is_resumed now id call m) now id call m (λ is. is-early now id call m is) (λ is. is-greater now id call m is) a
   sent-after calls taken (Skipped id) m a = tt
   sent-after calls taken (Joined now) m a = again-sent calls [] m.version m.client_id now 0 m.pending a.writes a.client a.pending

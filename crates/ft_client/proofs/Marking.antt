@@ -1,7 +1,8 @@
 -- Kept calls that are noted as sent, one after another.
 use Rattle.std.proofs.Common.{◌≡◌, ℕ, zero, suc, ◌<◌, List, [], ◌∷◌, ◌++◌, map, length, take, drop, slice_get, slice_index_or, slice_set, Option, Some, None, refl, sym, ap, subst, arith}
+use Rattle.std.specs.List.{cons_option}
 use Rattle.ft_client.specs.declared.pending.Pending.{Pending as CodePending}
-use Rattle.ft_client.specs.Keeping.{Kept, ids_sent, kept_by, marked, sent_again, unmarked}
+use Rattle.ft_client.specs.Keeping.{Kept, awaited, ids_awaited, kept_by, marked, sent_again, unmarked}
 
 -- a write to one call
 pub marked_set : (ps : List CodePending) (i : ℕ) (x d : CodePending) (s : Option ℕ) → kept_by x ≡ record (kept_by (slice_index_or ps i d)) { sent = s } → map kept_by (slice_set ps i x) ≡ marked i s (map kept_by ps)
@@ -48,12 +49,11 @@ drop_here [] i k s is = absurd (cc)
 drop_here (x ∷ ks) zero k s is = let same : x ≡ k = cc in (ap (λ (y : Kept). y ∷ ks) same, refl)
 drop_here (x ∷ ks) (suc i) k s is = drop_here ks i k s is
 
-pub ids_here : (ks : List Kept) (i : ℕ) (k : Kept) (s : Option ℕ) → slice_get ks i ≡ Some k → ids_sent (take (suc i) (marked i s ks)) ≡ ids_sent (take i ks) ++ ids_sent (record k { sent = s } ∷ [])
+pub ids_here : (ks : List Kept) (i : ℕ) (k : Kept) (s : Option ℕ) → slice_get ks i ≡ Some k → ids_awaited (take (suc i) (marked i s ks)) ≡ ids_awaited (take i ks) ++ ids_awaited (record k { sent = s } ∷ [])
 ids_here [] i k s is = absurd (cc)
-ids_here (x ∷ ks) zero k None is = refl
-ids_here (x ∷ ks) zero k (Some n) is = refl
+ids_here (x ∷ ks) zero k s is = let same : x ≡ k = cc in ap (λ (y : Kept). ids_awaited (record y { sent = s } ∷ [])) same
 ids_here (x ∷ ks) (suc i) k s is =
-    elim x.sent as (λ o. ids_sent (record x { sent = o } ∷ take (suc i) (marked i s ks)) ≡ ids_sent (record x { sent = o } ∷ take i ks) ++ ids_sent (record k { sent = s } ∷ [])) [
+    elim (awaited x) as (λ o. cons_option o (ids_awaited (take (suc i) (marked i s ks))) ≡ cons_option o (ids_awaited (take i ks)) ++ ids_awaited (record k { sent = s } ∷ [])) [
       | None ↦ ids_here ks i k s is
       | Some n ↦ ap (λ (is : List ℕ). n ∷ is) (ids_here ks i k s is)
     ]

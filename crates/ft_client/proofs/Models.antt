@@ -1,14 +1,16 @@
 -- Kept calls and the pending calls of a client that they are.
-use Rattle.std.proofs.Common.{◌≡◌, ℕ, suc, ◌<◌, ◌≤◌, nat_le, true, false, cond, List, [], ◌∷◌, ◌++◌, map, length, take, drop, take_at, Some, None, refl, sym, ap, ◌∙◌, arith}
-use Rattle.std.specs.List.{AllByRecursion}
+use Rattle.std.proofs.Common.{◌≡◌, ℕ, suc, ◌<◌, ◌≤◌, ◌&&◌, nat_le, Bool, true, false, not, cond, List, [], ◌∷◌, ◌++◌, map, length, take, drop, take_at, Option, Some, None, is_some, refl, sym, ap, ◌∙◌, arith}
+use Rattle.std.specs.List.{AllByRecursion, cons_option}
 use Rattle.giop_core.specs.declared.header.Version.{Version}
+use Rattle.giop_core.specs.declared.request.ReplyWish.{ReplyWish}
+use Rattle.giop_core.specs.declared.request.ReplyWish.TheVariants as wish
 use Rattle.giop_core.specs.declared.request.ReplyWish.TheVariants.{Full}
 use Rattle.giop_link.specs.Ids.{Ids, entered, one_more, wanted_by}
-use Rattle.ft_client.specs.Clients.{Pending, ids_after, resent, says_again, transmission, unsent}
+use Rattle.ft_client.specs.Clients.{Pending, ids_after, is_unsettled, resent, says_again, staying, transmission, unsent}
 use Rattle.ft_client.specs.Directions.{stream}
-use Rattle.ft_client.specs.Keeping.{Kept, ids_after_sending, ids_sent, kept_of, octets_again, sent_again, under, unmarked}
+use Rattle.ft_client.specs.Keeping.{Kept, ids_after_sending, ids_awaited, kept_of, octets_again, sent_again, under, unmarked}
 use Rattle.ft_client.specs.Lives.{AreRising}
-use Rattle.ft_client.specs.Messages.{Asked, octets_said, request_octets}
+use Rattle.ft_client.specs.Messages.{Asked, is_oneway, octets_said, request_octets, wish_of}
 use Rattle.ft_client.specs.Standing.{AreAscending, sent_ids, waiting_ids}
 use Rattle.ft_client.proofs.Living.{alike-resent, alike-rising, alike-unsent}
 use Rattle.ft_client.proofs.Patching.{patched}
@@ -57,11 +59,17 @@ module _ (version : Version) (client_id : List ℕ) where
         | false ↦ octets_again_kept now n ps
       ]
 
-  pub ids_sent_kept : (ps : List Pending) → ids_sent (map (kept_of version client_id) ps) ≡ sent_ids ps
-  ids_sent_kept [] = refl
-  ids_sent_kept (p ∷ ps) =
-      elim p.sent as (λ o. ids_sent (kept_of version client_id (record p { sent = o }) ∷ map (kept_of version client_id) ps) ≡ sent_ids (record p { sent = o } ∷ ps))
-      [ None ↦ ids_sent_kept ps | Some i ↦ ap (λ (is : List ℕ). i ∷ is) (ids_sent_kept ps) ]
+  -- those that wait for a reply on a link are those that were sent and have not ended with that
+  pub ids_awaited_kept : (ps : List Pending) → ids_awaited (map (kept_of version client_id) ps) ≡ sent_ids (staying is_unsettled ps)
+  ids_awaited_kept [] = refl
+  ids_awaited_kept (p ∷ ps) = by (is_oneway (wish_of p.call.form)) p.sent (ids_awaited_kept ps)
+    where
+      by : (b : Bool) (o : Option ℕ) → ids_awaited (map (kept_of version client_id) ps) ≡ sent_ids (staying is_unsettled ps)
+          → cons_option (cond b None o) (ids_awaited (map (kept_of version client_id) ps)) ≡ sent_ids (cond (not (b && is_some o)) (record p { sent = o } ∷ staying is_unsettled ps) (staying is_unsettled ps))
+      by true None h = h
+      by true (Some n) h = h
+      by false None h = h
+      by false (Some n) h = ap (λ (is : List ℕ). n ∷ is) h
 
 pub rising_resent : (last now n : ℕ) (ps : List Pending) → AreRising last ps → AreRising last (resent now n ps)
 rising_resent last now n ps h = alike-rising last ps (resent now n ps) (alike-resent now n ps) h
@@ -78,6 +86,42 @@ waiting_more g [] = refl
 waiting_more g (i ∷ is) =
     ap (λ (n : ℕ). record { given = suc g; outstanding = entered (wanted_by Full) i [] ++ ((waiting_ids g is).outstanding ++ entered (wanted_by Full) (suc n) []) }) (sym (waiting_given g is))
     ∙ ap (λ (ids : Ids). record { given = suc g; outstanding = entered (wanted_by Full) i [] ++ ids.outstanding }) (waiting_more g is)
+
+-- one more is given that no reply is waited for
+waiting_skip : (g : ℕ) (is : List ℕ) → one_more None (waiting_ids g is) ≡ waiting_ids (suc g) (is ++ [])
+waiting_skip g [] = refl
+waiting_skip g (i ∷ is) = ap (λ (ids : Ids). record { given = suc g; outstanding = entered (wanted_by Full) i [] ++ ids.outstanding }) (waiting_skip g is)
+
+-- one more is given, for a request with a wish
+pub waiting_wish : (w : ReplyWish) (g : ℕ) (is : List ℕ) → one_more (wanted_by w) (waiting_ids g is) ≡ waiting_ids (suc g) (is ++ cons_option (cond (is_oneway w) None (Some (suc g))) [])
+waiting_wish wish.None g is = waiting_skip g is
+waiting_wish wish.Empty g is = waiting_more g is
+waiting_wish wish.Full g is = waiting_more g is
+
+-- what is left of ids that grow grows
+each_staying : (P : ℕ → Type 0) (stays : Pending → Bool) (ps : List Pending) → AllByRecursion P (sent_ids ps) → AllByRecursion P (sent_ids (staying stays ps))
+each_staying P stays [] h = tt
+each_staying P stays (p ∷ ps) h = by (stays p) p.sent h (each_staying P stays ps)
+  where
+    by : (b : Bool) (o : Option ℕ) → AllByRecursion P (sent_ids (record p { sent = o } ∷ ps)) → (AllByRecursion P (sent_ids ps) → AllByRecursion P (sent_ids (staying stays ps))) → AllByRecursion P (sent_ids (cond b (record p { sent = o } ∷ staying stays ps) (staying stays ps)))
+    by true None h f = f h
+    by true (Some n) h f = (h.0, f h.1)
+    by false None h f = f h
+    by false (Some n) h f = f h.1
+
+pub ascending_staying : (stays : Pending → Bool) (g : ℕ) (ps : List Pending) → AreAscending g (sent_ids ps) → AreAscending g (sent_ids (staying stays ps))
+ascending_staying stays g [] h = tt
+ascending_staying stays g (p ∷ ps) h = by (stays p) p.sent h (ascending_staying stays g ps)
+  where
+    by : (b : Bool) (o : Option ℕ) → AreAscending g (sent_ids (record p { sent = o } ∷ ps)) → (AreAscending g (sent_ids ps) → AreAscending g (sent_ids (staying stays ps))) → AreAscending g (sent_ids (cond b (record p { sent = o } ∷ staying stays ps) (staying stays ps)))
+    by true None h f = f h
+    by true (Some n) h f = (h.0, each_staying (λ j. n < j) stays ps h.1, f h.2)
+    by false None h f = f h
+    by false (Some n) h f = f h.2
+
+pub ascending_later : (g : ℕ) (js : List ℕ) → AreAscending g js → AreAscending (suc g) js
+ascending_later g [] h = tt
+ascending_later g (j ∷ js) h = let le = h.0 in (omega (arith, le), h.1, ascending_later g js h.2)
 
 -- each is greater than those that were given before, and they grow
 after_resent : (now n : ℕ) (ps : List Pending) → n ≤ ids_after now n ps

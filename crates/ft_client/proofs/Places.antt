@@ -4,12 +4,12 @@ use Rattle.std.specs.List.{AllByRecursion, list_any, position, position_or_len, 
 use Rattle.std.specs.Ordering.{int_eq}
 use Rattle.std.proofs.lemmas.Bool.Decides.{nat_tests}
 use Rattle.std.proofs.lemmas.List.Quantifiers.{position-Some}
-use Rattle.cdr_core.specs.Value.{no_values}
 use Rattle.giop_core.specs.declared.header.Version.{Version}
 use Rattle.ft_client.specs.declared.pending.Pending.{Pending as CodePending}
 use Rattle.ft_client.specs.Clients.{Pending, find_pending, is_sent_as, waiting, without}
 use Rattle.ft_client.specs.Keeping.{Kept, kept_by, kept_of}
 use Rattle.ft_client.specs.Lives.{AreRising}
+use Rattle.ft_client.proofs.Leaving.{nobody}
 
 -- the first that passes a test
 abbrev pub first_that : (Pending → Bool) → List Pending → Option Pending
@@ -133,9 +133,6 @@ none_there version client_id q qs ps is same = by_any qs ps (any-position (λ p.
         ap (λ b. cond b (Some p) (first_that (λ p. q (kept_of version client_id p)) ps)) (ap q (sym h.0) ∙ n.0) ∙ by_any qs ps n.1 h.1
 
 -- and where something does
-abbrev pub nobody : Pending
-nobody = record { id = 0; call = record { object_key = []; operation = []; arguments = no_values; expiration = 0 }; sent = None }
-
 pub found_kept : (version : Version) (client_id : List ℕ) (q : Kept → Bool) (last : ℕ) (qs : List CodePending) (ps : List Pending) (i : ℕ) (d : CodePending) → position (λ p. q (kept_by p)) qs ≡ Some i → map kept_by qs ≡ map (kept_of version client_id) ps → AreRising last ps
     → FoundAt (λ p. q (kept_of version client_id p)) ps i
 found_kept version client_id q last qs ps i d is same rising =

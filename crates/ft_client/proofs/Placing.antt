@@ -8,10 +8,10 @@ use Rattle.giop_link.specs.ClientLinking.{ClientLinked}
 use Rattle.giop_link.specs.Ids.{Ids}
 use Rattle.ft_client.specs.declared.client.FtClient.{FtClient}
 use Rattle.ft_client.specs.declared.pending.Pending.{Pending as CodePending}
-use Rattle.ft_client.specs.Clients.{Client, Linked, Pending, fits, is_resumed, is_taken, placed, says_placed, skipped, transmission}
+use Rattle.ft_client.specs.Clients.{Client, Linked, Pending, fits, is_resumed, is_taken, placed, placed_on, says_placed, skipped, stands_in, transmission}
 use Rattle.ft_client.specs.Directions.{stream}
 use Rattle.ft_client.specs.Keeping.{Kept, kept_by, kept_of, under}
-use Rattle.ft_client.specs.Messages.{Call, octets_said, request_behind, request_octets}
+use Rattle.ft_client.specs.Messages.{Call, has_no_ft, is_oneway, octets_said, request_behind, request_octets, wish_of}
 use Rattle.ft_client.specs.Standing.{FtStands, IsLinked, LinkFor, sent_ids}
 use Rattle.ft_client.proofs.Joining.{is_linked, map_push, sent_push, unlinked}
 use Rattle.ft_client.specs.Ends.{completion_of}
@@ -44,8 +44,9 @@ unfit_is call m version client_id id ev ei long =
     lt_false _ 4294967296 (subst (λ n. 4294967296 ≤ n) e long)
 
 -- what the tests of a call have shown
-pub taken_is : (now : ℕ) (call : Call) (m : Client) → now ≤ call.expiration → m.last < 2147483647 → length m.pending < 64 → fits (suc m.last) m call ≡ true → is_taken now call m ≡ true
-taken_is now call m le last few short = λ i. le_true now call.expiration le i && (lt_true m.last 2147483647 last i && (lt_true (length m.pending) 64 few i && short i))
+pub taken_is : (now : ℕ) (call : Call) (m : Client) → has_no_ft call.form ≡ true → now ≤ call.expiration → m.last < 2147483647 → length m.pending < 64 → stands_in (suc m.last) m call ≡ true → fits (suc m.last) m call ≡ true → is_taken now call m ≡ true
+taken_is now call m own le last few place short =
+    λ i. own i && (le_true now call.expiration le i && (lt_true m.last 2147483647 last i && (lt_true (length m.pending) 64 few i && (place i && short i))))
 
 pub resumed_is : (now id : ℕ) (call : Call) (m : Client) → (nat_lt m.last id && nat_lt id 2147483648) ≡ true → now ≤ call.expiration → length m.pending < 64 → fits id m call ≡ true → is_resumed now id call m ≡ true
 resumed_is now id call m free le few short = λ i. free i && (le_true now call.expiration le i && (lt_true (length m.pending) 64 few i && short i))
@@ -56,9 +57,9 @@ free_is last id is = let p = and_parts (nat_lt last id) (nat_lt id 2147483648) i
 pub few_pending : (c : FtClient) (m : Client) → map kept_by c.pending.items ≡ map (kept_of m.version m.client_id) m.pending → length c.pending.items ≡ length m.pending
 few_pending c m is = sym (length_kept c.pending.items) ∙ ap length is ∙ length_kept_of m.version m.client_id m.pending
 
-pub kept_as : (m : Client) (call : Call) (version : Version) (client_id : List ℕ) (number : ℕ) (k : Kept) → version ≡ m.version → client_id ≡ m.client_id
+pub kept_like : (m : Client) (call : Call) (version : Version) (client_id : List ℕ) (number : ℕ) (k : Kept) → version ≡ m.version → client_id ≡ m.client_id
     → k ≡ kept_of version client_id (record { id = number; call = call; sent = None }) → k ≡ kept_of m.version m.client_id (record { id = number; call = call; sent = None })
-kept_as m call version client_id number k ev ei is = is ∙ (λ i. kept_of (ev i) (ei i) (record { id = number; call = call; sent = None }))
+kept_like m call version client_id number k ev ei is = is ∙ (λ i. kept_of (ev i) (ei i) (record { id = number; call = call; sent = None }))
 
 -- the calls with one more
 pub kept_push : (m : Client) (ps qs new : List CodePending) (x : CodePending) (p : Pending) → new ≡ qs ++ x ∷ [] → qs ≡ ps → map kept_by ps ≡ map (kept_of m.version m.client_id) m.pending → kept_by x ≡ kept_of m.version m.client_id p
@@ -93,6 +94,10 @@ says_sent number call m l k id out new is ek ei written =
 
 pub placed_at : (d : FtClient) (id : ℕ) (call : Call) (m : Client) (o : Option Linked) → m.link ≡ o → FtStands d (placed id call m o) → FtStands d (placed id call m m.link)
 placed_at d id call m o is h = subst (λ (w : Option Linked). FtStands d (placed id call m w)) (sym is) h
+
+-- what stands for a call that was sent, by whether it wishes for no reply
+pub placed_sent : (d : FtClient) (id : ℕ) (call : Call) (m : Client) (l : Linked) (b : Bool) → m.link ≡ Some l → is_oneway (wish_of call.form) ≡ b → FtStands d (placed_on b id call m l) → FtStands d (placed id call m m.link)
+placed_sent d id call m l b is eb h = placed_at d id call m (Some l) is (subst (λ t. FtStands d (placed_on t id call m l)) (sym eb) h)
 
 -- a client after a call that is taken, or taken up again, and what it says
 pub after_taken : (b : Bool) (d : FtClient) (id : ℕ) (call : Call) (m : Client) → b ≡ true → FtStands d (placed id call m m.link) → FtStands d (cond b (placed id call m m.link) m)

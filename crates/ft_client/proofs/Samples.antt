@@ -1,16 +1,18 @@
 -- Samples: what the definitions give on short lists of what happens, which are written out.
 use Rattle.std.proofs.Common.{◌≡◌, ℕ, pos, ◌==◌, if◌then◌else◌, List, [], ◌∷◌, ◌++◌, Option, Some, None, refl, lit≤, true}
 use Rattle.cdr_core.specs.Value.{no_values}
-use Rattle.cdr_core.specs.declared.order.Order.TheVariants.{Big}
+use Rattle.cdr_core.specs.declared.order.Order.TheVariants.{Big, Little}
 use Rattle.giop_core.specs.Content.{Rest}
-use Rattle.giop_core.specs.Written.{behind_header}
-use Rattle.giop_core.specs.declared.header.Version.TheVariants.{V12}
+use Rattle.giop_core.specs.Written.{behind_header, ft_octets, octets_body}
+use Rattle.giop_core.specs.declared.header.Version.TheVariants.{V10, V12}
 use Rattle.giop_core.specs.declared.reply.ReplyStatus.TheVariants.{NoException}
+use Rattle.giop_core.specs.declared.request.ReplyWish.{ReplyWish}
+use Rattle.giop_core.specs.declared.request.ReplyWish.TheVariants as wish
 use Rattle.giop_frames.specs.declared.limits.Limits.{Limits}
 use Rattle.giop_link.specs.Hearing.{Ending, Hearing, peer_closed}
-use Rattle.ft_client.specs.Clients.{Called, Cancelled, Expired, Fed, Happening, Joined, Parted, Recalled, Resumed, Skipped, Taken, Ticked, Told, fits, new_client, says, transmission}
+use Rattle.ft_client.specs.Clients.{Called, Cancelled, Expired, Fed, Happening, Joined, Parted, Recalled, Resumed, Sent, Skipped, Taken, Ticked, Told, fits, new_client, says, transmission}
 use Rattle.ft_client.specs.Lives.{Life, lived, new_life}
-use Rattle.ft_client.specs.Messages.{Answer, Call, Transmission, Withdrawn, located, replied}
+use Rattle.ft_client.specs.Messages.{Answer, Call, Transmission, Withdrawn, contexts_of, located, raw, replied, typed}
 
 abbrev limits : Limits
 limits = record { message = 4096; partials = 1; message_in_range = (lit≤ tt, lit≤ tt); partials_in_range = (lit≤ tt, lit≤ tt) }
@@ -36,7 +38,7 @@ down = record { heard = toy_heard; ending = toy_ending }
 
 -- `add` of the object `c`, until the moment 100
 abbrev add : Call
-add = record { object_key = 99 ∷ []; operation = 97 ∷ 100 ∷ 100 ∷ []; arguments = no_values; expiration = 100 }
+add = record { object_key = 99 ∷ []; operation = 97 ∷ 100 ∷ 100 ∷ []; arguments = no_values; expiration = 100; form = typed }
 
 abbrev life : List Happening → Life
 life hs = lived down hs (new_life (65 ∷ []) V12 limits)
@@ -143,3 +145,56 @@ taken_up_late = refl
 after_others : (life (Skipped 5 ∷ Skipped 3 ∷ Called 50 add ∷ [])).calls ≡ (6, add) ∷ []
 unfolding behind_header
 after_others = refl
+
+-- a raw call of `put`, until the moment 100: in 1.0, in little order, with one context and the octets 1, 2 of a place
+abbrev put : ReplyWish → ℕ → Call
+put w place = record {
+  object_key = 99 ∷ [];
+  operation = 112 ∷ 117 ∷ 116 ∷ [];
+  arguments = octets_body (1 ∷ 2 ∷ []);
+  expiration = 100;
+  form = raw (record { version = V10; order = Little; wish = w; contexts = (1, 9 ∷ []) ∷ []; place = place });
+}
+
+-- call r of it, sent as request i, in the version that it has
+abbrev put_as : ReplyWish → ℕ → ℕ → Transmission
+put_as w r i = transmission V12 (65 ∷ []) r i (put w 80)
+
+sent_in : (put_as wish.Full 1 1).version ≡ V10
+sent_in = refl
+
+-- its FT_REQUEST stands before its own context, and the id after both
+contexts_in : contexts_of (put_as wish.Full 1 1) ≡ (13, ft_octets Big (65 ∷ []) (pos 1) 100) ∷ (1, 9 ∷ []) ∷ []
+contexts_in = refl
+
+-- its body stands at 88, and so it is taken where it came from 80, and not where it came from 81
+at_its_place : (life (Called 50 (put wish.Full 80) ∷ [])).calls ≡ (1, put wish.Full 80) ∷ []
+unfolding behind_header
+at_its_place = refl
+
+at_another : (life (Called 50 (put wish.Full 81) ∷ [])).calls ≡ []
+unfolding behind_header
+at_another = refl
+
+-- one that wishes for a reply waits for it
+raw_waits : (life (Joined 50 ∷ Called 50 (put wish.Full 80) ∷ Taken ∷ Fed (1 ∷ []) ∷ Taken ∷ [])).taken ≡ (1, Told NoException body) ∷ []
+unfolding behind_header
+raw_waits = refl
+
+-- one that wishes for none ends when it is sent, here or on the next connection, and is not sent again
+sent_here : (life (Joined 50 ∷ Called 50 (put wish.None 80) ∷ Taken ∷ Parted ∷ Joined 60 ∷ Taken ∷ [])).taken ≡ (1, Sent) ∷ []
+unfolding behind_header
+sent_here = refl
+
+sent_later : (life (Called 50 (put wish.None 80) ∷ Taken ∷ Called 50 add ∷ Joined 60 ∷ Taken ∷ Fed (2 ∷ []) ∷ Taken ∷ [])).taken ≡ (1, Sent) ∷ (2, Told NoException body) ∷ []
+unfolding behind_header
+sent_later = refl
+
+sent_once : (life (Called 50 (put wish.None 80) ∷ Joined 60 ∷ Parted ∷ Joined 70 ∷ [])).sent ≡ (60, put_as wish.None 1 1) ∷ []
+unfolding behind_header
+sent_once = refl
+
+-- past its expiration it is not sent, and ends by that
+sent_never : (life (Called 50 (put wish.None 80) ∷ Joined 101 ∷ Ticked 101 ∷ Taken ∷ [])).taken ≡ (1, Expired) ∷ []
+unfolding behind_header
+sent_never = refl

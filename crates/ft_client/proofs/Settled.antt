@@ -11,7 +11,8 @@ use Rattle.ft_client.specs.Private.{CallsStand}
 use Rattle.ft_client.proofs.Cancelling.{get_is, get_there}
 use Rattle.ft_client.proofs.Joining.{map_push}
 use Rattle.ft_client.proofs.Living.{without-rising}
-use Rattle.ft_client.proofs.Places.{at_both, first_that, found_kept, map_remove, nobody, none_there, waiting_is}
+use Rattle.ft_client.proofs.Leaving.{nobody}
+use Rattle.ft_client.proofs.Places.{at_both, first_that, found_kept, map_remove, none_there, waiting_is}
 
 -- no call waits for it
 waiting_none : (r : ℕ) (ps : List Pending) → first_that (λ q. is_sent_as r q.sent) ps ≡ None → waiting r ps ≡ None

@@ -1,15 +1,20 @@
 -- What a call asks, and why it is not taken.
-use Rattle.std.specs.Prelude.{◌≡◌, ℕ, suc, ◌<◌, ◌≤◌, ◌^◌, ◌&&◌, nat_lt, List, length, false}
+use Rattle.std.specs.Prelude.{◌≡◌, ℕ, suc, ◌<◌, ◌≤◌, ◌^◌, ◌&&◌, nat_lt, List, length, map, false, true}
 use Rattle.cdr_core.specs.View.{values_of}
 use Rattle.cdr_core.specs.declared.values.Val.{Val}
+use Rattle.giop_core.specs.Items.{item_at}
+use Rattle.giop_core.specs.Written.{octets_body}
 use Rattle.giop_core.specs.declared.header.Version.{Version}
 use Rattle.ft_client.specs.declared.pending.Asked.{Asked}
+use Rattle.ft_client.specs.declared.raw_call.RawCall.{RawCall}
 use Rattle.ft_client.specs.declared.error.CallError.{CallError}
 use Rattle.ft_client.specs.declared.error.CallError.TheVariants.{Expired, IdsUsed, Memory, TooLong, TooManyCalls}
+use Rattle.ft_client.specs.declared.error.RawCallError.{RawCallError}
+use Rattle.ft_client.specs.declared.error.RawCallError.TheVariants as raw_call
 use Rattle.ft_client.specs.declared.error.RecallError.{RecallError}
 use Rattle.ft_client.specs.declared.error.RecallError.TheVariants as recall
-use Rattle.ft_client.specs.Clients.{Client, fits, transmission}
-use Rattle.ft_client.specs.Messages.{Call, Transmission, request_behind}
+use Rattle.ft_client.specs.Clients.{Client, fits, stands_in, transmission}
+use Rattle.ft_client.specs.Messages.{Call, Transmission, has_no_ft, raw, request_behind, typed}
 
 -- what the code's words ask
 abbrev pub call_asked : Asked → Call
@@ -18,6 +23,17 @@ call_asked a = record {
   operation = a.operation.now;
   arguments = values_of a.arguments.now;
   expiration = a.expiration;
+  form = typed;
+}
+
+-- what a raw call asks
+abbrev pub call_raw : RawCall → Call
+call_raw c = record {
+  object_key = c.object_key.now;
+  operation = c.operation.now;
+  arguments = octets_body c.body.octets.now;
+  expiration = c.expiration;
+  form = raw (record { version = c.version; order = c.body.order; wish = c.wish; contexts = map item_at c.contexts.now; place = c.body.at });
 }
 
 abbrev pub first_transmission : Version → List ℕ → ℕ → Call → Transmission
@@ -37,6 +53,13 @@ IsCallError now call m IdsUsed = (now ≤ call.expiration) × (2147483647 ≤ m.
 IsCallError now call m TooManyCalls = (now ≤ call.expiration) × (m.last < 2147483647) × (64 ≤ length m.pending)
 IsCallError now call m TooLong = (now ≤ call.expiration) × (m.last < 2147483647) × (length m.pending < 64) × (fits (suc m.last) m call ≡ false)
 IsCallError now call m Memory = (now ≤ call.expiration) × (m.last < 2147483647) × (length m.pending < 64)
+
+-- Why a raw call is not taken at a moment: the first that holds. Memory is as for a call.
+abbrev pub IsRawCallError : ℕ → Call → Client → RawCallError → Type 0
+IsRawCallError now call m raw_call.FtRequest = has_no_ft call.form ≡ false
+IsRawCallError now call m (raw_call.Untaken e) = (has_no_ft call.form ≡ true) × IsCallError now call m e
+IsRawCallError now call m raw_call.Misplaced =
+    (has_no_ft call.form ≡ true) × (now ≤ call.expiration) × (m.last < 2147483647) × (length m.pending < 64) × (fits (suc m.last) m call ≡ true) × (stands_in (suc m.last) m call ≡ false)
 
 -- a number that is not greater than each that was given or taken up, or is no long
 abbrev pub IsUsed : ℕ → Client → Type 0
@@ -60,4 +83,5 @@ call_of object_key operation arguments expiration = record {
   operation = operation;
   arguments = values_of arguments;
   expiration = expiration;
+  form = typed;
 }

@@ -1,5 +1,5 @@
 -- A client: its pending calls, its link and its completions; what can happen to it, and what it is and writes after that.
-use Rattle.std.specs.Prelude.{ℕ, suc, ◌==◌, ◌&&◌, nat_le, nat_lt, ℤ, pos, Bool, false, if◌then◌else◌, List, [], ◌∷◌, ◌++◌, drop, length, take, Option, Some, None}
+use Rattle.std.specs.Prelude.{ℕ, suc, ◌==◌, ◌&&◌, nat_le, nat_lt, not, ℤ, pos, Bool, true, false, if◌then◌else◌, List, [], ◌∷◌, ◌++◌, drop, length, take, Option, Some, None, is_some}
 use Rattle.std.specs.Ordering.{int_eq}
 use Rattle.giop_core.specs.Content.{Rest}
 use Rattle.giop_core.specs.Statuses.{reply_status_of}
@@ -8,12 +8,14 @@ use Rattle.giop_core.specs.declared.reply.ReplyStatus.{ReplyStatus}
 use Rattle.giop_core.specs.declared.reply.ReplyStatus.TheVariants.{LocationForward, LocationForwardPerm, NeedsAddressingMode, NoException, SystemException, UserException}
 use Rattle.giop_frames.specs.declared.limits.Limits.{Limits}
 use Rattle.giop_link.specs.Hearing.{Ending, Hearing, news}
-use Rattle.ft_client.specs.Messages.{Answer, Asked, Call, Said, Shown, Transmission, Withdrawn, located, replied, request_behind}
+use Rattle.ft_client.specs.Messages.{Answer, Asked, Call, Said, Shown, Transmission, Withdrawn, has_no_ft, is_oneway, keeps_place, located, replied, request_behind, version_in, wish_of}
 
--- How a call ends: by a reply with its body, by one that needs another addressing, by its expiration, or by its caller.
+-- How a call ends: by a reply with its body, by one that needs another addressing, by being sent where it wishes for no reply, by
+-- its expiration, or by its caller.
 pub data Ended : Type 0 where
   Told : ReplyStatus → Rest → Ended
   NeedsAddressing : Ended
+  Sent : Ended
   Expired : Ended
   Cancelled : Ended
 
@@ -80,10 +82,10 @@ pub data Happening : Type 0 where
 
 -- a call
 
--- as it is sent
+-- as a client of this version and id sends it
 abbrev pub transmission : Version → List ℕ → ℕ → ℕ → Call → Transmission
 transmission version client_id id request_id call = record {
-  version = version;
+  version = version_in version call.form;
   client_id = client_id;
   retention_id = id;
   request_id = request_id;
@@ -94,20 +96,29 @@ transmission version client_id id request_id call = record {
 abbrev pub fits : ℕ → Client → Call → Bool
 fits id m call = nat_lt (length (request_behind (transmission m.version m.client_id id 1 call))) 4294967296
 
--- A call is taken where it isn't past its expiration, there are numbers left (FT 23.2.7: a long), fewer than 64 calls are
--- pending (own rule), and it fits.
+-- its body stands at a place that keeps its alignment
+abbrev pub stands_in : ℕ → Client → Call → Bool
+stands_in id m call = keeps_place (transmission m.version m.client_id id 1 call)
+
+-- A call is taken where it brings no FT_REQUEST, it isn't past its expiration, there are numbers left (FT 23.2.7: a long), fewer than
+-- 64 calls are pending (own rule), its body stands as it came, and it fits.
 abbrev pub is_taken : ℕ → Call → Client → Bool
-is_taken now call m = nat_le now call.expiration && (nat_lt m.last 2147483647 && (nat_lt (length m.pending) 64 && fits (suc m.last) m call))
+is_taken now call m = has_no_ft call.form && (nat_le now call.expiration && (nat_lt m.last 2147483647 && (nat_lt (length m.pending) 64 && (stands_in (suc m.last) m call && fits (suc m.last) m call))))
 
 -- A call of before is taken up again where its number is greater than each that was given or taken up (own rule), is a long,
 -- and the call would be taken.
 abbrev pub is_resumed : ℕ → ℕ → Call → Client → Bool
 is_resumed now id call m = (nat_lt m.last id && nat_lt id 2147483648) && (nat_le now call.expiration && (nat_lt (length m.pending) 64 && fits id m call))
 
+-- with its number, and sent on a link: it has ended where it wishes for no reply, and is pending where it wishes for one
+abbrev pub placed_on : Bool → ℕ → Call → Client → Linked → Client
+placed_on true id call m l = record m { last = id; completions = m.completions ++ (id, Sent) ∷ []; link = Some (record l { given = suc l.given }) }
+placed_on false id call m l = record m { last = id; pending = m.pending ++ record { id = id; call = call; sent = Some (suc l.given) } ∷ []; link = Some (record l { given = suc l.given }) }
+
 -- with its number, and sent where there is a link
 abbrev pub placed : ℕ → Call → Client → Option Linked → Client
 placed id call m None = record m { last = id; pending = m.pending ++ record { id = id; call = call; sent = None } ∷ []; link = None }
-placed id call m (Some l) = record m { last = id; pending = m.pending ++ record { id = id; call = call; sent = Some (suc l.given) } ∷ []; link = Some (record l { given = suc l.given }) }
+placed id call m (Some l) = placed_on (is_oneway (wish_of call.form)) id call m l
 
 abbrev pub says_placed : ℕ → Call → Client → Option Linked → List Said
 says_placed id call m None = []
@@ -129,12 +140,33 @@ abbrev pub ids_after : ℕ → ℕ → List Pending → ℕ
 ids_after now n [] = n
 ids_after now n (p ∷ ps) = if nat_le now p.call.expiration then ids_after now (suc n) ps else ids_after now n ps
 
+-- the client on a new link, where the calls have been sent
+abbrev pub joined : ℕ → Client → Client
+joined now m = record m { pending = resent now 0 m.pending; link = Some (record { given = ids_after now 0 m.pending; received = [] }) }
+
 abbrev pub says_again : Version → List ℕ → ℕ → ℕ → List Pending → List Said
 says_again version client_id now n [] = []
 says_again version client_id now n (p ∷ ps) =
     if nat_le now p.call.expiration then Asked (transmission version client_id p.id (suc n) p.call) ∷ says_again version client_id now (suc n) ps else says_again version client_id now n ps
 
 -- how calls end
+
+-- the pending calls that stay by a test, and the others, which end so
+abbrev pub staying : (Pending → Bool) → List Pending → List Pending
+staying stays [] = []
+staying stays (p ∷ ps) = if stays p then p ∷ staying stays ps else staying stays ps
+
+abbrev pub leaving : (Pending → Bool) → Ended → List Pending → List (ℕ × Ended)
+leaving stays ended [] = []
+leaving stays ended (p ∷ ps) = if stays p then leaving stays ended ps else (p.id, ended) ∷ leaving stays ended ps
+
+-- a call that wishes for no reply ends when it is sent
+abbrev pub is_unsettled : Pending → Bool
+is_unsettled p = not (is_oneway (wish_of p.call.form) && is_some p.sent)
+
+-- the client after that
+abbrev pub sent_off : Client → Client
+sent_off m = record m { pending = staying is_unsettled m.pending; completions = m.completions ++ leaving is_unsettled Sent m.pending }
 
 -- the pending calls without the first of a number
 abbrev pub without : ℕ → List Pending → List Pending
@@ -190,14 +222,16 @@ ending_of down octets (Some l) = down.ending (l.received ++ octets)
 abbrev pub fed_on : Hearing Answer → List ℕ → Client → Client
 fed_on down octets m = parted_at (ending_of down octets m.link) (told_of down octets m m.link)
 
+-- a call that isn't past its expiration at a moment
+abbrev pub is_in_time : ℕ → Pending → Bool
+is_in_time now p = nat_le now p.call.expiration
+
 -- the pending calls that are past their expiration at a moment, and those that aren't
 abbrev pub late : ℕ → List Pending → List (ℕ × Ended)
-late now [] = []
-late now (p ∷ ps) = if nat_le now p.call.expiration then late now ps else (p.id, Expired) ∷ late now ps
+late now ps = leaving (is_in_time now) Expired ps
 
 abbrev pub on_time : ℕ → List Pending → List Pending
-on_time now [] = []
-on_time now (p ∷ ps) = if nat_le now p.call.expiration then p ∷ on_time now ps else on_time now ps
+on_time now ps = staying (is_in_time now) ps
 
 -- the pending call of a number, if it is one
 abbrev pub find_pending : ℤ → List Pending → Option Pending
@@ -224,7 +258,7 @@ abbrev pub after : Hearing Answer → Happening → Client → Client
 after down (Called now call) m = if is_taken now call m then placed (suc m.last) call m m.link else m
 after down (Resumed now id call) m = if is_resumed now id call m then placed id call m m.link else m
 after down (Skipped id) m = skipped id m
-after down (Joined now) m = record m { pending = resent now 0 m.pending; link = Some (record { given = ids_after now 0 m.pending; received = [] }) }
+after down (Joined now) m = sent_off (joined now m)
 after down (Fed octets) m = fed_on down octets m
 after down Parted m = parted m
 after down (Recalled id) m = recalled (find_pending id m.pending) m

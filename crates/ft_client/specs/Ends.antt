@@ -5,7 +5,7 @@ use Rattle.giop_core.specs.declared.reply.ReplyStatus.TheVariants.{LocationForwa
 use Rattle.ft_client.specs.declared.ended.Ended.{Ended as CodeEnded}
 use Rattle.ft_client.specs.declared.ended.Ended.TheVariants as code
 use Rattle.ft_client.specs.declared.ended.ReplyBody.{ReplyBody}
-use Rattle.ft_client.specs.Clients.{Cancelled, Ended, Expired, NeedsAddressing, Told}
+use Rattle.ft_client.specs.Clients.{Cancelled, Ended, Expired, NeedsAddressing, Sent, Told}
 
 -- a body
 abbrev pub body_of : ReplyBody → Rest
@@ -18,6 +18,7 @@ ended_of (code.Raised b) = Told UserException (body_of b)
 ended_of (code.System b) = Told SystemException (body_of b)
 ended_of (code.Forwarded b) = Told LocationForward (body_of b)
 ended_of code.NeedsAddressing = NeedsAddressing
+ended_of code.Sent = Sent
 ended_of code.Expired = Expired
 ended_of code.Cancelled = Cancelled
 

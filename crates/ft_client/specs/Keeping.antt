@@ -2,41 +2,57 @@
 use Rattle.std.specs.Prelude.{ℕ, zero, suc, ◌+◌, nat_le, if◌then◌else◌, ◌++◌, ℤ, pos, List, [], ◌∷◌, length, take, drop, Option, Some, None}
 use Rattle.std.specs.List.{filter_map}
 use Rattle.cdr_core.specs.Numbers.{padding, digits_of}
-use Rattle.cdr_core.specs.declared.order.Order.TheVariants.{Big}
+use Rattle.cdr_core.specs.Writing.{octets_of}
+use Rattle.cdr_core.specs.declared.order.Order.{Order}
+use Rattle.giop_core.specs.Items.{list_value}
 use Rattle.giop_core.specs.Rows.{has_id_first}
-use Rattle.giop_core.specs.Written.{ft_octets}
 use Rattle.giop_core.specs.declared.header.Version.{Version}
+use Rattle.giop_core.specs.declared.request.ReplyWish.{ReplyWish}
 use Rattle.ft_client.specs.declared.pending.Pending.{Pending as CodePending}
 use Rattle.ft_client.specs.Clients.{Pending, transmission}
-use Rattle.ft_client.specs.Messages.{request_octets}
+use Rattle.ft_client.specs.Messages.{Transmission, contexts_of, is_oneway, order_of, request_octets, wish_of}
 
--- GIOP 9.4.2: the place of the request id in a Request with this one context: after the header, where it comes first, as in 1.2,
--- and after the context before
-abbrev pub id_place : Version → List ℕ → ℕ
-id_place version context = if has_id_first version then 12 else ((24 + length context) + padding (24 + length context) 4)
+-- the place after service contexts that stand after the header
+abbrev pub after_contexts : Order → List (ℕ × List ℕ) → ℕ
+after_contexts order contexts = 12 + length (octets_of order (list_value contexts) 12)
 
--- a pending call as it is kept: its octets as it would be sent under the request id 1
+-- GIOP 9.4.2: the place of the request id in a Request with these contexts: after the header, where it comes first, as in 1.2, and
+-- after the contexts before
+abbrev pub id_place : Version → Order → List (ℕ × List ℕ) → ℕ
+id_place version order contexts = if has_id_first version then 12 else (after_contexts order contexts + padding (after_contexts order contexts) 4)
+
+-- a pending call as it is kept: the order and the wish of its Request, and its octets as it would be sent under the request id 1
 pub record Kept : Type 0 where
   pub id : ℤ
   pub expiration : ℕ
+  pub order : Order
+  pub wish : ReplyWish
   pub message : List ℕ
   pub id_at : ℕ
   pub sent : Option ℕ
 
-abbrev pub kept_of : Version → List ℕ → Pending → Kept
-kept_of version client_id p = record {
-  id = pos p.id;
-  expiration = p.call.expiration;
-  message = request_octets (transmission version client_id p.id 1 p.call);
-  id_at = id_place version (ft_octets Big client_id (pos p.id) p.call.expiration);
-  sent = p.sent;
+-- a call that was sent so, or was not
+abbrev pub kept_as : Transmission → Option ℕ → Kept
+kept_as t sent = record {
+  id = pos t.retention_id;
+  expiration = t.call.expiration;
+  order = order_of t.call.form;
+  wish = wish_of t.call.form;
+  message = request_octets t;
+  id_at = id_place t.version (order_of t.call.form) (contexts_of t);
+  sent = sent;
 }
+
+abbrev pub kept_of : Version → List ℕ → Pending → Kept
+kept_of version client_id p = kept_as (transmission version client_id p.id 1 p.call) p.sent
 
 -- a pending call of the code
 abbrev pub kept_by : CodePending → Kept
 kept_by p = record {
   id = p.id;
   expiration = p.expiration;
+  order = p.order;
+  wish = p.wish;
   message = p.message.items;
   id_at = p.id_at;
   sent = p.sent;
@@ -44,7 +60,7 @@ kept_by p = record {
 
 -- its octets under another request id
 abbrev pub under : ℕ → Kept → List ℕ
-under i k = take k.id_at k.message ++ (digits_of Big 4 i ++ drop (k.id_at + 4) k.message)
+under i k = take k.id_at k.message ++ (digits_of k.order 4 i ++ drop (k.id_at + 4) k.message)
 
 -- with the call at a place noted as sent under a request id, or as not sent
 abbrev pub marked : ℕ → Option ℕ → List Kept → List Kept
@@ -72,6 +88,10 @@ abbrev pub octets_again : ℕ → ℕ → List Kept → List ℕ
 octets_again now n [] = []
 octets_again now n (k ∷ ks) = if nat_le now k.expiration then under (suc n) k ++ octets_again now (suc n) ks else octets_again now n ks
 
--- the request ids under which they are sent
-abbrev pub ids_sent : List Kept → List ℕ
-ids_sent ks = filter_map (λ k. k.sent) ks
+-- the request id under which a call waits for its reply, if it was sent and wishes for one
+abbrev pub awaited : Kept → Option ℕ
+awaited k = if is_oneway k.wish then None else k.sent
+
+-- the request ids under which they wait
+abbrev pub ids_awaited : List Kept → List ℕ
+ids_awaited ks = filter_map awaited ks

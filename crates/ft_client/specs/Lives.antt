@@ -5,7 +5,7 @@ use Rattle.giop_core.specs.declared.header.Version.{Version}
 use Rattle.giop_frames.specs.declared.limits.Limits.{Limits}
 use Rattle.ft_client.specs.Clients.{Called, Client, Ended, Fed, Happening, Joined, Parted, Pending, Recalled, Resumed, Skipped, Taken, Ticked, after, gives, made, new_client, says}
 use Rattle.giop_link.specs.Hearing.{Hearing}
-use Rattle.ft_client.specs.Messages.{Answer, Asked, Call, Said, Transmission, Withdrawn}
+use Rattle.ft_client.specs.Messages.{Answer, Asked, Call, Said, Transmission, Withdrawn, version_in}
 
 -- a client with all its calls and their numbers, the first first, its transmissions, each with its moment, and the completions that were taken
 pub record Life : Type 0 where
@@ -92,7 +92,7 @@ pub record IsAlive (client_id : List ℕ) (version : Version) (calls : List (ℕ
 -- a transmission of one of these calls, made in time
 pub record IsOfCall (client_id : List ℕ) (version : Version) (calls : List (ℕ × Call)) (x : ℕ × Transmission) : Type 0 where
   pub client : x.1.client_id ≡ client_id
-  pub written : x.1.version ≡ version
+  pub written : x.1.version ≡ version_in version x.1.call.form
   pub call : call_at calls x.1.retention_id ≡ Some x.1.call
   pub in_time : x.0 ≤ x.1.call.expiration
 

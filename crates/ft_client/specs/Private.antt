@@ -1,20 +1,45 @@
 -- Words of private functions: no public contract cites them.
-use Rattle.std.specs.Prelude.{◌≡◌, ℕ, ℤ, Bool, true, false, List, [], ◌∷◌, ◌++◌, map, Option, Some, None}
+use Rattle.std.specs.Prelude.{◌≡◌, ℕ, ◌+◌, ℤ, pos, Bool, true, false, List, [], ◌∷◌, ◌++◌, length, map, Option, Some, None}
 use Rattle.std.specs.Option.{IsSome}
+use Rattle.cdr_core.specs.Numbers.{padding}
+use Rattle.cdr_core.specs.View.{values_of}
 use Rattle.giop_core.specs.Content.{Rest}
 use Rattle.giop_core.specs.Statuses.{reply_status_of}
+use Rattle.giop_core.specs.Written.{behind_header}
+use Rattle.giop_core.specs.declared.header.MessageKind.TheVariants.{Request}
 use Rattle.giop_core.specs.declared.reply.ReplyStatus.{ReplyStatus}
 use Rattle.giop_core.specs.declared.reply.ReplyStatus.TheVariants.{LocationForward, NoException, SystemException, UserException}
 use Rattle.giop_link.specs.Answering.{client_ending, replied}
 use Rattle.giop_link.specs.ClientLinking.{ClientLinked, Delivered, forward, needs_addressing, whole}
 use Rattle.giop_link.specs.Hearing.{Sound, says}
 use Rattle.ft_client.specs.declared.ended.Ended.{Ended as CodeEnded}
+use Rattle.ft_client.specs.declared.pending.Asked.{Asked}
 use Rattle.ft_client.specs.declared.pending.Pending.{Pending as CodePending}
+use Rattle.ft_client.specs.declared.requests.Manner.{Manner}
 use Rattle.ft_client.specs.Clients.{Client, Ended, Linked, NeedsAddressing, Told, completed_if, told_of, waiting}
 use Rattle.ft_client.specs.Ends.{completion_of, ended_of, numbered}
-use Rattle.ft_client.specs.Keeping.{Kept, ids_after_sending, ids_sent, kept_by, kept_of, octets_again, sent_again}
+use Rattle.ft_client.specs.Keeping.{Kept, ids_after_sending, ids_awaited, kept_by, kept_of, octets_again, sent_again}
 use Rattle.ft_client.specs.Lives.{AreRising}
+use Rattle.ft_client.specs.Messages.{Transmission, contexts_of, fields_of, order_of, request_behind, wish_of}
 use Rattle.ft_client.specs.Standing.{IsLinked, down, waiting_ids}
+
+-- the place after service contexts whose first stands at a place
+abbrev pub contexts_end : ℕ → List (ℕ × List ℕ) → ℕ
+contexts_end place [] = place
+contexts_end place (x ∷ xs) = contexts_end (place + padding place 4 + 8 + length x.1) xs
+
+-- a transmission is that of what is asked, in this manner, under a number, with these service contexts and the request id 1
+pub record IsAsked (id : ℤ) (manner : Manner) (contexts : List (ℕ × List ℕ)) (asked : Asked) (t : Transmission) : Type 0 where
+  pub number : id ≡ pos t.retention_id
+  pub first : t.request_id ≡ 1
+  pub version : manner.version ≡ t.version
+  pub order : manner.order ≡ order_of t.call.form
+  pub wish : manner.wish ≡ wish_of t.call.form
+  pub contexts_are : contexts ≡ contexts_of t
+  pub key : asked.object_key.now ≡ t.call.object_key
+  pub operation : asked.operation.now ≡ t.call.operation
+  pub behind : behind_header t.version Request (order_of t.call.form) (fields_of t) (values_of asked.arguments.now) ≡ request_behind t
+  pub expiration : asked.expiration ≡ t.call.expiration
 
 -- a kept call was sent on a link, or is past its expiration: what is left to be sent follows
 pub record IsSentOn (now : ℕ) (k : Kept) (old new : ClientLinked) (sent : Option ℕ) (before after : List ℕ) : Type 0 where
@@ -22,7 +47,7 @@ pub record IsSentOn (now : ℕ) (k : Kept) (old new : ClientLinked) (sent : Opti
   pub given : (rest : List Kept) → ids_after_sending now old.ids.given (k ∷ rest) ≡ ids_after_sending now new.ids.given rest
   pub octets : (rest : List Kept) → before ++ octets_again now old.ids.given (k ∷ rest) ≡ after ++ octets_again now new.ids.given rest
   pub link : new ≡ record old { ids = new.ids }
-  pub waits : (is : List ℕ) → old.ids ≡ waiting_ids old.ids.given is → new.ids ≡ waiting_ids new.ids.given (is ++ ids_sent (record k { sent = sent } ∷ []))
+  pub waits : (is : List ℕ) → old.ids ≡ waiting_ids old.ids.given is → new.ids ≡ waiting_ids new.ids.given (is ++ ids_awaited (record k { sent = sent } ∷ []))
   pub more : List ℕ
   pub written : after ≡ before ++ more
 

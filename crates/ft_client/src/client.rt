@@ -8,15 +8,17 @@ ghost use Rattle.cdr_core.specs.View.{values_of};
 ghost use Rattle.ft_client.specs.facts.Texts.{clean_prop};
 ghost use Rattle.cdr_core.specs.Writing.{AreWritable};
 
+mod raw;
+
 use crate::ended::Ended;
-use crate::ending::{complete, give_up, place_of, withdraw};
+use crate::ending::{complete, end_sent, give_up, place_of, withdraw};
 use crate::error::{CallError, RecallError};
 use crate::feeding::feed_on;
 use crate::pending::{Asked, Pending};
 use crate::requests::{transmit, written};
 use crate::sending::{forget_sent, send_again};
 use cdr_core::Val;
-use giop_core::{Version, WriteError};
+use giop_core::Version;
 use giop_frames::Limits;
 use giop_link::ClientLink;
 use std::alloc::{AllocError, Global};
@@ -50,12 +52,12 @@ pub struct FtClient {
 }
 
 impl FtClient {
-    ghost use Rattle.ft_client.specs.Calling.{IsCallError, IsRecallError, call_asked, call_of};
-    ghost use Rattle.ft_client.specs.Clients.{Called, Client, Fed, Joined, Parted, Recalled, Resumed, Skipped, Taken, Ticked, after, find_pending, fits, gives, is_resumed, is_taken, new_client, parted, placed, says, says_placed};
-    ghost use Rattle.giop_core.specs.declared.error.WriteError.TheVariants.{TooLong};
+    ghost use Rattle.ft_client.specs.Calling.{IsCallError, IsRecallError, call_of};
+    ghost use Rattle.ft_client.specs.Clients.{Called, Client, Fed, Joined, Parted, Recalled, Resumed, Skipped, Taken, Ticked, after, find_pending, gives, is_resumed, is_taken, new_client, parted, placed, says, says_placed};
     ghost use Rattle.ft_client.specs.Directions.{stream};
     ghost use Rattle.ft_client.specs.Ends.{completion_of, numbered};
-    ghost use Rattle.ft_client.specs.Messages.{octets_said};
+    ghost use Rattle.ft_client.specs.Keeping.{kept_by, kept_of};
+    ghost use Rattle.ft_client.specs.Messages.{Call, octets_said};
     ghost use Rattle.ft_client.specs.Standing.{FieldsStand, FtStands, IsFedShort, down};
 
     /// A client that has made no call and is not connected. Its id, of 1 to 256 octets without a NUL, names it to
@@ -180,23 +182,16 @@ impl FtClient {
         ensures same { OnErr result ((m : Client) → FtStands self.old m → FtStands self.new m) }
         ensures unwritten { OnErr result (out.new.items ≡ out.old.items) }
     {
-        if expiration < now {
-            return Err(CallError::Expired);
-        }
-        if self.last == LAST {
-            return Err(CallError::IdsUsed);
-        }
-        if self.pending.len() == MOST {
-            return Err(CallError::TooManyCalls);
-        }
-        let number = self.last + 1;
+        let number = self.next_number(now, expiration)?;
         let asked = Asked {
             object_key,
             operation,
             arguments,
             expiration,
         };
-        self.place(number, &asked, out)?;
+        let client_id = self.client_id.as_slice();
+        let call = written(self.alloc, self.version, client_id, number, &asked)?;
+        self.place(number, call, out)?;
         Ok(number as i32)
     }
 
@@ -244,7 +239,9 @@ impl FtClient {
             arguments,
             expiration,
         };
-        self.place(number, &asked, out)?;
+        let client_id = self.client_id.as_slice();
+        let call = written(self.alloc, self.version, client_id, number, &asked)?;
+        self.place(number, call, out)?;
         Ok(())
     }
 
@@ -265,42 +262,58 @@ impl FtClient {
         self.last < number && number <= LAST
     }
 
-    /// A call becomes pending under a number, and is sent where the client is connected. There is a place for it.
-    fn place(&mut self, number: u32, asked: &Asked<'_>, out: &mut Vec<u8>) -> Result<(), WriteError>
+    /// The number of the next call, or why there is none.
+    fn next_number(&self, now: u64, expiration: u64) -> Result<u32, CallError>
+        ensures ok { IfOk result (λ n. (n ≡ suc self.now.last) × (now ≤ expiration) × (n < 2 ^ 31) × (vec_len self.now.pending < 64)) }
+        ensures err { IfErr result (λ e. (m : Client) (call : Call) → FtStands self.now m → call.expiration ≡ expiration → IsCallError now call m e) }
+    {
+        if expiration < now {
+            return Err(CallError::Expired);
+        }
+        if self.last == LAST {
+            return Err(CallError::IdsUsed);
+        }
+        if self.pending.len() == MOST {
+            return Err(CallError::TooManyCalls);
+        }
+        Ok(self.last + 1)
+    }
+
+    /// A call that is kept gets its place under a number: it is sent where the client is connected, and is pending unless
+    /// it was sent and wishes for no reply. There is a place for it.
+    fn place(&mut self, number: u32, mut kept: Pending, out: &mut Vec<u8>) -> Result<(), AllocError>
         requires few { vec_len self.old.pending < 64 }
         requires greater { self.old.last < number }
         requires long { number < 2 ^ 31 }
-        requires clean { IsClean asked.now.operation.now }
-        requires writable { AreWritable (values_of asked.now.arguments.now) }
-        ensures fits { OnOk result ((m : Client) → FtStands self.old m → fits number m (call_asked asked.now) ≡ true) }
-        ensures stands { OnOk result ((m : Client) → FtStands self.old m → FtStands self.new (placed number (call_asked asked.now) m m.link)) }
-        ensures out { OnOk result ((m : Client) → FtStands self.old m → out.new.items ≡ out.old.items ++ stream octets_said (says_placed number (call_asked asked.now) m m.link)) }
-        ensures err { IfErr result (λ e. e ≡ TooLong → (m : Client) → FtStands self.old m → fits number m (call_asked asked.now) ≡ false) }
+        requires unsent { kept.sent ≡ None }
+        ensures stands { OnOk result ((m : Client) (call : Call) → FtStands self.old m → kept_by kept ≡ kept_of m.version m.client_id (record { id = number; call = call; sent = None })
+            → FtStands self.new (placed number call m m.link)) }
+        ensures out { OnOk result ((m : Client) (call : Call) → FtStands self.old m → kept_by kept ≡ kept_of m.version m.client_id (record { id = number; call = call; sent = None })
+            → out.new.items ≡ out.old.items ++ stream octets_said (says_placed number call m m.link)) }
         ensures same { OnErr result ((m : Client) → FtStands self.old m → FtStands self.new m) }
         ensures unwritten { OnErr result (out.new.items ≡ out.old.items) }
     {
-        let mut call = written(
-            self.alloc,
-            self.version,
-            self.client_id.as_slice(),
-            number,
-            asked,
-        )?;
         self.pending.reserve(1)?;
         self.completions.reserve(self.pending.len() + 1)?;
         let Some(link) = &mut self.link else {
-            self.pending.push_reserved(call);
+            self.pending.push_reserved(kept);
             self.last = number;
             return Ok(());
         };
-        call.sent = Some(transmit(link, &call, out)?);
-        self.pending.push_reserved(call);
+        let request_id = transmit(link, &kept, out)?;
         self.last = number;
+        if kept.is_oneway() {
+            self.completions
+                .push_back_reserved((number as i32, Ended::Sent));
+            return Ok(());
+        }
+        kept.sent = Some(request_id);
+        self.pending.push_reserved(kept);
         Ok(())
     }
 
     /// The client is connected anew: each pending call that is not past its expiration is sent on the new connection,
-    /// in the order of the numbers, and the Requests are appended.
+    /// in the order of the numbers, and the Requests are appended. One that wishes for no reply has ended with that.
     ///
     /// Where an allocation fails `out` is as it was, and the client is not connected. It fails only where a call is to be
     /// sent.
@@ -320,6 +333,7 @@ impl FtClient {
             forget_sent(&mut self.pending);
             return Err(error);
         }
+        end_sent(&mut self.pending, &mut self.completions);
         self.link = Some(link);
         Ok(())
     }

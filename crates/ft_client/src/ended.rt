@@ -44,6 +44,8 @@ pub enum Ended {
     Forwarded(ReplyBody),
     /// Its server wants another addressing of the target.
     NeedsAddressing,
+    /// It was sent, and wishes for no reply.
+    Sent,
     /// A moment past its expiration came.
     Expired,
     /// Its caller cancelled it.

@@ -1,11 +1,13 @@
 //! The pending calls of a client, and how they end.
 
-ghost use Rattle.std.specs.Prelude.{◌≡◌, ◌<◌, ◌+◌, ◌++◌, ℕ, [], ◌∷◌, Some, None, true, is_some, OnErr, OnOk, if◌then◌else◌, position, remove, slice_get, vec_len};
+ghost use Rattle.std.specs.Prelude.{◌≡◌, ◌<◌, ◌≤◌, ◌+◌, ◌++◌, ℕ, [], ◌∷◌, Some, None, true, is_some, OnErr, OnOk, if◌then◌else◌, position, remove, slice_get, vec_len};
 ghost use Rattle.std.specs.Ordering.{int_eq};
 ghost use Rattle.std.specs.VecDeque.{deque_capacity, deque_len};
 ghost use Rattle.giop_link.specs.ClientLinking.{ClientLinked, cancel_octets};
 ghost use Rattle.giop_link.specs.Ids.{given_up, is_outstanding};
 ghost use Rattle.ft_client.specs.declared.pending.Pending as pend;
+ghost use Rattle.ft_client.specs.Clients.{Client, sent_off};
+ghost use Rattle.ft_client.specs.Private.{CallsStand};
 
 use crate::ended::Ended;
 use crate::pending::Pending;
@@ -75,4 +77,22 @@ pub(crate) fn complete(
 {
     let call = pending.remove(place);
     completions.push_back_reserved((call.id, ended));
+}
+
+/// Each call that was sent and wishes for no reply has ended, in the order of the numbers. There is room for their
+/// completions.
+pub(crate) fn end_sent(pending: &mut Vec<Pending>, completions: &mut VecDeque<(i32, Ended)>)
+    requires { deque_len completions.old + vec_len pending.old ≤ deque_capacity completions.old }
+    ensures stands { (m : Client) → CallsStand pending.old.items completions.old.items m → CallsStand pending.new.items completions.new.items (sent_off m) }
+    ensures room { deque_len completions.new + vec_len pending.new ≤ deque_capacity completions.new }
+    ensures few { vec_len pending.new ≤ vec_len pending.old }
+{
+    let mut place = 0;
+    while place < pending.len() {
+        if pending[place].is_oneway() && pending[place].sent.is_some() {
+            complete(pending, completions, place, Ended::Sent);
+        } else {
+            place += 1;
+        }
+    }
 }

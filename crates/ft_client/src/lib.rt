@@ -9,10 +9,12 @@ mod error;
 mod feeding;
 pub mod laws;
 mod pending;
+mod raw_call;
 mod requests;
 mod sending;
 mod settling;
 
 pub use client::FtClient;
 pub use ended::{Ended, ReplyBody};
-pub use error::{CallError, RecallError};
+pub use error::{CallError, RawCallError, RecallError};
+pub use raw_call::RawCall;

@@ -1,7 +1,7 @@
 //! Which pending calls were sent on the present link, and how they are sent again on a new one.
 
 ghost use Rattle.std.specs.Prelude.{◌≡◌, ◌≢◌, ◌≤◌, ◌<◌, ◌+◌, ◌++◌, [], length, map, take, vec_len, IfOk, IfErr, OnOk, OnErr};
-ghost use Rattle.ft_client.specs.Keeping.{ids_after_sending, ids_sent, kept_by, marked, octets_again, sent_again, unmarked};
+ghost use Rattle.ft_client.specs.Keeping.{ids_after_sending, ids_awaited, kept_by, marked, octets_again, sent_again, unmarked};
 ghost use Rattle.ft_client.specs.Private.{IsSentOn};
 ghost use Rattle.ft_client.specs.Standing.{waiting_ids};
 
@@ -56,7 +56,7 @@ pub(crate) fn send_again(
     requires { link.old.ids ≡ waiting_ids 0 [] }
     ensures pending { OnOk result (map kept_by pending.new ≡ sent_again now 0 (map kept_by pending.old)) }
     ensures out { OnOk result (out.new.items ≡ out.old.items ++ octets_again now 0 (map kept_by pending.old)) }
-    ensures link { OnOk result (link.new ≡ record link.old { ids = waiting_ids (ids_after_sending now 0 (map kept_by pending.old)) (ids_sent (sent_again now 0 (map kept_by pending.old))) }) }
+    ensures link { OnOk result (link.new ≡ record link.old { ids = waiting_ids (ids_after_sending now 0 (map kept_by pending.old)) (ids_awaited (sent_again now 0 (map kept_by pending.old))) }) }
     ensures needed { OnErr result (octets_again now 0 (map kept_by pending.old) ≢ []) }
     ensures front { take (length out.old.items) out.new.items ≡ out.old.items }
     ensures kept { unmarked (map kept_by pending.new) ≡ unmarked (map kept_by pending.old) }

@@ -13,9 +13,9 @@ use Rattle.ft_client.specs.declared.error.CallError.TheVariants as refused
 use Rattle.ft_client.specs.declared.error.RecallError.{RecallError}
 use Rattle.ft_client.specs.declared.error.RecallError.TheVariants as recalling
 use Rattle.ft_client.specs.Calling.{IsCallError, IsRecallError}
-use Rattle.ft_client.specs.Clients.{Called, Client, Linked, Pending, Recalled, Resumed, after, find_pending, fits, is_resumed, is_taken, placed, says, says_placed, says_recalled, withdrawn}
+use Rattle.ft_client.specs.Clients.{Called, Client, Linked, Pending, Recalled, Resumed, after, find_pending, fits, is_resumed, is_taken, stands_in, placed, says, says_placed, says_recalled, withdrawn}
 use Rattle.ft_client.specs.Directions.{stream}
-use Rattle.ft_client.specs.Messages.{Call, Said, octets_said}
+use Rattle.ft_client.specs.Messages.{Call, Said, has_no_ft, octets_said}
 use Rattle.ft_client.specs.Standing.{FtStands, LinkFor, down, sent_ids}
 use Rattle.ft_ends.specs.declared.wire.Wire.{Wire as CodeWire}
 use Rattle.ft_ends.specs.Private.{IsRecallRefusal, IsRefusal, IsWireFor}
@@ -56,22 +56,29 @@ none-sent link c (Some l) none h = absurd cc
 -- A call that is refused is not taken.
 
 refused-is : (now : ℕ) (call : Call) (c : Client) (e : CallError) → IsRefusal e → IsCallError now call c e → is_taken now call c ≡ false
-refused-is now call c refused.Expired h is = ap (λ b. b && (nat_lt c.last 2147483647 && (nat_lt (length c.pending) 64 && fits (suc c.last) c call))) (lt-leb now call.expiration is)
-refused-is now call c refused.IdsUsed h is =
-    and_right (nat_le now call.expiration) (nat_lt c.last 2147483647 && (nat_lt (length c.pending) 64 && fits (suc c.last) c call)) (ap (λ b. b && (nat_lt (length c.pending) 64 && fits (suc c.last) c call)) (not-below c.last 2147483647 is.1))
+refused-is now call c e h is = and_right (has_no_ft call.form) (in_time now call c) (by e h is)
   where
+    place : Bool
+    place = stands_in (suc c.last) c call && fits (suc c.last) c call
+
+    room : Bool
+    room = nat_lt (length c.pending) 64 && place
+
+    in_time : ℕ → Call → Client → Bool
+    in_time = λ t k d. nat_le t k.expiration && (nat_lt d.last 2147483647 && (nat_lt (length d.pending) 64 && (stands_in (suc d.last) d k && fits (suc d.last) d k)))
+
     not-below : (a b : ℕ) → b ≤ a → nat_lt a b ≡ false
     not-below a b h = lt-leb (suc a) b (omega arith)
-refused-is now call c refused.TooManyCalls h is =
-    and_right (nat_le now call.expiration) (nat_lt c.last 2147483647 && (nat_lt (length c.pending) 64 && fits (suc c.last) c call))
-    (and_right (nat_lt c.last 2147483647) (nat_lt (length c.pending) 64 && fits (suc c.last) c call) (ap (λ b. b && fits (suc c.last) c call) (not-below (length c.pending) 64 is.2)))
-  where
-    not-below : (a b : ℕ) → b ≤ a → nat_lt a b ≡ false
-    not-below a b h = lt-leb (suc a) b (omega arith)
-refused-is now call c refused.TooLong h is =
-    and_right (nat_le now call.expiration) (nat_lt c.last 2147483647 && (nat_lt (length c.pending) 64 && fits (suc c.last) c call))
-    (and_right (nat_lt c.last 2147483647) (nat_lt (length c.pending) 64 && fits (suc c.last) c call) (and_right (nat_lt (length c.pending) 64) (fits (suc c.last) c call) is.3))
-refused-is now call c refused.Memory h is = absurd h
+
+    by : (e : CallError) → IsRefusal e → IsCallError now call c e → in_time now call c ≡ false
+    by refused.Expired h is = ap (λ b. b && (nat_lt c.last 2147483647 && room)) (lt-leb now call.expiration is)
+    by refused.IdsUsed h is = and_right (nat_le now call.expiration) (nat_lt c.last 2147483647 && room) (ap (λ b. b && room) (not-below c.last 2147483647 is.1))
+    by refused.TooManyCalls h is =
+        and_right (nat_le now call.expiration) (nat_lt c.last 2147483647 && room) (and_right (nat_lt c.last 2147483647) room (ap (λ b. b && place) (not-below (length c.pending) 64 is.2)))
+    by refused.TooLong h is =
+        and_right (nat_le now call.expiration) (nat_lt c.last 2147483647 && room)
+        (and_right (nat_lt c.last 2147483647) room (and_right (nat_lt (length c.pending) 64) place (and_right (stands_in (suc c.last) c call) (fits (suc c.last) c call) is.3)))
+    by refused.Memory h is = absurd h
 
 recall-refused : (now id : ℕ) (call : Call) (c : Client) (e : RecallError) → IsRecallRefusal e → IsRecallError now id call c e → is_resumed now id call c ≡ false
 recall-refused now id call c recalling.NumberUsed h is = ap (λ b. b && (nat_le now call.expiration && (nat_lt (length c.pending) 64 && fits id c call))) is

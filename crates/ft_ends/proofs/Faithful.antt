@@ -18,7 +18,7 @@ use Rattle.giop_link.specs.Hearing.{Incoming, heard, meaning_in}
 use Rattle.giop_link.specs.Laws.{CancelsGoOut, FarewellsGoOut, HeardIsMeant, HearingGrows, LocateRepliesGoOut, RepliesGoOut, RequestsGoOut}
 use Rattle.giop_link.specs.Outgoing.{CanGoOut, Outgoing, heard_by, meant, octets_of_each}
 use Rattle.ft_client.specs.Directions.{stream}
-use Rattle.ft_client.specs.Messages.{Asked, Said, Transmission, Withdrawn, contexts_of, incoming_of, octets_said}
+use Rattle.ft_client.specs.Messages.{Asked, Form, Said, Transmission, Withdrawn, contexts_of, incoming_of, octets_said, order_of, request_behind, wish_of}
 use Rattle.ft_orb.specs.ExactlyOnce.{Present}
 use Rattle.ft_orb.specs.Requests.{field_by, field_of}
 use Rattle.ft_ends.specs.Both.{key_of}
@@ -34,7 +34,7 @@ nothing = record { order = Big; place = 0; octets = [] }
 -- what a client says, as messages that are written
 
 abbrev said_out : Said → Outgoing
-said_out (Asked t) = record { version = t.version; order = Big; content = content.request t.request_id Full (by_key t.call.object_key) t.call.operation (contexts_of t) nothing; body = t.call.arguments }
+said_out (Asked t) = record { version = t.version; order = order_of t.call.form; content = content.request t.request_id (wish_of t.call.form) (by_key t.call.object_key) t.call.operation (contexts_of t) nothing; body = t.call.arguments }
 said_out (Withdrawn version request_id) = record { version = version; order = Big; content = content.cancel request_id; body = no_values }
 
 said-octets : (ms : List Said) → octets_of_each (map said_out ms) ≡ stream octets_said ms
@@ -55,11 +55,16 @@ can-ask V12 = tt
 fits : (n : ℕ) → n < 2 ^ 31 → FitsSigned w32 (pos n)
 fits n small = omega (arith, ints)
 
+-- a transmission of a call of another form
+abbrev of_form : Transmission → Form → Transmission
+of_form t f = record t { call = record t.call { form = f } }
+
 module _ (asked : RequestsGoOut) where
   request : (t : Transmission) → IsFine t → CanGoOut (said_out (Asked t)) × (ft_in (contexts_of t) ≡ present t.client_id (pos t.retention_id) t.call.expiration)
   request t fine =
-      asked t.version Big t.request_id Full t.call.object_key t.call.operation t.client_id (pos t.retention_id) t.call.expiration nothing t.call.arguments
-      fine.id (can-ask t.version) fine.call.operation fine.client (fits t.retention_id fine.number) fine.call.expiration fine.size
+      subst (λ f. CanGoOut (said_out (Asked (of_form t f))) × (ft_in (contexts_of (of_form t f)) ≡ present t.client_id (pos t.retention_id) t.call.expiration)) (sym fine.call.values)
+      (asked t.version Big t.request_id Full t.call.object_key t.call.operation t.client_id (pos t.retention_id) t.call.expiration nothing t.call.arguments
+      fine.id (can-ask t.version) fine.call.operation fine.client (fits t.retention_id fine.number) fine.call.expiration (subst (λ f. length (request_behind (of_form t f)) < 4294967296) fine.call.values fine.size))
 
   carried : (t : Transmission) → IsFine t → field_of (contexts_of t) ≡ Present (key_of t) t.call.expiration
   carried t fine = ap (λ (x : Ft). field_by x) (request t fine).1

@@ -8,11 +8,11 @@ use Rattle.cdr_core.specs.Spelling.{IsClean}
 use Rattle.giop_core.specs.declared.header.Version.{Version}
 use Rattle.giop_frames.specs.declared.limits.Limits.{Limits}
 use Rattle.ft_log.specs.Keys.{RequestKey}
-use Rattle.ft_client.specs.Clients.{Called, Cancelled, Client, Ended, Expired, Linked, NeedsAddressing, Pending, Recalled, Resumed, Skipped, Ticked, Told, completed_if, ended_by, find_pending, is_resumed, is_taken, late, on_time, placed, recalled, says_placed, says_recalled, settled, settled_all, transmission, waiting, withdrawn, without}
+use Rattle.ft_client.specs.Clients.{Called, Cancelled, Client, Ended, Expired, Linked, NeedsAddressing, Pending, Recalled, Resumed, Sent, Skipped, Ticked, Told, completed_if, ended_by, find_pending, is_resumed, is_taken, late, on_time, placed, placed_on, recalled, says_placed, says_recalled, settled, settled_all, transmission, waiting, withdrawn, without}
 use Rattle.ft_client.specs.Directions.{stream}
 use Rattle.giop_link.specs.Hearing.{Hearing, news}
 use Rattle.ft_client.specs.Lives.{IsLife, IsOfCall, Life, ended_count, sent_at}
-use Rattle.ft_client.specs.Messages.{Answer, Asked, Call, Said, Shown, Transmission, Withdrawn, located, replied}
+use Rattle.ft_client.specs.Messages.{Answer, Asked, Call, Said, Shown, Transmission, Withdrawn, is_oneway, located, replied, wish_of}
 use Rattle.ft_orb.specs.ExactlyOnce.{Arrival}
 use Rattle.ft_orb.specs.History.{Event, arrivals}
 use Rattle.ft_orb.specs.Outputs.{Made}
@@ -38,6 +38,10 @@ pub ended-append : (r : ℕ) (xs ys : List (ℕ × Ended)) → ended_count r (xs
 ended-append r [] ys = omega arith
 ended-append r (x ∷ xs) ys = let rest = ended-append r xs ys in omega (arith, rest)
 
+-- a typed call waits for its reply
+waits-for-reply : (call : Call) → IsFineCall call → is_oneway (wish_of call.form) ≡ false
+waits-for-reply call fine = ap (λ f. is_oneway (wish_of f)) fine.values
+
 module _ {State : Type 0} (meaning : Meaning State) (made : Made State) where
   -- a completion by a reply has a trace
   abbrev pub IsTold : List (Arrival Wanted) → List ℕ → ℕ → Ended → Type 0
@@ -53,12 +57,14 @@ module _ {State : Type 0} (meaning : Meaning State) (made : Made State) where
   told-from all id r Cancelled h = tt
   told-from all id r (Told status body) h = h
   told-from all id r NeedsAddressing h = h
+  told-from all id r Sent h = h
 
   pub told-later : (all more : List (Arrival Wanted)) (id : List ℕ) (r : ℕ) (ended : Ended) → IsTold all id r ended → IsTold (all ++ more) id r ended
   told-later all more id r Expired h = tt
   told-later all more id r Cancelled h = tt
   told-later all more id r (Told status body) h = traced-later meaning made all more (own_key id r) (Told status body) h
   told-later all more id r NeedsAddressing h = traced-later meaning made all more (own_key id r) NeedsAddressing h
+  told-later all more id r Sent h = traced-later meaning made all more (own_key id r) Sent h
 
   late-told : (all : List (Arrival Wanted)) (id : List ℕ) (now : ℕ) (ps : List Pending) → AllByRecursion (λ x. IsToldOf all id x) (late now ps)
   late-told all id now [] = tt
@@ -132,12 +138,12 @@ module _ {State : Type 0} (meaning : Meaning State) (made : Made State) where
           id = omega (arith, few, low, greater);
           size = is.fine.size (suc l.given);
         } in
-        record {
+        subst (λ b. IsWired past opened (sent ++ sent_at now (Asked t ∷ [])) (placed_on b number call c l).pending (placed_on b number call c l).last (placed_on b number call c l).link (Some (record x { said = x.said ++ Asked t ∷ [] }))) (sym (waits-for-reply call is.fine.fine)) (record {
           spoken = spoken-called sent x.said c.pending now l.given t refl fine h.spoken;
           few = omega (arith, few, greater);
           served = served-said meaning made past x.said (Asked t ∷ []) x.number x.went x.came l.received h.served;
           known = h.known;
-        }
+        })
 
     -- a request is withdrawn
     wired-withdrawn : (sent : List (ℕ × Transmission)) (pending : List Pending) (last : ℕ) (version : Version) (r : ℕ) (o : Option ℕ) (l : Option Linked) (w : Option Wire)
@@ -172,14 +178,14 @@ module _ {State : Type 0} (meaning : Meaning State) (made : Made State) where
     own-clean m h = subst IsClean (sym h.alive.client) clean
 
     -- a call that is taken, or taken up again
-    made-told : (b : Bool) (number : ℕ) (call : Call) (c : Client) → AllByRecursion (λ x. IsToldOf (arrivals made.limits past) id x) c.completions
+    made-told : (b : Bool) (number : ℕ) (call : Call) (c : Client) → IsFineCall call → AllByRecursion (λ x. IsToldOf (arrivals made.limits past) id x) c.completions
         → AllByRecursion (λ x. IsToldOf (arrivals made.limits past) id x) (cond b (placed number call c c.link) c).completions
-    made-told false number call c h = h
-    made-told true number call c h = placed-told c.link
+    made-told false number call c fine h = h
+    made-told true number call c fine h = placed-told c.link
       where
         placed-told : (l : Option Linked) → AllByRecursion (λ x. IsToldOf (arrivals made.limits past) id x) (placed number call c l).completions
         placed-told None = h
-        placed-told (Some l) = h
+        placed-told (Some l) = subst (λ b. AllByRecursion (λ x. IsToldOf (arrivals made.limits past) id x) (placed_on b number call c l).completions) (sym (waits-for-reply call fine)) h
 
     made-wired : (b : Bool) (now number : ℕ) (call : Call) (m : Member) → (b ≡ true → IsTaken m.life.client number call) → IsMember past opened id version m
         → IsWired past opened (m.life.sent ++ sent_at now (cond b (says_placed number call m.life.client m.life.client.link) [])) (cond b (placed number call m.life.client m.life.client.link) m.life.client).pending (cond b (placed number call m.life.client m.life.client.link) m.life.client).last (cond b (placed number call m.life.client m.life.client.link) m.life.client).link (extended (cond b (says_placed number call m.life.client m.life.client.link) []) m.wire)
@@ -193,7 +199,7 @@ module _ {State : Type 0} (meaning : Meaning State) (made : Made State) where
         record {
           life = of_clients.goes_on id version down (Called now call) m.life h.life;
           small = small-after of_clients.as_long down (Called now call) c fine h.small;
-          told = made-told (is_taken now call c) (suc c.last) call c h.told;
+          told = made-told (is_taken now call c) (suc c.last) call c fine h.told;
           wired = made-wired (is_taken now call c) now (suc c.last) call m (λ is. taken-is of_clients.as_long now call c fine is) h;
         }
 
@@ -204,7 +210,7 @@ module _ {State : Type 0} (meaning : Meaning State) (made : Made State) where
         record {
           life = of_clients.goes_on id version down (Resumed now number call) m.life h.life;
           small = small-after of_clients.as_long down (Resumed now number call) c fine h.small;
-          told = made-told (is_resumed now number call c) number call c h.told;
+          told = made-told (is_resumed now number call c) number call c fine h.told;
           wired = made-wired (is_resumed now number call c) now number call m (λ is. resumed-is of_clients.as_long now number call c fine is) h;
         }
 

@@ -28,7 +28,7 @@ use Rattle.ft_ends.specs.World.{CallNow, Cancel, Connect, Cut, Down, Member, Mov
 use Rattle.ft_ends.proofs.Lists.{each-weaker}
 use Rattle.ft_ends.proofs.Members.{IsLinked, IsMember, IsToldOf, IsWired, member-called, member-recalled, member-resumed, member-skipped, member-ticked, news-replies, own-clean, served-down, told-later, told-settled_all}
 use Rattle.ft_ends.proofs.Served.{IsFrom, IsLine, IsReply, line-close, line-more, line-opened, line-other, line-piece, line-shut, piece-from, plain-from, served-here, tellings-here, tellings-other}
-use Rattle.ft_ends.proofs.Small.{IsSmall, settled_all-each, small-after}
+use Rattle.ft_ends.proofs.Small.{IsSmall, joined-as, settled_all-each, small-after}
 use Rattle.ft_ends.proofs.Spoken.{IsAmong, IsSent, asked_as-each, ids-grow, spoken-joined, spoken-pending, spoken-sent}
 
 -- Small facts.
@@ -344,6 +344,7 @@ module _ {State : Type 0} (meaning : Meaning State) (made : Made State) (hears :
         let says = law_told meaning made in
         let number = suc opened in
         let e = Opened number in
+        let same = joined-as now c is.small in
         let said = client_says (Joined now) c in
         let x' : Wire = record { number = number; said = said; went = 0; came = 0 } in
         let fresh = unopened number (omega arith) in
@@ -368,8 +369,8 @@ module _ {State : Type 0} (meaning : Meaning State) (made : Made State) (hears :
           member = record {
             life = of_clients.goes_on id version down' (Joined now) m.life is.life;
             small = small-after of_clients.as_long down' (Joined now) c tt is.small;
-            told = told-more past [] id c.completions is.told;
-            wired = link;
+            told = subst (λ (y : Client). AllByRecursion (λ z. IsToldOf meaning made (arrivals made.limits (e ∷ past)) id z) y.completions) (sym same) (told-more past [] id c.completions is.told);
+            wired = subst (λ (y : Client). IsWired meaning made (e ∷ past) number (m.life.sent ++ sent_at now said) y.pending y.last y.link (Some x')) (sym same) link;
           };
           more_sent = sent_at now said;
           sent_is = refl;

@@ -94,12 +94,12 @@ module _ {State : Type 0} (meaning : Meaning State) (made : Made State) (newcome
 pub call-fine : WrittenIsOctets → (s : CodeStep) (k now : ℕ) (call : CodeCall) → s ≡ code.Call k now call → IsCallable s → HoldAll (values_of call.arguments.items) → IsFineStep (step_as s)
 call-fine octets s k now call is callable held =
     subst (λ (d : CodeStep). IsFineStep (step_as d)) (sym is)
-    (record { operation = (subst IsCallable is callable).0; arguments = λ place. octets Big (structure (values_of call.arguments.items)) held place; expiration = call.near })
+    (record { values = refl; operation = (subst IsCallable is callable).0; arguments = λ place. octets Big (structure (values_of call.arguments.items)) held place; expiration = call.near })
 
 pub recall-fine : WrittenIsOctets → (s : CodeStep) (k number now : ℕ) (call : CodeCall) → s ≡ code.Recall k number now call → IsCallable s → HoldAll (values_of call.arguments.items) → IsFineStep (step_as s)
 recall-fine octets s k number now call is callable held =
     subst (λ (d : CodeStep). IsFineStep (step_as d)) (sym is)
-    (record { operation = (subst IsCallable is callable).0; arguments = λ place. octets Big (structure (values_of call.arguments.items)) held place; expiration = call.near })
+    (record { values = refl; operation = (subst IsCallable is callable).0; arguments = λ place. octets Big (structure (values_of call.arguments.items)) held place; expiration = call.near })
 
 pub first-fine : (n : ℕ) (ss : List CodeStep) → AllByRecursion IsFineStep (map step_as ss) → AllByRecursion IsFineStep (map step_as (take n ss))
 first-fine zero ss h = tt

@@ -27,7 +27,7 @@ use Rattle.ft_log.specs.declared.outcome.RawStatus.TheVariants as raw_status
 use Rattle.ft_log.specs.declared.system_exception.Completion.TheVariants.{No}
 use Rattle.ft_log.specs.declared.system_exception.SystemName.TheVariants.{BadContext, BadParam}
 use Rattle.ft_client.specs.Clients.{Cancelled, Ended, Expired, Told}
-use Rattle.ft_client.specs.Messages.{Call}
+use Rattle.ft_client.specs.Messages.{Call, typed}
 use Rattle.ft_client.specs.Standing.{down}
 use Rattle.ft_orb.specs.ExactlyOnce.{state_of}
 use Rattle.ft_orb.specs.History.{arrivals, arrivals_in, front_in}
@@ -66,7 +66,7 @@ abbrev made : Made ℤ
 made = record { limits = limits; capacity = 1024; share = 1024; opening = pos 0 }
 
 abbrev add : Call
-add = record { object_key = 99 ∷ []; operation = 97 ∷ 100 ∷ 100 ∷ []; arguments = values (long_value (pos 7) ∷ []); expiration = 100 }
+add = record { object_key = 99 ∷ []; operation = 97 ∷ 100 ∷ 100 ∷ []; arguments = values (long_value (pos 7) ∷ []); expiration = 100; form = typed }
 
 -- the world of a servant where one client, `A`, calls at 50, connects, and then this happens
 abbrev world_of : Meaning ℤ → List Step → World

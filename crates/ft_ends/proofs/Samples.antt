@@ -12,7 +12,7 @@ use Rattle.ft_log.specs.Performed.{Performed, returned, system}
 use Rattle.ft_log.specs.declared.system_exception.Completion.TheVariants.{No}
 use Rattle.ft_log.specs.declared.system_exception.SystemName.TheVariants.{BadContext}
 use Rattle.ft_client.specs.Clients.{Cancelled, Ended, Expired}
-use Rattle.ft_client.specs.Messages.{Answer, Asked, Call, Said, Withdrawn, replied}
+use Rattle.ft_client.specs.Messages.{Answer, Asked, Call, Said, Withdrawn, replied, typed}
 use Rattle.ft_orb.specs.History.{Changed, Close, Event, Gone, Line, Lost, Opened, Piece, Shut as Closed, Up, Withdrew, clock, line}
 use Rattle.ft_objects.specs.Replies.{body_of, order_of, status_of}
 use Rattle.ft_ends.specs.Both.{ended_of}
@@ -86,7 +86,7 @@ limits = record { message = 4096; partials = 1; message_in_range = (lit≤ tt, l
 
 -- `add` of the object `c`, until the moment 100
 abbrev add : Call
-add = record { object_key = 99 ∷ []; operation = 97 ∷ 100 ∷ 100 ∷ []; arguments = no_values; expiration = 100 }
+add = record { object_key = 99 ∷ []; operation = 97 ∷ 100 ∷ 100 ∷ []; arguments = no_values; expiration = 100; form = typed }
 
 -- what completes where one client calls and connects, and then this happens
 abbrev completions : List Step → List (ℕ × ℕ × Ended)

@@ -1,13 +1,14 @@
 -- What a client has pending can be written, and is little.
-use Rattle.std.proofs.Common.{◌≡◌, ℕ, suc, ◌<◌, ◌≤◌, ◌==◌, ◌&&◌, nat_le, nat_lt, ℤ, pos, Bool, true, false, cond, List, [], ◌∷◌, ◌++◌, length, Option, Some, None, refl, ap, subst, arith, length-append}
+use Rattle.std.proofs.Common.{◌≡◌, ℕ, suc, ◌<◌, ◌≤◌, ◌==◌, ◌&&◌, nat_le, nat_lt, not, is_some, ℤ, pos, Bool, true, false, cond, List, [], ◌∷◌, ◌++◌, length, Option, Some, None, refl, ap, ◌∙◌, subst, arith, length-append, append-nil}
 use Rattle.std.specs.List.{AllByRecursion}
 use Rattle.std.specs.Ordering.{int_eq}
 use Rattle.std.proofs.lemmas.Bool.{and_parts, ltb-true}
 use Rattle.std.proofs.lemmas.Option.{none-some, same_Some}
+use Rattle.giop_core.specs.declared.header.Version.{Version}
 use Rattle.giop_link.specs.Hearing.{Ending, Hearing, news}
-use Rattle.ft_client.specs.Clients.{Called, Cancelled, Client, Ended, Fed, Happening, Joined, Linked, Parted, Pending, Recalled, Resumed, Skipped, Taken, Ticked, after, completed, completed_if, ended_by, ending_of, find_pending, fits, ids_after, is_resumed, is_taken, on_time, parted, parted_at, placed, recalled, resent, settled, settled_all, skipped, told_of, transmission, unsent, waiting, without}
+use Rattle.ft_client.specs.Clients.{Called, Cancelled, Client, Ended, Fed, Happening, Joined, Linked, Parted, Pending, Recalled, Resumed, Sent, Skipped, Taken, Ticked, after, completed, completed_if, ended_by, ending_of, find_pending, fits, ids_after, is_in_time, is_resumed, is_taken, is_unsettled, joined, leaving, on_time, parted, parted_at, placed, placed_on, recalled, resent, sent_off, settled, settled_all, skipped, stands_in, staying, told_of, transmission, unsent, waiting, without}
 use Rattle.ft_client.specs.Laws.{RequestsAreAsLong}
-use Rattle.ft_client.specs.Messages.{Answer, Call, located, replied, request_behind}
+use Rattle.ft_client.specs.Messages.{Answer, Call, has_no_ft, is_oneway, located, replied, request_behind, typed, wish_of}
 use Rattle.ft_ends.specs.Fine.{IsFineCall}
 use Rattle.ft_ends.proofs.Lists.{each-append}
 use Rattle.ft_ends.proofs.Spoken.{IsFinePending}
@@ -23,11 +24,11 @@ without-length id [] = omega arith
 without-length id (p ∷ ps) =
     let rest = without-length id ps in elim (p.id == id) as (λ b. length (cond b ps (p ∷ without id ps)) ≤ length (p ∷ ps)) [ true ↦ omega arith | false ↦ omega (arith, rest) ]
 
-on_time-length : (now : ℕ) (ps : List Pending) → length (on_time now ps) ≤ length ps
-on_time-length now [] = omega arith
-on_time-length now (p ∷ ps) =
-    let rest = on_time-length now ps in
-    elim (nat_le now p.call.expiration) as (λ b. length (cond b (p ∷ on_time now ps) (on_time now ps)) ≤ length (p ∷ ps)) [ true ↦ omega (arith, rest) | false ↦ omega (arith, rest) ]
+staying-length : (stays : Pending → Bool) (ps : List Pending) → length (staying stays ps) ≤ length ps
+staying-length stays [] = omega arith
+staying-length stays (p ∷ ps) =
+    let rest = staying-length stays ps in
+    elim (stays p) as (λ b. length (cond b (p ∷ staying stays ps) (staying stays ps)) ≤ length (p ∷ ps)) [ true ↦ omega (arith, rest) | false ↦ omega (arith, rest) ]
 
 unsent-length : (ps : List Pending) → length (unsent ps) ≡ length ps
 unsent-length [] = refl
@@ -45,11 +46,14 @@ pub without-each : (P : Pending → Type 0) (id : ℕ) (ps : List Pending) → A
 without-each P id [] h = tt
 without-each P id (p ∷ ps) h = elim (p.id == id) as (λ b. AllByRecursion P (cond b ps (p ∷ without id ps))) [ true ↦ h.1 | false ↦ (h.0, without-each P id ps h.1) ]
 
+pub staying-each : (P : Pending → Type 0) (stays : Pending → Bool) (ps : List Pending) → AllByRecursion P ps → AllByRecursion P (staying stays ps)
+staying-each P stays [] h = tt
+staying-each P stays (p ∷ ps) h =
+    elim (stays p) as (λ b. AllByRecursion P (cond b (p ∷ staying stays ps) (staying stays ps)))
+    [ true ↦ (h.0, staying-each P stays ps h.1) | false ↦ staying-each P stays ps h.1 ]
+
 pub on_time-each : (P : Pending → Type 0) (now : ℕ) (ps : List Pending) → AllByRecursion P ps → AllByRecursion P (on_time now ps)
-on_time-each P now [] h = tt
-on_time-each P now (p ∷ ps) h =
-    elim (nat_le now p.call.expiration) as (λ b. AllByRecursion P (cond b (p ∷ on_time now ps) (on_time now ps)))
-    [ true ↦ (h.0, on_time-each P now ps h.1) | false ↦ on_time-each P now ps h.1 ]
+on_time-each P now ps h = staying-each P (is_in_time now) ps h
 
 -- sent or not
 unsent-each : (P : ℕ → Call → Type 0) (ps : List Pending) → AllByRecursion (λ p. P p.id p.call) ps → AllByRecursion (λ p. P p.id p.call) (unsent ps)
@@ -123,6 +127,34 @@ small-recalled : (o : Option Pending) (m : Client) → IsSmall m → IsSmall (re
 small-recalled None m h = h
 small-recalled (Some p) m h = small-completed p.id Cancelled m h
 
+small-sent_off : (m : Client) → IsSmall m → IsSmall (sent_off m)
+small-sent_off m h = record {
+  waits = staying-each (λ p. IsFinePending m.version m.client_id p.id p.call) is_unsettled m.pending h.waits;
+  few = let few = h.few in let less = staying-length is_unsettled m.pending in omega (arith, few, less);
+  low = h.low;
+}
+
+-- typed calls wait for a reply
+
+abbrev AreTyped : List Pending → Type 0
+AreTyped ps = AllByRecursion (λ p. p.call.form ≡ typed) ps
+
+none-off : (ps : List Pending) → AreTyped ps → (staying is_unsettled ps ≡ ps) × (leaving is_unsettled Sent ps ≡ [])
+none-off [] h = (refl, refl)
+none-off (p ∷ ps) h =
+    let here : is_unsettled p ≡ true = ap (λ f. not (is_oneway (wish_of f) && is_some p.sent)) h.0 in
+    let rest = none-off ps h.1 in
+    (ap (λ b. cond b (p ∷ staying is_unsettled ps) (staying is_unsettled ps)) here ∙ ap (λ (qs : List Pending). p ∷ qs) rest.0, ap (λ b. cond b (leaving is_unsettled Sent ps) ((p.id, Sent) ∷ leaving is_unsettled Sent ps)) here ∙ rest.1)
+
+all-typed : (version : Version) (client_id : List ℕ) (ps : List Pending) → AllByRecursion (λ p. IsFinePending version client_id p.id p.call) ps → AreTyped ps
+all-typed version client_id [] h = tt
+all-typed version client_id (p ∷ ps) h = (h.0.fine.values, all-typed version client_id ps h.1)
+
+pub joined-as : (now : ℕ) (m : Client) → IsSmall m → sent_off (joined now m) ≡ joined now m
+joined-as now m h =
+    let r = none-off (resent now 0 m.pending) (resent-each (λ id c. c.form ≡ typed) now 0 m.pending (all-typed m.version m.client_id m.pending h.waits)) in
+    λ i. record (joined now m) { pending = r.0 i; completions = (ap (λ cs. m.completions ++ cs) r.1 ∙ append-nil m.completions) i }
+
 -- what is known of a call that is taken
 pub record IsTaken (m : Client) (id : ℕ) (call : Call) : Type 0 where
   pub greater : m.last < id
@@ -132,9 +164,12 @@ pub record IsTaken (m : Client) (id : ℕ) (call : Call) : Type 0 where
 
 pub taken-is : RequestsAreAsLong → (now : ℕ) (call : Call) (m : Client) → IsFineCall call → is_taken now call m ≡ true → IsTaken m (suc m.last) call
 taken-is as_long now call m fine is =
-    let a = (and_parts (nat_le now call.expiration) (nat_lt m.last 2147483647 && (nat_lt (length m.pending) 64 && fits (suc m.last) m call)) is).1 in
-    let b = and_parts (nat_lt m.last 2147483647) (nat_lt (length m.pending) 64 && fits (suc m.last) m call) a in
-    let c = and_parts (nat_lt (length m.pending) 64) (fits (suc m.last) m call) b.1 in
+    let room = nat_lt (length m.pending) 64 && (stands_in (suc m.last) m call && fits (suc m.last) m call) in
+    let own = (and_parts (has_no_ft call.form) (nat_le now call.expiration && (nat_lt m.last 2147483647 && room)) is).1 in
+    let a = (and_parts (nat_le now call.expiration) (nat_lt m.last 2147483647 && room) own).1 in
+    let b = and_parts (nat_lt m.last 2147483647) room a in
+    let c = and_parts (nat_lt (length m.pending) 64) (stands_in (suc m.last) m call && fits (suc m.last) m call) b.1 in
+    let d = and_parts (stands_in (suc m.last) m call) (fits (suc m.last) m call) c.1 in
     let low = ltb-true m.last 2147483647 b.0 in
     record {
       greater = omega arith;
@@ -143,7 +178,7 @@ taken-is as_long now call m fine is =
       fine = record {
         fine = fine;
         number = omega (arith, low);
-        size = λ i. subst (λ (k : ℕ). k < 4294967296) (as_long m.version m.client_id (suc m.last) 1 i call) (ltb-true (length (request_behind (transmission m.version m.client_id (suc m.last) 1 call))) 4294967296 c.1);
+        size = λ i. subst (λ (k : ℕ). k < 4294967296) (as_long m.version m.client_id (suc m.last) 1 i call) (ltb-true (length (request_behind (transmission m.version m.client_id (suc m.last) 1 call))) 4294967296 d.1);
       };
     }
 
@@ -174,9 +209,13 @@ small-called id call sent l m is h =
       low = is.low;
     }
 
+small-placed_on : (b : Bool) (id : ℕ) (call : Call) (m : Client) (l : Linked) → IsTaken m id call → IsSmall m → IsSmall (placed_on b id call m l)
+small-placed_on true id call m l is h = record { waits = h.waits; few = h.few; low = is.low }
+small-placed_on false id call m l is h = small-called id call (Some (suc l.given)) (Some (record l { given = suc l.given })) m is h
+
 small-placed : (id : ℕ) (call : Call) (m : Client) (l : Option Linked) → IsTaken m id call → IsSmall m → IsSmall (placed id call m l)
 small-placed id call m None is h = small-called id call None None m is h
-small-placed id call m (Some l) is h = small-called id call (Some (suc l.given)) (Some (record l { given = suc l.given })) m is h
+small-placed id call m (Some l) is h = small-placed_on (is_oneway (wish_of call.form)) id call m l is h
 
 small-made : (b : Bool) (id : ℕ) (call : Call) (m : Client) → (b ≡ true → IsTaken m id call) → IsSmall m → IsSmall (cond b (placed id call m m.link) m)
 small-made true id call m is h = small-placed id call m m.link (is refl) h
@@ -200,13 +239,14 @@ small-after as_long down (Called now call) m fine s = small-made (is_taken now c
 small-after as_long down (Resumed now id call) m fine s = small-made (is_resumed now id call m) id call m (λ is. resumed-is as_long now id call m fine is) s
 small-after as_long down (Skipped id) m fine s = small-skipped id m s
 small-after as_long down (Joined now) m fine s =
-    small-as m (resent now 0 m.pending) (Some (record { given = ids_after now 0 m.pending; received = [] })) (resent-length now 0 m.pending) (resent-each (IsFinePending m.version m.client_id) now 0 m.pending s.waits) s
+    small-sent_off (joined now m)
+    (small-as m (resent now 0 m.pending) (Some (record { given = ids_after now 0 m.pending; received = [] })) (resent-length now 0 m.pending) (resent-each (IsFinePending m.version m.client_id) now 0 m.pending s.waits) s)
 small-after as_long down (Fed octets) m fine s = small-parted_at (ending_of down octets m.link) (told_of down octets m m.link) (small-told down octets m m.link s)
 small-after as_long down Parted m fine s = small-parted m s
 small-after as_long down (Recalled id) m fine s = small-recalled (find_pending id m.pending) m s
 small-after as_long down (Ticked now) m fine s = record {
   waits = on_time-each (λ p. IsFinePending m.version m.client_id p.id p.call) now m.pending s.waits;
-  few = let few = s.few in let less = on_time-length now m.pending in omega (arith, few, less);
+  few = let few = s.few in let less = staying-length (is_in_time now) m.pending in omega (arith, few, less);
   low = s.low;
 }
 small-after as_long down Taken m fine s = record { waits = s.waits; few = s.few; low = s.low }

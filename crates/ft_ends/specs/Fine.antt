@@ -8,7 +8,7 @@ use Rattle.cdr_core.specs.declared.order.Order.TheVariants.{Big}
 use Rattle.giop_frames.specs.declared.limits.Limits.{Limits}
 use Rattle.giop_link.specs.Hearing.{Hearing, heard}
 use Rattle.ft_client.specs.Directions.{stream}
-use Rattle.ft_client.specs.Messages.{Answer, Asked, Call, Said, Transmission, Withdrawn, contexts_of, incoming_of, octets_said, request_behind}
+use Rattle.ft_client.specs.Messages.{Answer, Asked, Call, Said, Transmission, Withdrawn, contexts_of, incoming_of, octets_said, request_behind, typed}
 use Rattle.ft_orb.specs.ExactlyOnce.{Present}
 use Rattle.ft_objects.specs.Replies.{body_limit}
 use Rattle.ft_orb.specs.Requests.{field_of}
@@ -20,8 +20,9 @@ use Rattle.ft_ends.specs.Tellings.{answer_in}
 abbrev pub IsFront : {A : Type 0} → List A → List A → Type 0
 IsFront {A} xs ys = (more : List A) × (ys ≡ xs ++ more)
 
--- a call's operation has no NUL, its arguments are written as octets, and its expiration is an unsigned long long
+-- a call's arguments are typed, its operation has no NUL, its arguments are written as octets, and its expiration is an unsigned long long
 pub record IsFineCall (call : Call) : Type 0 where
+  pub values : call.form ≡ typed
   pub operation : IsClean call.operation
   pub arguments : (place : ℕ) → AreOctets (octets_of_all Big call.arguments place)
   pub expiration : call.expiration < 2 ^ 64

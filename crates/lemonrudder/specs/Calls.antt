@@ -8,7 +8,7 @@ use Rattle.giop_core.specs.Content.{Rest}
 use Rattle.giop_core.specs.declared.reply.ReplyStatus.TheVariants.{LocationForward, NoException, UserException}
 use Rattle.giop_core.specs.declared.header.Version.{Version}
 use Rattle.giop_frames.specs.declared.limits.Limits.{Limits}
-use Rattle.ft_client.specs.Clients.{Cancelled, Client, Ended, Expired, Fed, Happening, Joined, NeedsAddressing, Recalled, Taken, Ticked, Told, after, find_pending, new_client, parted, says, told_of}
+use Rattle.ft_client.specs.Clients.{Cancelled, Client, Ended, Expired, Fed, Happening, Joined, NeedsAddressing, Recalled, Sent, Taken, Ticked, Told, after, find_pending, new_client, parted, says, told_of}
 use Rattle.ft_client.specs.Directions.{stream}
 use Rattle.ft_client.specs.Ends.{ended_of}
 use Rattle.ft_client.specs.Messages.{octets_said}
@@ -92,13 +92,14 @@ abbrev pub told : Ended → Option Rest
 told (Told status body) = Some body
 told _ = None
 
--- how a call ended, as the header numbers it
+-- how a call ended, as the header numbers it; one that wishes for no reply, of which the library makes none, returned without a body
 abbrev pub how_ended : Ended → ℕ
 how_ended (Told NoException body) = 0
 how_ended (Told UserException body) = 1
 how_ended (Told LocationForward body) = 3
 how_ended (Told _ body) = 2
 how_ended NeedsAddressing = 4
+how_ended Sent = 0
 how_ended Expired = 5
 how_ended Cancelled = 6
 

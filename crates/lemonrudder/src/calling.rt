@@ -56,6 +56,7 @@ fn of_ended(ended: &Ended) -> (u32, Option<&ReplyBody>)
         Ended::System(body) => (2, Some(body)),
         Ended::Forwarded(body) => (3, Some(body)),
         Ended::NeedsAddressing => (4, None),
+        Ended::Sent => (0, None),
         Ended::Expired => (5, None),
         Ended::Cancelled => (6, None),
     }

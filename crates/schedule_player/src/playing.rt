@@ -36,6 +36,7 @@ fn print_ended<W: Write>(ended: &Ended, out: &mut W) -> io::Result<()> {
         Ended::System(body) => print_reply("system", body, out),
         Ended::Forwarded(body) => print_reply("forwarded", body, out),
         Ended::NeedsAddressing => writeln!(out, "needs_addressing"),
+        Ended::Sent => writeln!(out, "sent"),
         Ended::Expired => writeln!(out, "expired"),
         Ended::Cancelled => writeln!(out, "cancelled"),
     }

@@ -4,7 +4,7 @@ use Rattle.std.specs.List.{AllByRecursion}
 use Rattle.std.proofs.lemmas.Option.{none-some, same_Some}
 use Rattle.std.proofs.lemmas.Result.{IfOk-at_ok}
 use Rattle.giop_frames.specs.declared.limits.Limits.{Limits}
-use Rattle.ft_client.specs.Clients.{Cancelled, Ended, Expired, NeedsAddressing, Told}
+use Rattle.ft_client.specs.Clients.{Cancelled, Ended, Expired, NeedsAddressing, Sent, Told}
 use Rattle.ft_ends.specs.Both.{ActsOnce, Answers, Explains, IsExplainedAs, ended_of}
 use Rattle.ft_ends.specs.Laws.{CallsAreOfSteps}
 use Rattle.ft_ends.specs.Playing.{numbered}
@@ -60,6 +60,7 @@ module _ (limits : Limits) (request reply : ℕ) (called : CallsAreOfSteps) (onc
   ended_first k r Expired h = tt
   ended_first k r Cancelled h = tt
   ended_first k r NeedsAddressing h = tt
+  ended_first k r Sent h = tt
   ended_first k r (Told status body) h = explained_first h.0 (Told status body) h.2
 
   pub completed_first : AllByRecursion (λ (x : _). IsFirst x.2) (map numbered (world_at limits request reply).completions)

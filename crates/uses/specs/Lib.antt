@@ -13,6 +13,7 @@ pub mod Retrying
 pub mod Cutting
 pub mod Forwarding
 pub mod Relaying
+pub mod Handing
 pub mod Accounts
 -- proofs that `impl Servant` cites, which nobody has to read
 pub mod facts

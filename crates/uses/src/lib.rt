@@ -1,4 +1,4 @@
-//! Twenty uses of the libraries, as a caller writes them: each is one file with one subject, proved, and
+//! Twenty-one uses of the libraries, as a caller writes them: each is one file with one subject, proved, and
 //! run by a test of `uses_tests`, whose octets are written out by hand from the standard's layouts (CDR 9.3, GIOP 9.4).
 //! The pages of the repository quote them.
 #![tactic(auto)]
@@ -10,6 +10,7 @@ mod capture;
 mod cutting;
 mod endpoint;
 mod forwarding;
+mod handing;
 mod hearing;
 mod invocation;
 mod keeping;
@@ -31,6 +32,7 @@ pub use capture::{Capture, read_capture};
 pub use cutting::{AtCut, CuttingError, ticket_at_cut};
 pub use endpoint::first_endpoint;
 pub use forwarding::{ForwardError, forward_request, read_reply};
+pub use handing::hand_on;
 pub use hearing::requests_heard;
 pub use invocation::{Retry, add_request, cut};
 pub use keeping::keep_once;

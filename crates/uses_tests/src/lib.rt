@@ -17,6 +17,8 @@ mod cutting;
 #[cfg(test)]
 mod endpoint;
 #[cfg(test)]
+mod handing;
+#[cfg(test)]
 mod hearing;
 #[cfg(test)]
 mod invocation;

@@ -1,7 +1,7 @@
 use Rattle.std.proofs.Common.{◌≡◌, ℕ, suc, ◌<◌, ◌≤◌, List, ◌++◌, length, map, take, drop, slice_get, slice_index_or, Some, sym, ap, ◌∙◌, add-one, arith, length-append}
 use Rattle.std.proofs.lemmas.List.{append-nil, take-append-le}
 use Rattle.giop_link.specs.ClientLinking.{ClientLinked}
-use Rattle.ft_client.specs.Keeping.{Kept, ids_after_sending, ids_sent, kept_by, octets_again, sent_again, unmarked}
+use Rattle.ft_client.specs.Keeping.{Kept, ids_after_sending, ids_awaited, kept_by, octets_again, sent_again, unmarked}
 use Rattle.ft_client.specs.Standing.{waiting_ids}
 use Rattle.ft_client.proofs.Marking.{drop_ends, drop_here, ids_here, kept_at, length_kept, sent_step, take_ends, unmarked_marked}
 use Rattle.ft_client.proofs.Sent.{on_err_of, some_are_written}
@@ -33,7 +33,7 @@ loop-place-preserved c =
       given = rw (add-one, c.mark.ensures) (ap (λ (qs : List Kept). ids_after_sending c.args.now g' qs) d.1 ∙ sym (h.given rest) ∙ ap (λ (qs : List Kept). ids_after_sending c.args.now g qs) (sym d.0) ∙ inv.given);
       octets = rw (add-one, c.mark.ensures) (ap (λ (qs : List Kept). c.send_one.new.out.items ++ octets_again c.args.now g' qs) d.1 ∙ sym (h.octets rest) ∙ ap (λ (qs : List Kept). l.out.items ++ octets_again c.args.now g qs) (sym d.0) ∙ inv.octets);
       link = h.link ∙ ap (λ (x : ClientLinked). record x { ids = c.send_one.new.link.ids }) inv.link;
-      waits = rw (add-one, c.mark.ensures) (h.waits (ids_sent (take l.place ks)) inv.waits ∙ ap (λ (js : List ℕ). waiting_ids g' js) (sym (ids_here ks l.place k s is)));
+      waits = rw (add-one, c.mark.ensures) (h.waits (ids_awaited (take l.place ks)) inv.waits ∙ ap (λ (js : List ℕ). waiting_ids g' js) (sym (ids_here ks l.place k s is)));
       front = front_more (length c.args.out.now.items) l.out.items c.send_one.new.out.items h.more c.args.out.now.items h.written inv.long inv.front;
       long = long_more (length c.args.out.now.items) l.out.items c.send_one.new.out.items h.more h.written inv.long;
       kept = ap unmarked c.mark.ensures ∙ unmarked_marked l.place s ks ∙ inv.kept;
@@ -74,5 +74,5 @@ returns-clause-link c =
     let e : l.place ≡ length ks = omega (arith, length_kept l.pending) in
     let given : l.link.ids.given ≡ ids_after_sending c.args.now 0 (map kept_by c.args.pending.now) = ap (λ (qs : List Kept). ids_after_sending c.args.now l.link.ids.given qs) (sym (drop_ends ks l.place e)) ∙ l.invariant.given in
     let all : ks ≡ sent_again c.args.now 0 (map kept_by c.args.pending.now) = sym ((λ i. take_ends ks l.place e i ++ sent_again c.args.now l.link.ids.given (drop_ends ks l.place e i)) ∙ append-nil ks) ∙ l.invariant.again in
-    let ids = l.invariant.waits ∙ (λ i. waiting_ids (given i) (ids_sent ((take_ends ks l.place e ∙ all) i))) in
+    let ids = l.invariant.waits ∙ (λ i. waiting_ids (given i) (ids_awaited ((take_ends ks l.place e ∙ all) i))) in
     l.invariant.link ∙ ap (λ x. record c.args.link.now { ids = x }) ids

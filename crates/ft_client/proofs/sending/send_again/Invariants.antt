@@ -1,5 +1,5 @@
 use Rattle.std.proofs.Common.{◌≡◌, ◌≤◌, ◌++◌, length, map, take, drop}
-use Rattle.ft_client.specs.Keeping.{ids_after_sending, ids_sent, kept_by, octets_again, sent_again, unmarked}
+use Rattle.ft_client.specs.Keeping.{ids_after_sending, ids_awaited, kept_by, octets_again, sent_again, unmarked}
 use Rattle.ft_client.specs.Standing.{waiting_ids}
 use Rattle.ft_client.proofs.sending.send_again.Given as goal
 
@@ -10,7 +10,7 @@ invariant-loop-place l = record {
   given : ids_after_sending l.now l.link.ids.given (drop l.place (map kept_by l.pending)) ≡ ids_after_sending l.now 0 (map kept_by l.fn.pending);
   octets : l.out.items ++ octets_again l.now l.link.ids.given (drop l.place (map kept_by l.pending)) ≡ l.fn.out.items ++ octets_again l.now 0 (map kept_by l.fn.pending);
   link : l.link ≡ record l.fn.link { ids = l.link.ids };
-  waits : l.link.ids ≡ waiting_ids l.link.ids.given (ids_sent (take l.place (map kept_by l.pending)));
+  waits : l.link.ids ≡ waiting_ids l.link.ids.given (ids_awaited (take l.place (map kept_by l.pending)));
   front : take (length l.fn.out.items) l.out.items ≡ l.fn.out.items;
   long : length l.fn.out.items ≤ length l.out.items;
   kept : unmarked (map kept_by l.pending) ≡ unmarked (map kept_by l.fn.pending);

@@ -16,7 +16,8 @@ use Rattle.ft_client.specs.Standing.{FtStands}
 use Rattle.ft_client.proofs.Cancelling.{get_is, get_there, is_withdrawn, recalled_said, recalled_stands}
 use Rattle.ft_client.proofs.Joining.{map_push}
 use Rattle.ft_client.proofs.Living.{without-rising}
-use Rattle.ft_client.proofs.Places.{at_both, find_is, found_kept, map_remove, nobody, none_there}
+use Rattle.ft_client.proofs.Leaving.{nobody}
+use Rattle.ft_client.proofs.Places.{at_both, find_is, found_kept, map_remove, none_there}
 use Rattle.ft_client.proofs.Sent.{on_err_of}
 use Rattle.ft_client.proofs.client.FtClient.cancel.Goals as goal
 

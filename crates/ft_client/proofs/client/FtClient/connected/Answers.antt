@@ -1,6 +1,6 @@
 use Rattle.std.proofs.Common.{◌≡◌, List, ◌++◌, ap, ◌∙◌, map}
 use Rattle.ft_client.specs.declared.pending.Pending.{Pending as CodePending}
-use Rattle.ft_client.specs.Clients.{parted}
+use Rattle.ft_client.specs.Clients.{joined, parted}
 use Rattle.ft_client.specs.Directions.{stream}
 use Rattle.ft_client.specs.Keeping.{Kept, kept_by, kept_of, octets_again, sent_again, unmarked}
 use Rattle.ft_client.specs.Messages.{octets_said}
@@ -15,15 +15,20 @@ pub returns-clause-stands : goal.returns-clause-stands
 returns-clause-stands c = λ m st.
     let e : each c.deref_mut.result.now ≡ map (kept_of m.version m.client_id) m.pending = ap each c.deref_mut.ensures.value ∙ st.fields.pending in
     let h = c.in_default.ensures in
+    let ended = c.end_sent.ensures.stands (joined c.args.now m) (record {
+      pending_are = ap each (written_over c.send_again.new.pending c.args.self.now.pending.items _ (h.len ∙ c.deref_mut.ensures.len)) ∙ h.pending ∙ ap (sent_again c.args.now 0) e ∙ sent_again_kept m.version m.client_id c.args.now 0 m.pending;
+      completions_are = st.fields.completions;
+      rising = rising_resent m.last c.args.now 0 m.pending st.fields.rising;
+    }) in
     record {
       fields = record {
         client_id = st.fields.client_id;
         version = st.fields.version;
         limits = st.fields.limits;
         last = st.fields.last;
-        pending = ap each (written_over c.send_again.new.pending c.args.self.now.pending.items _ (h.len ∙ c.deref_mut.ensures.len)) ∙ h.pending ∙ ap (sent_again c.args.now 0) e ∙ sent_again_kept m.version m.client_id c.args.now 0 m.pending;
-        completions = st.fields.completions;
-        rising = rising_resent m.last c.args.now 0 m.pending st.fields.rising;
+        pending = ended.pending_are;
+        completions = ended.completions_are;
+        rising = ended.rising;
       };
       link = joined_link m c.args.self.now.limits c.args.self.now.version c.new-link.result c.send_again.new.link c.args.now (each c.deref_mut.result.now) st.fields.limits st.fields.version e c.new-link.ensures.stands h.link (λ l. (c.streams_are_heard.ensures.nothing l).1);
     }

@@ -2,15 +2,16 @@ use Rattle.std.proofs.Common.{◌≡◌, ◌<◌, ◌++◌, pos, List, [], ◌�
 use Rattle.std.specs.List.{remove}
 use Rattle.ft_client.specs.declared.ended.Ended.TheVariants as code
 use Rattle.ft_client.specs.declared.pending.Pending.{Pending as CodePending}
-use Rattle.ft_client.specs.Clients.{Expired, Pending, completed}
+use Rattle.ft_client.specs.Clients.{Expired, Pending, completed, is_in_time}
 use Rattle.ft_client.specs.Ends.{completion_of, numbered}
 use Rattle.ft_client.specs.Keeping.{Kept, kept_by, kept_of}
 use Rattle.ft_client.specs.Standing.{FtStands}
 use Rattle.ft_client.proofs.Cancelling.{get_is, get_there}
-use Rattle.ft_client.proofs.Ticking.{AreInTime, in_time_is, in_time_without, is_late, late_is, link_given_up, one_more_in_time, ticked_is, ticked_without}
+use Rattle.ft_client.proofs.Ticking.{AreInTime, in_time_is, is_late, late_is, link_given_up}
 use Rattle.ft_client.proofs.Joining.{map_push}
 use Rattle.ft_client.proofs.Living.{without-rising}
-use Rattle.ft_client.proofs.Places.{at_both, found_at, map_remove, nobody, same_length}
+use Rattle.ft_client.proofs.Leaving.{left_is, left_without, nobody, one_more_stays, stay_without}
+use Rattle.ft_client.proofs.Places.{at_both, found_at, map_remove, same_length}
 use Rattle.ft_client.proofs.client.FtClient.tick.Goals as goal
 
 pub loop-place-init : goal.loop-place-init
@@ -29,7 +30,7 @@ loop-place-preserved-then-now-index c = λ m st.
     let k : kept_by (slice_index_or ps l.place d) ≡ kept_of t.left.version t.left.client_id (slice_index_or t.left.pending l.place nobody) = at_both t.left.version t.left.client_id ps t.left.pending l.place d nobody t.stands.fields.pending lt in
     let e : d.expiration ≡ (slice_index_or t.left.pending l.place nobody).call.expiration = ap (λ (x : CodePending). x.expiration) c.index.ensures ∙ ap (λ (x : Kept). x.expiration) k in
     let here : is_late c.args.now (slice_index_or t.left.pending l.place nobody) ≡ false = ap (λ x. not (nat_le c.args.now x)) (sym e) ∙ in_time_is c.args.now d.expiration c.if-now-index.true in
-    record { left = t.left; stands = t.stands; same = t.same; in_time = rw add-one (one_more_in_time c.args.now l.place t.left.pending t.in_time here) }
+    record { left = t.left; stands = t.stands; same = t.same; in_time = rw add-one (one_more_stays (is_in_time c.args.now) l.place t.left.pending t.in_time here) }
 
 pub loop-place-smaller : goal.loop-place-smaller
 loop-place-smaller c = let len = c.complete.ensures.len in omega (arith, len)
@@ -70,8 +71,8 @@ loop-place-preserved c = λ m st.
         };
         link = link_given_up a p place Expired s.link c.give_up.new.link d2.sent t.stands.link f.at f.left sent h.unsent h.unlinked h.sent;
       };
-      same = ticked_without c.args.now place a p t.in_time f.at f.holds f.left ∙ t.same;
-      in_time = subst (λ (ps : List Pending). AreInTime c.args.now place ps) f.left (in_time_without c.args.now place a.pending t.in_time);
+      same = left_without (is_in_time c.args.now) Expired place a p t.in_time f.at f.holds f.left ∙ t.same;
+      in_time = subst (λ (ps : List Pending). AreInTime c.args.now place ps) f.left (stay_without (is_in_time c.args.now) place a.pending t.in_time);
     }
 
 pub returns : goal.returns
@@ -79,5 +80,5 @@ returns c = λ m st.
     let l = c.loop-place in
     let t = l.invariant m st in
     let n = same_length kept_by (kept_of t.left.version t.left.client_id) l.self.pending.items t.left.pending t.stands.fields.pending in
-    let all = ticked_is c.args.now l.place t.left t.in_time (omega (arith, n)) in
+    let all = left_is (is_in_time c.args.now) Expired l.place t.left t.in_time (omega (arith, n)) in
     subst (λ x. FtStands l.self x) (sym all ∙ t.same) t.stands

@@ -1,0 +1,105 @@
+use Rattle.std.proofs.Common.{◌≡◌, suc, ◌++◌, true, false, refl, sym, ap, ◌∙◌, subst}
+use Rattle.std.proofs.lemmas.Result.{err_from_is_err_and}
+use Rattle.ft_client.specs.Calling.{call_raw}
+use Rattle.ft_client.specs.Clients.{is_taken, placed, says_placed}
+use Rattle.ft_client.specs.Directions.{stream}
+use Rattle.ft_client.specs.Keeping.{Kept, kept_by}
+use Rattle.ft_client.specs.Messages.{octets_said}
+use Rattle.ft_client.specs.Standing.{FtStands}
+use Rattle.ft_client.proofs.Octets.{body_within}
+use Rattle.ft_client.proofs.Placing.{after_taken, kept_like, says_taken}
+use Rattle.ft_client.proofs.RawCalls.{next_is, no_ft_is, place_is, raw_taken_is, short_is, write_error}
+use Rattle.ft_client.proofs.client.FtClient.call_raw.Goals as goal
+
+pub returns-then-has_ft_request-clause-err : goal.returns-then-has_ft_request-clause-err
+returns-then-has_ft_request-clause-err c = λ m st. no_ft_is c.args.call.now c.has_ft_request.result true c.has_ft_request.ensures c.if-has_ft_request.true
+
+pub returns-in_err-number-clause-err : goal.returns-in_err-number-clause-err
+returns-in_err-number-clause-err c =
+    let p = err_from_is_err_and c.from_residual.result c.from_residual.ensures.1 in
+    let own = no_ft_is c.args.call.now c.has_ft_request.result false c.has_ft_request.ensures c.if-has_ft_request.false in
+    rw (p.1, p.2) (λ m st. (own, c.in_err-number.ensures.err m (call_raw c.args.call.now) st refl))
+
+pub returns-in_err-kept-clause-err : goal.returns-in_err-kept-clause-err
+returns-in_err-kept-clause-err c =
+    let a = c.args in
+    let p = err_from_is_err_and c.from_residual-in_err-kept.result c.from_residual-in_err-kept.ensures.1 in
+    let own = no_ft_is a.call.now c.has_ft_request.result false c.has_ft_request.ensures c.if-has_ft_request.false in
+    let ok = c.in_ok-number.ensures.ok in
+    rw (p.1, p.2) (λ m st.
+    let seen = next_is a.self.now m a.now (call_raw a.call.now) c.in_ok-number.number _ st own ok.0 ok.1 ok.2 a.self.now.pending.ok.0 ok.3 in
+    write_error a.now (call_raw a.call.now) m c.in_ok-number.number c.as_slice.result.now seen (c.as_slice.ensures.value ∙ st.fields.client_id) c.in_err-kept.field-0.0 (λ is. c.in_err-kept.ensures m.version is))
+
+pub is_placed-requires : goal.is_placed-requires
+is_placed-requires c =
+    let call = c.args.call.now in
+    body_within c.as_slice.result.now c.in_ok-number.number call.version call c.as_slice-2.result.now (c.as_slice-2.ensures.value ∙ ap (λ (x : Kept). x.message) (c.in_ok-kept.ensures call.version).1)
+
+pub returns-then-not-is_placed-clause-err : goal.returns-then-not-is_placed-clause-err
+returns-then-not-is_placed-clause-err c = λ m st.
+    let a = c.args in
+    let call = a.call.now in
+    let n = c.in_ok-number.number in
+    let own = no_ft_is call c.has_ft_request.result false c.has_ft_request.ensures c.if-has_ft_request.false in
+    let ok = c.in_ok-number.ensures.ok in
+    let ei = c.as_slice.ensures.value ∙ st.fields.client_id in
+    let seen = next_is a.self.now m a.now (call_raw call) n _ st own ok.0 ok.1 ok.2 a.self.now.pending.ok.0 ok.3 in
+    let kept = c.in_ok-kept.ensures m.version in
+    let place = place_is a.now call m n c.as_slice.result.now c.as_slice-2.result.now seen ei (c.as_slice-2.ensures.value ∙ ap (λ (x : Kept). x.message) kept.1) in
+    (own, seen.in_time, seen.last, seen.few, short_is a.now (call_raw call) m n c.as_slice.result.now seen ei kept.0, place ∙ sym c.is_placed.ensures ∙ c.if-not-is_placed.true)
+
+pub place-requires-clause-unsent : goal.place-requires-clause-unsent
+place-requires-clause-unsent c = ap (λ (x : Kept). x.sent) (c.in_ok-kept.ensures c.args.call.now.version).1
+
+pub returns-in_err-place-clause-err : goal.returns-in_err-place-clause-err
+returns-in_err-place-clause-err c =
+    let a = c.args in
+    let p = err_from_is_err_and c.from_residual-in_err-place.result c.from_residual-in_err-place.ensures.1 in
+    let own = no_ft_is a.call.now c.has_ft_request.result false c.has_ft_request.ensures c.if-has_ft_request.false in
+    let ok = c.in_ok-number.ensures.ok in
+    rw (p.1, p.2) (λ m st.
+    let seen = next_is a.self.now m a.now (call_raw a.call.now) c.in_ok-number.number _ st own ok.0 ok.1 ok.2 a.self.now.pending.ok.0 ok.3 in
+    (own, (seen.in_time, seen.last, seen.few)))
+
+pub returns-clause-taken : goal.returns-clause-taken
+returns-clause-taken c = λ m st.
+    let a = c.args in
+    let call = a.call.now in
+    let n = c.in_ok-number.number in
+    let own = no_ft_is call c.has_ft_request.result false c.has_ft_request.ensures c.if-has_ft_request.false in
+    let ok = c.in_ok-number.ensures.ok in
+    let ei = c.as_slice.ensures.value ∙ st.fields.client_id in
+    let seen = next_is a.self.now m a.now (call_raw call) n _ st own ok.0 ok.1 ok.2 a.self.now.pending.ok.0 ok.3 in
+    let kept = c.in_ok-kept.ensures m.version in
+    let place = place_is a.now call m n c.as_slice.result.now c.as_slice-2.result.now seen ei (c.as_slice-2.ensures.value ∙ ap (λ (x : Kept). x.message) kept.1) in
+    raw_taken_is a.now (call_raw call) m n seen (place ∙ sym c.is_placed.ensures ∙ c.if-not-is_placed.false) (short_is a.now (call_raw call) m n c.as_slice.result.now seen ei kept.0)
+
+pub returns-clause-stands : goal.returns-clause-stands
+returns-clause-stands c = λ m st.
+    let a = c.args in
+    let call = a.call.now in
+    let n = c.in_ok-number.number in
+    let own = no_ft_is call c.has_ft_request.result false c.has_ft_request.ensures c.if-has_ft_request.false in
+    let ok = c.in_ok-number.ensures.ok in
+    let ei = c.as_slice.ensures.value ∙ st.fields.client_id in
+    let seen = next_is a.self.now m a.now (call_raw call) n _ st own ok.0 ok.1 ok.2 a.self.now.pending.ok.0 ok.3 in
+    let kept = c.in_ok-kept.ensures m.version in
+    let place = place_is a.now call m n c.as_slice.result.now c.as_slice-2.result.now seen ei (c.as_slice-2.ensures.value ∙ ap (λ (x : Kept). x.message) kept.1) in
+    let taken = raw_taken_is a.now (call_raw call) m n seen (place ∙ sym c.is_placed.ensures ∙ c.if-not-is_placed.false) (short_is a.now (call_raw call) m n c.as_slice.result.now seen ei kept.0) in
+    let k = kept_like m (call_raw call) m.version c.as_slice.result.now n (kept_by c.in_ok-kept.kept) refl ei kept.1 in
+    after_taken (is_taken a.now (call_raw call) m) _ (suc m.last) (call_raw call) m taken (subst (λ i. FtStands c.place.new.self (placed i (call_raw call) m m.link)) seen.next (c.in_ok-place.ensures.stands m (call_raw call) st k))
+
+pub returns-clause-out : goal.returns-clause-out
+returns-clause-out c = λ m st.
+    let a = c.args in
+    let call = a.call.now in
+    let n = c.in_ok-number.number in
+    let own = no_ft_is call c.has_ft_request.result false c.has_ft_request.ensures c.if-has_ft_request.false in
+    let ok = c.in_ok-number.ensures.ok in
+    let ei = c.as_slice.ensures.value ∙ st.fields.client_id in
+    let seen = next_is a.self.now m a.now (call_raw call) n _ st own ok.0 ok.1 ok.2 a.self.now.pending.ok.0 ok.3 in
+    let kept = c.in_ok-kept.ensures m.version in
+    let place = place_is a.now call m n c.as_slice.result.now c.as_slice-2.result.now seen ei (c.as_slice-2.ensures.value ∙ ap (λ (x : Kept). x.message) kept.1) in
+    let taken = raw_taken_is a.now (call_raw call) m n seen (place ∙ sym c.is_placed.ensures ∙ c.if-not-is_placed.false) (short_is a.now (call_raw call) m n c.as_slice.result.now seen ei kept.0) in
+    let k = kept_like m (call_raw call) m.version c.as_slice.result.now n (kept_by c.in_ok-kept.kept) refl ei kept.1 in
+    says_taken (is_taken a.now (call_raw call) m) (suc m.last) (call_raw call) m a.out.now.items c.place.new.out.items taken (subst (λ i. c.place.new.out.items ≡ a.out.now.items ++ stream octets_said (says_placed i (call_raw call) m m.link)) seen.next (c.in_ok-place.ensures.out m (call_raw call) st k))
