@@ -1,40 +1,27 @@
 //! A counter that notes what becomes of each request.
 
-ghost use Rattle.std.specs.Prelude.{◌≡◌};
-
-use cdr_core::Val;
 use counter::Counter;
-use ft_log::Outcome;
-use ft_objects::{Decision, Lookup, Servant};
+use ft_objects::{Catalogue, Decision, Lookup, Servant};
 use giop_core::{Request, Version};
-use std::alloc::{AllocError, Global};
+use std::alloc::Global;
 use std::cell::RefCell;
 use std::io;
 use std::io::Write;
-use std::marker::Model;
 
-/// A counter, and what it heard: connections, request ids, and what became of these.
+/// What is on offer, a counter or nothing, and what it heard: connections, request ids, and what became of these.
 #[derive(Drop)]
 pub(crate) struct HeardCounter {
     counter: Counter,
+    pub(crate) is_hidden: bool,
     heard: RefCell<Vec<(u64, u32, Decision)>>,
-}
-
-impl Model for HeardCounter {
-    ghost use Rattle.std.specs.Prelude.{ℤ};
-
-    ghost Value = { ℤ };
-
-    ghost view = { λ h. h.counter };
 }
 
 impl HeardCounter {
     /// A counter that heard nothing.
-    pub(crate) fn new(alloc: Global, counter: Counter) -> HeardCounter
-        ensures { result ≡ counter }
-    {
+    pub(crate) fn new(alloc: Global, counter: Counter) -> HeardCounter {
         HeardCounter {
             counter,
+            is_hidden: false,
             heard: RefCell::new(Vec::new(alloc)),
         }
     }
@@ -52,35 +39,23 @@ impl HeardCounter {
     }
 }
 
-impl Servant for HeardCounter {
-    ghost use Rattle.counter.specs.Counter.{counter_meaning};
-    ghost use Rattle.counter.specs.facts.Counter.{counter_is_servant};
+impl Catalogue for HeardCounter {
+    ghost use Rattle.deeds_player.specs.Offered.{offered};
+    ghost use Rattle.deeds_player.specs.facts.Offered.{offered-is};
 
-    ghost meaning = { counter_meaning };
+    ghost offers = { λ h. offered h.is_hidden };
 
-    ghost promises = { counter_is_servant };
-
-    fn known(&self) {
-        self.counter.known();
-    }
+    ghost promises = { λ h. offered-is h.is_hidden };
 
     fn interface(&self, object_key: &[u8], operation: &[u8]) -> Lookup<'_> {
-        self.counter.interface(object_key, operation)
+        if self.is_hidden {
+            return Lookup::NoObject;
+        }
+        Servant::interface(&self.counter, object_key, operation)
     }
 
     fn has_object(&self, object_key: &[u8]) -> bool {
-        self.counter.has_object(object_key)
-    }
-
-    fn perform(
-        &mut self,
-        alloc: Global,
-        object_key: &[u8],
-        operation: &[u8],
-        arguments: &[Val],
-    ) -> Result<Outcome, AllocError> {
-        self.counter
-            .perform(alloc, object_key, operation, arguments)
+        !self.is_hidden && Servant::has_object(&self.counter, object_key)
     }
 
     fn decided(

@@ -11,6 +11,9 @@
 //! - `answer OUTCOME`, `park`, `give_up`, `settle NUMBER OUTCOME`: an outcome is a total, or `overflow`
 //! - `decline`, `withdraw NUMBER`: with TRANSIENT and the minor code 0
 //!
+//! `hide` takes the counter away from what is on offer and `show` offers it again, unless a request of it is parked; `bound N`
+//! allows the ids of clients N octets. While a request waits nothing of this changes.
+//!
 //! The line `counts` prints the engine's counts, `ending C` why a connection ended, and `heard` what became of each request
 //! since the last one. `tick NOW` tells the engine a moment, and prints its moment, how many outcomes it keeps, how many of the client
 //! `A`, and the first expiration; while a request waits it is told none.
@@ -82,6 +85,34 @@ fn tick<W: Write>(engine: &mut Engine<HeardCounter>, now: u64, out: &mut W) -> R
     }
 }
 
+/// Offers the counter, or hides it.
+fn offer<W: Write>(
+    engine: &mut Engine<HeardCounter>,
+    is_hidden: bool,
+    out: &mut W,
+) -> Result<(), Stop> {
+    if engine.asked().is_some() {
+        return Ok(writeln!(out, "asking")?);
+    }
+    match engine.change_object(b"c", |counter| counter.is_hidden = is_hidden) {
+        Ok(()) => Ok(()),
+        Err(why) => Ok(writeln!(out, "{why}")?),
+    }
+}
+
+/// Bounds the ids of clients.
+fn bound<W: Write>(
+    engine: &mut Engine<HeardCounter>,
+    octets: u64,
+    out: &mut W,
+) -> Result<(), Stop> {
+    if engine.asked().is_some() {
+        return Ok(writeln!(out, "asking")?);
+    }
+    engine.bound_client_ids(octets as usize);
+    Ok(())
+}
+
 /// Takes a line for an engine.
 fn take_deed<W: Write>(
     alloc: Global,
@@ -96,8 +127,13 @@ fn take_deed<W: Write>(
     if let Some(word) = line.strip_prefix("tick ") {
         return tick(&mut player.engine, number(word)?, out);
     }
+    if let Some(word) = line.strip_prefix("bound ") {
+        return bound(&mut player.engine, number(word)?, out);
+    }
     match line {
         "play" => play(alloc, player, out),
+        "hide" => offer(&mut player.engine, true, out),
+        "show" => offer(&mut player.engine, false, out),
         "counts" => Ok(print_counts(&player.engine.counts(), out)?),
         "heard" => Ok(player.engine.catalogue().print(out)?),
         _ => Ok(player.deeds.push(deed_in(alloc, line)?)?),

@@ -1,0 +1,3 @@
+-- What the player of deeds offers.
+pub mod Offered
+pub mod facts
