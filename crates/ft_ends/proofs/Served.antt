@@ -21,7 +21,7 @@ use Rattle.ft_log.specs.declared.outcome.RawStatus.TheVariants as raw_status
 use Rattle.ft_log.specs.declared.system_exception.SystemName.{SystemName}
 use Rattle.ft_client.specs.Clients.{Ended, ended_by}
 use Rattle.ft_client.specs.Directions.{stream}
-use Rattle.ft_client.specs.Messages.{Answer, Asked, Call, Said, fields_of, Transmission, Withdrawn, incoming_of, located, octets_said, order_of, question_of, replied}
+use Rattle.ft_client.specs.Messages.{Answer, Asked, Call, Said, fields_of, Transmission, Withdrawn, incoming_of, located, octets_said, order_of as order_in, question_of, replied}
 use Rattle.ft_orb.specs.ExactlyOnce.{Arrival, Present, answer_of, answers_after}
 use Rattle.ft_orb.specs.History.{Changed, Close, Event, Gone, Line, Lost, Opened, Piece, Shut, Up, Withdrew, arrivals, arrivals_in, arrivals_on, completed, connection_of, does_count, heard_after, line, longer, shut}
 use Rattle.ft_orb.specs.Outputs.{Made, close_told, close_told_on, error_told, error_told_on, farewell_told}
@@ -159,13 +159,13 @@ big-plain V10 call place fine = fine.arguments place
 big-plain V11 call place fine = fine.arguments place
 big-plain V12 call place fine = fine.arguments (place + padding place 8)
 
-rest-plain : (version : Version) (call : Call) (place : ℕ) → IsFineCall call → AreOctets (written_rest version Request (order_of call.form) call.arguments place).octets
-rest-plain version call place fine = subst (λ f. AreOctets (written_rest version Request (order_of f) call.arguments place).octets) (sym fine.values) (big-plain version call place fine)
+rest-plain : (version : Version) (call : Call) (place : ℕ) → IsFineCall call → AreOctets (written_rest version Request (order_in call.form) call.arguments place).octets
+rest-plain version call place fine = subst (λ f. AreOctets (written_rest version Request (order_in f) call.arguments place).octets) (sym fine.values) (big-plain version call place fine)
 
 pub plain-from : (said : List Said) (a : Arrival Wanted) → IsFrom said a → IsPlain a.content
 plain-from said a from =
     let t = from.transmission in
-    subst IsPlain (sym from.content) (rest-plain t.version t.call (12 + length (octets_of_all (order_of t.call.form) (values (fields_of t)) 12)) from.fine.call)
+    subst IsPlain (sym from.content) (rest-plain t.version t.call (12 + length (octets_of_all (order_in t.call.form) (values (fields_of t)) 12)) from.fine.call)
 
 -- What is reported of what arrived.
 

@@ -3,14 +3,16 @@
 ghost use Rattle.std.specs.Prelude.{◌≡◌, ◌∷◌, ℕ, suc, true, false, List, None, Some, IfOk, OnErr, OnOk};
 ghost use Rattle.std.specs.Fn.{FnOnceReturnsAtMut};
 ghost use Rattle.ft_log.specs.Holding.{Holding};
+ghost use Rattle.ft_log.specs.View.{key_of};
 ghost use Rattle.ft_orb.specs.History as history;
 ghost use Rattle.ft_orb.specs.History.{changes};
 ghost use Rattle.ft_orb.specs.Offerings.{terms_by};
-ghost use Rattle.ft_orb.specs.Requests.{Call};
+ghost use Rattle.ft_orb.specs.Requests.{Call, is_named_within};
 ghost use Rattle.ft_orb.specs.declared.parked.Waiter.{Waiter};
 
 use crate::engine::Engine;
 use crate::error::ChangeError;
+use ft_log::Key;
 use ft_objects::Catalogue;
 
 /// What is on offer, and how many octets a client's id may have, where that is bounded.
@@ -18,6 +20,19 @@ use ft_objects::Catalogue;
 pub(crate) struct Offering<C: Drop> {
     pub(crate) catalogue: C,
     pub(crate) longest: Option<usize>,
+}
+
+impl<C: Drop> Offering<C> {
+    /// Whether the id of a key's client has not too many octets.
+    #[inline(always)]
+    pub(crate) fn allows(&self, key: &Key) -> bool
+        ensures { result ≡ is_named_within self.now.longest (key_of key.now).client_id }
+    {
+        match self.longest {
+            Some(longest) => key.client_id.len() <= longest,
+            None => true,
+        }
+    }
 }
 
 impl<C: Catalogue + Drop> Engine<C> {

@@ -8,7 +8,7 @@ use Rattle.cdr_core.specs.Writing.{AreWritable}
 use Rattle.ft_client.specs.declared.error.CallError.{CallError}
 use Rattle.ft_client.specs.Calling.{IsCallError}
 use Rattle.ft_client.specs.Clients.{Called, is_taken}
-use Rattle.ft_client.specs.Messages.{Call}
+use Rattle.ft_client.specs.Messages.{Call, typed}
 use Rattle.lemonrudder.specs.declared.calling.Call.{Call as CallOfCode}
 use Rattle.lemonrudder.specs.declared.calling.Calling.{Calling}
 use Rattle.lemonrudder.specs.declared.refusal.Refusal.{Refusal}
@@ -50,7 +50,7 @@ AreNoArguments q e = (types : Forms) × (order : Order) × IsTyped q types order
 
 -- the call of these arguments
 abbrev pub asked : Question → Values → Call
-asked q vs = record { object_key = q.key; operation = q.operation; arguments = vs; expiration = q.expiration }
+asked q vs = record { object_key = q.key; operation = q.operation; arguments = vs; form = typed; expiration = q.expiration }
 
 -- a call of such arguments is not taken: they can't be written, or the client does not take it
 abbrev pub Refuses : Question → Calling → Refusal → Type 0
