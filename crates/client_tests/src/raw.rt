@@ -110,12 +110,28 @@ fn a_raw_call_is_refused(rt: HostRuntime) -> Result<(), Fail> {
         contexts: TAKEN,
         ..PUT
     };
-    assert!(rt; calls(rt.alloc(), &mut one, &taken, Err(RawCallError::FtRequest), &[]));
+    assert!(rt;
+        calls(
+            rt.alloc(),
+            &mut one,
+            &taken,
+            Err(RawCallError::FtRequest),
+            &[]
+        )
+    );
     let misplaced = RawCall {
         body: Body { at: 28, ..PUT.body },
         ..PUT
     };
-    assert!(rt; calls(rt.alloc(), &mut one, &misplaced, Err(RawCallError::Misplaced), &[]));
+    assert!(rt;
+        calls(
+            rt.alloc(),
+            &mut one,
+            &misplaced,
+            Err(RawCallError::Misplaced),
+            &[]
+        )
+    );
     assert!(rt; calls(rt.alloc(), &mut one, &PUT, Ok(1), &[]));
     Ok(())
 }

@@ -66,10 +66,8 @@ impl<C: Catalogue + Drop> Engine<C> {
     pub fn is_wanted(&self, object_key: &[u8]) -> bool
         ensures { result ≡ is_wanted_in self.now object_key.now }
     {
-        self.parked
-            .requests
-            .values()
-            .any(|parked| parked.pending.waiting.object_key.as_slice() == object_key)
+        self.parked.requests.values().any(|parked| parked.pending.waiting.object_key.as_slice()
+            == object_key)
     }
 
     /// Changes what is on offer as `change` does, but for an object of which a request is parked: so one that is wanted is not

@@ -32,7 +32,15 @@ fn a_call_is_handed_on_with_its_code_sets(rt: HostRuntime) -> Result<(), Fail> {
     assert_eq!(rt; number, Ok(1));
     assert_eq!(rt; out.as_slice(), HANDED);
     let elsewhere = Body { at: 30, ..body };
-    let refused = hand_on(&mut client, 50, b"c", b"put", code_sets, elsewhere, &mut out);
+    let refused = hand_on(
+        &mut client,
+        50,
+        b"c",
+        b"put",
+        code_sets,
+        elsewhere,
+        &mut out,
+    );
     assert_eq!(rt; refused, Err(RawCallError::Misplaced));
     Ok(())
 }
