@@ -38,7 +38,7 @@ SHOWING = {EMBEDDING: list(FIRST), RUST: ["rust"]}
 CLIENT = "examples/retry_client.py"
 NUMBERS = (
     "none one two three four five six seven eight nine ten eleven twelve thirteen fourteen fifteen sixteen seventeen "
-    "eighteen nineteen twenty"
+    "eighteen nineteen twenty twenty-one twenty-two twenty-three twenty-four"
 ).split()
 
 
@@ -143,7 +143,7 @@ class Words(unittest.TestCase):
 
     def test_counts_of_examples(self):
         count = sum(file.startswith("crates/uses/src/") for file in files(".rt")) - 1
-        pattern = r"(\w+) uses of the libraries"
+        pattern = r"([\w-]+) uses of the libraries"
         said = [(page, word) for page in files(".md") for word in re.findall(pattern, text_of(page))]
         self.assertTrue(said)
         for page, word in said:
