@@ -21,7 +21,7 @@ use Rattle.ft_log.specs.declared.outcome.RawStatus.TheVariants as raw_status
 use Rattle.ft_log.specs.declared.system_exception.SystemName.{SystemName}
 use Rattle.ft_client.specs.Clients.{Ended, ended_by}
 use Rattle.ft_client.specs.Directions.{stream}
-use Rattle.ft_client.specs.Messages.{Answer, Asked, Call, Said, fields_of, Transmission, Withdrawn, incoming_of, located, octets_said, order_of as order_in, question_of, replied}
+use Rattle.ft_client.specs.Messages.{Answer, Asked, Call, Said, fields_of, Transmission, Withdrawn, incoming_of, located, octets_said, order_of as order_in, question_of, replied, typed}
 use Rattle.ft_orb.specs.ExactlyOnce.{Arrival, Present, answer_of, answers_after}
 use Rattle.ft_orb.specs.History.{Changed, Close, Event, Gone, Line, Lost, Opened, Piece, Shut, Up, Withdrew, arrivals, arrivals_in, arrivals_on, completed, connection_of, does_count, heard_after, line, longer, shut}
 use Rattle.ft_orb.specs.Outputs.{Made, close_told, close_told_on, error_told, error_told_on, farewell_told}
@@ -107,6 +107,13 @@ pub record IsFrom (said : List Said) (a : Arrival Wanted) : Type 0 where
   pub content : a.content ≡ asking origin (question_of transmission)
   pub field : a.field ≡ Present (key_of transmission) transmission.call.expiration
   pub fine : IsFine transmission
+
+-- its call is typed
+abbrev as_typed : Transmission → Transmission
+as_typed t = record t { call = record t.call { form = typed } }
+
+typed-content : (said : List Said) (a : Arrival Wanted) (from : IsFrom said a) → a.content ≡ asking from.origin (question_of (as_typed from.transmission))
+typed-content said a from = from.content ∙ ap (λ f. asking from.origin (question_of (record from.transmission { call = record from.transmission.call { form = f } }))) from.fine.call.values
 
 abbrev IsHeardOf : List Said → Incoming → Type 0
 IsHeardOf said (asks q) = (t : Transmission) × (asked_as said t.request_id ≡ Some t) × (q ≡ question_of t) × IsFine t
@@ -287,7 +294,7 @@ module _ {State : Type 0} (meaning : Meaning State) (made : Made State) where
         let from = h.0 in
         let answer = answer_of rules made.opening before a in
         let rest = answers_told (answer_told meaning.knows) later (answers_after rules made.opening (before ++ a ∷ []) later) in
-        subst (λ (w : Wanted). AllByRecursion (λ x. IsReply all said x) (filter_map answer_in (cons_option (answer_told meaning.knows w answer) rest))) (sym from.content) (
+        subst (λ (w : Wanted). AllByRecursion (λ x. IsReply all said x) (filter_map answer_in (cons_option (answer_told meaning.knows w answer) rest))) (sym (typed-content said a from)) (
           (
             from.transmission,
             from.asked,
@@ -305,7 +312,7 @@ module _ {State : Type 0} (meaning : Meaning State) (made : Made State) where
         let own = plain-from said a from in
         let answer = answer_of rules made.opening before a in
         let rest = answers_told (answer_told meaning.knows) later (answers_after rules made.opening (before ++ a ∷ []) later) in
-        subst (λ (w : Wanted). AllByRecursion IsFineTelling (cons_option (answer_told meaning.knows w answer) rest)) (sym from.content) (
+        subst (λ (w : Wanted). AllByRecursion IsFineTelling (cons_option (answer_told meaning.knows w answer) rest)) (sym (typed-content said a from)) (
           (from.fine.id, status-low (answered_as answer), sends before a plain own),
           told-fine (before ++ a ∷ []) later (each-append (λ b. IsPlain b.content) before (a ∷ []) plain (own, tt)) h.1,
         )

@@ -10,7 +10,7 @@ use Rattle.cdr_core.specs.Spelling.{IsClean}
 use Rattle.giop_frames.specs.declared.limits.Limits.{Limits}
 use Rattle.giop_link.specs.Laws.{HearingGrows}
 use Rattle.ft_log.specs.Keys.{RequestKey}
-use Rattle.ft_client.specs.Clients.{Cancelled, Ended, Expired, Linked, NeedsAddressing, Pending, Told}
+use Rattle.ft_client.specs.Clients.{Cancelled, Ended, Expired, Linked, NeedsAddressing, Pending, Sent, Told}
 use Rattle.giop_link.specs.Hearing.{Hearing, meaning_in}
 use Rattle.ft_client.specs.Laws.{CallsCompleteOnce}
 use Rattle.ft_client.specs.Lives.{IsOfCall, call_at, called_count, ended_count, one_if}
@@ -390,6 +390,7 @@ module _ {State : Type 0} (meaning : Meaning State) (made : Made State) (hears :
         by-ended Cancelled is = tt
         by-ended (Told status body) is = by-trace (Told status body) is
         by-ended NeedsAddressing is = by-trace NeedsAddressing is
+        by-ended Sent is = by-trace Sent is
 
     pub one-expiration : OneExpiration (arrivals made.limits w.past)
     one-expiration a b key early late in_a in_b is_a is_b =
