@@ -22,6 +22,7 @@ CRATES = {
     "VALUE_PLAYER": "value_player",
     "REFERENCE_PLAYER": "reference_player",
     "SCHEDULE_PLAYER": "schedule_player",
+    "DEEDS_PLAYER": "deeds_player",
     "ECHO_SERVER": "echo_server",
     "CDR_TRIALS": "cdr_trials",
     "GIOP_TRIALS": "giop_trials",

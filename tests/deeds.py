@@ -1,0 +1,294 @@
+"""Plays random lists of an owner's deeds with the program `deeds_player`, and compares with a model.
+
+A list is requests for the counter and what the owner does of each, by a seed; what is parked is settled or withdrawn
+later, and meanwhile the counter is hidden and offered again, and the ids of clients are bounded. The lines of a list are
+those of crates/deeds_player/src/lines.rt. All that is printed must be what the model says (tests/engine_model.py): for
+each deed its connection, how it ended, and what was written. A list that fails is printed with as few lines as are found
+with which it still does, as the program takes them.
+"""
+import random
+import unittest
+from collections import namedtuple
+
+from tests import base, giop, programs
+from tests.ends_model import Call, refused
+from tests.engine_model import FULL, NONE, NOT_NOW, Asked, Engine, GivenUp, Parked, Places, Terms
+from tests.schedules import NAMES
+from tests.smaller import smallest
+
+SEED = 31
+COUNT = 200
+STEPS = 40
+PLAYERS = 4
+LIMIT = 1048576
+
+# a line of a request: its connection, its moment, and what it asks. A deed or a change is (NAME, WORDS..)
+Asking = namedtuple("Asking", "connection now asked")
+
+
+def outcome_words(outcome):
+    """The words of an outcome in a reply."""
+    how, *_, octets = outcome.split()
+    body = bytes.fromhex(octets)
+    if how == "returned":
+        return str(int.from_bytes(body, "big", signed=True))
+    length = int.from_bytes(body[:4], "big")
+    name = body[4:4 + length - 1].decode()
+    if how == "raised":
+        return name
+    place = (4 + length + 3) // 4 * 4
+    minor, completed = (int.from_bytes(body[at:at + 4], "big") for at in (place, place + 4))
+    return f"{name.split('/')[-1].split(':')[0]} {minor} {['YES', 'NO', 'MAYBE'][completed]}"
+
+
+def outcome_in(outcome):
+    """The word of an outcome in a deed."""
+    words = outcome_words(outcome)
+    return "overflow" if words.startswith("IDL:") else words
+
+
+def request_words(asked):
+    """The words of a request."""
+    call, key = asked.call, "-"
+    if asked.field:
+        client, number = asked.field
+        key = f"{client.decode()}/{number}/{call.expiration}"
+    oneway = "oneway " if asked.wish == NONE else ""
+    arguments = "".join(f" {argument}" for argument in call.arguments)
+    return f"{oneway}{asked.request_id} {asked.version} {key} {call.operation.decode()}{arguments}"
+
+
+class Owned(Engine):
+    """An engine, its owner, and the lines that it is given and that are printed. What the owner does of each request that
+    it is asked for stands in `manners`, by the request's id."""
+
+    def __init__(self, terms, places, manners):
+        super().__init__(terms, {}, places)
+        self.manners, self.is_hidden, self.longest, self.client = manners, False, None, b""
+        counts = (places.parked, places.parked, places.joined, terms.capacity, terms.share)
+        self.given = [f"engine {' '.join(map(str, counts))}"]
+
+    def give(self, line):
+        """Gives a line."""
+        self.given.append(line)
+
+    def deed(self, line, *printed):
+        """Gives a deed, played by itself, and prints what comes of it."""
+        self.given += [line, "play"]
+        self.lines += printed
+        self.lines.append("done")
+
+    def refused(self, line, why):
+        """Gives a deed that is refused."""
+        self.given += [line, "play"]
+        self.lines.append(f"refused 0 {why}")
+
+    def refusal_of(self, call):
+        if self.longest is not None and self.longest < len(self.client):
+            return refused("BAD_CONTEXT")
+        return refused("OBJECT_NOT_EXIST") if self.is_hidden else super().refusal_of(call)
+
+    def came_of(self, connection, asked):
+        self.client = asked.field[0] if asked.field else b""
+        return super().came_of(connection, asked)
+
+    def reply_words(self, asked, came):
+        """What is written at once, in words."""
+        if isinstance(came, Parked) or asked.wish == NONE:
+            return ""
+        return f" reply {asked.request_id} {outcome_words(came)}"
+
+    def ask(self, connection, asked):
+        """Asks for a request: what comes of it, by what the owner does."""
+        number, self.asks = self.asks, self.asks + 1
+        self.asking = True
+        self.lines += [f"{connection} done", "done"]
+        manner = self.manners[asked.request_id]
+        if manner == "park":
+            if len(self.parked) < self.places.parked:
+                self.deed("park")
+                self.parked[number] = Parked(asked.call)
+                self.wait(connection, asked, self.parked[number])
+                return self.parked[number]
+            self.refused("park", "unparked full")
+            manner = "answer"
+        if manner == "look":
+            for line in ("hide", "bound 0", "opened 1000"):
+                self.while_asking(line)
+            manner = "answer"
+        if manner == "give_up":
+            self.deed("give_up", f"{connection} lost 0 0")
+            raise GivenUp
+        outcome = self.apply(asked.call) if manner == "answer" else NOT_NOW
+        line = f"answer {outcome_in(outcome)}" if manner == "answer" else "decline"
+        self.deed(line, f"{connection} done{self.reply_words(asked, outcome)}")
+        return outcome
+
+    def while_asking(self, line):
+        """Gives a line that does nothing while a request waits."""
+        if line.startswith("opened"):
+            self.refused(line, "asking")
+        else:
+            self.give(line)
+            self.lines.append("asking")
+
+    def take(self, step):
+        """Takes a step of a list."""
+        if isinstance(step, Asking):
+            return self.hear(*step)
+        name, *words = step
+        return getattr(self, f"do_{name}")(*words)
+
+    def hear(self, connection, now, asked):
+        """A request comes on a connection at a moment."""
+        line = f"asks {connection} {now} {request_words(asked)}"
+        self.clock = max(self.clock, now)
+        wire = self.wires.get(connection)
+        if wire is None or wire.is_shut:
+            return self.deed(line, f"{connection} {'refused' if wire is None else 'done'}")
+        self.given += [line, "play"]
+        self.asking = False
+        try:
+            came = self.came_of(connection, asked)
+        except GivenUp:
+            self.lose(connection)
+            return None
+        if not self.asking:
+            self.lines += [f"{connection} done{self.reply_words(asked, came)}", "done"]
+        return None
+
+    def do_opened(self, number):
+        is_new = self.greatest < number
+        self.open(number)
+        self.deed(f"opened {number}", f"{number} {'done' if is_new else 'refused'}")
+
+    def do_lost(self, number):
+        self.lose(number)
+        self.deed(f"lost {number}", f"{number} done")
+
+    def do_close(self, number):
+        if number not in self.wires:
+            return self.deed(f"close {number}", f"{number} refused")
+        if self.is_going(number) and self.waits_on(number):
+            return self.refused(f"close {number}", "waits")
+        written, _ = self.close(number)
+        return self.deed(f"close {number}", f"{number} done{' close' if written else ''}")
+
+    def do_late(self, verb, pick):
+        """What is parked is settled or withdrawn, or what is not parked."""
+        some = sorted(self.parked)
+        number = some[pick % len(some)] if some and pick % 8 else self.asks + pick
+        parked = self.parked.get(number)
+        if parked is None:
+            return self.refused(f"{verb} {number}{' 0' if verb == 'settle' else ''}", "not parked")
+        outcome = self.apply(parked.call) if verb == "settle" else NOT_NOW
+        kept = [(key, end, came) for key, end, came in self.performed if verb == "settle" or came is not parked]
+        self.performed = [(key, end, outcome if came is parked else came) for key, end, came in kept]
+        del self.parked[number]
+        told = [f"{c} done reply {asked.request_id} {outcome_words(outcome)}" for c, asked in self.going(parked)]
+        return self.deed(f"{verb} {number}{' ' + outcome_in(outcome) if verb == 'settle' else ''}", *told)
+
+    def do_offer(self, is_hidden):
+        self.give("hide" if is_hidden else "show")
+        if self.parked:
+            self.lines.append("wanted")
+        else:
+            self.is_hidden = is_hidden
+
+    def do_bound(self, octets):
+        self.give(f"bound {octets}")
+        self.longest = octets
+
+
+class Maker:
+    """Makes the steps of a list."""
+
+    def __init__(self, dice):
+        self.dice, self.now, self.ids, self.last = dice, dice.randint(0, 100), 0, 0
+        capacity, share = dice.choice([(1024, 1024)] * 3 + [(2, 2), (3, 1), (1, 1), (0, 0), (5, 2)])
+        self.terms = Terms(capacity, share, 0, LIMIT, 16)
+        self.places = Places(dice.choice([0, 1, 2, 3, 100]), dice.choice([0, 1, 2, 10]))
+        self.keyed, self.manners, self.steps = [], {}, []
+
+    def new_request(self):
+        """A request that is new: mostly with a key and one that can be asked for."""
+        dice, number = self.dice, len(self.keyed)
+        operation = dice.choice(["add"] * 6 + ["get"] * 3 + ["sub"])
+        arguments = [dice.choice([0, 1, 7, 500, -3, 2147483647])] if operation == "add" else []
+        expiration = self.now + dice.choice([1000] * 6 + [20, 5, 0])
+        field = (dice.choice(NAMES).encode(), number) if dice.random() < 0.8 else None
+        wish = dice.choice([FULL] * 6 + [NONE])
+        return Asked(dice.choice(["1.0", "1.2"]), 0, wish, field, Call("c", operation, expiration, arguments))
+
+    def request(self):
+        """A request, new or again, under a new id, and what its owner does of it if it is asked."""
+        dice = self.dice
+        if self.keyed and dice.random() < 0.45:
+            asked = dice.choice(self.keyed[-5:] + self.keyed)
+        else:
+            asked = self.new_request()
+            if asked.field:
+                self.keyed.append(asked)
+        self.ids += 1
+        self.manners[self.ids] = dice.choice(["answer"] * 8 + ["park"] * 10 + ["decline"] * 3 + ["give_up", "look"])
+        self.now += dice.choice([0, 0, 1, 3])
+        connection = dice.choice([self.last] * 5 + [dice.randint(1, self.last + 1)])
+        return Asking(connection, self.now, asked._replace(request_id=self.ids))
+
+    def opened(self):
+        self.last += 1
+        return "opened", self.last
+
+    def step(self):
+        """A step: mostly a request."""
+        dice, chance = self.dice, self.dice.random()
+        if chance < 0.62:
+            return self.request()
+        if chance < 0.76:
+            return "late", dice.choice(["settle", "settle", "withdraw"]), dice.randrange(64)
+        if chance < 0.84:
+            return "offer", dice.random() < 0.4
+        if chance < 0.89:
+            return "bound", dice.choice([0, 1, 2, 6, 255, 256, 256])
+        if chance < 0.95:
+            return self.opened()
+        return dice.choice(["lost", "close", "close", "opened"]), dice.randint(1, self.last)
+
+    def made(self):
+        """The steps: at their end the counter is on offer, and each request with a key comes once more."""
+        self.steps = [self.opened(), *(self.step() for _ in range(STEPS)), self.opened()]
+        self.steps += [("late", "settle", pick) for pick in range(1, 8)] + [("offer", False), ("bound", 256)]
+        for asked in list(self.keyed):
+            self.ids += 1
+            self.manners[self.ids] = "answer"
+            self.steps.append(Asking(self.last, self.now, asked._replace(request_id=self.ids, wish=FULL)))
+        return self.steps
+
+
+class Lists(unittest.TestCase):
+    """An owner's deeds, and changes of what an engine serves, on random lists."""
+
+    @classmethod
+    def setUpClass(cls):
+        cls.player = programs.program("DEEDS_PLAYER")
+
+    def fault_of(self, maker, steps):
+        """What is wrong with a list, or None: the lines that were given, and those that were printed."""
+        engine = Owned(maker.terms, maker.places, maker.manners)
+        for step in steps:
+            engine.take(step)
+        given = "".join(line + "\n" for line in engine.given)
+        run = base.ran(self.player, given=given.encode())
+        got = run.stdout.decode().splitlines()
+        if run.returncode == 0 and got == engine.lines:
+            return None
+        error = f"status {run.returncode} {run.stderr.decode()}"
+        return "\n".join([f"{given}wanted:", *engine.lines, "got:", *got, error])
+
+    @base.each_seed(SEED, COUNT, PLAYERS)
+    def test_lists(self, seed):
+        """What is written for each deed is what the model says, also where what is on offer changes."""
+        maker = Maker(random.Random(seed))
+        if self.fault_of(maker, maker.made()):
+            fewer = smallest(maker.steps, lambda some: self.fault_of(maker, some))
+            self.fail(f"{len(fewer)} of {len(maker.steps)} steps, {self.fault_of(maker, fewer)}")
