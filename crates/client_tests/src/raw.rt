@@ -2,7 +2,7 @@
 
 use crate::clients::{Done, client, completes, join};
 use crate::steps::are;
-use cdr_core::Order;
+use cdr_core::{Order, has_no_nul};
 use ft_client::{FtClient, RawCall, RawCallError};
 use giop_core::{Body, FT_REQUEST, ReplyWish, Version};
 use std::alloc::Global;
@@ -54,7 +54,7 @@ fn ask() -> RawCall<'static> {
     }
 }
 
-/// Whether a raw call at 50 gives that, and writes these messages.
+/// Whether a raw call can be made, and at 50 gives that and writes these messages.
 fn calls(
     alloc: Global,
     client: &mut FtClient,
@@ -63,7 +63,10 @@ fn calls(
     messages: &[&[u8]],
 ) -> bool {
     let mut out = Vec::new(alloc);
-    client.call_raw(50, call, &mut out) == wanted && are(&out, messages)
+    has_no_nul(call.operation)
+        && call.version.can_ask(call.wish)
+        && client.call_raw(50, call, &mut out) == wanted
+        && are(&out, messages)
 }
 
 #[test]

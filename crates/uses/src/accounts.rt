@@ -1,17 +1,36 @@
 //! Offer ten thousand accounts as one object: a family, an account with a key of its own, and a default object. Accounts of
 //! their own come and go while an engine serves.
 
-ghost use Rattle.std.specs.Prelude.{◌≡◌, IfOk, None, OnOk, OnErr, codes};
+ghost use Rattle.std.specs.Prelude.{◌≡◌, ◌∷◌, ℕ, suc, false, List, IfOk, None, OnOk, OnErr, codes};
 ghost use Rattle.ft_objects.specs.Families.{families_offer};
 ghost use Rattle.ft_objects.specs.Filling.{offer_of, with_raw_object, without_object};
 ghost use Rattle.ft_objects.specs.Interfaces.{no_operation, operation, raw_operation, types_of};
+ghost use Rattle.ft_log.specs.Holding.{Holding};
 ghost use Rattle.ft_orb.specs.Engines.{waits_in};
+ghost use Rattle.ft_orb.specs.History as history;
+ghost use Rattle.ft_orb.specs.History.{changes};
+ghost use Rattle.ft_orb.specs.Offerings.{terms_by};
+ghost use Rattle.ft_orb.specs.Parking.{Settings, Stays, is_wanted_in};
+ghost use Rattle.ft_orb.specs.Requests.{Call};
+ghost use Rattle.ft_orb.specs.declared.parked.Waiter.{Waiter};
 ghost use Rattle.uses.specs.Accounts.{account_types, family_offers, own_offer};
 
 use cdr_core::Ty;
 use ft_objects::{Families, Interfaces, InterfacesError, Signature};
-use ft_orb::Engine;
+use ft_orb::{ChangeError, Engine};
 use std::alloc::{AllocError, Global};
+use thiserror::Error;
+
+/// Why an account was not given an object of its own. What is on offer is as it was.
+#[derive(Debug, Drop, Error)]
+pub enum AccountError {
+    /// A request of the account is parked.
+    #[error("{0}")]
+    Change(#[from] ChangeError),
+    /// It has one, or there is no memory.
+    #[error("{0}")]
+    Interfaces(#[from] InterfacesError),
+}
 
 /// The types of `balance`: it takes nothing, and returns cents.
 fn balance_types(alloc: Global) -> Result<Signature, AllocError>
@@ -61,23 +80,35 @@ pub fn offer_accounts(alloc: Global) -> Result<Families, InterfacesError>
     })
 }
 
-/// Gives an account an object of its own while the engine serves. What comes for it from now on is raw; a repeat of what came
-/// before gets the outcome that is kept.
-pub fn open_account(engine: &mut Engine<Families>, key: &[u8]) -> Result<(), InterfacesError>
+/// Gives an account an object of its own while the engine serves, unless a request of the account is parked. What comes for
+/// it from now on is raw; a repeat of what came before gets the outcome that is kept.
+pub fn open_account(engine: &mut Engine<Families>, key: &[u8]) -> Result<(), AccountError>
     requires idle { waits_in engine.old ≡ None }
     ensures idle { waits_in engine.new ≡ None }
+    ensures unwanted { OnOk result (is_wanted_in engine.old key.now ≡ false) }
     ensures ok { OnOk result (offer_of engine.new.offering.catalogue.objects ≡ with_raw_object key.now (offer_of engine.old.offering.catalogue.objects)) }
     ensures err { OnErr result (offer_of engine.new.offering.catalogue.objects ≡ offer_of engine.old.offering.catalogue.objects) }
+    ensures families { engine.new.offering.catalogue.families ≡ engine.old.offering.catalogue.families }
+    ensures bound { engine.new.offering.longest ≡ engine.old.offering.longest }
+    ensures late { OnOk result ((s : Settings) (held : ℕ → Holding) (calls : List Call) (past : List history.Event) (waiting : ℕ → List Waiter) → Stays families_offer s held calls engine.old past waiting
+        → s.terms (suc (changes past)) ≡ terms_by families_offer engine.new.offering → Stays families_offer s held calls engine.new (history.Changed ∷ past) waiting) }
 {
-    engine.change(|accounts| accounts.objects.add_raw_object(key))
+    Ok(engine.change_object(key, |accounts| accounts.objects.add_raw_object(key))??)
 }
 
-/// Takes an account's own object away again, so that the account is one of its family. Returns whether it had one.
-pub fn close_account(engine: &mut Engine<Families>, key: &[u8]) -> bool
+/// Takes an account's own object away again, unless a request of the account is parked, so that the account is one of its
+/// family. Returns whether it had one.
+pub fn close_account(engine: &mut Engine<Families>, key: &[u8]) -> Result<bool, ChangeError>
     requires idle { waits_in engine.old ≡ None }
     ensures idle { waits_in engine.new ≡ None }
-    ensures was { result ≡ (offer_of engine.old.offering.catalogue.objects).knows key.now }
-    ensures gone { offer_of engine.new.offering.catalogue.objects ≡ without_object key.now (offer_of engine.old.offering.catalogue.objects) }
+    ensures unwanted { OnOk result (is_wanted_in engine.old key.now ≡ false) }
+    ensures was { IfOk result (λ had. had ≡ (offer_of engine.old.offering.catalogue.objects).knows key.now) }
+    ensures gone { OnOk result (offer_of engine.new.offering.catalogue.objects ≡ without_object key.now (offer_of engine.old.offering.catalogue.objects)) }
+    ensures same { OnErr result (engine.new ≡ engine.old) }
+    ensures families { engine.new.offering.catalogue.families ≡ engine.old.offering.catalogue.families }
+    ensures bound { engine.new.offering.longest ≡ engine.old.offering.longest }
+    ensures late { OnOk result ((s : Settings) (held : ℕ → Holding) (calls : List Call) (past : List history.Event) (waiting : ℕ → List Waiter) → Stays families_offer s held calls engine.old past waiting
+        → s.terms (suc (changes past)) ≡ terms_by families_offer engine.new.offering → Stays families_offer s held calls engine.new (history.Changed ∷ past) waiting) }
 {
-    engine.change(|accounts| accounts.objects.remove(key))
+    engine.change_object(key, |accounts| accounts.objects.remove(key))
 }

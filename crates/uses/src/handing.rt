@@ -1,6 +1,6 @@
 //! Hand a call on: a gateway sends it as it came, with the code sets that go with its strings.
 
-ghost use Rattle.std.specs.Prelude.{◌≡◌, ◌++◌, IfErr, OnOk};
+ghost use Rattle.std.specs.Prelude.{◌≡◌, ◌++◌, IfErr, IfOk, OnErr, OnOk, pos, suc};
 ghost use Rattle.cdr_core.specs.Spelling.{IsClean};
 ghost use Rattle.giop_core.specs.Lent.{rest_of};
 ghost use Rattle.ft_client.specs.Calling.{IsRawCallError};
@@ -30,9 +30,12 @@ pub fn hand_on(
     out: &mut Vec<u8>,
 ) -> Result<i32, RawCallError>
     requires { IsClean operation.now }
-    ensures stands { OnOk result ((m : Client) → FtStands client.old m → FtStands client.new (after (down m.limits) (Called now (handed_on now object_key.now operation.now code_sets.now (rest_of body))) m)) }
-    ensures out { OnOk result ((m : Client) → FtStands client.old m → out.new.items ≡ out.old.items ++ stream octets_said (says (Called now (handed_on now object_key.now operation.now code_sets.now (rest_of body))) m)) }
-    ensures err { IfErr result (λ e. (m : Client) → FtStands client.old m → IsRawCallError now (handed_on now object_key.now operation.now code_sets.now (rest_of body)) m e) }
+    ensures number { IfOk result (λ id. (m : Client) → FtStands client.old m → id ≡ pos (suc m.last)) }
+    ensures stands { OnOk result ((m : Client) → FtStands client.old m → FtStands client.new (after (down m.limits) (Called now (handed_on now object_key.now operation.now code_sets.now (rest_of body.entry))) m)) }
+    ensures out { OnOk result ((m : Client) → FtStands client.old m → out.new.items ≡ out.old.items ++ stream octets_said (says (Called now (handed_on now object_key.now operation.now code_sets.now (rest_of body.entry))) m)) }
+    ensures err { IfErr result (λ e. (m : Client) → FtStands client.old m → IsRawCallError now (handed_on now object_key.now operation.now code_sets.now (rest_of body.entry)) m e) }
+    ensures same { OnErr result ((m : Client) → FtStands client.old m → FtStands client.new m) }
+    ensures unwritten { OnErr result (out.new.items ≡ out.old.items) }
 {
     let call = RawCall {
         object_key,

@@ -25,7 +25,7 @@ mod saving;
 mod serving;
 mod tickets;
 
-pub use accounts::{close_account, offer_accounts, open_account};
+pub use accounts::{AccountError, close_account, offer_accounts, open_account};
 pub use arguments::{DecodeError, first_arguments, publish_types};
 pub use banking::{Bank, BankingError, serve_bank};
 pub use capture::{Capture, read_capture};
