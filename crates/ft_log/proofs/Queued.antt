@@ -8,7 +8,7 @@ use Rattle.std.specs.declared.cmp.Ordering.{Ordering}
 use Rattle.std.proofs.lemmas.Bool.{and_parts, eqb-true, eq-eqb, lt-ltb}
 use Rattle.std.proofs.lemmas.List.Filters.{length-filter_both, sum_by-filter_both}
 use Rattle.std.proofs.lemmas.List.Sorted.{sum_by_popped}
-use Rattle.std.proofs.lemmas.List.Sums.{length-filter, sum_by-cons}
+use Rattle.std.proofs.lemmas.List.Sums.{length-filter, sum_by-cons, sum_by-le-sum_by}
 use Rattle.std.proofs.lemmas.Option.{none-some, same_Some}
 use Rattle.slab.specs.Slab.{Slab, Updates, get}
 use Rattle.ft_log.specs.Keys.{RequestKey, same_key}
@@ -69,6 +69,15 @@ sum-filter {X} p f (x ∷ xs) = by (p x) ∙ ap (λ n. cond (p x) (f x) 0 + n) (
 
 pub sum-same : {X : Type 0} (f g : X → ℕ) → ((x : X) → f x ≡ g x) → (xs : List X) → sum_by f xs ≡ sum_by g xs
 sum-same f g e xs = ap (λ h. sum_by h xs) (λ i x. e x i)
+
+less_and : (a b : Bool) → cond (a && b) 1 0 ≤ cond a 1 0
+less_and true true = omega arith
+less_and true false = omega arith
+less_and false b = omega arith
+
+counts_here : (b : Bool) → 0 < cond b 1 0 → b ≡ true
+counts_here true h = refl
+counts_here false h = absurd (omega (arith, h))
 
 pub fewer_kept : {X : Type 0} (p q : X → Bool) (xs : List X) → count_by q (filter p xs) ≤ count_by q xs
 fewer_kept p q xs = omega (arith, sum_by-filter_both p (λ x. not (p x)) (λ _. refl) (λ x. cond (q x) 1 0) xs)
@@ -158,8 +167,8 @@ module _ (P Q : Slab (Option ℕ)) (slot : ℕ) (o : Option (Option ℕ)) (up : 
         let here : ◌≡◌ {A = ℕ} (cond (is_kept Q due) (f due) 0) (f due) = ap (λ b. cond b (f due) 0) (kept_here due at ∙ is) in
         omega (arith, here, sums (λ d. cond (is_kept Q d) (f d) 0), kept_sum f xs fresh, sum-filter (is_kept Q) f ys, sum-filter (is_kept P) f xs)
 
-  -- one that is withdrawn went
-  module _ (due : Due) (at : (due.slot == slot) ≡ true) (xs ys : List Due) (sums : (f : Due → ℕ) → sum_by f ys + f due ≡ sum_by f xs) (apart : AreApart P xs) (was : is_kept P due ≡ false) where
+  -- one went
+  module _ (due : Due) (at : (due.slot == slot) ≡ true) (xs ys : List Due) (sums : (f : Due → ℕ) → sum_by f ys + f due ≡ sum_by f xs) (apart : AreApart P xs) where
     there : ◌≡◌ {A = ℕ} (cond (due.slot == slot) 1 0) 1
     there = ap (λ b. cond b 1 0) at
 
@@ -183,15 +192,37 @@ module _ (P Q : Slab (Option ℕ)) (slot : ℕ) (o : Option (Option ℕ)) (up : 
           omega (arith, sums (λ d. cond (d.slot == q) 1 0), not_here, now, apart q)
     ] refl
 
-    pub counted-went : count_by (λ d. not (is_kept Q d)) ys + 1 ≡ count_by (λ d. not (is_kept P d)) xs
-    counted-went =
-        let here : ◌≡◌ {A = ℕ} (cond (not (is_kept P due)) 1 0) 1 = ap (λ b. cond (not b) 1 0) was in
-        omega (arith, here, sums (λ d. cond (not (is_kept P d)) 1 0), gone_sum ys left)
+    -- .. which was withdrawn
+    module _ (was : is_kept P due ≡ false) where
+      pub counted-went : count_by (λ d. not (is_kept Q d)) ys + 1 ≡ count_by (λ d. not (is_kept P d)) xs
+      counted-went =
+          let here : ◌≡◌ {A = ℕ} (cond (not (is_kept P due)) 1 0) 1 = ap (λ b. cond (not b) 1 0) was in
+          omega (arith, here, sums (λ d. cond (not (is_kept P d)) 1 0), gone_sum ys left)
 
-    pub sums-went : (f : Due → ℕ) → sum_by f (filter (is_kept Q) ys) ≡ sum_by f (filter (is_kept P) xs)
-    sums-went f =
-        let here : ◌≡◌ {A = ℕ} (cond (is_kept P due) (f due) 0) 0 = ap (λ b. cond b (f due) 0) was in
-        omega (arith, here, sums (λ d. cond (is_kept P d) (f d) 0), kept_sum f ys left, sum-filter (is_kept Q) f ys, sum-filter (is_kept P) f xs)
+      pub sums-went : (f : Due → ℕ) → sum_by f (filter (is_kept Q) ys) ≡ sum_by f (filter (is_kept P) xs)
+      sums-went f =
+          let here : ◌≡◌ {A = ℕ} (cond (is_kept P due) (f due) 0) 0 = ap (λ b. cond b (f due) 0) was in
+          omega (arith, here, sums (λ d. cond (is_kept P d) (f d) 0), kept_sum f ys left, sum-filter (is_kept Q) f ys, sum-filter (is_kept P) f xs)
+
+    -- .. which was kept
+    module _ (was : is_kept P due ≡ true) where
+      pub counted-taken : count_by (λ d. not (is_kept Q d)) ys ≡ count_by (λ d. not (is_kept P d)) xs
+      counted-taken =
+          let here : ◌≡◌ {A = ℕ} (cond (not (is_kept P due)) 1 0) 0 = ap (λ b. cond (not b) 1 0) was in
+          omega (arith, here, sums (λ d. cond (not (is_kept P d)) 1 0), gone_sum ys left)
+
+      sums-taken : (f : Due → ℕ) → sum_by f (filter (is_kept Q) ys) + f due ≡ sum_by f (filter (is_kept P) xs)
+      sums-taken f =
+          let here : ◌≡◌ {A = ℕ} (cond (is_kept P due) (f due) 0) (f due) = ap (λ b. cond b (f due) 0) was in
+          omega (arith, here, sums (λ d. cond (is_kept P d) (f d) 0), kept_sum f ys left, sum-filter (is_kept Q) f ys, sum-filter (is_kept P) f xs)
+
+      -- it has the key, since no other has the slot
+      pub out-taken : (key : RequestKey) → 0 < count_by (λ d. d.slot == slot && same_key (key_of d.key.key) key) (filter (is_kept P) xs) → IsOut key (filter (is_kept P) xs) (filter (is_kept Q) ys)
+      out-taken key h =
+          let p : Due → Bool = λ d. d.slot == slot && same_key (key_of d.key.key) key in
+          let few = sum_by-le-sum_by (λ (d : Due). cond (p d) 1 0) (λ (d : Due). cond (d.slot == slot) 1 0) ys (λ d. less_and (d.slot == slot) (same_key (key_of d.key.key) key)) in
+          let is = counts_here (p due) (omega (arith, h, few, left, fewer_kept (is_kept P) p xs, sums (λ d. cond (p d) 1 0))) in
+          record { due = due; of_key = same_is (key_of due.key.key) key (and_parts (due.slot == slot) (same_key (key_of due.key.key) key) is).1; sums = sums-taken }
 
   -- one that was kept is withdrawn
   module _ (ds : List Due) (apart : AreApart P ds) (place : is_some (unwrap_or (get P slot) None) ≡ true) (some : is_some o ≡ true) (gone : is_some (unwrap_or o None) ≡ false) where
@@ -257,6 +288,9 @@ popped_first (Some x) slot (d ∷ xs) ys first some top perm =
 
 pub gone_at : (P : Slab (Option ℕ)) (due : Due) (slot : ℕ) → (due.slot == slot) ≡ true → place_in P slot ≡ None → is_kept P due ≡ false
 gone_at P due slot at h = ap (λ n. is_some (place_in P n)) (eqb-true due.slot slot at) ∙ ap is_some h
+
+pub kept_at : (P : Slab (Option ℕ)) (due : Due) (slot : ℕ) → (due.slot == slot) ≡ true → is_some (place_in P slot) ≡ true → is_kept P due ≡ true
+kept_at P due slot at h = ap (λ n. is_some (place_in P n)) (eqb-true due.slot slot at) ∙ h
 
 -- where the freed slots are looked up, and only what is kept stays
 pub freed_place : (P Q : Slab (Option ℕ)) (b : ℕ → Bool) → ((slot : ℕ) → get Q slot ≡ cond (b slot) (option_map Some (place_in P slot)) (get P slot)) → (slot : ℕ) → place_in Q slot ≡ place_in P slot

@@ -96,7 +96,7 @@ impl Queue {
         slot
     }
 
-    /// Notes that what has a slot is withdrawn.
+    /// Takes out what has a slot: at once where that is first, and else it is noted as withdrawn.
     pub(crate) fn withdraw(&mut self, slot: usize, _key: &Mark)
         requires place { IsTrue (is_some (place_at self.old slot)) }
         requires there { 0 < count_by (λ d. d.slot == slot && same_key (key_of d.key.key) (key_of _key.now.key)) (kept_dues self.old) }
@@ -104,8 +104,23 @@ impl Queue {
         ensures places { IsChanged (place_at self.old) (place_at self.new) slot None }
         ensures room { fits self.old ≤ fits self.new + 1 }
     {
+        if self.is_first(slot) {
+            self.heap.pop();
+            self.places.remove(slot);
+            return;
+        }
         set(&mut self.places, slot, None);
         self.withdrawn += 1;
+    }
+
+    /// Whether a slot is first.
+    fn is_first(&self, slot: usize) -> bool
+        ensures { IsTrue result → option_map (λ d. d.slot) (slice_get (heap_items self.now.heap) 0) ≡ Some slot }
+    {
+        match self.heap.peek() {
+            Some(due) => due.slot == slot,
+            None => false,
+        }
     }
 
     /// Notes the place of what was moved, if there is something.
@@ -123,7 +138,22 @@ impl Queue {
     }
 
     /// Drops what is withdrawn where it is first, and all of it once it is more than the rest.
+    #[inline(always)]
     pub(crate) fn tidy(&mut self)
+        ensures sums { (f : Due → ℕ) → sum_by f (kept_dues self.new) ≡ sum_by f (kept_dues self.old) }
+        ensures places { (slot : ℕ) → place_at self.new slot ≡ place_at self.old slot }
+        ensures room { fits self.old ≤ fits self.new }
+        ensures topped { IsTrue (is_topped self.new) }
+        ensures few { self.new.withdrawn ≤ length (kept_dues self.new) }
+    {
+        if self.withdrawn == 0 {
+            return;
+        }
+        self.drop_withdrawn();
+    }
+
+    /// .. where something is.
+    fn drop_withdrawn(&mut self)
         ensures sums { (f : Due → ℕ) → sum_by f (kept_dues self.new) ≡ sum_by f (kept_dues self.old) }
         ensures places { (slot : ℕ) → place_at self.new slot ≡ place_at self.old slot }
         ensures room { fits self.old ≤ fits self.new }
@@ -202,8 +232,9 @@ fn set(places: &mut Slab<Option<usize>>, slot: usize, place: Option<usize>)
     ensures len { slab_len places.new ≡ slab_len places.old }
     ensures capacity { places.new.capacity ≡ places.old.capacity }
 {
-    places.remove(slot);
-    places.insert_reserved(place);
+    if let Some(held) = places.get_mut(slot) {
+        *held = place;
+    }
 }
 
 /// Gives back the slots among these under which stands no place.

@@ -59,14 +59,13 @@ abbrev pub IsRaised : List (List ℕ × Forms) → List ℕ → Values → Type 
 IsRaised [] id members = ⊥
 IsRaised (r ∷ rs) id members = ((r.0 ≡ id) × FitsMembers r.1 members) ⊎ IsRaised rs id members
 
--- an outcome is one of the operation: results of its types, an exception that it declares, or a system exception; of a raw one a
--- body of octets, or a system exception
+-- an outcome is one of the operation: results of its types, or an exception that it declares; of a raw one a body of octets. A system
+-- exception is one of each, and of an operation that is on offer no more (CORBA 3.3 Part 1, annex A: any invocation may raise one)
 abbrev pub IsOutcomeOf : Interface → Performed → Type 0
+IsOutcomeOf _ (system name minor completion) = ⊤
 IsOutcomeOf (operation t) (returned results) = FitsMembers t.results results
 IsOutcomeOf (operation t) (raised id members) = IsClean id × IsRaised t.raises id members
-IsOutcomeOf (operation t) (system name minor completion) = ⊤
 IsOutcomeOf raw_operation (raw status order body) = ⊤
-IsOutcomeOf raw_operation (system name minor completion) = ⊤
 IsOutcomeOf _ outcome = ⊥
 
 -- an exception of the code

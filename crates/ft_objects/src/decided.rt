@@ -19,7 +19,8 @@ pub enum Decision {
     Expired,
     /// Its FT_REQUEST can't be read: MARSHAL.
     Malformed,
-    /// It asks for no call: there is no such object or operation, or its arguments are not of the operation's types.
+    /// It asks for no call: its client's id has more octets than may be, there is no such object or operation, or its
+    /// arguments are not of the operation's types.
     Invalid(SystemName),
     /// As many outcomes are kept as may be: NO_RESOURCES.
     LogFull,

@@ -14,7 +14,7 @@ pub invariant_of-self-clause-apart : goal.invariant_of-self-clause-apart
 invariant_of-self-clause-apart c =
     let s = c.args.self.now in
     let g = gone c in
-    apart-went s.places c.remove.new.self c.in-Some.slot None c.remove.ensures.updates g.due g.at (heap_items s.heap) (heap_items c.pop.new.self) g.sums s.apart (gone_at s.places g.due c.in-Some.slot g.at c.in-Some.ensures.withdrawn) refl
+    apart-went s.places c.remove.new.self c.in-Some.slot None c.remove.ensures.updates g.due g.at (heap_items s.heap) (heap_items c.pop.new.self) g.sums s.apart refl
 
 pub invariant_of-self-clause-counted : goal.invariant_of-self-clause-counted
 invariant_of-self-clause-counted c =

@@ -2,7 +2,7 @@ use Rattle.std.proofs.Common.{◌≡◌, ◌≤◌, ℕ}
 use Rattle.std.specs.List.{sum_by}
 use Rattle.ft_log.specs.Queue.{fits, kept_dues, place_at}
 use Rattle.ft_log.specs.declared.due.Due.{Due}
-use Rattle.ft_log.proofs.queue.Queue.tidy.Given as goal
+use Rattle.ft_log.proofs.queue.Queue.drop_withdrawn.Given as goal
 
 -- what is kept is as it was
 abbrev pub invariant-loop : goal.invariant-loop
