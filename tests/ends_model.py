@@ -13,6 +13,10 @@ LAST_NUMBER = (1 << 31) - 1
 LAST_TOTAL = (1 << 63) - 1
 CLOSE, ERROR = "close", "error"
 CANCEL_SIZE = len(giop.cancel(0))
+# how a call ends that TRANSIENT completes, up to the end of the repository id
+TRANSIENT = "system big 24 " + "00000020" + b"IDL:omg.org/CORBA/TRANSIENT:1.0\0".hex()
+# .. and how it ends where the operation was completed
+COMPLETED_YES = "00000000"
 
 
 def arguments_body(arguments):
@@ -81,6 +85,7 @@ class Client:
     def __init__(self, client_id, version):
         self.client_id, self.version = client_id.encode(), version
         self.last, self.pending, self.wire, self.completions = 0, [], None, []
+        self.keeps = False
 
     def complete(self, pending, how):
         self.pending.remove(pending)
@@ -109,10 +114,13 @@ class Client:
             self.last = max(self.last, number)
 
     def connect(self, now):
+        self.part()
         self.wire = Wire()
+        self.resend(now)
+
+    def resend(self, now):
         for pending in self.pending:
-            pending.sent = None
-            if now <= pending.call.expiration:
+            if self.wire and pending.sent is None and now <= pending.call.expiration:
                 self.send(pending)
 
     def part(self):
@@ -135,7 +143,10 @@ class Client:
     def settle(self, request_id, how):
         for pending in self.pending:
             if pending.sent == request_id:
-                self.complete(pending, how)
+                if self.keeps and how.startswith(TRANSIENT) and not how.endswith(COMPLETED_YES):
+                    pending.sent = None
+                else:
+                    self.complete(pending, how)
                 return
 
     def down(self, count):
@@ -276,6 +287,10 @@ class Play:
             client.cancel(int(words[0]))
         elif name == "tick":
             client.tick(int(words[0]))
+        elif name == "keep":
+            client.keeps = words[0] != "0"
+        elif name == "resend":
+            client.resend(int(words[0]))
         elif name == "connect":
             if client.wire is None:
                 client.connect(int(words[0]))

@@ -109,7 +109,8 @@ class Maker:
 
     def step(self):
         dice, client = self.dice, self.dice.choice([*self.places * 4, self.places[1], 4])
-        kinds = {"call": self.calls, "connect": 8, "up": 14, "down": 14, "cut": 2, "shut": 3, "cancel": 4, "tick": 2}
+        kinds = {"call": self.calls, "connect": 8, "up": 14, "down": 14, "cut": 2, "shut": 3, "cancel": 4, "tick": 2, "keep": 1,
+                 "resend": 3}
         kind = dice.choices(list(kinds), kinds.values())[0]
         wire = (self.at(client) or Client("", "1.2")).wire or Wire()
         if kind == "call":
@@ -120,7 +121,9 @@ class Maker:
             return f"down {client} {self.count(wire.down, wire.came)}"
         if kind == "cancel":
             return f"cancel {client} {self.number(client)}"
-        if kind in ("connect", "tick"):
+        if kind == "keep":
+            return f"keep {client} {dice.choice([0, 1])}"
+        if kind in ("connect", "resend", "tick"):
             return f"{kind} {client} {self.moment()}"
         return f"{kind} {client}"
 

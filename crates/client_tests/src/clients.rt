@@ -64,7 +64,7 @@ pub(crate) enum Done {
 }
 
 /// Whether a body is that.
-fn is_body(body: &ReplyBody, order: Order, octets: &[u8]) -> bool {
+pub(crate) fn is_body(body: &ReplyBody, order: Order, octets: &[u8]) -> bool {
     body.order == order && body.at == 24 && body.octets.as_slice() == octets
 }
 

@@ -13,8 +13,12 @@ mod octets;
 #[cfg(test)]
 mod raw;
 #[cfg(test)]
+mod redirecting;
+#[cfg(test)]
 mod replies;
 #[cfg(test)]
 mod sessions;
 #[cfg(test)]
 mod steps;
+#[cfg(test)]
+mod trying;

@@ -1,8 +1,8 @@
 //! What is done with a client, step by step, and what each step gives.
 
-use crate::clients::{Done, add, completes, join};
-use cdr_core::Val;
-use ft_client::{CallError, FtClient, RecallError};
+use crate::clients::{Done, add, completes, is_body, join};
+use cdr_core::{Order, Val};
+use ft_client::{CallError, FtClient, RecallError, RedirectError};
 use std::alloc::{AllocError, Global};
 use std::process::Abort;
 use std::test::Fail;
@@ -19,8 +19,18 @@ pub(crate) enum Step {
     Recalls(u32, u64, i32, Option<RecallError>, Messages),
     /// Numbers up to this one were given before.
     Skips(u32),
+    /// TRANSIENT leaves calls pending from now on, or completes them.
+    Keeps(bool),
+    /// A forward leaves calls pending from now on, or completes them.
+    KeepsForwards(bool),
+    /// The first call that is led elsewhere, and the octets of the reference.
+    Leads(Option<(i32, &'static [u8])>),
+    /// The call of the first number, `add` of the second, is redirected to the key `other`: the error, if there is one.
+    Redirects(i32, i32, Option<RedirectError>),
     /// The client is connected at a moment: the messages that are written.
     Connects(u64, Messages),
+    /// What is due is sent again at a moment: the messages that are written.
+    Resends(u64, Messages),
     /// Octets come from the server.
     Hears(&'static [u8]),
     /// The connection is lost.
@@ -91,6 +101,18 @@ fn connects(
     Ok(are(&out, messages))
 }
 
+/// Whether a client writes these messages where it sends again at a moment what is due.
+fn resends(
+    alloc: Global,
+    client: &mut FtClient,
+    now: u64,
+    messages: &[&[u8]],
+) -> Result<bool, AllocError> {
+    let mut out = Vec::new(alloc);
+    client.resend(now, &mut out)?;
+    Ok(are(&out, messages))
+}
+
 /// Whether a call is cancelled so, and these messages are written.
 fn cancels(
     alloc: Global,
@@ -103,6 +125,25 @@ fn cancels(
     Ok(client.cancel(id, &mut out)? == wanted && are(&out, messages))
 }
 
+/// Whether the first call that is led elsewhere is that, and to a reference of these octets.
+fn leads(client: &FtClient, wanted: Option<(i32, &[u8])>) -> bool {
+    match (client.forwarded(), wanted) {
+        (Some((id, body)), Some((number, octets))) => {
+            id == number && is_body(body, Order::Big, octets)
+        }
+        (None, None) => true,
+        _ => false,
+    }
+}
+
+/// Whether the redirection of a call of `add` gives that error, or none.
+fn redirects(client: &mut FtClient, id: i32, argument: i32, wanted: Option<RedirectError>) -> bool {
+    client
+        .redirect(id, b"other", b"add", &[Val::Long(argument)])
+        .err()
+        == wanted
+}
+
 /// Takes a step, and says whether it gives what it should.
 fn is_given(alloc: Global, client: &mut FtClient, step: &Step) -> Result<bool, Fail> {
     match step {
@@ -113,7 +154,14 @@ fn is_given(alloc: Global, client: &mut FtClient, step: &Step) -> Result<bool, F
             return Ok(recalls(alloc, client, (*number, *now, *argument), *error, messages));
         }
         Step::Skips(number) => client.skip_to(*number),
+        Step::Keeps(keeps) => client.keep_on_transient(*keeps),
+        Step::KeepsForwards(keeps) => client.keep_on_forward(*keeps),
+        Step::Leads(wanted) => return Ok(leads(client, *wanted)),
+        Step::Redirects(id, argument, error) => {
+            return Ok(redirects(client, *id, *argument, *error));
+        }
         Step::Connects(now, messages) => return connects(alloc, client, *now, messages),
+        Step::Resends(now, messages) => return Ok(resends(alloc, client, *now, messages)?),
         Step::Hears(octets) => client.feed(octets)?,
         Step::Loses => client.lost(),
         Step::Ticks(now) => client.tick(*now),

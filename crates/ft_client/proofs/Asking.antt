@@ -26,9 +26,9 @@ module _ (id : ℤ) (manner : Manner) (contexts : List (ℕ × List ℕ)) (asked
   asked_long t h le = subst (λ (xs : List ℕ). 4294967296 ≤ length xs) (behind_is t h) le
 
   pub asked_kept : (t : Transmission) → IsAsked id manner contexts asked t → (k : Kept) → k.id ≡ id → k.expiration ≡ asked.expiration → k.order ≡ manner.order → k.wish ≡ manner.wish
-      → k.message ≡ message_octets manner.version Request manner.order asked_behind → k.id_at ≡ id_place manner.version manner.order contexts → k.sent ≡ None → k ≡ kept_as t None
-  asked_kept t h k ei ee eo ew em ea es =
+      → k.message ≡ message_octets manner.version Request manner.order asked_behind → k.id_at ≡ id_place manner.version manner.order contexts → k.sent ≡ None → k.led ≡ None → k ≡ kept_as t None None
+  asked_kept t h k ei ee eo ew em ea es ed =
       let b = behind_is t h in
       let message = em ∙ (λ i. message_octets (h.version i) Request (h.order i) (b i)) in
       let at = ea ∙ (λ i. id_place (h.version i) (h.order i) (h.contexts_are i)) in
-      λ i. record { id = (ei ∙ h.number) i; expiration = (ee ∙ h.expiration) i; order = (eo ∙ h.order) i; wish = (ew ∙ h.wish) i; message = message i; id_at = at i; sent = es i }
+      λ i. record { id = (ei ∙ h.number) i; expiration = (ee ∙ h.expiration) i; order = (eo ∙ h.order) i; wish = (ew ∙ h.wish) i; message = message i; id_at = at i; sent = es i; led = ed i }

@@ -5,14 +5,14 @@ use Rattle.std.specs.Option.{is_some}
 use Rattle.giop_core.specs.declared.header.Version.{Version}
 use Rattle.std.proofs.lemmas.List.{append-nil}
 use Rattle.giop_link.specs.ClientLinking.{ClientLinked, cancel_octets}
-use Rattle.giop_link.specs.Ids.{Ids, given_up, is_outstanding}
+use Rattle.giop_link.specs.Ids.{given_up, is_outstanding}
 use Rattle.ft_client.specs.declared.client.FtClient.{FtClient}
 use Rattle.ft_client.specs.Clients.{Cancelled, Client, Linked, Pending, completed, recalled, says_recalled, withdrawn, without}
 use Rattle.ft_client.specs.Directions.{stream}
 use Rattle.ft_client.specs.Messages.{octets_said}
 use Rattle.ft_client.specs.Standing.{FtStands, IsLinked, LinkFor, sent_ids}
 use Rattle.ft_client.proofs.Joining.{is_linked, unlinked}
-use Rattle.ft_client.proofs.Withdrawing.{link_without, none_sent, removed_sent, removed_unsent, same_link_without}
+use Rattle.ft_client.proofs.Withdrawing.{link_without, none_sent, outstanding_is, removed_unsent, same_link_without}
 
 pub get_is : {A : Type 0} (xs : List A) (i : ℕ) (x d : A) → slice_get xs i ≡ Some x → slice_index_or xs i d ≡ x
 get_is [] i x d e = cc
@@ -60,7 +60,7 @@ is_withdrawn m p i (Some l0) new sent out after h at left es unsent gone did =
         let l = there.0 in
         let k = there.2 in
         let d = did l0 r refl (es ∙ is) in
-        let yes : is_outstanding r l0.ids.outstanding ≡ true = ap (λ (x : Ids). is_outstanding r x.outstanding) k.stands.ids_are ∙ (removed_sent l.given r m.pending i p at is k.ascending).0 in
+        let yes = outstanding_is m l l0 r i p k at is in
         record {
           link = to_link l (record l0 { ids = given_up r l0.ids }) there.1 d.0 (link_without m l l0 (record l0 { ids = given_up r l0.ids }) r i p Cancelled k at is left refl);
           written = d.1 ∙ ap (λ b. out ++ cond b (cancel_octets l0.terms.version r) []) yes ∙ ap (λ t. out ++ cancel_octets t.version r) k.stands.terms_are ∙ ap (λ x. out ++ x) (sym (append-nil (cancel_octets m.version r)))

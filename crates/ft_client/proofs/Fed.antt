@@ -2,6 +2,7 @@
 use Rattle.std.proofs.Common.{◌≡◌, ℕ, ℤ, Bool, true, false, List, [], ◌∷◌, ◌++◌, take, Option, Some, None, refl, sym, ap, ◌∙◌, subst, append_assoc}
 use Rattle.std.specs.Option.{IsSome, is_some}
 use Rattle.std.proofs.lemmas.List.{append-nil}
+use Rattle.giop_core.specs.Content.{Rest}
 use Rattle.giop_frames.specs.declared.fault.StreamFault.TheVariants as fault
 use Rattle.giop_frames.specs.declared.limits.Limits.{Limits}
 use Rattle.giop_link.specs.declared.error.LinkFault.{LinkFault}
@@ -15,11 +16,11 @@ use Rattle.giop_link.specs.Listening.{EndsTo, heard_in}
 use Rattle.ft_client.specs.declared.client.FtClient.{FtClient}
 use Rattle.ft_client.specs.declared.ended.Ended.{Ended as CodeEnded}
 use Rattle.ft_client.specs.declared.pending.Pending.{Pending as CodePending}
-use Rattle.ft_client.specs.Clients.{Client, Ended, Linked, completed_if, ended_by, fed_on, parted, parted_at, settled, settled_all, told_of, waiting}
+use Rattle.ft_client.specs.Clients.{Client, Ended, Linked, answered, completed_if, ended_by, fed_on, is_kept, led_by, parted, parted_at, settled, settled_all, told_of, waiting}
 use Rattle.ft_client.specs.Messages.{located, replied}
-use Rattle.ft_client.specs.Private.{CallsStand, IsFedTo, answered_by, reply_lent}
-use Rattle.ft_client.specs.Standing.{FieldsStand, FtStands, IsLinked, LinkFor, down, exchange_of, sent_ids, terms_of, waiting_ids}
-use Rattle.ft_client.proofs.Awaiting.{ascending_heard, ids_heard, lent_settles}
+use Rattle.ft_client.specs.Private.{CallsStand, IsFedTo, taken_in}
+use Rattle.ft_client.specs.Standing.{FieldsStand, FtStands, IsLinked, LinkFor, down, exchange_of, terms_of, waiting_ids}
+use Rattle.ft_client.proofs.Awaiting.{ascending_heard, heard_ids, ids_heard, lent_settles, same_heard, wished_heard}
 use Rattle.ft_client.proofs.Feeds.{IsSteady, fed-at, fed-going, news-is, news-silent, told-is, told-link, told-more}
 use Rattle.ft_client.proofs.Models.{waiting_given}
 
@@ -34,26 +35,32 @@ pub record Keeps (m n : Client) : Type 0 where
   pub version : n.version ≡ m.version
   pub limits : n.limits ≡ m.limits
   pub last : n.last ≡ m.last
+  pub keeps_transient : n.keeps_transient ≡ m.keeps_transient
+  pub keeps_forwards : n.keeps_forwards ≡ m.keeps_forwards
 
 keeps_if : (o : Option ℕ) (e : Ended) (m : Client) → Keeps m (completed_if o e m)
-keeps_if None e m = record { client_id = refl; version = refl; limits = refl; last = refl }
-keeps_if (Some id) e m = record { client_id = refl; version = refl; limits = refl; last = refl }
+keeps_if None e m = record { client_id = refl; version = refl; limits = refl; last = refl; keeps_transient = refl; keeps_forwards = refl }
+keeps_if (Some id) e m = record { client_id = refl; version = refl; limits = refl; last = refl; keeps_transient = refl; keeps_forwards = refl }
+
+keeps_answered : (keeps : Bool) (r : ℕ) (led : Option Rest) (e : Ended) (m : Client) → Keeps m (answered keeps r led e m)
+keeps_answered true r led e m = record { client_id = refl; version = refl; limits = refl; last = refl; keeps_transient = refl; keeps_forwards = refl }
+keeps_answered false r led e m = keeps_if (waiting r m.pending) e m
 
 keeps_one : (a : Answer) (m : Client) → Keeps m (settled a m)
-keeps_one (replied r shown) m = keeps_if (waiting r m.pending) (ended_by shown) m
-keeps_one (located r shown) m = record { client_id = refl; version = refl; limits = refl; last = refl }
+keeps_one (replied r shown) m = keeps_answered (is_kept shown m) r (led_by shown) (ended_by shown) m
+keeps_one (located r shown) m = record { client_id = refl; version = refl; limits = refl; last = refl; keeps_transient = refl; keeps_forwards = refl }
 
 pub keeps_all : (xs : List Answer) (m : Client) → Keeps m (settled_all xs m)
-keeps_all [] m = record { client_id = refl; version = refl; limits = refl; last = refl }
+keeps_all [] m = record { client_id = refl; version = refl; limits = refl; last = refl; keeps_transient = refl; keeps_forwards = refl }
 keeps_all (a ∷ xs) m =
     let h = keeps_one a m in
     let k = keeps_all xs (settled a m) in
-    record { client_id = k.client_id ∙ h.client_id; version = k.version ∙ h.version; limits = k.limits ∙ h.limits; last = k.last ∙ h.last }
+    record { client_id = k.client_id ∙ h.client_id; version = k.version ∙ h.version; limits = k.limits ∙ h.limits; last = k.last ∙ h.last; keeps_transient = k.keeps_transient ∙ h.keeps_transient; keeps_forwards = k.keeps_forwards ∙ h.keeps_forwards }
 
 pub keeps_told : (by : Hearing Answer) (octets : List ℕ) (m : Client) (l : Linked) → Keeps m (told_of by octets m (Some l))
 keeps_told by octets m l =
     let k = keeps_all (news by l.received octets) (record m { link = Some (record l { received = l.received ++ octets }) }) in
-    record { client_id = k.client_id; version = k.version; limits = k.limits; last = k.last }
+    record { client_id = k.client_id; version = k.version; limits = k.limits; last = k.last; keeps_transient = k.keeps_transient; keeps_forwards = k.keeps_forwards }
 
 -- Calls and links, whichever link the client has.
 
@@ -64,7 +71,7 @@ calls_plain : (qs : List CodePending) (cs : List (ℤ × CodeEnded)) (m : Client
 calls_plain qs cs m o h = record { pending_are = h.pending_are; completions_are = h.completions_are; rising = h.rising }
 
 linked_too : (link : ClientLinked) (m : Client) (l : Linked) (o : Option Linked) → IsLinked link m l → IsLinked link (record m { link = o }) l
-linked_too link m l o h = record { stands = h.stands; going = h.going; ascending = h.ascending }
+linked_too link m l o h = record { ids = h.ids; stands = h.stands; going = h.going; ascending = h.ascending; same = h.same; wished = h.wished }
 
 abbrev longer : List ℕ → Linked → Linked
 longer octets l = record l { received = l.received ++ octets }
@@ -90,16 +97,16 @@ fed_start m l qs cs link h k =
 
 -- The octets of one call of `feed`.
 
-settles : (n : Client) (k : Linked) (left : List ℕ) (b : ℕ) (link : ClientLinked) (qs : List CodePending) (cs : List (ℤ × CodeEnded)) → TakesIn (terms_of n) (exchange_of k n.pending) left b link → CallsStand qs cs (answered_by (reply_lent link.delivery) n)
+settles : (n : Client) (k : Linked) (left : List ℕ) (b : ℕ) (old link : ClientLinked) (qs : List CodePending) (cs : List (ℤ × CodeEnded)) → (was : IsLinked old n k) → TakesIn (terms_of n) (exchange_of k was.ids) left b link → CallsStand qs cs (taken_in link.delivery n)
     → CallsStand qs cs (told_of (down n.limits) (take b left) n (Some k))
-settles n k left b link qs cs t h =
+settles n k left b old link qs cs was t h =
     let xs = heard_in t.message in
-    let same : answered_by (reply_lent link.delivery) n ≡ settled_all xs n = ap (λ d. answered_by (reply_lent d) n) t.lends ∙ lent_settles k.given t.message n in
+    let same : taken_in link.delivery n ≡ settled_all xs n = ap (λ d. taken_in d n) t.lends ∙ lent_settles k.given t.message n was.ids was.same in
     calls_told (down n.limits) (take b left) n k qs cs xs t.heard (subst (λ (c : Client). CallsStand qs cs c) same h)
 
-pub step-ended : (n : Client) (k : Linked) (left : List ℕ) (b : ℕ) (old link : ClientLinked) (qs : List CodePending) (cs : List (ℤ × CodeEnded)) → IsLinked old n k → TakesIn (terms_of n) (exchange_of k n.pending) left b link
-    → is_some (end_in link.delivery) ≡ true → CallsStand qs cs (answered_by (reply_lent link.delivery) n) → IsFedTo n k (take b left) true qs cs link
-step-ended n k left b old link qs cs was t end h = (settles n k left b link qs cs t h, sym (ap is_some (t.left was.going)) ∙ end)
+pub step-ended : (n : Client) (k : Linked) (left : List ℕ) (b : ℕ) (old link : ClientLinked) (qs : List CodePending) (cs : List (ℤ × CodeEnded)) → (was : IsLinked old n k) → TakesIn (terms_of n) (exchange_of k was.ids) left b link
+    → is_some (end_in link.delivery) ≡ true → CallsStand qs cs (taken_in link.delivery n) → IsFedTo n k (take b left) true qs cs link
+step-ended n k left b old link qs cs was t end h = (settles n k left b old link qs cs was t h, sym (ap is_some (t.left was.going)) ∙ end)
 
 none_is : {A : Type 0} (o : Option A) → is_some o ≡ false → o ≡ None
 none_is None e = refl
@@ -109,27 +116,31 @@ waiting_parts : (g : ℕ) (js : List ℕ) → record { given = g; outstanding = 
 waiting_parts g [] = refl
 waiting_parts g (j ∷ js) = refl
 
-pub step-going : (n : Client) (k : Linked) (left : List ℕ) (b : ℕ) (old link : ClientLinked) (qs qs1 : List CodePending) (cs cs1 : List (ℤ × CodeEnded)) → CallsStand qs cs n → IsLinked old n k → TakesIn (terms_of n) (exchange_of k n.pending) left b link
-    → is_some (end_in link.delivery) ≡ false → CallsStand qs1 cs1 (answered_by (reply_lent link.delivery) n) → IsFedTo n k (take b left) false qs1 cs1 link
+pub step-going : (n : Client) (k : Linked) (left : List ℕ) (b : ℕ) (old link : ClientLinked) (qs qs1 : List CodePending) (cs cs1 : List (ℤ × CodeEnded)) → CallsStand qs cs n → (was : IsLinked old n k) → TakesIn (terms_of n) (exchange_of k was.ids) left b link
+    → is_some (end_in link.delivery) ≡ false → CallsStand qs1 cs1 (taken_in link.delivery n) → IsFedTo n k (take b left) false qs1 cs1 link
 step-going n k left b old link qs qs1 cs cs1 st was t end h =
     let c = take b left in
     let s = settled_all (heard_in t.message) n in
     let keeps = keeps_all (heard_in t.message) n in
     let none : client_ending n.limits (k.received ++ c) ≡ None = sym (t.left was.going) ∙ none_is (end_in link.delivery) end in
-    let outs = (waiting_ids k.given (sent_ids n.pending)).outstanding in
-    let left_is : left_at (client_ending n.limits (k.received ++ c)) (all_left (client_news n.limits k.received c) outs) ≡ (waiting_ids k.given (sent_ids s.pending)).outstanding =
-    (λ i. left_at (none i) (all_left (t.heard i) outs)) ∙ ids_heard k.given t.message n st.rising in
-    let ids : (client_link_after n.limits (exchange_of k n.pending) c).ids ≡ waiting_ids k.given (sent_ids s.pending) =
-    (λ i. record { given = waiting_given k.given (sent_ids n.pending) i; outstanding = left_is i }) ∙ waiting_parts k.given (sent_ids s.pending) in
+    let js = heard_ids t.message was.ids in
+    let outs = (waiting_ids k.given was.ids).outstanding in
+    let left_is : left_at (client_ending n.limits (k.received ++ c)) (all_left (client_news n.limits k.received c) outs) ≡ (waiting_ids k.given js).outstanding =
+    (λ i. left_at (none i) (all_left (t.heard i) outs)) ∙ ids_heard k.given t.message was.ids in
+    let ids : (client_link_after n.limits (exchange_of k was.ids) c).ids ≡ waiting_ids k.given js =
+    (λ i. record { given = waiting_given k.given was.ids i; outstanding = left_is i }) ∙ waiting_parts k.given js in
     let terms : terms_of n ≡ terms_of s = λ i. record { limits = sym keeps.limits i; version = sym keeps.version i; most = 64 } in
-    let stands : ClientStands (terms_of s) link (exchange_of (longer c k) s.pending) =
-    subst (λ (x : Terms). ClientStands x link (exchange_of (longer c k) s.pending)) terms (subst (λ (x : Ids). ClientStands (terms_of n) link (record { ids = x; received = k.received ++ c })) ids t.stands) in
+    let stands : ClientStands (terms_of s) link (exchange_of (longer c k) js) =
+    subst (λ (x : Terms). ClientStands x link (exchange_of (longer c k) js)) terms (subst (λ (x : Ids). ClientStands (terms_of n) link (record { ids = x; received = k.received ++ c })) ids t.stands) in
     let linked : IsLinked link s (longer c k) = record {
+      ids = js;
       stands = stands;
       going = ap (λ (x : Limits). client_ending x (k.received ++ c)) keeps.limits ∙ none;
-      ascending = ascending_heard k.given t.message n was.ascending;
+      ascending = ascending_heard k.given t.message was.ids was.ascending;
+      same = same_heard t.message n was.ids st.rising was.same;
+      wished = wished_heard t.message n was.wished;
     } in
-    (settles n k left b link qs1 cs1 t h, subst (λ (x : Client). IsLinked link x (longer c k)) (told_by (down n.limits) c n k (heard_in t.message) t.heard) (linked_too link s (longer c k) (Some (longer c k)) linked))
+    (settles n k left b old link qs1 cs1 was t h, subst (λ (x : Client). IsLinked link x (longer c k)) (told_by (down n.limits) c n k (heard_in t.message) t.heard) (linked_too link s (longer c k) (Some (longer c k)) linked))
 
 -- A fault.
 
@@ -185,9 +196,9 @@ ended-more m l a d qs cs link by h =
 pub calls_of : (c : FtClient) (m : Client) → FieldsStand c m → CallsStand c.pending.items c.completions.items m
 calls_of c m f = record { pending_are = f.pending; completions_are = f.completions; rising = f.rising }
 
-pub fields_after : (d : FtClient) (by : Hearing Answer) (octets : List ℕ) (m : Client) (l : Linked) → d.client_id.items ≡ m.client_id → d.version ≡ m.version → d.limits ≡ m.limits → d.last ≡ m.last
+pub fields_after : (d : FtClient) (by : Hearing Answer) (octets : List ℕ) (m : Client) (l : Linked) → d.client_id.items ≡ m.client_id → d.version ≡ m.version → d.limits ≡ m.limits → d.last ≡ m.last → d.keeps_transient ≡ m.keeps_transient → d.keeps_forwards ≡ m.keeps_forwards
     → CallsStand d.pending.items d.completions.items (told_of by octets m (Some l)) → FieldsStand d (told_of by octets m (Some l))
-fields_after d by octets m l ei ev el en h =
+fields_after d by octets m l ei ev el en ek ef h =
     let keeps = keeps_told by octets m l in
     record {
       client_id = ei ∙ sym keeps.client_id;
@@ -197,16 +208,18 @@ fields_after d by octets m l ei ev el en h =
       pending = h.pending_are;
       completions = h.completions_are;
       rising = h.rising;
+      keeps = ek ∙ sym keeps.keeps_transient;
+      forwards = ef ∙ sym keeps.keeps_forwards;
     }
 
-pub going_stands : (d : FtClient) (link : ClientLinked) (octets : List ℕ) (m : Client) (l : Linked) → m.link ≡ Some l → d.link ≡ Some link → d.client_id.items ≡ m.client_id → d.version ≡ m.version → d.limits ≡ m.limits → d.last ≡ m.last
+pub going_stands : (d : FtClient) (link : ClientLinked) (octets : List ℕ) (m : Client) (l : Linked) → m.link ≡ Some l → d.link ≡ Some link → d.client_id.items ≡ m.client_id → d.version ≡ m.version → d.limits ≡ m.limits → d.last ≡ m.last → d.keeps_transient ≡ m.keeps_transient → d.keeps_forwards ≡ m.keeps_forwards
     → IsFedTo m l octets false d.pending.items d.completions.items link → FtStands d (fed_on (down m.limits) octets m)
-going_stands d link octets m l is has ei ev el en h =
+going_stands d link octets m l is has ei ev el en ek ef h =
     let by = down m.limits in
     let n = told_of by octets m (Some l) in
     let going : client_ending m.limits (l.received ++ octets) ≡ None = ap (λ (x : Limits). client_ending x (l.received ++ octets)) (sym (keeps_told by octets m l).limits) ∙ h.1.going in
     subst (λ x. FtStands d x) (sym (fed-going by octets m l is going)) (record {
-      fields = fields_after d by octets m l ei ev el en h.0;
+      fields = fields_after d by octets m l ei ev el en ek ef h.0;
       link = subst (λ o. LinkFor d.link n o) (sym (told-link by octets m l)) (subst (λ o. LinkFor o n (Some (longer octets l))) (sym has) h.1);
     })
 

@@ -1,8 +1,9 @@
 -- However octets are cut, a client comes to the same: what is under the loop of `FtClient::feed`.
-use Rattle.std.proofs.Common.{◌≡◌, ℕ, List, [], ◌∷◌, ◌++◌, drop, length, Option, Some, None, refl, sym, ap, ◌∙◌, append_assoc}
+use Rattle.std.proofs.Common.{◌≡◌, ℕ, Bool, true, false, List, [], ◌∷◌, ◌++◌, drop, length, Option, Some, None, refl, sym, ap, ◌∙◌, append_assoc}
 use Rattle.std.proofs.lemmas.List.{drop_at}
+use Rattle.giop_core.specs.Content.{Rest}
 use Rattle.giop_link.specs.Hearing.{Ending, Hearing, news}
-use Rattle.ft_client.specs.Clients.{Client, Ended, Linked, completed_if, ended_by, ending_of, fed_on, parted, parted_at, settled, settled_all, told_of, waiting}
+use Rattle.ft_client.specs.Clients.{Client, Ended, Linked, answered, completed_if, ended_by, ending_of, fed_on, is_kept, led_by, parted, parted_at, settled, settled_all, told_of, waiting}
 use Rattle.ft_client.specs.Messages.{Answer, located, replied}
 
 -- more octets never take back what was heard; an ending stays, and nothing is heard after it
@@ -39,8 +40,12 @@ completed_if-link : (o : Option ℕ) (e : Ended) (m : Client) (l : Option Linked
 completed_if-link None e m l = refl
 completed_if-link (Some id) e m l = refl
 
+answered-link : (keeps : Bool) (i : ℕ) (led : Option Rest) (e : Ended) (m : Client) (l : Option Linked) → answered keeps i led e (record m { link = l }) ≡ record (answered keeps i led e m) { link = l }
+answered-link true i led e m l = refl
+answered-link false i led e m l = completed_if-link (waiting i m.pending) e m l
+
 settled-link : (a : Answer) (m : Client) (l : Option Linked) → settled a (record m { link = l }) ≡ record (settled a m) { link = l }
-settled-link (replied i shown) m l = completed_if-link (waiting i m.pending) (ended_by shown) m l
+settled-link (replied i shown) m l = answered-link (is_kept shown m) i (led_by shown) (ended_by shown) m l
 settled-link (located i shown) m l = refl
 
 pub settled_all-link : (xs : List Answer) (m : Client) (l : Option Linked) → settled_all xs (record m { link = l }) ≡ record (settled_all xs m) { link = l }

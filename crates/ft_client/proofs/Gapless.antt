@@ -4,8 +4,9 @@ use Rattle.std.specs.List.{list_any}
 use Rattle.std.proofs.lemmas.Bool.{or_parts, true≢false}
 use Rattle.std.proofs.lemmas.Bool.Decides.{nat_tests}
 use Rattle.std.proofs.lemmas.List.{append-nil}
+use Rattle.giop_core.specs.Content.{Rest}
 use Rattle.giop_link.specs.Hearing.{Ending, Hearing, news}
-use Rattle.ft_client.specs.Clients.{Called, Client, Ended, Fed, Happening, Joined, Linked, Parted, Pending, Recalled, Resumed, Skipped, Taken, Ticked, after, completed_if, ended_by, ending_of, fed_on, find_pending, is_taken, made, parted_at, placed, placed_on, recalled, settled, settled_all, told_of, waiting}
+use Rattle.ft_client.specs.Clients.{Called, Client, Ended, Fed, Happening, Joined, Kept, KeptForwards, Linked, Parted, Pending, Recalled, Redirected, Resent, Resumed, Skipped, Taken, Ticked, after, answered, asked_at, completed_if, ended_by, ending_of, fed_on, find_pending, is_kept, is_redirected, is_taken, led_by, made, parted_at, placed, placed_on, recalled, resent_if, settled, settled_all, told_of, waiting}
 use Rattle.ft_client.specs.Laws.{NumbersHaveNoGaps}
 use Rattle.ft_client.specs.Lives.{Life, called_count, goes_on, leaves_out, lived, new_life, one_if}
 use Rattle.ft_client.specs.Messages.{Answer, Call, is_oneway, located, replied, wish_of}
@@ -45,8 +46,12 @@ last-if : (o : Option ℕ) (ended : Ended) (m : Client) → (completed_if o ende
 last-if None ended m = refl
 last-if (Some id) ended m = refl
 
+last-answered : (keeps : Bool) (i : ℕ) (led : Option Rest) (ended : Ended) (m : Client) → (answered keeps i led ended m).last ≡ m.last
+last-answered true i led ended m = refl
+last-answered false i led ended m = last-if (waiting i m.pending) ended m
+
 last-settled : (a : Answer) (m : Client) → (settled a m).last ≡ m.last
-last-settled (replied i shown) m = last-if (waiting i m.pending) (ended_by shown) m
+last-settled (replied i shown) m = last-answered (is_kept shown m) i (led_by shown) (ended_by shown) m
 last-settled (located i shown) m = refl
 
 last-settled_all : (answers : List Answer) (m : Client) → (settled_all answers m).last ≡ m.last
@@ -61,9 +66,17 @@ last-parted : (e : Option Ending) (m : Client) → (parted_at e m).last ≡ m.la
 last-parted None m = refl
 last-parted (Some e) m = refl
 
+last-resent : (now : ℕ) (m : Client) (l : Option Linked) → (resent_if now m l).last ≡ m.last
+last-resent now m None = refl
+last-resent now m (Some l) = refl
+
 last-recalled : (o : Option Pending) (m : Client) → (recalled o m).last ≡ m.last
 last-recalled None m = refl
 last-recalled (Some p) m = refl
+
+last-if_so : (b : Bool) (ps : List Pending) (m : Client) → (cond b (record m { pending = ps }) m).last ≡ m.last
+last-if_so true ps m = refl
+last-if_so false ps m = refl
 
 -- One happening more.
 
@@ -78,7 +91,12 @@ counted-after : (down : Hearing Answer) (h : Happening) (m : Client) (calls : Li
 counted-after down (Called now call) m calls none k = counted-made (is_taken now call m) call m calls k
 counted-after down (Resumed now id call) m calls none k = absurd (true≢false none)
 counted-after down (Skipped id) m calls none k = absurd (true≢false none)
+counted-after down (Kept keeps) m calls none k = counted-same calls m.last m.last refl k
+counted-after down (KeptForwards keeps) m calls none k = counted-same calls m.last m.last refl k
+counted-after down (Redirected id key) m calls none k =
+    counted-same calls m.last (after down (Redirected id key) m).last (last-if_so (is_redirected key m (find_pending id m.pending)) (asked_at id key m.pending) m) k
 counted-after down (Joined now) m calls none k = counted-same calls m.last m.last refl k
+counted-after down (Resent now) m calls none k = counted-same calls m.last (resent_if now m m.link).last (last-resent now m m.link) k
 counted-after down (Fed octets) m calls none k =
     counted-same calls m.last (fed_on down octets m).last (last-parted (ending_of down octets m.link) (told_of down octets m m.link) ∙ last-told down octets m m.link) k
 counted-after down Parted m calls none k = counted-same calls m.last m.last refl k

@@ -3,13 +3,13 @@ use Rattle.std.proofs.Common.{◌≡◌, ℕ, zero, suc, ◌+◌, ◌<◌, ◌�
 use Rattle.std.specs.List.{AllByRecursion, remove}
 use Rattle.std.proofs.lemmas.Bool.Decides.{nat_tests}
 use Rattle.std.proofs.lemmas.List.{append-nil}
-use Rattle.ft_client.specs.Clients.{Client, Ended, Pending, completed, leaving, staying, without}
+use Rattle.ft_client.specs.Clients.{Client, Ended, Pending, begun, completed, leaving, staying, without}
 use Rattle.ft_client.specs.Lives.{AreRising, ended_count, one_if, pending_count}
 use Rattle.ft_client.specs.Messages.{typed}
 use Rattle.cdr_core.specs.Value.{no_values}
 
 abbrev pub nobody : Pending
-nobody = record { id = 0; call = record { object_key = []; operation = []; arguments = no_values; expiration = 0; form = typed }; sent = None }
+nobody = begun 0 (record { object_key = []; operation = []; arguments = no_values; expiration = 0; form = typed }) None
 
 abbrev pub leaves : (Pending → Bool) → Pending → Bool
 leaves stays p = not (stays p)

@@ -8,7 +8,9 @@ pub mod Marking
 pub mod Leaving
 pub mod Living
 pub mod Gapless
+pub mod Restarting
 pub mod Feeds
+pub mod Counts
 pub mod Models
 pub mod Sent
 pub mod Joining
@@ -17,6 +19,7 @@ pub mod RawCalls
 pub mod Places
 pub mod Withdrawing
 pub mod Cancelling
+pub mod Redirecting
 pub mod Ticking
 pub mod SendingOff
 pub mod Awaiting

@@ -1,15 +1,16 @@
 -- A client with all that ever was: each call is pending or was completed once.
-use Rattle.std.proofs.Common.{◌≡◌, ℕ, suc, ◌+◌, ◌<◌, ◌≤◌, ◌==◌, ◌&&◌, nat_le, nat_lt, ℤ, pos, Bool, true, false, cond, List, [], ◌∷◌, ◌++◌, drop, length, take, Option, Some, None, refl, sym, ap, ◌∙◌, subst, arith}
+use Rattle.std.proofs.Common.{◌≡◌, ℕ, suc, ◌+◌, ◌<◌, ◌≤◌, ◌==◌, ◌&&◌, nat_le, nat_lt, not, is_some, ℤ, pos, Bool, true, false, cond, List, [], ◌∷◌, ◌++◌, drop, length, take, Option, Some, None, refl, sym, ap, ◌∙◌, subst, arith}
 use Rattle.std.specs.List.{AllByRecursion}
 use Rattle.std.specs.Ordering.{int_eq}
 use Rattle.std.proofs.lemmas.Bool.{and_parts, eq-eqb, eqb-true, leb-true, ltb-true}
 use Rattle.std.proofs.lemmas.Bool.Decides.{nat_tests}
 use Rattle.std.proofs.lemmas.List.{append-nil, take-append-drop}
 use Rattle.std.proofs.lemmas.Option.{none-some, same_Some}
+use Rattle.giop_core.specs.Content.{Rest}
 use Rattle.giop_core.specs.declared.header.Version.{Version}
 use Rattle.giop_frames.specs.declared.limits.Limits.{Limits}
 use Rattle.giop_link.specs.Hearing.{Ending, Hearing, news}
-use Rattle.ft_client.specs.Clients.{Called, Cancelled, Client, Ended, Expired, Fed, Happening, Joined, Linked, Parted, Pending, Recalled, Resumed, Sent, Skipped, Taken, Ticked, after, completed, completed_if, ended_by, ending_of, fed_on, find_pending, fits, gives, ids_after, is_in_time, is_resumed, is_sent_as, is_taken, is_unsettled, joined, leaving, made, parted, parted_at, placed, placed_on, recalled, resent, says, says_again, says_placed, says_recalled, settled, settled_all, skipped, stands_in, told_of, transmission, unsent, waiting, withdrawn, without}
+use Rattle.ft_client.specs.Clients.{Called, Cancelled, Client, Ended, Expired, Fed, Happening, Joined, Kept, KeptForwards, Linked, Parted, Pending, Recalled, Redirected, Resent, Resumed, Sent, Skipped, Taken, Ticked, after, answered, asked_at, begun, completed, completed_if, ended_by, ending_of, fed_on, find_pending, fits, gives, ids_after, is_due, is_in_time, is_kept, is_redirected, is_resumed, is_sent_as, is_taken, is_unsettled, joined, leaving, led_by, made, parted, parted_at, placed, placed_on, put_off, recalled, resent, resent_if, resent_on, says, says_again, says_placed, says_recalled, says_resent, settled, settled_all, skipped, stands_in, told_of, transmission_to, unsent, waiting, withdrawn, without}
 use Rattle.ft_client.specs.Laws.{CallsCompleteOnce}
 use Rattle.ft_client.specs.Lives.{AreRising, IsAlive, IsLife, IsOfCall, Life, call_at, called_count, ended_count, goes_on, lived, moment_of, new_life, one_if, pending_count, sent_at}
 use Rattle.ft_client.specs.Messages.{Answer, Asked, Call, Transmission, has_no_ft, is_oneway, located, replied, version_in, wish_of}
@@ -106,8 +107,24 @@ alike-unsent (p ∷ ps) = (refl, refl, alike-unsent ps)
 pub alike-resent : (now n : ℕ) (ps : List Pending) → AreAlike ps (resent now n ps)
 alike-resent now n [] = tt
 alike-resent now n (p ∷ ps) =
-    elim (nat_le now p.call.expiration) as (λ b. AreAlike (p ∷ ps) (cond b (record p { sent = Some (suc n) } ∷ resent now (suc n) ps) (record p { sent = None } ∷ resent now n ps)))
+    elim (is_due now n p) as (λ b. AreAlike (p ∷ ps) (cond b (record p { sent = Some (suc n) } ∷ resent now (suc n) ps) (p ∷ resent now n ps)))
     [ true ↦ (refl, refl, alike-resent now (suc n) ps) | false ↦ (refl, refl, alike-resent now n ps) ]
+
+alike-refl : (ps : List Pending) → AreAlike ps ps
+alike-refl [] = tt
+alike-refl (p ∷ ps) = (refl, refl, alike-refl ps)
+
+pub alike-put_off : (r : ℕ) (led : Option Rest) (ps : List Pending) → AreAlike ps (put_off r led ps)
+alike-put_off r led [] = tt
+alike-put_off r led (p ∷ ps) =
+    elim (is_sent_as r p.sent) as (λ b. AreAlike (p ∷ ps) (cond b (record p { sent = None; led = led } ∷ ps) (p ∷ put_off r led ps)))
+    [ true ↦ (refl, refl, alike-refl ps) | false ↦ (refl, refl, alike-put_off r led ps) ]
+
+pub alike-asked_at : (id : ℤ) (key : List ℕ) (ps : List Pending) → AreAlike ps (asked_at id key ps)
+alike-asked_at id key [] = tt
+alike-asked_at id key (p ∷ ps) =
+    elim (int_eq (pos p.id) id) as (λ b. AreAlike (p ∷ ps) (cond b (record p { at = key; led = None } ∷ ps) (p ∷ asked_at id key ps)))
+    [ true ↦ (refl, refl, alike-refl ps) | false ↦ (refl, refl, alike-asked_at id key ps) ]
 
 pub alike-count : (r : ℕ) (ps qs : List Pending) → AreAlike ps qs → pending_count r ps ≡ pending_count r qs
 alike-count r [] [] h = refl
@@ -179,15 +196,18 @@ found-there id p (q ∷ ps) h =
     ] h
 
 -- what is taken up again has a greater number, in time
+tests-of : (now id : ℕ) (call : Call) (m : Client) → is_resumed now id call m ≡ true
+    → ((nat_lt m.last id && nat_lt id 2147483648) ≡ true) × ((nat_le now call.expiration && (nat_lt (length m.pending) 64 && (stands_in id m call && fits id m call))) ≡ true)
+tests-of now id call m is =
+    let rest = nat_le now call.expiration && (nat_lt (length m.pending) 64 && (stands_in id m call && fits id m call)) in
+    and_parts (nat_lt m.last id && nat_lt id 2147483648) rest (and_parts (has_no_ft call.form) ((nat_lt m.last id && nat_lt id 2147483648) && rest) is).1
+
 is-greater : (now id : ℕ) (call : Call) (m : Client) → is_resumed now id call m ≡ true → m.last < id
-is-greater now id call m is =
-    let free = (and_parts (nat_lt m.last id && nat_lt id 2147483648) (nat_le now call.expiration && (nat_lt (length m.pending) 64 && fits id m call)) is).0 in
-    ltb-true m.last id (and_parts (nat_lt m.last id) (nat_lt id 2147483648) free).0
+is-greater now id call m is = ltb-true m.last id (and_parts (nat_lt m.last id) (nat_lt id 2147483648) (tests-of now id call m is).0).0
 
 is-early : (now id : ℕ) (call : Call) (m : Client) → is_resumed now id call m ≡ true → now ≤ call.expiration
 is-early now id call m is =
-    let rest = (and_parts (nat_lt m.last id && nat_lt id 2147483648) (nat_le now call.expiration && (nat_lt (length m.pending) 64 && fits id m call)) is).1 in
-    leb-true now call.expiration (and_parts (nat_le now call.expiration) (nat_lt (length m.pending) 64 && fits id m call) rest).0
+    leb-true now call.expiration (and_parts (nat_le now call.expiration) (nat_lt (length m.pending) 64 && (stands_in id m call && fits id m call)) (tests-of now id call m is).1).0
 
 -- what is taken is in time
 is-on_time : (now : ℕ) (call : Call) (m : Client) → is_taken now call m ≡ true → now ≤ call.expiration
@@ -195,6 +215,13 @@ is-on_time now call m is =
     let rest = nat_lt m.last 2147483647 && (nat_lt (length m.pending) 64 && (stands_in (suc m.last) m call && fits (suc m.last) m call)) in
     let own = (and_parts (has_no_ft call.form) (nat_le now call.expiration && rest) is).1 in
     leb-true now call.expiration (and_parts (nat_le now call.expiration) rest own).0
+
+-- so is what is due
+due-in_time : (now n : ℕ) (p : Pending) → is_due now n p ≡ true → now ≤ p.call.expiration
+due-in_time now n p is =
+    let rest = (and_parts (not (is_some p.sent)) (not (is_some p.led) && (nat_le now p.call.expiration && nat_lt n 2147483648)) is).1 in
+    let last = (and_parts (not (is_some p.led)) (nat_le now p.call.expiration && nat_lt n 2147483648) rest).1 in
+    leb-true now p.call.expiration (and_parts (nat_le now p.call.expiration) (nat_lt n 2147483648) last).0
 
 -- A client that is alive, and what happens to it.
 
@@ -237,8 +264,12 @@ module _ (client_id : List ℕ) (version : Version) where
     alive-if None i ended m is h = h
     alive-if (Some id) i ended m is h = alive-completed id ended m (waiting-there i id m.pending is) h
 
+    alive-answered : (keeps : Bool) (i : ℕ) (led : Option Rest) (ended : Ended) (m : Client) → IsAlive client_id version calls taken m → IsAlive client_id version calls taken (answered keeps i led ended m)
+    alive-answered true i led ended m h = alive-alike m (put_off i led m.pending) m.link (alike-put_off i led m.pending) h
+    alive-answered false i led ended m h = alive-if (waiting i m.pending) i ended m refl h
+
     alive-settled : (a : Answer) (m : Client) → IsAlive client_id version calls taken m → IsAlive client_id version calls taken (settled a m)
-    alive-settled (replied i shown) m h = alive-if (waiting i m.pending) i (ended_by shown) m refl h
+    alive-settled (replied i shown) m h = alive-answered (is_kept shown m) i (led_by shown) (ended_by shown) m h
     alive-settled (located i shown) m h = h
 
     alive-settled_all : (answers : List Answer) (m : Client) → IsAlive client_id version calls taken m → IsAlive client_id version calls taken (settled_all answers m)
@@ -258,6 +289,11 @@ module _ (client_id : List ℕ) (version : Version) where
     alive-recalled id None m is h = h
     alive-recalled id (Some p) m is h = alive-completed p.id Cancelled m (found-there id p m.pending is) h
 
+    -- a call that is redirected, or not
+    alive-redirected : (b : Bool) (id : ℤ) (key : List ℕ) (m : Client) → IsAlive client_id version calls taken m → IsAlive client_id version calls taken (cond b (record m { pending = asked_at id key m.pending }) m)
+    alive-redirected true id key m h = alive-alike m (asked_at id key m.pending) m.link (alike-asked_at id key m.pending) h
+    alive-redirected false id key m h = h
+
     -- calls that have left
     alive-left : (stays : Pending → Bool) (ended : Ended) (m : Client) → IsAlive client_id version calls taken m → IsAlive client_id version calls taken (left_by stays ended m)
     alive-left stays ended m h = record {
@@ -273,6 +309,14 @@ module _ (client_id : List ℕ) (version : Version) where
       pending = staying-each stays (λ p. call_at calls p.id ≡ Some p.call) m.pending h.pending;
       rising = staying-rising stays m.last m.pending h.rising;
     }
+
+    -- calls that are sent on a link
+    alive-resent : (now : ℕ) (m : Client) (l : Linked) → IsAlive client_id version calls taken m → IsAlive client_id version calls taken (resent_on now m l)
+    alive-resent now m l h = alive-alike m (resent now l.given m.pending) (Some (record l { given = ids_after now l.given m.pending })) (alike-resent now l.given m.pending) h
+
+    alive-resent_if : (now : ℕ) (m : Client) (l : Option Linked) → IsAlive client_id version calls taken m → IsAlive client_id version calls taken (resent_if now m l)
+    alive-resent_if now m None h = h
+    alive-resent_if now m (Some l) h = alive-left is_unsettled Sent (resent_on now m l) (alive-resent now m l h)
 
     alive-taken : (m : Client) → IsAlive client_id version calls taken m → IsAlive client_id version calls (taken ++ take 1 m.completions) (record m { completions = drop 1 m.completions })
     alive-taken m h = record {
@@ -291,9 +335,9 @@ module _ (client_id : List ℕ) (version : Version) where
 
     -- a call more, sent or not
     alive-called : (id : ℕ) (call : Call) (sent : Option ℕ) (l : Option Linked) (m : Client) → m.last < id → IsAlive client_id version calls taken m
-        → IsAlive client_id version (calls ++ (id, call) ∷ []) taken (record m { last = id; pending = m.pending ++ record { id = id; call = call; sent = sent } ∷ []; link = l })
+        → IsAlive client_id version (calls ++ (id, call) ∷ []) taken (record m { last = id; pending = m.pending ++ begun id call sent ∷ []; link = l })
     alive-called id call sent l m lt h =
-        let p : Pending = record { id = id; call = call; sent = sent } in
+        let p : Pending = begun id call sent in
         record {
           client = h.client;
           writes = h.writes;
@@ -368,9 +412,15 @@ module _ (client_id : List ℕ) (version : Version) where
     alive-after down (Called now call) m a = alive-made (is_taken now call m) (suc m.last) call m (λ is. omega arith) a
     alive-after down (Resumed now id call) m a = alive-made (is_resumed now id call m) id call m (λ is. is-greater now id call m is) a
     alive-after down (Skipped id) m a = alive-plain (skipped id m) (alive-skipped id m a)
+    alive-after down (Kept keeps) m a = alive-plain (record m { keeps_transient = keeps }) (record { client = a.client; writes = a.writes; numbers = a.numbers; single = a.single; once = a.once; pending = a.pending; rising = a.rising })
+    alive-after down (KeptForwards keeps) m a =
+        alive-plain (record m { keeps_forwards = keeps }) (record { client = a.client; writes = a.writes; numbers = a.numbers; single = a.single; once = a.once; pending = a.pending; rising = a.rising })
+    alive-after down (Redirected id key) m a =
+        alive-plain (after down (Redirected id key) m) (alive-redirected (is_redirected key m (find_pending id m.pending)) id key m a)
     alive-after down (Joined now) m a =
         alive-plain (after down (Joined now) m)
-        (alive-left is_unsettled Sent (joined now m) (alive-alike m (resent now 0 m.pending) (Some (record { given = ids_after now 0 m.pending; received = [] })) (alike-resent now 0 m.pending) a))
+        (alive-left is_unsettled Sent (joined now m) (alive-resent now (parted m) (record { given = 0; received = [] }) (alive-parted m a)))
+    alive-after down (Resent now) m a = alive-plain (resent_if now m m.link) (alive-resent_if now m m.link a)
     alive-after down (Fed octets) m a = alive-plain (fed_on down octets m) (alive-parted_at (ending_of down octets m.link) (told_of down octets m m.link) (alive-told down octets m m.link a))
     alive-after down Parted m a = alive-plain (parted m) (alive-parted m a)
     alive-after down (Recalled id) m a = alive-plain (recalled (find_pending id m.pending) m) (alive-recalled id (find_pending id m.pending) m refl a)
@@ -389,11 +439,15 @@ module _ (client_id : List ℕ) (version : Version) where
   again-sent : (calls more : List (ℕ × Call)) (v : Version) (id : List ℕ) (now n : ℕ) (ps : List Pending) → v ≡ version → id ≡ client_id → AllByRecursion (λ p. call_at calls p.id ≡ Some p.call) ps → AreOfCalls (calls ++ more) (sent_at now (says_again v id now n ps))
   again-sent calls more v id now n [] wrote is h = tt
   again-sent calls more v id now n (p ∷ ps) wrote is h =
-      elim (nat_le now p.call.expiration) as (λ b. nat_le now p.call.expiration ≡ b
-      → AreOfCalls (calls ++ more) (sent_at now (cond b (Asked (transmission v id p.id (suc n) p.call) ∷ says_again v id now (suc n) ps) (says_again v id now n ps)))) [
-        | true ↦ λ in_time. (record { client = is; written = ap (λ x. version_in x p.call.form) wrote; call = call_at-append calls more p.id p.call h.0; in_time = leb-true now p.call.expiration in_time }, again-sent calls more v id now (suc n) ps wrote is h.1)
+      elim (is_due now n p) as (λ b. is_due now n p ≡ b
+      → AreOfCalls (calls ++ more) (sent_at now (cond b (Asked (transmission_to v id p.id (suc n) p.at p.call) ∷ says_again v id now (suc n) ps) (says_again v id now n ps)))) [
+        | true ↦ λ due. (record { client = is; written = ap (λ x. version_in x p.call.form) wrote; call = call_at-append calls more p.id p.call h.0; in_time = due-in_time now n p due }, again-sent calls more v id now (suc n) ps wrote is h.1)
         | false ↦ λ late. again-sent calls more v id now n ps wrote is h.1
       ] refl
+
+  resent-sent : (calls : List (ℕ × Call)) (taken : List (ℕ × Ended)) (now : ℕ) (m : Client) (l : Option Linked) → IsAlive client_id version calls taken m → AreOfCalls (calls ++ []) (sent_at now (says_resent now m l))
+  resent-sent calls taken now m None a = tt
+  resent-sent calls taken now m (Some l) a = again-sent calls [] m.version m.client_id now l.given m.pending a.writes a.client a.pending
 
   placed-sent : (calls : List (ℕ × Call)) (taken : List (ℕ × Ended)) (now id : ℕ) (call : Call) (m : Client) (l : Option Linked) → now ≤ call.expiration → m.last < id → IsAlive client_id version calls taken m
       → AreOfCalls (calls ++ (id, call) ∷ []) (sent_at now (says_placed id call m l))
@@ -418,7 +472,11 @@ module _ (client_id : List ℕ) (version : Version) where
       made-sent calls taken (is_taken now call m) now (suc m.last) call m (λ is. is-on_time now call m is) (λ is. omega arith) a
   sent-after calls taken (Resumed now id call) m a = made-sent calls taken (is_resumed now id call m) now id call m (λ is. is-early now id call m is) (λ is. is-greater now id call m is) a
   sent-after calls taken (Skipped id) m a = tt
-  sent-after calls taken (Joined now) m a = again-sent calls [] m.version m.client_id now 0 m.pending a.writes a.client a.pending
+  sent-after calls taken (Kept keeps) m a = tt
+  sent-after calls taken (KeptForwards keeps) m a = tt
+  sent-after calls taken (Redirected id key) m a = tt
+  sent-after calls taken (Joined now) m a = again-sent calls [] m.version m.client_id now 0 (unsent m.pending) a.writes a.client (alive-parted calls taken m a).pending
+  sent-after calls taken (Resent now) m a = resent-sent calls taken now m m.link a
   sent-after calls taken (Fed octets) m a = tt
   sent-after calls taken Parted m a = tt
   sent-after calls taken (Recalled id) m a = recalled-sent (calls ++ []) m.version (find_pending id m.pending)

@@ -1,14 +1,27 @@
 -- Kept calls that are noted as sent, one after another.
 use Rattle.std.proofs.Common.{◌≡◌, ℕ, zero, suc, ◌<◌, List, [], ◌∷◌, ◌++◌, map, length, take, drop, slice_get, slice_index_or, slice_set, Option, Some, None, refl, sym, ap, subst, arith}
-use Rattle.std.specs.List.{cons_option}
+use Rattle.giop_core.specs.Content.{Rest}
 use Rattle.ft_client.specs.declared.pending.Pending.{Pending as CodePending}
-use Rattle.ft_client.specs.Keeping.{Kept, awaited, ids_awaited, kept_by, marked, sent_again, unmarked}
+use Rattle.ft_client.specs.Keeping.{Kept, kept_by, left_at, marked, sent_again, unmarked}
 
 -- a write to one call
 pub marked_set : (ps : List CodePending) (i : ℕ) (x d : CodePending) (s : Option ℕ) → kept_by x ≡ record (kept_by (slice_index_or ps i d)) { sent = s } → map kept_by (slice_set ps i x) ≡ marked i s (map kept_by ps)
 marked_set [] i x d s e = refl
 marked_set (p ∷ ps) zero x d s e = ap (λ (k : Kept). k ∷ map kept_by ps) e
 marked_set (p ∷ ps) (suc i) x d s e = ap (λ (ks : List Kept). kept_by p ∷ ks) (marked_set ps i x d s e)
+
+-- a call that is left
+pub left_set : (ps : List CodePending) (i : ℕ) (x d : CodePending) (led : Option Rest) → kept_by x ≡ record (kept_by (slice_index_or ps i d)) { sent = None; led = led } → map kept_by (slice_set ps i x) ≡ left_at i led (map kept_by ps)
+left_set [] i x d led e = refl
+left_set (p ∷ ps) zero x d led e = ap (λ (k : Kept). k ∷ map kept_by ps) e
+left_set (p ∷ ps) (suc i) x d led e = ap (λ (ks : List Kept). kept_by p ∷ ks) (left_set ps i x d led e)
+
+-- another call
+pub put_set : (ps : List CodePending) (i : ℕ) (x : CodePending) → map kept_by (slice_set ps i x) ≡ slice_set (map kept_by ps) i (kept_by x)
+put_set [] zero x = refl
+put_set [] (suc i) x = refl
+put_set (p ∷ ps) zero x = refl
+put_set (p ∷ ps) (suc i) x = ap (λ (ks : List Kept). kept_by p ∷ ks) (put_set ps i x)
 
 pub length_kept : (ps : List CodePending) → length (map kept_by ps) ≡ length ps
 length_kept [] = refl
@@ -48,15 +61,6 @@ pub drop_here : (ks : List Kept) (i : ℕ) (k : Kept) (s : Option ℕ) → slice
 drop_here [] i k s is = absurd (cc)
 drop_here (x ∷ ks) zero k s is = let same : x ≡ k = cc in (ap (λ (y : Kept). y ∷ ks) same, refl)
 drop_here (x ∷ ks) (suc i) k s is = drop_here ks i k s is
-
-pub ids_here : (ks : List Kept) (i : ℕ) (k : Kept) (s : Option ℕ) → slice_get ks i ≡ Some k → ids_awaited (take (suc i) (marked i s ks)) ≡ ids_awaited (take i ks) ++ ids_awaited (record k { sent = s } ∷ [])
-ids_here [] i k s is = absurd (cc)
-ids_here (x ∷ ks) zero k s is = let same : x ≡ k = cc in ap (λ (y : Kept). ids_awaited (record y { sent = s } ∷ [])) same
-ids_here (x ∷ ks) (suc i) k s is =
-    elim (awaited x) as (λ o. cons_option o (ids_awaited (take (suc i) (marked i s ks))) ≡ cons_option o (ids_awaited (take i ks)) ++ ids_awaited (record k { sent = s } ∷ [])) [
-      | None ↦ ids_here ks i k s is
-      | Some n ↦ ap (λ (is : List ℕ). n ∷ is) (ids_here ks i k s is)
-    ]
 
 pub kept_at : (ps : List CodePending) (i : ℕ) (d : CodePending) → i < length ps → slice_get (map kept_by ps) i ≡ Some (kept_by (slice_index_or ps i d))
 kept_at [] i d lt = absurd (omega arith)

@@ -14,7 +14,7 @@ use Rattle.giop_core.specs.declared.header.MessageKind.TheVariants.{Request}
 use Rattle.giop_core.specs.declared.header.Version.{Version}
 use Rattle.giop_core.specs.declared.header.Version.TheVariants.{V10, V11, V12}
 use Rattle.giop_core.specs.declared.request.ReplyWish.{ReplyWish}
-use Rattle.ft_client.specs.Clients.{transmission}
+use Rattle.ft_client.specs.Clients.{transmission_to}
 use Rattle.ft_client.specs.Keeping.{id_place}
 use Rattle.ft_client.specs.Messages.{Call, Transmission, contexts_of, order_of, request_behind, request_octets, version_in, wish_of}
 
@@ -23,15 +23,15 @@ abbrev pub id_octets : Order → ℕ → List ℕ
 id_octets order i = digits_of order 4 i
 
 -- where the id stands in the Request of a call
-abbrev pub id_in : Version → List ℕ → ℕ → Call → ℕ
-id_in version client_id n call = let t = transmission version client_id n 1 call in id_place t.version (order_of call.form) (contexts_of t)
+abbrev pub id_in : Version → List ℕ → ℕ → List ℕ → Call → ℕ
+id_in version client_id n key call = let t = transmission_to version client_id n 1 key call in id_place t.version (order_of call.form) (contexts_of t)
 
 -- what stands before the id, after the header, and after the id
-pub record Parts (version : Version) (client_id : List ℕ) (n : ℕ) (call : Call) : Type 0 where
+pub record Parts (version : Version) (client_id : List ℕ) (n : ℕ) (key : List ℕ) (call : Call) : Type 0 where
   pub front : List ℕ
   pub back : List ℕ
-  pub is : (i : ℕ) → request_behind (transmission version client_id n i call) ≡ front ++ (id_octets (order_of call.form) i ++ back)
-  pub place : 12 + length front ≡ id_in version client_id n call
+  pub is : (i : ℕ) → request_behind (transmission_to version client_id n i key call) ≡ front ++ (id_octets (order_of call.form) i ++ back)
+  pub place : 12 + length front ≡ id_in version client_id n key call
 
 -- .. by the fields, which are those of a version
 pub record PartsOf (version : Version) (order : Order) (wish : ReplyWish) (to : Addressed) (operation : List ℕ) (contexts : List (ℕ × List ℕ)) (body : Values) : Type 0 where
@@ -113,18 +113,18 @@ parts_in V10 order wish to operation contexts body = parts_10 order wish to oper
 parts_in V11 order wish to operation contexts body = parts_11 order wish to operation contexts body
 parts_in V12 order wish to operation contexts body = parts_12 order wish to operation contexts body
 
-pub parts : (version : Version) (client_id : List ℕ) (n : ℕ) (call : Call) → Parts version client_id n call
-parts version client_id n call =
-    let t = transmission version client_id n 1 call in
-    let p = parts_in t.version (order_of call.form) (wish_of call.form) (by_key call.object_key) call.operation (contexts_of t) call.arguments in
+pub parts : (version : Version) (client_id : List ℕ) (n : ℕ) (key : List ℕ) (call : Call) → Parts version client_id n key call
+parts version client_id n key call =
+    let t = transmission_to version client_id n 1 key call in
+    let p = parts_in t.version (order_of call.form) (wish_of call.form) (by_key key) call.operation (contexts_of t) call.arguments in
     record { front = p.front; back = p.back; is = p.is; place = p.place }
 
 -- a request is as long under each id
-pub same_length : (version : Version) (client_id : List ℕ) (n i j : ℕ) (call : Call) → length (request_behind (transmission version client_id n i call)) ≡ length (request_behind (transmission version client_id n j call))
-same_length version client_id n i j call =
-    let p = parts version client_id n call in
+pub same_length : (version : Version) (client_id : List ℕ) (n i j : ℕ) (key : List ℕ) (call : Call) → length (request_behind (transmission_to version client_id n i key call)) ≡ length (request_behind (transmission_to version client_id n j key call))
+same_length version client_id n i j key call =
+    let p = parts version client_id n key call in
     let order = order_of call.form in
-    let a : (k : ℕ) → length (request_behind (transmission version client_id n k call)) ≡ length p.front + (4 + length p.back) = λ k. ap length (p.is k) ∙ length-append p.front (id_octets order k ++ p.back) ∙ ap (λ m. length p.front + m) (length-append (id_octets order k) p.back ∙ ap (λ m. m + length p.back) (digits_length order 4 k)) in
+    let a : (k : ℕ) → length (request_behind (transmission_to version client_id n k key call)) ≡ length p.front + (4 + length p.back) = λ k. ap length (p.is k) ∙ length-append p.front (id_octets order k ++ p.back) ∙ ap (λ m. length p.front + m) (length-append (id_octets order k) p.back ∙ ap (λ m. m + length p.back) (digits_length order 4 k)) in
     a i ∙ sym (a j)
 
 -- four octets between two lists
@@ -137,9 +137,9 @@ cut_back P D Q at e d =
     ap (λ (x : List ℕ). drop (at + 4) x) (sym (append_assoc P D Q)) ∙ drop_at (P ++ D) Q (at + 4) l
 
 -- under another id a request is the same but for the id
-pub record IsPatched (version : Version) (client_id : List ℕ) (n : ℕ) (call : Call) (at : ℕ) : Type 0 where
-  pub whole : at + 4 ≤ length (request_octets (transmission version client_id n 1 call))
-  pub is : (i : ℕ) → request_octets (transmission version client_id n i call) ≡ take at (request_octets (transmission version client_id n 1 call)) ++ (digits_of (order_of call.form) 4 i ++ drop (at + 4) (request_octets (transmission version client_id n 1 call)))
+pub record IsPatched (version : Version) (client_id : List ℕ) (n : ℕ) (key : List ℕ) (call : Call) (at : ℕ) : Type 0 where
+  pub whole : at + 4 ≤ length (request_octets (transmission_to version client_id n 1 key call))
+  pub is : (i : ℕ) → request_octets (transmission_to version client_id n i key call) ≡ take at (request_octets (transmission_to version client_id n 1 key call)) ++ (digits_of (order_of call.form) 4 i ++ drop (at + 4) (request_octets (transmission_to version client_id n 1 key call)))
 
 abbrev pub head : Version → Order → ℕ → List ℕ
 head version order size = header_octets (header_for version Request order size)
@@ -150,17 +150,17 @@ head_length version order size = omega (arith, digits_length order 4 size)
 whole_by : (at all front back : ℕ) → front ≡ at → all ≡ front + (4 + back) → at + 4 ≤ all
 whole_by at all front back e f = omega arith
 
-pub patched : (version : Version) (client_id : List ℕ) (n : ℕ) (call : Call) → IsPatched version client_id n call (id_in version client_id n call)
-patched version client_id n call =
-    let p = parts version client_id n call in
-    let at = id_in version client_id n call in
+pub patched : (version : Version) (client_id : List ℕ) (n : ℕ) (key : List ℕ) (call : Call) → IsPatched version client_id n key call (id_in version client_id n key call)
+patched version client_id n key call =
+    let p = parts version client_id n key call in
+    let at = id_in version client_id n key call in
     let order = order_of call.form in
-    let t : ℕ → Transmission = λ i. transmission version client_id n i call in
+    let t : ℕ → Transmission = λ i. transmission_to version client_id n i key call in
     let v = version_in version call.form in
     let size = length (request_behind (t 1)) in
     let P = head v order size ++ p.front in
     let m : (i : ℕ) → request_octets (t i) ≡ P ++ (digits_of order 4 i ++ p.back) = λ i.
-    ap (λ (k : ℕ). head v order k ++ request_behind (t i)) (same_length version client_id n i 1 call)
+    ap (λ (k : ℕ). head v order k ++ request_behind (t i)) (same_length version client_id n i 1 key call)
     ∙ ap (λ (x : List ℕ). head v order size ++ x) (p.is i)
     ∙ sym (append_assoc (head v order size) p.front (digits_of order 4 i ++ p.back)) in
     let l : length P ≡ at = omega (arith, length-append (head v order size) p.front, head_length v order size, p.place) in

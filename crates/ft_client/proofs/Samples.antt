@@ -5,25 +5,27 @@ use Rattle.cdr_core.specs.declared.order.Order.TheVariants.{Big, Little}
 use Rattle.giop_core.specs.Content.{Rest}
 use Rattle.giop_core.specs.Written.{behind_header, ft_octets, octets_body}
 use Rattle.giop_core.specs.declared.header.Version.TheVariants.{V10, V12}
-use Rattle.giop_core.specs.declared.reply.ReplyStatus.TheVariants.{NoException}
+use Rattle.giop_core.specs.declared.reply.ReplyStatus.TheVariants.{LocationForward, NoException}
 use Rattle.giop_core.specs.declared.request.ReplyWish.{ReplyWish}
 use Rattle.giop_core.specs.declared.request.ReplyWish.TheVariants as wish
 use Rattle.giop_frames.specs.declared.limits.Limits.{Limits}
 use Rattle.giop_link.specs.Hearing.{Ending, Hearing, peer_closed}
-use Rattle.ft_client.specs.Clients.{Called, Cancelled, Expired, Fed, Happening, Joined, Parted, Recalled, Resumed, Sent, Skipped, Taken, Ticked, Told, fits, new_client, says, transmission}
+use Rattle.ft_client.specs.Clients.{Called, Cancelled, Expired, Fed, Happening, Joined, KeptForwards, Parted, Recalled, Redirected, Resent, Resumed, Sent, Skipped, Taken, Ticked, Told, first_led, fits, new_client, says, transmission}
+use Rattle.ft_client.specs.Ends.{led_to}
 use Rattle.ft_client.specs.Lives.{Life, lived, new_life}
 use Rattle.ft_client.specs.Messages.{Answer, Call, Transmission, Withdrawn, contexts_of, located, raw, replied, typed}
 
 abbrev limits : Limits
 limits = record { message = 4096; partials = 1; message_in_range = (lit≤ tt, lit≤ tt); partials_in_range = (lit≤ tt, lit≤ tt) }
 
--- a peer whose messages are one octet each: 0 closes, n is a reply to request n, and 100 + n one to a locate of that id
+-- a peer whose messages are one octet each: 0 closes, n is a reply to request n, 101 one to a locate of the id 1, and 201 a reply to
+-- request 1 that forwards
 
 abbrev body : Rest
 body = record { order = Big; place = 24; octets = 7 ∷ [] }
 
 abbrev answered : ℕ → Answer
-answered n = if n == 101 then located 1 (record { status = 1; body = body }) else replied n (record { status = 0; body = body })
+answered n = if n == 101 then located 1 (record { status = 1; body = body }) else (if n == 201 then replied 1 (record { status = 3; body = body }) else replied n (record { status = 0; body = body }))
 
 abbrev toy_heard : List ℕ → List Answer
 toy_heard [] = []
@@ -145,6 +147,47 @@ taken_up_late = refl
 after_others : (life (Skipped 5 ∷ Skipped 3 ∷ Called 50 add ∷ [])).calls ≡ (6, add) ∷ []
 unfolding behind_header
 after_others = refl
+
+-- a forward completes its call
+forwarded : (life (Joined 50 ∷ Called 50 add ∷ Fed (201 ∷ []) ∷ Taken ∷ [])).taken ≡ (1, Told LocationForward body) ∷ []
+unfolding behind_header
+forwarded = refl
+
+-- where it is set so, it leaves it pending: the call is not sent until it is redirected, and then under the other key and its own
+-- number, and is completed once
+
+abbrev led_elsewhere : List Happening
+led_elsewhere = KeptForwards true ∷ Joined 50 ∷ Called 50 add ∷ Fed (201 ∷ []) ∷ []
+
+led_silent : (life (led_elsewhere ++ Resent 60 ∷ Parted ∷ Joined 70 ∷ Taken ∷ [])).sent ≡ (50, sent_as 1 1) ∷ []
+unfolding behind_header
+led_silent = refl
+
+led_body : led_to (first_led (life led_elsewhere).client.pending) ≡ Some (pos 1, body)
+unfolding behind_header
+led_body = refl
+
+redirected : (life (led_elsewhere ++ Redirected (pos 1) (100 ∷ []) ∷ Resent 60 ∷ [])).sent ≡ (50, sent_as 1 1) ∷ (60, record (sent_as 1 2) { at = 100 ∷ [] }) ∷ []
+unfolding behind_header
+redirected = refl
+
+redirected_once : (life (led_elsewhere ++ Redirected (pos 1) (100 ∷ []) ∷ Resent 60 ∷ Fed (1 ∷ 2 ∷ 2 ∷ []) ∷ Taken ∷ Taken ∷ [])).taken ≡ (1, Told NoException body) ∷ []
+unfolding behind_header
+redirected_once = refl
+
+-- it expires and is cancelled as others are
+led_expires : (life (led_elsewhere ++ Ticked 101 ∷ Taken ∷ [])).taken ≡ (1, Expired) ∷ []
+unfolding behind_header
+led_expires = refl
+
+led_cancelled : (life (led_elsewhere ++ Recalled (pos 1) ∷ Redirected (pos 1) (100 ∷ []) ∷ Resent 60 ∷ Taken ∷ [])).taken ≡ (1, Cancelled) ∷ []
+unfolding behind_header
+led_cancelled = refl
+
+-- a call that is not led is not redirected
+not_led : (life (Called 50 add ∷ Redirected (pos 1) (100 ∷ []) ∷ Joined 60 ∷ [])).sent ≡ (60, sent_as 1 1) ∷ []
+unfolding behind_header
+not_led = refl
 
 -- a raw call of `put`, until the moment 100: in 1.0, in little order, with one context and the octets 1, 2 of a place
 abbrev put : ReplyWish → ℕ → Call

@@ -3,7 +3,7 @@ use Rattle.std.specs.Prelude.{◌≡◌, ℕ, false, List, length}
 use Rattle.std.specs.List.{list_any}
 use Rattle.giop_core.specs.declared.header.Version.{Version}
 use Rattle.giop_frames.specs.declared.limits.Limits.{Limits}
-use Rattle.ft_client.specs.Clients.{Happening, transmission}
+use Rattle.ft_client.specs.Clients.{Happening, transmission_to}
 use Rattle.giop_link.specs.Hearing.{Hearing}
 use Rattle.ft_client.specs.Lives.{HasNoGaps, IsLife, Life, goes_on, leaves_out, lived, new_life}
 use Rattle.ft_client.specs.Messages.{Answer, Call, request_behind}
@@ -21,6 +21,6 @@ NumbersHaveNoGaps = (client_id : List ℕ) (version : Version) (limits : Limits)
 abbrev pub LivesGoOn : Type 0
 LivesGoOn = (client_id : List ℕ) (version : Version) (down : Hearing Answer) (h : Happening) (l : Life) → IsLife client_id version l → IsLife client_id version (goes_on down h l)
 
--- The Request of a call is as long under each request id.
+-- The Request of a call, under whichever object key, is as long under each request id.
 abbrev pub RequestsAreAsLong : Type 0
-RequestsAreAsLong = (version : Version) (client_id : List ℕ) (id i j : ℕ) (call : Call) → length (request_behind (transmission version client_id id i call)) ≡ length (request_behind (transmission version client_id id j call))
+RequestsAreAsLong = (version : Version) (client_id : List ℕ) (id i j : ℕ) (key : List ℕ) (call : Call) → length (request_behind (transmission_to version client_id id i key call)) ≡ length (request_behind (transmission_to version client_id id j key call))

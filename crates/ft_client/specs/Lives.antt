@@ -3,7 +3,7 @@ use Rattle.std.specs.Prelude.{◌≡◌, ℕ, ◌+◌, ◌<◌, ◌≤◌, ◌==
 use Rattle.std.specs.List.{AllByRecursion}
 use Rattle.giop_core.specs.declared.header.Version.{Version}
 use Rattle.giop_frames.specs.declared.limits.Limits.{Limits}
-use Rattle.ft_client.specs.Clients.{Called, Client, Ended, Fed, Happening, Joined, Parted, Pending, Recalled, Resumed, Skipped, Taken, Ticked, after, gives, made, new_client, says}
+use Rattle.ft_client.specs.Clients.{Called, Client, Ended, Fed, Happening, Joined, Kept, KeptForwards, Parted, Pending, Recalled, Redirected, Resent, Resumed, Skipped, Taken, Ticked, after, gives, made, new_client, says}
 use Rattle.giop_link.specs.Hearing.{Hearing}
 use Rattle.ft_client.specs.Messages.{Answer, Asked, Call, Said, Transmission, Withdrawn, version_in}
 
@@ -33,6 +33,7 @@ abbrev pub moment_of : Happening → ℕ
 moment_of (Called now call) = now
 moment_of (Resumed now id call) = now
 moment_of (Joined now) = now
+moment_of (Resent now) = now
 moment_of _ = 0
 
 -- a life and one happening more
@@ -106,7 +107,11 @@ abbrev pub leaves_out : Happening → Bool
 leaves_out (Called now call) = false
 leaves_out (Resumed now id call) = true
 leaves_out (Skipped id) = true
+leaves_out (Kept keeps) = false
+leaves_out (KeptForwards keeps) = false
+leaves_out (Redirected id key) = false
 leaves_out (Joined now) = false
+leaves_out (Resent now) = false
 leaves_out (Fed octets) = false
 leaves_out Parted = false
 leaves_out (Recalled id) = false

@@ -69,13 +69,14 @@ abbrev pub has_no_ft : Form → Bool
 has_no_ft typed = true
 has_no_ft (raw r) = not (list_any (λ x. x.0 == 13) r.contexts)
 
--- a call as it is sent: the version of its message, its client and the client's number for it, and the link's number for the
--- request
+-- a call as it is sent: the version of its message, its client and the client's number for it, the link's number for the request,
+-- and the object key under which it is asked for
 pub record Transmission : Type 0 where
   pub version : Version
   pub client_id : List ℕ
   pub retention_id : ℕ
   pub request_id : ℕ
+  pub at : List ℕ
   pub call : Call
 
 -- what a client writes: a request, or that the reply to one is no longer wanted
@@ -89,7 +90,7 @@ contexts_of t = (13, ft_octets Big t.client_id (pos t.retention_id) t.call.expir
 
 -- GIOP 9.4.2: its fields
 abbrev pub fields_of : Transmission → List Value
-fields_of t = request_fields t.version t.request_id (wish_of t.call.form) (by_key t.call.object_key) t.call.operation (contexts_of t)
+fields_of t = request_fields t.version t.request_id (wish_of t.call.form) (by_key t.at) t.call.operation (contexts_of t)
 
 -- its octets after the header
 abbrev pub request_behind : Transmission → List ℕ
@@ -122,7 +123,7 @@ octets_said (Withdrawn version request_id) = cancel_octets version request_id
 
 -- what a server hears of it
 abbrev pub question_of : Transmission → Question
-question_of t = question_in t.version t.request_id (wish_of t.call.form) (by_key t.call.object_key) t.call.operation (contexts_of t) (body_in t)
+question_of t = question_in t.version t.request_id (wish_of t.call.form) (by_key t.at) t.call.operation (contexts_of t) (body_in t)
 
 abbrev pub incoming_of : Said → Incoming
 incoming_of (Asked t) = asks (question_of t)

@@ -1,6 +1,6 @@
 -- Words of private functions: no public contract cites them.
-use Rattle.std.specs.Prelude.{◌≡◌, ℕ, ◌+◌, ℤ, pos, Bool, true, false, List, [], ◌∷◌, ◌++◌, length, map, Option, Some, None}
-use Rattle.std.specs.Option.{IsSome}
+use Rattle.std.specs.Prelude.{◌≡◌, ℕ, ◌+◌, ℤ, pos, Bool, true, false, ◌&&◌, if◌then◌else◌, List, [], ◌∷◌, ◌++◌, length, map, Option, Some, None, is_some, slice_index_or, slice_set}
+use Rattle.std.specs.Option.{IsSome, option_map}
 use Rattle.cdr_core.specs.Numbers.{padding}
 use Rattle.cdr_core.specs.View.{values_of}
 use Rattle.giop_core.specs.Content.{Rest}
@@ -12,12 +12,14 @@ use Rattle.giop_core.specs.declared.reply.ReplyStatus.TheVariants.{LocationForwa
 use Rattle.giop_link.specs.Answering.{client_ending, replied}
 use Rattle.giop_link.specs.ClientLinking.{ClientLinked, Delivered, forward, needs_addressing, whole}
 use Rattle.giop_link.specs.Hearing.{Sound, says}
+use Rattle.ft_client.specs.declared.client.FtClient.{FtClient}
 use Rattle.ft_client.specs.declared.ended.Ended.{Ended as CodeEnded}
+use Rattle.ft_client.specs.declared.ended.ReplyBody.{ReplyBody}
 use Rattle.ft_client.specs.declared.pending.Asked.{Asked}
 use Rattle.ft_client.specs.declared.pending.Pending.{Pending as CodePending}
 use Rattle.ft_client.specs.declared.requests.Manner.{Manner}
-use Rattle.ft_client.specs.Clients.{Client, Ended, Linked, NeedsAddressing, Told, completed_if, told_of, waiting}
-use Rattle.ft_client.specs.Ends.{completion_of, ended_of, numbered}
+use Rattle.ft_client.specs.Clients.{Client, Ended, Linked, NeedsAddressing, Pending, Told, asked_at, asks_again, completed_if, find_pending, put_off, told_of, waiting}
+use Rattle.ft_client.specs.Ends.{body_of, completion_of, ended_of, numbered}
 use Rattle.ft_client.specs.Keeping.{Kept, ids_after_sending, ids_awaited, kept_by, kept_of, octets_again, sent_again}
 use Rattle.ft_client.specs.Lives.{AreRising}
 use Rattle.ft_client.specs.Messages.{Transmission, contexts_of, fields_of, order_of, request_behind, wish_of}
@@ -36,18 +38,20 @@ pub record IsAsked (id : ℤ) (manner : Manner) (contexts : List (ℕ × List �
   pub order : manner.order ≡ order_of t.call.form
   pub wish : manner.wish ≡ wish_of t.call.form
   pub contexts_are : contexts ≡ contexts_of t
-  pub key : asked.object_key.now ≡ t.call.object_key
+  pub key : asked.object_key.now ≡ t.at
   pub operation : asked.operation.now ≡ t.call.operation
   pub behind : behind_header t.version Request (order_of t.call.form) (fields_of t) (values_of asked.arguments.now) ≡ request_behind t
   pub expiration : asked.expiration ≡ t.call.expiration
 
--- a kept call was sent on a link, or is past its expiration: what is left to be sent follows
+-- a kept call was sent on a link, or was not due: what is left to be sent follows
 pub record IsSentOn (now : ℕ) (k : Kept) (old new : ClientLinked) (sent : Option ℕ) (before after : List ℕ) : Type 0 where
   pub again : (rest : List Kept) → sent_again now old.ids.given (k ∷ rest) ≡ record k { sent = sent } ∷ sent_again now new.ids.given rest
   pub given : (rest : List Kept) → ids_after_sending now old.ids.given (k ∷ rest) ≡ ids_after_sending now new.ids.given rest
   pub octets : (rest : List Kept) → before ++ octets_again now old.ids.given (k ∷ rest) ≡ after ++ octets_again now new.ids.given rest
   pub link : new ≡ record old { ids = new.ids }
-  pub waits : (is : List ℕ) → old.ids ≡ waiting_ids old.ids.given is → new.ids ≡ waiting_ids new.ids.given (is ++ ids_awaited (record k { sent = sent } ∷ []))
+  pub one : List ℕ
+  pub waits : (is : List ℕ) → old.ids ≡ waiting_ids old.ids.given is → new.ids ≡ waiting_ids new.ids.given (is ++ one)
+  pub awaits : (rest : List Kept) → ids_awaited now old.ids.given (k ∷ rest) ≡ one ++ ids_awaited now new.ids.given rest
   pub more : List ℕ
   pub written : after ≡ before ++ more
 
@@ -72,16 +76,49 @@ reply_lent (Some d) = reply_in d
 abbrev pub reply_as : ℕ × CodeEnded → ℕ × Ended
 reply_as x = (x.0, ended_of x.1)
 
--- a client after it
-abbrev pub answered_by : Option (ℕ × Ended) → Client → Client
-answered_by None m = m
-answered_by (Some x) m = completed_if (waiting x.0 m.pending) x.1 m
+-- the request id of a reply that leaves its call pending, and the reference to which that is led, if it is led elsewhere; where TRANSIENT
+-- is kept to, and where forwards are
+abbrev pub left_in : (keeps leads : Bool) → Sound Delivered → Option (ℕ × Option Rest)
+left_in keeps leads (says (whole (replied id shown))) = if keeps && asks_again (reply_status_of shown.status) shown.body then Some (id, None) else None
+left_in keeps leads (says (forward id body)) = if leads then Some (id, Some body) else None
+left_in keeps leads _ = None
+
+abbrev pub left_lent : (keeps leads : Bool) → Option (Sound Delivered) → Option (ℕ × Option Rest)
+left_lent keeps leads None = None
+left_lent keeps leads (Some d) = left_in keeps leads d
+
+-- one of the code
+abbrev pub left_as : ℕ × Option ReplyBody → ℕ × Option Rest
+left_as x = (x.0, option_map body_of x.1)
+
+abbrev pub held_back : ℕ → Option Rest → Client → Client
+held_back request_id led m = record m { pending = put_off request_id led m.pending }
+
+-- a client after a call is left pending, or a reply has come, or neither
+abbrev pub answered_by : Option (ℕ × Option Rest) → Option (ℕ × Ended) → Client → Client
+answered_by (Some l) x m = held_back l.0 l.1 m
+answered_by None None m = m
+answered_by None (Some x) m = completed_if (waiting x.0 m.pending) x.1 m
+
+-- .. after what its link lends
+abbrev pub taken_in : Option (Sound Delivered) → Client → Client
+taken_in d m = answered_by (left_lent m.keeps_transient m.keeps_forwards d) (reply_lent d) m
 
 -- pending calls and completions stand for those of a client
 pub record CallsStand (pending : List CodePending) (completions : List (ℤ × CodeEnded)) (m : Client) : Type 0 where
   pub pending_are : map kept_by pending ≡ map (kept_of m.version m.client_id) m.pending
   pub completions_are : map completion_of completions ≡ map numbered m.completions
   pub rising : AreRising m.last m.pending
+
+-- The call of a number stands at a place of the client, and is led elsewhere. What is put there in its place, as it is asked for under
+-- another object key, makes the calls those where it is redirected.
+pub record IsLedAt (z : ℤ) (c : FtClient) (m : Client) (place number : ℕ) : Type 0 where
+  pub call : Pending
+  pub find : find_pending z m.pending ≡ Some call
+  pub led : is_some call.led ≡ true
+  pub numbered : number ≡ call.id
+  pub kept : (d : CodePending) → kept_by (slice_index_or c.pending.items place d) ≡ kept_of m.version m.client_id call
+  pub put : (key : List ℕ) (k : Kept) → k ≡ kept_of m.version m.client_id (record call { at = key; led = None }) → slice_set (map kept_by c.pending.items) place k ≡ map (kept_of m.version m.client_id) (asked_at z key m.pending)
 
 -- what a client is after octets came on its link: it has ended, or it goes on
 abbrev pub IsFedTo : Client → Linked → List ℕ → Bool → List CodePending → List (ℤ × CodeEnded) → ClientLinked → Type 0

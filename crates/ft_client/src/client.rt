@@ -8,7 +8,9 @@ ghost use Rattle.cdr_core.specs.View.{values_of};
 ghost use Rattle.ft_client.specs.facts.Texts.{clean_prop};
 ghost use Rattle.cdr_core.specs.Writing.{AreWritable};
 
+mod connecting;
 mod raw;
+mod redirecting;
 
 use crate::ended::Ended;
 use crate::ending::{complete, end_sent, give_up, place_of, withdraw};
@@ -44,6 +46,8 @@ pub struct FtClient {
     pending: Vec<Pending>,
     completions: VecDeque<(i32, Ended)>,
     link: Option<ClientLink>,
+    keeps_transient: bool,
+    keeps_forwards: bool,
     ghost clean: { IsClean client_id.items } by { clean_prop client_id.items },
     ghost named: { vec_len client_id ≤ 256 },
     ghost numbered: { last ≤ 2147483647 },
@@ -53,15 +57,16 @@ pub struct FtClient {
 
 impl FtClient {
     ghost use Rattle.ft_client.specs.Calling.{IsCallError, IsRecallError, call_of};
-    ghost use Rattle.ft_client.specs.Clients.{Called, Client, Fed, Joined, Parted, Recalled, Resumed, Skipped, Taken, Ticked, after, find_pending, gives, is_resumed, is_taken, new_client, parted, placed, says, says_placed};
+    ghost use Rattle.ft_client.specs.Clients.{Called, Client, Fed, Joined, Linked, Parted, Recalled, Resumed, Skipped, Taken, Ticked, after, begun, find_pending, gives, is_resumed, is_taken, new_client, parted, placed, resent_on, says, says_again, says_placed, sent_off};
     ghost use Rattle.ft_client.specs.Directions.{stream};
     ghost use Rattle.ft_client.specs.Ends.{completion_of, numbered};
     ghost use Rattle.ft_client.specs.Keeping.{kept_by, kept_of};
     ghost use Rattle.ft_client.specs.Messages.{Call, octets_said};
-    ghost use Rattle.ft_client.specs.Standing.{FieldsStand, FtStands, IsFedShort, down};
+    ghost use Rattle.ft_client.specs.Standing.{FieldsStand, FtStands, IsFedShort, IsLinked, down};
 
     /// A client that has made no call and is not connected. Its id, of 1 to 256 octets without a NUL, names it to
-    /// each server. It writes messages of this version, and its links keep to the limits.
+    /// each server. It writes the Requests of typed calls, and CancelRequests, in this version, and its links keep to the
+    /// limits.
     pub fn new(
         alloc: Global,
         client_id: &[u8],
@@ -84,6 +89,8 @@ impl FtClient {
             pending: Vec::new(alloc),
             completions: VecDeque::new(alloc),
             link: None,
+            keeps_transient: false,
+            keeps_forwards: false,
         })
     }
 
@@ -122,8 +129,8 @@ impl FtClient {
         forget_sent(&mut self.pending);
     }
 
-    /// Takes octets that came on the connection, and completes each call whose reply they bring. Where there is none
-    /// nothing happens.
+    /// Takes octets that came on the connection, and completes each call whose reply they bring, but for those that TRANSIENT
+    /// or a forward leaves pending. Where there is none nothing happens.
     ///
     /// After a fault of the stream, a CloseConnection or a MessageError (GIOP 9.4) the client is not
     /// connected, what has not ended is pending still, and what follows in the piece counts for nothing. So it is where
@@ -139,6 +146,8 @@ impl FtClient {
         let fed = feed_on(
             self.alloc,
             link,
+            self.keeps_transient,
+            self.keeps_forwards,
             &mut self.pending,
             &mut self.completions,
             piece,
@@ -224,15 +233,7 @@ impl FtClient {
         ensures same { OnErr result ((m : Client) → FtStands self.old m → FtStands self.new m) }
         ensures unwritten { OnErr result (out.new.items ≡ out.old.items) }
     {
-        if !self.is_free(number) {
-            return Err(RecallError::NumberUsed);
-        }
-        if expiration < now {
-            return Err(RecallError::Expired);
-        }
-        if self.pending.len() == MOST {
-            return Err(RecallError::TooManyCalls);
-        }
+        self.check_recall(number, now, expiration)?;
         let asked = Asked {
             object_key,
             operation,
@@ -279,6 +280,25 @@ impl FtClient {
         Ok(self.last + 1)
     }
 
+    /// Why a call of before can't be taken up again under its number, but for its Request.
+    fn check_recall(&self, number: u32, now: u64, expiration: u64) -> Result<(), RecallError>
+        ensures free { OnOk result ((nat_lt self.now.last number && nat_lt number 2147483648) ≡ true) }
+        ensures in_time { OnOk result (now ≤ expiration) }
+        ensures few { OnOk result (vec_len self.now.pending < 64) }
+        ensures err { IfErr result (λ e. (m : Client) (call : Call) → FtStands self.now m → call.expiration ≡ expiration → IsRecallError now number call m e) }
+    {
+        if !self.is_free(number) {
+            return Err(RecallError::NumberUsed);
+        }
+        if expiration < now {
+            return Err(RecallError::Expired);
+        }
+        if self.pending.len() == MOST {
+            return Err(RecallError::TooManyCalls);
+        }
+        Ok(())
+    }
+
     /// A call that is kept gets its place under a number: it is sent where the client is connected, and is pending unless
     /// it was sent and wishes for no reply. There is a place for it.
     fn place(&mut self, number: u32, mut kept: Pending, out: &mut Vec<u8>) -> Result<(), AllocError>
@@ -286,9 +306,9 @@ impl FtClient {
         requires greater { self.old.last < number }
         requires long { number < 2 ^ 31 }
         requires unsent { kept.sent ≡ None }
-        ensures stands { OnOk result ((m : Client) (call : Call) → FtStands self.old m → kept_by kept ≡ kept_of m.version m.client_id (record { id = number; call = call; sent = None })
+        ensures stands { OnOk result ((m : Client) (call : Call) → FtStands self.old m → kept_by kept ≡ kept_of m.version m.client_id (begun number call None)
             → FtStands self.new (placed number call m m.link)) }
-        ensures out { OnOk result ((m : Client) (call : Call) → FtStands self.old m → kept_by kept ≡ kept_of m.version m.client_id (record { id = number; call = call; sent = None })
+        ensures out { OnOk result ((m : Client) (call : Call) → FtStands self.old m → kept_by kept ≡ kept_of m.version m.client_id (begun number call None)
             → out.new.items ≡ out.old.items ++ stream octets_said (says_placed number call m m.link)) }
         ensures same { OnErr result ((m : Client) → FtStands self.old m → FtStands self.new m) }
         ensures unwritten { OnErr result (out.new.items ≡ out.old.items) }
@@ -312,34 +332,9 @@ impl FtClient {
         Ok(())
     }
 
-    /// The client is connected anew: each pending call that is not past its expiration is sent on the new connection,
-    /// in the order of the numbers, and the Requests are appended. One that wishes for no reply has ended with that.
-    ///
-    /// Where an allocation fails `out` is as it was, and the client is not connected. It fails only where a call is to be
-    /// sent.
-    pub fn connected(&mut self, now: u64, out: &mut Vec<u8>) -> Result<(), AllocError>
-        requires { is_some self.old.link ≡ false }
-        ensures stands { OnOk result ((m : Client) → FtStands self.old m → FtStands self.new (after (down m.limits) (Joined now) m)) }
-        ensures out { OnOk result ((m : Client) → FtStands self.old m → out.new.items ≡ out.old.items ++ stream octets_said (says (Joined now) m)) }
-        ensures err { OnErr result ((m : Client) → FtStands self.old m → FtStands self.new (parted m)) }
-        ensures needed { OnErr result ((m : Client) → FtStands self.old m → says (Joined now) m ≢ []) }
-        ensures unwritten { OnErr result (out.new.items ≡ out.old.items) }
-    {
-        giop_link::laws::streams_are_heard::<giop_link::Client>();
-        let start = out.len();
-        let mut link = ClientLink::new(self.alloc, self.limits, self.version, 64);
-        if let Err(error) = send_again(&mut link, &mut self.pending, now, out) {
-            out.truncate(start);
-            forget_sent(&mut self.pending);
-            return Err(error);
-        }
-        end_sent(&mut self.pending, &mut self.completions);
-        self.link = Some(link);
-        Ok(())
-    }
-
     /// A call is no longer wanted: where it is pending, it is completed as cancelled, and where it was sent on this
-    /// connection, a CancelRequest is appended. False: it is not pending.
+    /// connection, a CancelRequest is appended. False: it is not pending. The CancelRequest is in the client's version, also
+    /// that of a raw call whose Request is in another.
     ///
     /// Where an allocation fails the client and `out` are as they were. It fails only where a CancelRequest is to be
     /// appended.

@@ -40,7 +40,7 @@ pub enum Ended {
     Raised(ReplyBody),
     /// It raised a system exception: its repository id, its minor code, and its completion.
     System(ReplyBody),
-    /// Another object is to be asked: its reference.
+    /// Another object is to be asked: its reference. Where `FtClient::keep_on_forward` is set, no call ends so.
     Forwarded(ReplyBody),
     /// Its server wants another addressing of the target.
     NeedsAddressing,

@@ -22,6 +22,13 @@ pub(crate) fn place_of(pending: &[Pending], id: i32) -> Option<usize>
     pending.iter().position(|one| one.id == id)
 }
 
+/// The place of the first call that is led elsewhere.
+pub(crate) fn place_led(pending: &[Pending]) -> Option<usize>
+    ensures { result ≡ position (λ p. is_some p.led) pending.now }
+{
+    pending.iter().position(|one| one.led.is_some())
+}
+
 /// Withdraws the request of a call that was sent on the present link, if it was.
 pub(crate) fn withdraw(
     link: &mut Option<ClientLink>,

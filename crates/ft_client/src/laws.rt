@@ -1,6 +1,7 @@
 //! Laws over the definitions: each is what a function with an empty body ensures.
 
 ghost use Rattle.ft_client.specs.Laws.{CallsCompleteOnce, LivesGoOn, NumbersHaveNoGaps, RequestsAreAsLong};
+ghost use Rattle.ft_client.specs.Restarting.{RestartsAreLosses};
 
 /// Whatever happens to a client: each call is pending or was completed once, and each transmission of it carries its
 /// content, none past its expiration.
@@ -18,7 +19,13 @@ pub fn a_life_goes_on()
     ensures { LivesGoOn }
 {}
 
-/// The Request of a call is as long under each request id.
+/// The Request of a call, under whichever object key, is as long under each request id.
 pub fn requests_are_as_long()
     ensures { RequestsAreAsLong }
+{}
+
+/// A client that crashed once its completions were taken, and is started anew and takes up again what was pending, none of it
+/// past its expiration, is one that lost its connection.
+pub fn restarts_are_losses()
+    ensures { RestartsAreLosses }
 {}

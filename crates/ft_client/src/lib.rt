@@ -16,5 +16,7 @@ mod settling;
 
 pub use client::FtClient;
 pub use ended::{Ended, ReplyBody};
-pub use error::{CallError, RawCallError, RecallError};
+pub use error::{
+    CallError, RawCallError, RawRecallError, RawRedirectError, RecallError, RedirectError,
+};
 pub use raw_call::RawCall;

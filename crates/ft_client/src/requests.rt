@@ -10,6 +10,7 @@ ghost use Rattle.giop_core.specs.Rows.{has_id_first};
 ghost use Rattle.giop_core.specs.Written.{CanAsk};
 ghost use Rattle.giop_link.specs.Ids.{one_more, wanted_by};
 ghost use Rattle.giop_core.specs.declared.error.WriteError.TheVariants.{TooLong};
+ghost use Rattle.ft_client.specs.Clients.{begun};
 ghost use Rattle.ft_client.specs.Calling.{IsLong, IsShort, call_asked, call_raw, first_transmission};
 ghost use Rattle.ft_client.specs.Keeping.{after_contexts, id_place, kept_as, kept_by, kept_of, under};
 ghost use Rattle.ft_client.specs.Messages.{Transmission};
@@ -68,7 +69,7 @@ fn kept(
     requires clean { IsClean asked.now.operation.now }
     requires writable { AreWritable (values_of asked.now.arguments.now) }
     ensures { (t : Transmission) → IsAsked id manner (map item_at contexts.now) asked.now t → MatchResult result
-        (λ p. IsShort t × (kept_by p ≡ kept_as t None))
+        (λ p. IsShort t × (kept_by p ≡ kept_as t None None))
         (λ e. e ≡ TooLong → IsLong t) }
 {
     let mut message = Vec::new(alloc);
@@ -91,6 +92,7 @@ fn kept(
         id_at: id_place(manner.version, contexts),
         message,
         sent: None,
+        led: None,
     })
 }
 
@@ -108,7 +110,7 @@ pub(crate) fn written(
     requires clean { IsClean asked.now.operation.now }
     requires writable { AreWritable (values_of asked.now.arguments.now) }
     ensures { MatchResult result
-        (λ p. IsShort (first_transmission version client_id.now number (call_asked asked.now)) × (kept_by p ≡ kept_of version client_id.now (record { id = number; call = call_asked asked.now; sent = None })))
+        (λ p. IsShort (first_transmission version client_id.now number (call_asked asked.now)) × (kept_by p ≡ kept_of version client_id.now (begun number (call_asked asked.now) None)))
         (λ e. e ≡ TooLong → IsLong (first_transmission version client_id.now number (call_asked asked.now))) }
 {
     let id = number as i32;
@@ -135,7 +137,7 @@ pub(crate) fn written_raw(
     requires clean { IsClean call.now.operation.now }
     requires wish { CanAsk call.now.version call.now.wish }
     ensures { (version : Version) → MatchResult result
-        (λ p. IsShort (first_transmission version client_id.now number (call_raw call.now)) × (kept_by p ≡ kept_of version client_id.now (record { id = number; call = call_raw call.now; sent = None })))
+        (λ p. IsShort (first_transmission version client_id.now number (call_raw call.now)) × (kept_by p ≡ kept_of version client_id.now (begun number (call_raw call.now) None)))
         (λ e. e ≡ TooLong → IsLong (first_transmission version client_id.now number (call_raw call.now))) }
 {
     let id = number as i32;

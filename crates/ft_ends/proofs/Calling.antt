@@ -13,7 +13,7 @@ use Rattle.ft_client.specs.declared.error.CallError.TheVariants as refused
 use Rattle.ft_client.specs.declared.error.RecallError.{RecallError}
 use Rattle.ft_client.specs.declared.error.RecallError.TheVariants as recalling
 use Rattle.ft_client.specs.Calling.{IsCallError, IsRecallError}
-use Rattle.ft_client.specs.Clients.{Called, Client, Linked, Pending, Recalled, Resumed, after, find_pending, fits, is_resumed, is_taken, stands_in, placed, says, says_placed, says_recalled, withdrawn}
+use Rattle.ft_client.specs.Clients.{Called, Client, Linked, Pending, Recalled, Resent, Resumed, after, find_pending, fits, is_resumed, is_taken, stands_in, placed, says, says_placed, says_recalled, says_resent, withdrawn}
 use Rattle.ft_client.specs.Directions.{stream}
 use Rattle.ft_client.specs.Messages.{Call, Said, has_no_ft, octets_said}
 use Rattle.ft_client.specs.Standing.{FtStands, LinkFor, down, sent_ids}
@@ -81,19 +81,27 @@ refused-is now call c e h is = and_right (has_no_ft call.form) (in_time now call
     by refused.Memory h is = absurd h
 
 recall-refused : (now id : ℕ) (call : Call) (c : Client) (e : RecallError) → IsRecallRefusal e → IsRecallError now id call c e → is_resumed now id call c ≡ false
-recall-refused now id call c recalling.NumberUsed h is = ap (λ b. b && (nat_le now call.expiration && (nat_lt (length c.pending) 64 && fits id c call))) is
-recall-refused now id call c recalling.Expired h is =
-    and_right (nat_lt c.last id && nat_lt id 2147483648) (nat_le now call.expiration && (nat_lt (length c.pending) 64 && fits id c call)) (ap (λ b. b && (nat_lt (length c.pending) 64 && fits id c call)) (lt-leb now call.expiration is.1))
-recall-refused now id call c recalling.TooManyCalls h is =
-    and_right (nat_lt c.last id && nat_lt id 2147483648) (nat_le now call.expiration && (nat_lt (length c.pending) 64 && fits id c call))
-    (and_right (nat_le now call.expiration) (nat_lt (length c.pending) 64 && fits id c call) (ap (λ b. b && fits id c call) (not-below (length c.pending) 64 is.2)))
+recall-refused now id call c e h is = and_right (has_no_ft call.form) (free && (nat_le now call.expiration && room)) (by e h is)
   where
+    free : Bool
+    free = nat_lt c.last id && nat_lt id 2147483648
+
+    place : Bool
+    place = stands_in id c call && fits id c call
+
+    room : Bool
+    room = nat_lt (length c.pending) 64 && place
+
     not-below : (a b : ℕ) → b ≤ a → nat_lt a b ≡ false
     not-below a b h = lt-leb (suc a) b (omega arith)
-recall-refused now id call c recalling.TooLong h is =
-    and_right (nat_lt c.last id && nat_lt id 2147483648) (nat_le now call.expiration && (nat_lt (length c.pending) 64 && fits id c call))
-    (and_right (nat_le now call.expiration) (nat_lt (length c.pending) 64 && fits id c call) (and_right (nat_lt (length c.pending) 64) (fits id c call) is.3))
-recall-refused now id call c recalling.Memory h is = absurd h
+
+    by : (e : RecallError) → IsRecallRefusal e → IsRecallError now id call c e → (free && (nat_le now call.expiration && room)) ≡ false
+    by recalling.NumberUsed h is = ap (λ b. b && (nat_le now call.expiration && room)) is
+    by recalling.Expired h is = and_right free (nat_le now call.expiration && room) (ap (λ b. b && room) (lt-leb now call.expiration is.1))
+    by recalling.TooManyCalls h is = and_right free (nat_le now call.expiration && room) (and_right (nat_le now call.expiration) room (ap (λ b. b && place) (not-below (length c.pending) 64 is.2)))
+    by recalling.TooLong h is =
+        and_right free (nat_le now call.expiration && room) (and_right (nat_le now call.expiration) room (and_right (nat_lt (length c.pending) 64) place (and_right (stands_in id c call) (fits id c call) is.3)))
+    by recalling.Memory h is = absurd h
 
 -- A call that had no memory is one that no refusal but its length holds for.
 
@@ -159,6 +167,10 @@ module _ (tells : ℕ → List Telling) (old new : FtClient) (was is : CodeWire)
       → FtStands new (after (down c.limits) (Resumed now id asked) c) × IsWireFor tells is (extended (says (Resumed now id asked) c) o)
   resumed-as now id call asked r same stood out err kept unwritten refusal =
       subst (λ (k : Call). FtStands new (after (down c.limits) (Resumed now id k) c) × IsWireFor tells is (extended (says (Resumed now id k) c) o)) same (resumed-by now id call r stood out err kept unwritten refusal)
+
+  pub resent-is : (now : ℕ) → FtStands new (after (down c.limits) (Resent now) c) → is.up.octets.items ≡ was.up.octets.items ++ stream octets_said (says (Resent now) c)
+      → FtStands new (after (down c.limits) (Resent now) c) × IsWireFor tells is (extended (says (Resent now) c) o)
+  resent-is now stood out = (stood, wire-said tells was is o (says (Resent now) c) number at same_down out (λ none. ap (says_resent now c) (no-link c.link o linked none)) held)
 
   pub recalled-is : (id asked : ℤ) → id ≡ asked → FtStands new (after (down c.limits) (Recalled id) c) → is.up.octets.items ≡ was.up.octets.items ++ stream octets_said (says (Recalled id) c)
       → FtStands new (after (down c.limits) (Recalled asked) c) × IsWireFor tells is (extended (says (Recalled asked) c) o)

@@ -34,7 +34,7 @@ nothing = record { order = Big; place = 0; octets = [] }
 -- what a client says, as messages that are written
 
 abbrev said_out : Said → Outgoing
-said_out (Asked t) = record { version = t.version; order = order_of t.call.form; content = content.request t.request_id (wish_of t.call.form) (by_key t.call.object_key) t.call.operation (contexts_of t) nothing; body = t.call.arguments }
+said_out (Asked t) = record { version = t.version; order = order_of t.call.form; content = content.request t.request_id (wish_of t.call.form) (by_key t.at) t.call.operation (contexts_of t) nothing; body = t.call.arguments }
 said_out (Withdrawn version request_id) = record { version = version; order = Big; content = content.cancel request_id; body = no_values }
 
 said-octets : (ms : List Said) → octets_of_each (map said_out ms) ≡ stream octets_said ms
@@ -63,7 +63,7 @@ module _ (asked : RequestsGoOut) where
   request : (t : Transmission) → IsFine t → CanGoOut (said_out (Asked t)) × (ft_in (contexts_of t) ≡ present t.client_id (pos t.retention_id) t.call.expiration)
   request t fine =
       subst (λ f. CanGoOut (said_out (Asked (of_form t f))) × (ft_in (contexts_of (of_form t f)) ≡ present t.client_id (pos t.retention_id) t.call.expiration)) (sym fine.call.values)
-      (asked t.version Big t.request_id Full t.call.object_key t.call.operation t.client_id (pos t.retention_id) t.call.expiration nothing t.call.arguments
+      (asked t.version Big t.request_id Full t.at t.call.operation t.client_id (pos t.retention_id) t.call.expiration nothing t.call.arguments
       fine.id (can-ask t.version) fine.call.operation fine.client (fits t.retention_id fine.number) fine.call.expiration (subst (λ f. length (request_behind (of_form t f)) < 4294967296) fine.call.values fine.size))
 
   carried : (t : Transmission) → IsFine t → field_of (contexts_of t) ≡ Present (key_of t) t.call.expiration

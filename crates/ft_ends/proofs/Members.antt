@@ -8,7 +8,7 @@ use Rattle.cdr_core.specs.Spelling.{IsClean}
 use Rattle.giop_core.specs.declared.header.Version.{Version}
 use Rattle.giop_frames.specs.declared.limits.Limits.{Limits}
 use Rattle.ft_log.specs.Keys.{RequestKey}
-use Rattle.ft_client.specs.Clients.{Called, Cancelled, Client, Ended, Expired, Linked, NeedsAddressing, Pending, Recalled, Resumed, Sent, Skipped, Ticked, Told, completed_if, ended_by, find_pending, is_resumed, is_taken, late, on_time, placed, placed_on, recalled, says_placed, says_recalled, settled, settled_all, transmission, waiting, withdrawn, without}
+use Rattle.ft_client.specs.Clients.{Called, Cancelled, Client, Ended, Expired, Kept, Linked, NeedsAddressing, Pending, Recalled, Resent, Resumed, Sent, Skipped, Ticked, Told, answered, completed_if, ended_by, find_pending, is_kept, is_resumed, is_taken, late, led_by, on_time, placed, placed_on, recalled, resent_if, says_again, says_placed, says_recalled, says_resent, settled, settled_all, transmission, waiting, withdrawn, without}
 use Rattle.ft_client.specs.Directions.{stream}
 use Rattle.giop_link.specs.Hearing.{Hearing, news}
 use Rattle.ft_client.specs.Lives.{IsLife, IsOfCall, Life, ended_count, sent_at}
@@ -27,8 +27,8 @@ use Rattle.ft_ends.specs.Tellings.{answer_in, law_told, tellings}
 use Rattle.ft_ends.specs.World.{Member, Wire, acted, emptied, extended}
 use Rattle.ft_ends.proofs.Lists.{each-append, each-contains, each-drop, each-front, front-trans}
 use Rattle.ft_ends.proofs.Served.{IsReply, IsServed, Traced, front-more, served-said, traced-later}
-use Rattle.ft_ends.proofs.Small.{IsSmall, IsTaken, found-each, on_time-each, resumed-is, settled-each, small-after, taken-is, without-each}
-use Rattle.ft_ends.proofs.Spoken.{IsAmong, IsSent, IsSentAs, IsSpoken, asked_as, asked_as-each, asked_as-id, spoken-called, spoken-pending, spoken-withdrawn, waiting-sent}
+use Rattle.ft_ends.proofs.Small.{IsSmall, IsTaken, found-each, on_time-each, resent-as, resumed-is, settled-each, small-after, taken-is, without-each}
+use Rattle.ft_ends.proofs.Spoken.{IsAmong, IsSent, IsSentAs, IsSpoken, asked_as, asked_as-each, asked_as-id, ids-few, spoken-called, spoken-pending, spoken-resent, spoken-withdrawn, waiting-sent}
 
 -- the key of a client's call
 abbrev pub own_key : List ℕ → ℕ → RequestKey
@@ -75,7 +75,7 @@ module _ {State : Type 0} (meaning : Meaning State) (made : Made State) where
 
   pub record IsLinked (past : List Event) (opened : ℕ) (sent : List (ℕ × Transmission)) (pending : List Pending) (last : ℕ) (l : Linked) (x : Wire) : Type 0 where
     pub spoken : IsSpoken sent x.said pending l.given
-    pub few : l.given ≤ last + 64
+    pub few : l.given ≤ last + 2147483648
     pub served : IsServed meaning made past x.said x.number x.went x.came l.received
     pub known : x.number ≤ opened
 
@@ -142,6 +142,21 @@ module _ {State : Type 0} (meaning : Meaning State) (made : Made State) where
           spoken = spoken-called sent x.said c.pending now l.given t refl fine h.spoken;
           few = omega (arith, few, greater);
           served = served-said meaning made past x.said (Asked t ∷ []) x.number x.went x.came l.received h.served;
+          known = h.known;
+        })
+
+    -- what is due is sent
+    wired-resent : (sent : List (ℕ × Transmission)) (now : ℕ) (c : Client) (l : Option Linked) (w : Option Wire) → IsClean c.client_id → IsSmall c → c.link ≡ l → IsWired past opened sent c.pending c.last l w
+        → IsWired past opened (sent ++ sent_at now (says_resent now c l)) (resent_if now c l).pending (resent_if now c l).last (resent_if now c l).link (extended (says_resent now c l) w)
+    wired-resent sent now c None w clean small is h =
+        subst (λ (k : Option Linked). IsWired past opened (sent ++ []) c.pending c.last k (extended [] w)) (sym is) (wired-nothing sent c.pending c.last None w h)
+    wired-resent sent now c (Some l) None clean small is h = absurd h
+    wired-resent sent now c (Some l) (Some x) clean small is h =
+        let said = says_again c.version c.client_id now l.given c.pending in
+        subst (λ (y : Client). IsWired past opened (sent ++ sent_at now said) y.pending y.last y.link (Some (record x { said = x.said ++ said }))) (sym (resent-as now c l small)) (record {
+          spoken = spoken-resent c.version c.client_id now sent x.said l.given c.pending clean small.waits h.spoken;
+          few = ids-few c.version c.client_id now l.given c.last c.pending h.few;
+          served = served-said meaning made past x.said said x.number x.went x.came l.received h.served;
           known = h.known;
         })
 
@@ -232,6 +247,32 @@ module _ {State : Type 0} (meaning : Meaning State) (made : Made State) where
               ] refl;
         }
 
+    pub member-kept : ClientLaws → (keeps : Bool) (m : Member) → IsMember past opened id version m → IsMember past opened id version (acted (sides_of meaning made hears) (Kept keeps) m)
+    member-kept of_clients keeps m h =
+        let c = m.life.client in
+        let down = hears c.limits in
+        record {
+          life = of_clients.goes_on id version down (Kept keeps) m.life h.life;
+          small = small-after of_clients.as_long down (Kept keeps) c tt h.small;
+          told = h.told;
+          wired = wired-nothing past opened m.life.sent c.pending c.last c.link m.wire h.wired;
+        }
+
+    pub member-resent : ClientLaws → (now : ℕ) (m : Member) → IsMember past opened id version m → IsMember past opened id version (acted (sides_of meaning made hears) (Resent now) m)
+    member-resent of_clients now m h =
+        let c = m.life.client in
+        let down = hears c.limits in
+        record {
+          life = of_clients.goes_on id version down (Resent now) m.life h.life;
+          small = small-after of_clients.as_long down (Resent now) c tt h.small;
+          told = resent-told c.link;
+          wired = wired-resent past opened m.life.sent now c c.link m.wire (own-clean m h.life) h.small refl h.wired;
+        }
+      where
+        resent-told : (l : Option Linked) → AllByRecursion (λ x. IsToldOf (arrivals made.limits past) id x) (resent_if now m.life.client l).completions
+        resent-told None = h.told
+        resent-told (Some l) = subst (λ (y : Client). AllByRecursion (λ x. IsToldOf (arrivals made.limits past) id x) y.completions) (sym (resent-as now m.life.client l h.small)) h.told
+
     pub member-recalled : ClientLaws → (number : ℤ) (m : Member) → IsMember past opened id version m → IsMember past opened id version (acted (sides_of meaning made hears) (Recalled number) m)
     member-recalled of_clients number m h =
         let c = m.life.client in
@@ -310,14 +351,19 @@ module _ {State : Type 0} (meaning : Meaning State) (made : Made State) where
         each-append (λ x. IsToldOf all id x) c.completions ((n, ended_by shown) ∷ []) h
         (told-from all id n (ended_by shown) (subst (λ (k : RequestKey). Traced meaning made all k (ended_by shown)) key reply.2), tt)
 
+    told-answered : (keeps : Bool) (i : ℕ) (shown : Shown) (c : Client) → AllByRecursion (λ p. IsSent said p) c.pending → IsReply meaning made all said (replied i shown) → AllByRecursion (λ x. IsToldOf all id x) c.completions
+        → AllByRecursion (λ x. IsToldOf all id x) (answered keeps i (led_by shown) (ended_by shown) c).completions
+    told-answered true i shown c waits reply h = h
+    told-answered false i shown c waits reply h = told-one i shown c (waiting i c.pending) refl waits reply h
+
     told-settled : (a : Answer) (c : Client) → AllByRecursion (λ p. IsSent said p) c.pending → IsReply meaning made all said a → AllByRecursion (λ x. IsToldOf all id x) c.completions → AllByRecursion (λ x. IsToldOf all id x) (settled a c).completions
-    told-settled (replied i shown) c waits reply h = told-one i shown c (waiting i c.pending) refl waits reply h
+    told-settled (replied i shown) c waits reply h = told-answered (is_kept shown c) i shown c waits reply h
     told-settled (located i shown) c waits reply h = h
 
     pub told-settled_all : (xs : List Answer) (c : Client) → AllByRecursion (λ p. IsSent said p) c.pending → AllByRecursion (λ x. IsReply meaning made all said x) xs → AllByRecursion (λ x. IsToldOf all id x) c.completions
         → AllByRecursion (λ x. IsToldOf all id x) (settled_all xs c).completions
     told-settled_all [] c waits replies h = h
-    told-settled_all (x ∷ xs) c waits replies h = told-settled_all xs (settled x c) (settled-each (λ p. IsSent said p) x c waits) replies.1 (told-settled x c waits replies.0 h)
+    told-settled_all (x ∷ xs) c waits replies h = told-settled_all xs (settled x c) (settled-each (λ p. IsSent said p) (λ l p is. tt) x c waits) replies.1 (told-settled x c waits replies.0 h)
 
   -- the next octets down bring replies of the connection alone
   pub news-replies : (hears : Limits → Hearing Answer) → AreFaithful made.limits hears → (own : Limits) (past : List Event) (said : List Said) (c went came n : ℕ) (received : List ℕ) → IsServed meaning made past said c went came received

@@ -1,15 +1,16 @@
 -- What a step of one client does: to the client, to the server's past, and to nothing else.
-use Rattle.std.proofs.Common.{◌≡◌, ◌⊎◌, inl, inr, ℕ, suc, ◌+◌, ◌<◌, ◌≤◌, max, nat_lt, true, cond, List, [], ◌∷◌, ◌++◌, drop, length, take, Option, Some, None, refl, sym, ap, ◌∙◌, subst, arith}
+use Rattle.std.proofs.Common.{◌≡◌, ◌⊎◌, inl, inr, ℕ, suc, ◌+◌, ◌<◌, ◌≤◌, max, nat_lt, Bool, true, false, cond, List, [], ◌∷◌, ◌++◌, drop, length, take, Option, Some, None, refl, sym, ap, ◌∙◌, subst, arith}
 use Rattle.std.specs.List.{AllByRecursion, filter_map, list_all}
 use Rattle.std.proofs.lemmas.Bool.{and_from, eq-eqb, lt-ltb, ne_eqb}
 use Rattle.std.proofs.lemmas.List.{append-nil}
 use Rattle.std.proofs.lemmas.Option.{none-some, same_Some}
 use Rattle.cdr_core.specs.Spelling.{IsClean}
+use Rattle.giop_core.specs.Content.{Rest}
 use Rattle.giop_core.specs.declared.header.Version.{Version}
 use Rattle.giop_frames.specs.declared.limits.Limits.{Limits}
 use Rattle.giop_link.specs.Hearing.{Ending, Hearing, meaning_in, news}
 use Rattle.giop_link.specs.Laws.{HearingGrows}
-use Rattle.ft_client.specs.Clients.{Called, Client, Ended, Fed, Happening, Joined, Linked, Parted, Pending, Recalled, Resumed, Skipped, Ticked, completed_if, ended_by, ending_of, gives, ids_after, parted_at, resent, says as client_says, settled, settled_all, told_of, waiting}
+use Rattle.ft_client.specs.Clients.{Called, Client, Ended, Fed, Happening, Joined, Kept, Linked, Parted, Pending, Recalled, Resent, Resumed, Skipped, Ticked, answered, completed_if, ended_by, ending_of, gives, ids_after, is_kept, led_by, parted, parted_at, resent, says as client_says, settled, settled_all, told_of, unsent, waiting}
 use Rattle.ft_client.specs.Directions.{stream}
 use Rattle.ft_client.specs.Lives.{IsLife, Life, goes_on, moment_of, sent_at}
 use Rattle.ft_client.specs.Messages.{Answer, Said, Transmission, located, octets_said, replied}
@@ -24,21 +25,25 @@ use Rattle.ft_ends.specs.Laws.{ArePlain, AreShort, IsFineStep, IsPlain, sides_of
 use Rattle.ft_ends.specs.Private.{ClientLaws}
 use Rattle.ft_orb.specs.Tellings.{Telling, octets_told}
 use Rattle.ft_ends.specs.Tellings.{answer_in, law_told, tellings}
-use Rattle.ft_ends.specs.World.{CallNow, Cancel, Connect, Cut, Down, Member, Moved, RecallNow, Shut, SkipTo, Step, Tick, UpTo, Wire, acted, connected, cut, down, extended, fed_off, moved, moved_to, shut, up}
+use Rattle.ft_ends.specs.World.{CallNow, Cancel, Connect, Cut, Down, KeepOn, Member, Moved, RecallNow, ResendNow, Shut, SkipTo, Step, Tick, UpTo, Wire, acted, connected, cut, down, extended, fed_off, moved, moved_to, shut, up}
 use Rattle.ft_ends.proofs.Lists.{each-weaker}
-use Rattle.ft_ends.proofs.Members.{IsLinked, IsMember, IsToldOf, IsWired, member-called, member-recalled, member-resumed, member-skipped, member-ticked, news-replies, own-clean, served-down, told-later, told-settled_all}
+use Rattle.ft_ends.proofs.Members.{IsLinked, IsMember, IsToldOf, IsWired, member-called, member-kept, member-recalled, member-resent, member-resumed, member-skipped, member-ticked, news-replies, own-clean, served-down, told-later, told-settled_all}
 use Rattle.ft_ends.proofs.Served.{IsFrom, IsLine, IsReply, line-close, line-more, line-opened, line-other, line-piece, line-shut, piece-from, plain-from, served-here, tellings-here, tellings-other}
-use Rattle.ft_ends.proofs.Small.{IsSmall, joined-as, settled_all-each, small-after}
-use Rattle.ft_ends.proofs.Spoken.{IsAmong, IsSent, asked_as-each, ids-grow, spoken-joined, spoken-pending, spoken-sent}
+use Rattle.ft_ends.proofs.Small.{IsSmall, resent-as, settled_all-each, small-after, small-parted}
+use Rattle.ft_ends.proofs.Spoken.{IsAmong, IsSent, asked_as-each, ids-few, spoken-none, spoken-pending, spoken-resent, spoken-sent}
 
 -- Small facts.
 
+if-last : (o : Option ℕ) (e : Ended) (c : Client) → ((completed_if o e c).last ≡ c.last) × ((completed_if o e c).link ≡ c.link)
+if-last None e c = (refl, refl)
+if-last (Some id) e c = (refl, refl)
+
+answered-last : (keeps : Bool) (i : ℕ) (led : Option Rest) (e : Ended) (c : Client) → ((answered keeps i led e c).last ≡ c.last) × ((answered keeps i led e c).link ≡ c.link)
+answered-last true i led e c = (refl, refl)
+answered-last false i led e c = if-last (waiting i c.pending) e c
+
 settled-last : (a : Answer) (c : Client) → (settled a c).last ≡ c.last
-settled-last (replied i shown) c = by-waiting (waiting i c.pending)
-  where
-    by-waiting : (o : Option ℕ) → (completed_if o (ended_by shown) c).last ≡ c.last
-    by-waiting None = refl
-    by-waiting (Some id) = refl
+settled-last (replied i shown) c = (answered-last (is_kept shown c) i (led_by shown) (ended_by shown) c).0
 settled-last (located i shown) c = refl
 
 settled_all-last : (xs : List Answer) (c : Client) → (settled_all xs c).last ≡ c.last
@@ -46,11 +51,7 @@ settled_all-last [] c = refl
 settled_all-last (x ∷ xs) c = settled_all-last xs (settled x c) ∙ settled-last x c
 
 settled-linked : (a : Answer) (c : Client) → (settled a c).link ≡ c.link
-settled-linked (replied i shown) c = by-waiting (waiting i c.pending)
-  where
-    by-waiting : (o : Option ℕ) → (completed_if o (ended_by shown) c).link ≡ c.link
-    by-waiting None = refl
-    by-waiting (Some id) = refl
+settled-linked (replied i shown) c = (answered-last (is_kept shown c) i (led_by shown) (ended_by shown) c).1
 settled-linked (located i shown) c = refl
 
 settled_all-linked : (xs : List Answer) (c : Client) → (settled_all xs c).link ≡ c.link
@@ -318,7 +319,7 @@ module _ {State : Type 0} (meaning : Meaning State) (made : Made State) (hears :
             let settled_link : IsLinked meaning made past opened (m.life.sent ++ []) told_client.pending told_client.last k' x' = record {
               spoken =
                   spoken-sent m.life.sent [] x.said told_client.pending k.given
-                  (spoken-pending m.life.sent x.said c.pending told_client.pending k.given (settled_all-each (λ p. IsSent x.said p) xs c' link.spoken.waits) link.spoken);
+                  (spoken-pending m.life.sent x.said c.pending told_client.pending k.given (settled_all-each (λ p. IsSent x.said p) (λ l p sent. tt) xs c' link.spoken.waits) link.spoken);
               few = omega (arith, last_is, few);
               served = served-down meaning made past x.said x.number x.went x.came n k.received link.served;
               known = link.known;
@@ -344,17 +345,16 @@ module _ {State : Type 0} (meaning : Meaning State) (made : Made State) (hears :
         let says = law_told meaning made in
         let number = suc opened in
         let e = Opened number in
-        let same = joined-as now c is.small in
+        let small = small-parted c is.small in
+        let same = resent-as now (parted c) (record { given = 0; received = [] }) small in
         let said = client_says (Joined now) c in
         let x' : Wire = record { number = number; said = said; went = 0; came = 0 } in
         let fresh = unopened number (omega arith) in
-        let few = is.small.few in
-        let grown = (ids-grow c.version c.client_id now 0 c.pending).1 in
         let tell : tellings says (e ∷ past) number ≡ [] = tellings-here says e past number (eq-eqb number number refl) ∙ ap (λ (ts : List Telling). ts ++ says past e) fresh.1 in
         let line_is : IsLine (line (e ∷ past) number) (stream octets_said said) 0 = subst (λ (l : Line). IsLine l (stream octets_said said) 0) (sym (line-opened past number fresh.2)) (stream octets_said said, refl, refl) in
-        let link : IsLinked meaning made (e ∷ past) number (m.life.sent ++ sent_at now said) (resent now 0 c.pending) c.last (record { given = ids_after now 0 c.pending; received = [] }) x' = record {
-          spoken = spoken-joined c.version c.client_id now m.life.sent c.pending (own-clean meaning made hears past opened id version clean m is.life) (omega (arith, few)) is.small.waits;
-          few = omega (arith, few, grown);
+        let link : IsLinked meaning made (e ∷ past) number (m.life.sent ++ sent_at now said) (resent now 0 (unsent c.pending)) c.last (record { given = ids_after now 0 (unsent c.pending); received = [] }) x' = record {
+          spoken = spoken-resent c.version c.client_id now m.life.sent [] 0 (unsent c.pending) (own-clean meaning made hears past opened id version clean m is.life) small.waits (spoken-none m.life.sent c.pending);
+          few = ids-few c.version c.client_id now 0 c.last (unsent c.pending) (omega arith);
           served = record {
             up = line_is;
             rest = [];
@@ -395,11 +395,13 @@ module _ {State : Type 0} (meaning : Meaning State) (made : Made State) (hears :
     move-is faithful grow sends plain clean (CallNow k now call) fine = move-acted (Called now call) refl (member-called meaning made hears past opened id version clean of_clients now call m fine is)
     move-is faithful grow sends plain clean (RecallNow k now number call) fine = move-acted (Resumed now number call) refl (member-resumed meaning made hears past opened id version clean of_clients now number call m fine is)
     move-is faithful grow sends plain clean (SkipTo k number) fine = move-acted (Skipped number) refl (member-skipped meaning made hears past opened id version clean of_clients number m is)
+    move-is faithful grow sends plain clean (KeepOn k keeps) fine = move-acted (Kept keeps) refl (member-kept meaning made hears past opened id version clean of_clients keeps m is)
     move-is faithful grow sends plain clean (Connect k now) fine = by-wire m.wire refl
       where
         by-wire : (w : Option Wire) → m.wire ≡ w → IsMove past opened id version m (connected (sides_of meaning made hears) past opened now m w)
         by-wire None at = move-joined clean now
         by-wire (Some x) at = move-still
+    move-is faithful grow sends plain clean (ResendNow k now) fine = move-acted (Resent now) refl (member-resent meaning made hears past opened id version clean of_clients now m is)
     move-is faithful grow sends plain clean (UpTo k n now) fine = by-wire m.wire refl
       where
         by-wire : (w : Option Wire) → m.wire ≡ w → IsMove past opened id version m (up (sides_of meaning made hears) past opened n now m w)

@@ -1,13 +1,13 @@
 -- What a client said on a connection: the request of each id.
-use Rattle.std.proofs.Common.{◌≡◌, ℕ, suc, ◌+◌, ◌<◌, ◌≤◌, ◌^◌, ◌==◌, nat_le, true, false, cond, List, [], ◌∷◌, ◌++◌, length, Option, Some, None, refl, sym, ap, ◌∙◌, subst, arith}
+use Rattle.std.proofs.Common.{◌≡◌, ◌⊎◌, inl, inr, ⊎_elim, ℕ, suc, ◌+◌, ◌<◌, ◌≤◌, ◌^◌, ◌==◌, ◌&&◌, nat_le, nat_lt, not, is_some, true, false, cond, List, [], ◌∷◌, ◌++◌, length, Option, Some, None, refl, sym, ap, ◌∙◌, subst, arith}
 use Rattle.std.specs.List.{AllByRecursion, Contains}
-use Rattle.std.proofs.lemmas.Bool.{eq-eqb, eqb-true, false≢true, ne_eqb}
+use Rattle.std.proofs.lemmas.Bool.{and_parts, eq-eqb, eqb-true, false≢true, leb-false, leb-true, ltb-true, ne_eqb}
 use Rattle.std.proofs.lemmas.List.{append-nil}
 use Rattle.std.proofs.lemmas.List.Elements.{Contains-append_left, Contains-append_right}
 use Rattle.std.proofs.lemmas.Option.{none-some, same_Some}
 use Rattle.cdr_core.specs.Spelling.{IsClean}
 use Rattle.giop_core.specs.declared.header.Version.{Version}
-use Rattle.ft_client.specs.Clients.{Pending, ids_after, is_sent_as, resent, says_again, transmission, waiting}
+use Rattle.ft_client.specs.Clients.{Pending, begun, ids_after, is_due, is_sent_as, resent, says_again, transmission_to, unsent, waiting}
 use Rattle.ft_client.specs.Lives.{sent_at}
 use Rattle.ft_client.specs.Messages.{Asked, Call, Said, Transmission, Withdrawn, request_behind}
 use Rattle.ft_ends.specs.Fine.{IsFine, IsFineCall, IsFineSaid}
@@ -38,11 +38,11 @@ IsSentAs said r (Some i) = (t : Transmission) × (asked_as said i ≡ Some t) ×
 abbrev pub IsSent : List Said → Pending → Type 0
 IsSent said p = IsSentAs said p.id p.sent
 
--- a pending call can be written, under each request id
-pub record IsFinePending (version : Version) (client_id : List ℕ) (id : ℕ) (call : Call) : Type 0 where
+-- a pending call can be written, under an object key and each request id
+pub record IsFinePending (version : Version) (client_id : List ℕ) (id : ℕ) (key : List ℕ) (call : Call) : Type 0 where
   pub fine : IsFineCall call
   pub number : id < 2 ^ 31
-  pub size : (i : ℕ) → length (request_behind (transmission version client_id id i call)) < 2 ^ 32
+  pub size : (i : ℕ) → length (request_behind (transmission_to version client_id id i key call)) < 2 ^ 32
 
 -- what was said on a connection whose link gave so many ids, where these transmissions were made and these calls are pending
 pub record IsSpoken (sent : List (ℕ × Transmission)) (said : List Said) (pending : List Pending) (given : ℕ) : Type 0 where
@@ -163,10 +163,10 @@ spoken-sent sent later said pending given h = record {
 
 -- a call more, sent under the next id
 pub spoken-called : (sent : List (ℕ × Transmission)) (said : List Said) (pending : List Pending) (now given : ℕ) (t : Transmission) → t.request_id ≡ suc given → IsFine t → IsSpoken sent said pending given
-    → IsSpoken (sent ++ sent_at now (Asked t ∷ [])) (said ++ Asked t ∷ []) (pending ++ record { id = t.retention_id; call = t.call; sent = Some (suc given) } ∷ []) (suc given)
+    → IsSpoken (sent ++ sent_at now (Asked t ∷ [])) (said ++ Asked t ∷ []) (pending ++ begun t.retention_id t.call (Some (suc given)) ∷ []) (suc given)
 spoken-called sent said pending now given t is fine h =
     let here : asked_as (said ++ Asked t ∷ []) t.request_id ≡ Some t = asked_as-later said (Asked t ∷ []) t.request_id (h.fresh t.request_id (omega (arith, is))) ∙ asked_as-self t [] in
-    let p : Pending = record { id = t.retention_id; call = t.call; sent = Some (suc given) } in
+    let p : Pending = begun t.retention_id t.call (Some (suc given)) in
     spoken-more sent said (Asked t ∷ []) pending (p ∷ []) now given (suc given) (omega arith) (here, tt) (fine, tt) ((t, ap (asked_as (said ++ Asked t ∷ [])) (sym is) ∙ here, refl), tt)
     (λ i above. ap (λ b. cond b (Some t) None) (ne_eqb t.request_id i (λ same. absurd (omega (arith, is, same, above))))) h
 
@@ -177,27 +177,39 @@ spoken-withdrawn sent said pending version given i fine h =
     subst (λ (ps : List Pending). IsSpoken sent (said ++ Withdrawn version i ∷ []) ps given) (append-nil pending)
     (subst (λ (xs : List (ℕ × Transmission)). IsSpoken xs (said ++ Withdrawn version i ∷ []) (pending ++ []) given) (append-nil sent) more)
 
--- A fresh connection.
+-- What is due is sent.
 
 module _ (version : Version) (client_id : List ℕ) (now : ℕ) where
   abbrev again : ℕ → List Pending → List Said
   again n ps = says_again version client_id now n ps
 
   abbrev request : ℕ → Pending → Transmission
-  request n p = transmission version client_id p.id (suc n) p.call
+  request n p = transmission_to version client_id p.id (suc n) p.at p.call
 
-  pub ids-grow : (n : ℕ) (ps : List Pending) → (n ≤ ids_after now n ps) × (ids_after now n ps ≤ n + length ps)
-  ids-grow n [] = (omega arith, omega arith)
+  pub ids-grow : (n : ℕ) (ps : List Pending) → n ≤ ids_after now n ps
+  ids-grow n [] = omega arith
   ids-grow n (p ∷ ps) =
       let rest = ids-grow n ps in
       let next = ids-grow (suc n) ps in
-      elim (nat_le now p.call.expiration) as (λ b. (n ≤ cond b (ids_after now (suc n) ps) (ids_after now n ps)) × (cond b (ids_after now (suc n) ps) (ids_after now n ps) ≤ n + length (p ∷ ps)))
-      [ true ↦ (omega (arith, next.0), omega (arith, next.1)) | false ↦ (omega (arith, rest.0), omega (arith, rest.1)) ]
+      elim (is_due now n p) as (λ b. n ≤ cond b (ids_after now (suc n) ps) (ids_after now n ps)) [ true ↦ omega (arith, next) | false ↦ rest ]
+
+  -- what is due is sent under the first half of the ids
+  due-low : (n : ℕ) (p : Pending) → is_due now n p ≡ true → n < 2147483648
+  due-low n p is =
+      let rest = (and_parts (not (is_some p.sent)) (not (is_some p.led) && (nat_le now p.call.expiration && nat_lt n 2147483648)) is).1 in
+      let last = (and_parts (not (is_some p.led)) (nat_le now p.call.expiration && nat_lt n 2147483648) rest).1 in
+      ltb-true n 2147483648 (and_parts (nat_le now p.call.expiration) (nat_lt n 2147483648) last).1
+
+  pub ids-few : (n last : ℕ) (ps : List Pending) → n ≤ last + 2147483648 → ids_after now n ps ≤ last + 2147483648
+  ids-few n last [] few = few
+  ids-few n last (p ∷ ps) few =
+      elim (is_due now n p) as (λ b. is_due now n p ≡ b → cond b (ids_after now (suc n) ps) (ids_after now n ps) ≤ last + 2147483648)
+      [ true ↦ λ is. (let low = due-low n p is in ids-few (suc n) last ps (omega (arith, low))) | false ↦ λ is. ids-few n last ps few ] refl
 
   again-low : (n i : ℕ) (ps : List Pending) → i ≤ n → asked_as (again n ps) i ≡ None
   again-low n i [] h = refl
   again-low n i (p ∷ ps) h =
-      elim (nat_le now p.call.expiration) as (λ b. asked_as (cond b (Asked (request n p) ∷ again (suc n) ps) (again n ps)) i ≡ None) [
+      elim (is_due now n p) as (λ b. asked_as (cond b (Asked (request n p) ∷ again (suc n) ps) (again n ps)) i ≡ None) [
         | true ↦ ap (λ b. cond b (Some (request n p)) (asked_as (again (suc n) ps) i)) (ne_eqb (suc n) i (λ same. absurd (omega arith))) ∙ again-low (suc n) i ps (omega arith)
         | false ↦ again-low n i ps h
       ]
@@ -205,8 +217,8 @@ module _ (version : Version) (client_id : List ℕ) (now : ℕ) where
   again-high : (n i : ℕ) (ps : List Pending) → ids_after now n ps < i → asked_as (again n ps) i ≡ None
   again-high n i [] h = refl
   again-high n i (p ∷ ps) h =
-      let low = (ids-grow (suc n) ps).0 in
-      elim (nat_le now p.call.expiration) as (λ b. cond b (ids_after now (suc n) ps) (ids_after now n ps) < i → asked_as (cond b (Asked (request n p) ∷ again (suc n) ps) (again n ps)) i ≡ None) [
+      let low = ids-grow (suc n) ps in
+      elim (is_due now n p) as (λ b. cond b (ids_after now (suc n) ps) (ids_after now n ps) < i → asked_as (cond b (Asked (request n p) ∷ again (suc n) ps) (again n ps)) i ≡ None) [
         | true ↦ λ above. ap (λ b. cond b (Some (request n p)) (asked_as (again (suc n) ps) i)) (ne_eqb (suc n) i (λ same. absurd (omega (arith, low, above, same)))) ∙ again-high (suc n) i ps above
         | false ↦ λ above. again-high n i ps above
       ] h
@@ -215,7 +227,7 @@ module _ (version : Version) (client_id : List ℕ) (now : ℕ) where
   again-listed n [] = tt
   again-listed n (p ∷ ps) =
       let later = again (suc n) ps in
-      elim (nat_le now p.call.expiration) as (λ b. AllByRecursion (λ s. IsListed (cond b (Asked (request n p) ∷ later) (again n ps)) s) (cond b (Asked (request n p) ∷ later) (again n ps))) [
+      elim (is_due now n p) as (λ b. AllByRecursion (λ s. IsListed (cond b (Asked (request n p) ∷ later) (again n ps)) s) (cond b (Asked (request n p) ∷ later) (again n ps))) [
         | true ↦ (
           asked_as-self (request n p) later,
           each-weaker (λ s. IsListed later s) (λ s. IsListed (Asked (request n p) ∷ later) s) (λ s is. listed-cons (request n p) later s (again-low (suc n) (suc n) ps (omega arith)) is) later (again-listed (suc n) ps),
@@ -223,44 +235,79 @@ module _ (version : Version) (client_id : List ℕ) (now : ℕ) where
         | false ↦ again-listed n ps
       ]
 
-  again-fine : (n : ℕ) (ps : List Pending) → IsClean client_id → n + length ps < 2 ^ 32 → AllByRecursion (λ p. IsFinePending version client_id p.id p.call) ps → AllByRecursion IsFineSaid (again n ps)
-  again-fine n [] clean few h = tt
-  again-fine n (p ∷ ps) clean few h =
-      elim (nat_le now p.call.expiration) as (λ b. AllByRecursion IsFineSaid (cond b (Asked (request n p) ∷ again (suc n) ps) (again n ps))) [
-        | true ↦ (
+  again-fine : (n : ℕ) (ps : List Pending) → IsClean client_id → AllByRecursion (λ p. IsFinePending version client_id p.id p.at p.call) ps → AllByRecursion IsFineSaid (again n ps)
+  again-fine n [] clean h = tt
+  again-fine n (p ∷ ps) clean h =
+      elim (is_due now n p) as (λ b. is_due now n p ≡ b → AllByRecursion IsFineSaid (cond b (Asked (request n p) ∷ again (suc n) ps) (again n ps))) [
+        | true ↦ λ is. (
           record {
             client = clean;
             call = h.0.fine;
             number = h.0.number;
-            id = omega arith;
+            id = let low = due-low n p is in omega (arith, low);
             size = h.0.size (suc n);
           },
-          again-fine (suc n) ps clean (omega arith) h.1,
+          again-fine (suc n) ps clean h.1,
         )
-        | false ↦ again-fine n ps clean (omega arith) h.1
-      ]
+        | false ↦ λ is. again-fine n ps clean h.1
+      ] refl
 
-  again-sent : (n : ℕ) (ps : List Pending) → AllByRecursion (λ p. IsSent (again n ps) p) (resent now n ps)
-  again-sent n [] = tt
-  again-sent n (p ∷ ps) =
+  -- a call was sent before, or is sent now
+  again-sent : (said : List Said) (n : ℕ) (ps : List Pending) → AllByRecursion (λ p. IsSent said p) ps → AllByRecursion (λ q. IsSent said q ⊎ IsSent (again n ps) q) (resent now n ps)
+  again-sent said n [] h = tt
+  again-sent said n (p ∷ ps) h =
       let later = again (suc n) ps in
-      elim (nat_le now p.call.expiration) as (λ b. AllByRecursion (λ q. IsSent (cond b (Asked (request n p) ∷ later) (again n ps)) q) (cond b (record p { sent = Some (suc n) } ∷ resent now (suc n) ps) (record p { sent = None } ∷ resent now n ps))) [
+      elim (is_due now n p) as (λ b. AllByRecursion (λ q. IsSent said q ⊎ IsSent (cond b (Asked (request n p) ∷ later) (again n ps)) q) (cond b (record p { sent = Some (suc n) } ∷ resent now (suc n) ps) (p ∷ resent now n ps))) [
         | true ↦ (
-          (request n p, asked_as-self (request n p) later, refl),
-          each-weaker (λ q. IsSent later q) (λ q. IsSent (Asked (request n p) ∷ later) q) (λ q is. sent_as-cons (request n p) later q.id q.sent (again-low (suc n) (suc n) ps (omega arith)) is) (resent now (suc n) ps) (again-sent (suc n) ps),
+          inr (request n p, asked_as-self (request n p) later, refl),
+          each-weaker (λ q. IsSent said q ⊎ IsSent later q) (λ q. IsSent said q ⊎ IsSent (Asked (request n p) ∷ later) q)
+              (λ q is. ⊎_elim (λ before. inl before) (λ sent. inr (sent_as-cons (request n p) later q.id q.sent (again-low (suc n) (suc n) ps (omega arith)) sent)) is) (resent now (suc n) ps) (again-sent said (suc n) ps h.1),
         )
-        | false ↦ (tt, again-sent n ps)
+        | false ↦ (inl h.0, again-sent said n ps h.1)
       ]
 
-  pub spoken-joined : (sent : List (ℕ × Transmission)) (ps : List Pending) → IsClean client_id → length ps < 2 ^ 32 → AllByRecursion (λ p. IsFinePending version client_id p.id p.call) ps
-      → IsSpoken (sent ++ sent_at now (again 0 ps)) (again 0 ps) (resent now 0 ps) (ids_after now 0 ps)
-  spoken-joined sent ps clean few h = record {
-    listed = again-listed 0 ps;
-    among = each-weaker (λ s. IsAmong (sent_at now (again 0 ps)) s) (λ s. IsAmong (sent ++ sent_at now (again 0 ps)) s) (λ s is. among-later sent (sent_at now (again 0 ps)) s is) (again 0 ps) (among-sent_at now (again 0 ps));
-    fine = again-fine 0 ps clean (omega arith) h;
-    waits = again-sent 0 ps;
-    fresh = λ i above. again-high 0 i ps above;
-  }
+  -- it is said under ids that were not used
+  above : (said : List Said) (n : ℕ) (ps : List Pending) (i : ℕ) (t : Transmission) → ((j : ℕ) → n < j → asked_as said j ≡ None) → asked_as (again n ps) i ≡ Some t → asked_as (said ++ again n ps) i ≡ Some t
+  above said n ps i t fresh is =
+      elim (nat_le i n) as (λ b. nat_le i n ≡ b → asked_as (said ++ again n ps) i ≡ Some t) [
+        | true ↦ λ low. absurd (none-some t (sym (again-low n i ps (leb-true i n low)) ∙ is))
+        | false ↦ λ high. asked_as-later said (again n ps) i (fresh i (leb-false i n high)) ∙ is
+      ] refl
+
+  listed-later : (said : List Said) (n : ℕ) (ps : List Pending) → ((j : ℕ) → n < j → asked_as said j ≡ None) → (s : Said) → IsListed (again n ps) s → IsListed (said ++ again n ps) s
+  listed-later said n ps fresh (Asked t) h = above said n ps t.request_id t fresh h
+  listed-later said n ps fresh (Withdrawn v i) h = tt
+
+  sent-later : (said : List Said) (n : ℕ) (ps : List Pending) → ((j : ℕ) → n < j → asked_as said j ≡ None) → (r : ℕ) (o : Option ℕ) → IsSentAs (again n ps) r o → IsSentAs (said ++ again n ps) r o
+  sent-later said n ps fresh r None h = tt
+  sent-later said n ps fresh r (Some i) h = (h.0, above said n ps i h.0 fresh h.1, h.2)
+
+  pub spoken-resent : (sent : List (ℕ × Transmission)) (said : List Said) (n : ℕ) (ps : List Pending) → IsClean client_id → AllByRecursion (λ p. IsFinePending version client_id p.id p.at p.call) ps → IsSpoken sent said ps n
+      → IsSpoken (sent ++ sent_at now (again n ps)) (said ++ again n ps) (resent now n ps) (ids_after now n ps)
+  spoken-resent sent said n ps clean waits h =
+      let more = again n ps in
+      record {
+        listed =
+            each-append (λ s. IsListed (said ++ more) s) said more (each-weaker (λ s. IsListed said s) (λ s. IsListed (said ++ more) s) (λ s is. listed-more said more s is) said h.listed)
+            (each-weaker (λ s. IsListed more s) (λ s. IsListed (said ++ more) s) (λ s is. listed-later said n ps h.fresh s is) more (again-listed n ps));
+        among =
+            each-append (λ s. IsAmong (sent ++ sent_at now more) s) said more
+            (each-weaker (λ s. IsAmong sent s) (λ s. IsAmong (sent ++ sent_at now more) s) (λ s is. among-more sent (sent_at now more) s is) said h.among)
+            (each-weaker (λ s. IsAmong (sent_at now more) s) (λ s. IsAmong (sent ++ sent_at now more) s) (λ s is. among-later sent (sent_at now more) s is) more (among-sent_at now more));
+        fine = each-append IsFineSaid said more h.fine (again-fine n ps clean waits);
+        waits =
+            each-weaker (λ q. IsSent said q ⊎ IsSent more q) (λ q. IsSent (said ++ more) q)
+            (λ q is. ⊎_elim (λ before. sent_as-more said more q.id q.sent before) (λ now_sent. sent-later said n ps h.fresh q.id q.sent now_sent) is) (resent now n ps) (again-sent said n ps h.waits);
+        fresh = λ i high. let low = ids-grow n ps in asked_as-later said more i (h.fresh i (omega (arith, low, high))) ∙ again-high n i ps high;
+      }
+
+-- nothing was said
+pub spoken-none : (sent : List (ℕ × Transmission)) (ps : List Pending) → IsSpoken sent [] (unsent ps) 0
+spoken-none sent ps = record { listed = tt; among = tt; fine = tt; waits = none ps; fresh = λ i above. refl }
+  where
+    none : (ps : List Pending) → AllByRecursion (λ p. IsSent [] p) (unsent ps)
+    none [] = tt
+    none (p ∷ ps) = (tt, none ps)
 
 -- What waits for an id was sent under it.
 

@@ -10,7 +10,7 @@ use Rattle.ft_client.specs.Messages.{Call}
 use Rattle.ft_orb.specs.History.{Event}
 use Rattle.ft_ends.specs.Laws.{CallsAreOfSteps, IsPartOf, both, call_in, calls_in, contents, left, none}
 use Rattle.ft_ends.specs.World as world
-use Rattle.ft_ends.specs.World.{CallNow, Cancel, Connect, Cut, Down, Member, Newcomer, RecallNow, Shut, Sides, SkipTo, Step, Tick, UpTo, Wire, World, client_of, emptied, fed_off, given_out, member_of, moved, run, start, step, step_of}
+use Rattle.ft_ends.specs.World.{CallNow, Cancel, Connect, Cut, Down, KeepOn, Member, Newcomer, RecallNow, ResendNow, Shut, Sides, SkipTo, Step, Tick, UpTo, Wire, World, client_of, emptied, fed_off, given_out, member_of, moved, run, start, step, step_of}
 use Rattle.ft_ends.proofs.Lists.{set-here, set-other}
 
 -- Lists that are part of others.
@@ -75,7 +75,9 @@ module _ (sides : Sides) where
       (cond (is_taken now call m.life.client) ((suc m.life.client.last, call) ∷ []) [], refl, taken-part (is_taken now call m.life.client) (suc m.life.client.last) call k)
   adds past opened (RecallNow k now id call) m = (cond (is_resumed now id call m.life.client) ((id, call) ∷ []) [], refl, taken-part (is_resumed now id call m.life.client) id call k)
   adds past opened (SkipTo k id) m = ([], refl, none)
+  adds past opened (KeepOn k keeps) m = ([], refl, none)
   adds past opened (Connect k now) m = nothing (Connect k now) m _ (calls-joined past opened now m m.wire)
+  adds past opened (ResendNow k now) m = ([], refl, none)
   adds past opened (UpTo k n now) m = nothing (UpTo k n now) m _ (calls-up past opened n now m m.wire)
   adds past opened (Down k n) m = nothing (Down k n) m _ (calls-down past opened n m m.wire)
   adds past opened (Cut k) m = nothing (Cut k) m _ (calls-cut past opened m m.wire)

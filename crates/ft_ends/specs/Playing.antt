@@ -17,7 +17,7 @@ use Rattle.ft_ends.specs.declared.steps.Call.{Call as CodeCall}
 use Rattle.ft_ends.specs.declared.steps.Step.{Step as CodeStep}
 use Rattle.ft_ends.specs.declared.steps.Step.TheVariants as code
 use Rattle.ft_ends.specs.Both.{AreDistinct}
-use Rattle.ft_ends.specs.World.{CallNow, Cancel, Connect, Cut, Down, Member, Newcomer, RecallNow, Shut, SkipTo, Step, Tick, UpTo}
+use Rattle.ft_ends.specs.World.{CallNow, Cancel, Connect, Cut, Down, KeepOn, Member, Newcomer, RecallNow, ResendNow, Shut, SkipTo, Step, Tick, UpTo}
 
 -- a call of the code
 abbrev pub call_as : CodeCall → Call
@@ -28,7 +28,9 @@ abbrev pub step_as : CodeStep → Step
 step_as (code.Call k now call) = CallNow k now (call_as call)
 step_as (code.Recall k number now call) = RecallNow k now number (call_as call)
 step_as (code.Skip k number) = SkipTo k number
+step_as (code.Keep k keeps) = KeepOn k keeps
 step_as (code.Connect k now) = Connect k now
+step_as (code.Resend k now) = ResendNow k now
 step_as (code.Up k n now) = UpTo k n now
 step_as (code.Down k n) = Down k n
 step_as (code.Cut k) = Cut k
@@ -41,7 +43,9 @@ abbrev pub IsCallable : CodeStep → Type 0
 IsCallable (code.Call k now call) = IsClean call.operation.items × AreWritable (values_of call.arguments.items)
 IsCallable (code.Recall k number now call) = IsClean call.operation.items × AreWritable (values_of call.arguments.items)
 IsCallable (code.Skip k number) = Unit {0}
+IsCallable (code.Keep k keeps) = Unit {0}
 IsCallable (code.Connect k now) = Unit {0}
+IsCallable (code.Resend k now) = Unit {0}
 IsCallable (code.Up k n now) = Unit {0}
 IsCallable (code.Down k n) = Unit {0}
 IsCallable (code.Cut k) = Unit {0}

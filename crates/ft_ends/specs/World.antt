@@ -1,8 +1,8 @@
 -- Clients and a server over a schedule of steps: what each has done, and what is on its way between them.
-use Rattle.std.specs.Prelude.{ℕ, suc, ◌+◌, ℤ, List, [], ◌∷◌, ◌++◌, drop, length, map, slice_set, take, Option, Some, None, slice_get}
+use Rattle.std.specs.Prelude.{ℕ, suc, ◌+◌, ℤ, Bool, List, [], ◌∷◌, ◌++◌, drop, length, map, slice_set, take, Option, Some, None, slice_get}
 use Rattle.giop_core.specs.declared.header.Version.{Version}
 use Rattle.giop_frames.specs.declared.limits.Limits.{Limits}
-use Rattle.ft_client.specs.Clients.{Called, Ended, Fed, Happening, Joined, Linked, Parted, Recalled, Resumed, Skipped, Ticked, says}
+use Rattle.ft_client.specs.Clients.{Called, Ended, Fed, Happening, Joined, Kept, Linked, Parted, Recalled, Resent, Resumed, Skipped, Ticked, says}
 use Rattle.ft_client.specs.Directions.{stream}
 use Rattle.giop_link.specs.Hearing.{Hearing}
 use Rattle.ft_client.specs.Lives.{Life, goes_on, new_life}
@@ -40,14 +40,16 @@ pub record World : Type 0 where
   pub completions : List (ℕ × ℕ × Ended)
 
 -- What may happen next, at a moment where there is one: client k calls; it takes a call of before up again, under its number;
--- it learns up to which number calls of before were numbered; it connects; the next n octets that it wrote go up, or
--- all; it gets the next n octets that the server wrote, or all; its connection is cut; the server closes it; the client cancels a
+-- it learns up to which number calls of before were numbered; it learns whether TRANSIENT leaves its calls pending; it connects; it
+-- sends again what is due; the next n octets that it wrote go up, or all; it gets the next n octets that the server wrote, or all; its connection is cut; the server closes it; the client cancels a
 -- call; it learns of a moment.
 pub data Step : Type 0 where
   CallNow : (k now : ℕ) → Call → Step
   RecallNow : (k now id : ℕ) → Call → Step
   SkipTo : (k id : ℕ) → Step
+  KeepOn : (k : ℕ) (keeps : Bool) → Step
   Connect : (k now : ℕ) → Step
+  ResendNow : (k now : ℕ) → Step
   UpTo : (k n now : ℕ) → Step
   Down : (k n : ℕ) → Step
   Cut : (k : ℕ) → Step
@@ -60,7 +62,9 @@ abbrev pub client_of : Step → ℕ
 client_of (CallNow k now call) = k
 client_of (RecallNow k now id call) = k
 client_of (SkipTo k id) = k
+client_of (KeepOn k keeps) = k
 client_of (Connect k now) = k
+client_of (ResendNow k now) = k
 client_of (UpTo k n now) = k
 client_of (Down k n) = k
 client_of (Cut k) = k
@@ -161,7 +165,9 @@ module _ (sides : Sides) where
   moved past opened (CallNow k now call) m = moved_to past opened (acted (Called now call) m)
   moved past opened (RecallNow k now id call) m = moved_to past opened (acted (Resumed now id call) m)
   moved past opened (SkipTo k id) m = moved_to past opened (acted (Skipped id) m)
+  moved past opened (KeepOn k keeps) m = moved_to past opened (acted (Kept keeps) m)
   moved past opened (Connect k now) m = connected past opened now m m.wire
+  moved past opened (ResendNow k now) m = moved_to past opened (acted (Resent now) m)
   moved past opened (UpTo k n now) m = up past opened n now m m.wire
   moved past opened (Down k n) m = down past opened n m m.wire
   moved past opened (Cut k) m = cut past opened m m.wire

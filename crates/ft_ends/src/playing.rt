@@ -17,7 +17,9 @@ ghost use Rattle.ft_ends.specs.World.{Member, Newcomer, World, moved, moved_to, 
 
 use crate::octets::are_fine;
 use crate::steps::Step;
-use crate::wire::{Wire, called, cancelled, closed, come_down, come_up, connected, cut, recalled};
+use crate::wire::{
+    Wire, called, cancelled, closed, come_down, come_up, connected, cut, recalled, resent,
+};
 use ft_client::{Ended, FtClient};
 use ft_objects::Servant;
 use ft_orb::{PlayError, Server};
@@ -50,7 +52,12 @@ fn take_step<S: Servant + Drop>(
             client.skip_to(*number);
             Ok(())
         }
+        Step::Keep { keeps, .. } => {
+            client.keep_on_transient(*keeps);
+            Ok(())
+        }
         Step::Connect { now, .. } => connected(server, opened, client, wire, *now),
+        Step::Resend { now, .. } => resent(client, wire, *now),
         Step::Up { count, now, .. } => come_up(server, wire, *count, *now),
         Step::Down { count, .. } => come_down(server, client, wire, *count),
         Step::Cut { .. } => {

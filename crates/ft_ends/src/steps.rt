@@ -36,8 +36,18 @@ pub enum Step {
         client: u32,
         number: u32,
     },
+    /// It learns whether TRANSIENT leaves its calls pending from now on.
+    Keep {
+        client: u32,
+        keeps: bool,
+    },
     /// It connects.
     Connect {
+        client: u32,
+        now: u64,
+    },
+    /// It sends what is due on its connection.
+    Resend {
         client: u32,
         now: u64,
     },
@@ -84,7 +94,9 @@ impl Step {
             Step::Call { client, .. }
             | Step::Recall { client, .. }
             | Step::Skip { client, .. }
+            | Step::Keep { client, .. }
             | Step::Connect { client, .. }
+            | Step::Resend { client, .. }
             | Step::Up { client, .. }
             | Step::Down { client, .. }
             | Step::Cut { client }

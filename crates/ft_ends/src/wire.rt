@@ -6,7 +6,7 @@ ghost use Rattle.cdr_core.specs.View.{values_of};
 ghost use Rattle.cdr_core.specs.Writing.{AreWritable};
 ghost use Rattle.ft_client.specs.declared.error.CallError.TheVariants.{Memory};
 ghost use Rattle.ft_client.specs.Calling.{IsCallError};
-ghost use Rattle.ft_client.specs.Clients.{Called, Client, Joined, Parted, Recalled, Resumed, after, says};
+ghost use Rattle.ft_client.specs.Clients.{Called, Client, Joined, Parted, Recalled, Resent, Resumed, after, says};
 ghost use Rattle.ft_client.specs.Standing.{FtStands, down};
 ghost use Rattle.ft_orb.specs.ExactlyOnce.{OneExpiration};
 ghost use Rattle.ft_orb.specs.History as history;
@@ -111,6 +111,15 @@ pub(crate) fn cancelled(client: &mut FtClient, wire: &mut Wire, id: i32) -> Resu
         → FtStands client.new (after (down c.limits) (Recalled id) c) × IsWireFor tells wire.new (extended (says (Recalled id) c) o)) }
 {
     client.cancel(id, &mut wire.up.octets)?;
+    Ok(())
+}
+
+/// A client sends what is due on its connection.
+pub(crate) fn resent(client: &mut FtClient, wire: &mut Wire, now: u64) -> Result<(), AllocError>
+    ensures { OnOk result ((tells : ℕ → List Telling) (c : Client) (o : Option world.Wire) → FtStands client.old c → is_some c.link ≡ is_some o → IsWireFor tells wire.old o
+        → FtStands client.new (after (down c.limits) (Resent now) c) × IsWireFor tells wire.new (extended (says (Resent now) c) o)) }
+{
+    client.resend(now, &mut wire.up.octets)?;
     Ok(())
 }
 

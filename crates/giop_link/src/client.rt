@@ -158,6 +158,13 @@ impl ClientLink {
         self.outstanding.len()
     }
 
+    /// How many ids the link has given: there are 4,294,967,295.
+    pub fn given(&self) -> u32
+        ensures { result ≡ self.now.ids.given }
+    {
+        self.given
+    }
+
     /// How many octets the link holds: those of the frame that is not whole, or of the message that completed
     /// last, and those of the partial messages, the headers of their first frames among them. A link that has
     /// ended holds none.

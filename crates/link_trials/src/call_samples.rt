@@ -22,6 +22,26 @@ const SENT: Sample = Sample {
     gives: Gives::Value("()"),
 };
 
+/// A Reply of 1.2 with the id 1: TRANSIENT, minor code 0, COMPLETED_NO.
+pub const TRANSIENT: &[u8] = b"GIOP\x01\x02\x00\x01\x00\x00\x00\x38\
+    \x00\x00\x00\x01\x00\x00\x00\x02\x00\x00\x00\x00\
+    \x00\x00\x00\x20IDL:omg.org/CORBA/TRANSIENT:1.0\x00\
+    \x00\x00\x00\x00\x00\x00\x00\x01";
+
+/// It is sent again on its connection, with the id 2.
+const SENT_AGAIN: Sample = Sample {
+    name: "add_again",
+    shape: None,
+    order: Order::Big,
+    at: 0,
+    octets: b"GIOP\x01\x02\x00\x00\x00\x00\x00\x48\
+        \x00\x00\x00\x02\x03\x00\x00\x00\x00\x00\x00\x00\x00\x00\x00\x01c\x00\x00\x00\
+        \x00\x00\x00\x04add\x00\x00\x00\x00\x01\x00\x00\x00\x0d\x00\x00\x00\x18\
+        \x00\x00\x00\x00\x00\x00\x00\x02A\x00\x00\x00\x00\x00\x00\x01\x00\x00\x00\x00\x00\x00\x00\x64\
+        \x00\x00\x00\x00\x00\x00\x00\x07",
+    gives: Gives::Value("()"),
+};
+
 /// It is sent, and the same with the id 2, the client's call 2.
 const SENT_TWICE: Sample = Sample {
     name: "add_twice",
@@ -95,6 +115,9 @@ const CLOSED: Sample = Sample {
 
 /// A call that is sent.
 pub static CALLED: [Sample; 1] = [SENT];
+
+/// A call that is sent again.
+pub static CALLED_AGAIN: [Sample; 1] = [SENT_AGAIN];
 
 /// Two calls that are sent.
 pub static CALLED_TWICE: [Sample; 1] = [SENT_TWICE];

@@ -2,12 +2,12 @@
 
 ghost use Rattle.std.specs.Prelude.{◌≡◌, ◌++◌};
 
-use crate::call_samples::ADD;
+use crate::call_samples::{ADD, TRANSIENT};
 use crate::limits::LEAST;
-use crate::misses::call_miss;
-use cdr_core::Val;
-use ft_client::{Ended, FtClient};
-use giop_core::Version;
+use crate::misses::{call_miss, raw_recall_miss, recall_miss};
+use cdr_core::{Order, Val};
+use ft_client::{Ended, FtClient, RawCall};
+use giop_core::{Body, ReplyWish, Version};
 use std::alloc::{AllocError, Global};
 use trials::{Miss, Output, Room, Sample, Trial, Wrong, check_printed};
 
@@ -18,8 +18,14 @@ pub enum Act {
     CallUnconnected,
     /// It calls.
     Call,
+    /// It takes its call 1 up again.
+    Recall,
+    /// It takes its call 1 up again, as octets.
+    RecallRaw,
     /// It is connected, once it called twice.
     Connect,
+    /// It sends its call again, which TRANSIENT left pending.
+    Resend,
     /// It cancels a call that it sent.
     Cancel,
     /// It loses its connection, learns of a moment past the expiration of a call, and gives the completion.
@@ -33,12 +39,33 @@ fn call_add(client: &mut FtClient, out: &mut Vec<u8>) -> Result<i32, Miss> {
         .map_err(call_miss)
 }
 
+/// The same call as octets.
+const RAW_ADD: RawCall<'static> = RawCall {
+    object_key: b"c",
+    operation: b"add",
+    contexts: &[],
+    body: Body {
+        order: Order::Big,
+        at: 24,
+        octets: b"\x00\x00\x00\x07",
+    },
+    wish: ReplyWish::Full,
+    version: Version::V12,
+    expiration: 100,
+};
+
 /// Connects a client where it has no connection.
 fn connect(client: &mut FtClient, out: &mut Vec<u8>) -> Result<(), AllocError> {
     if client.is_connected() {
         return Ok(());
     }
     client.connected(50, out)
+}
+
+/// Connects a client whose call is pending, and TRANSIENT answers it.
+fn put_off(alloc: Global, client: &mut FtClient) -> Result<(), AllocError> {
+    connect(client, &mut Vec::new(alloc))?;
+    client.feed(TRANSIENT)
 }
 
 /// A client `A` of messages of 1.2.
@@ -65,14 +92,18 @@ impl Calling {
     ) -> Result<Calling, Miss> {
         let mut client = new_client(alloc)?;
         let mut out = Vec::new(alloc);
-        if matches!(act, Act::Call | Act::Cancel | Act::Rest) {
+        if !matches!(act, Act::CallUnconnected | Act::Connect | Act::Resend) {
             connect(&mut client, &mut out)?;
         }
-        if matches!(act, Act::Connect | Act::Cancel | Act::Rest) {
+        if matches!(act, Act::Connect | Act::Resend | Act::Cancel | Act::Rest) {
             call_add(&mut client, &mut out)?;
         }
         if matches!(act, Act::Connect) {
             call_add(&mut client, &mut out)?;
+        }
+        if matches!(act, Act::Resend) {
+            client.keep_on_transient(true);
+            put_off(alloc, &mut client)?;
         }
         Ok(Calling {
             act,
@@ -83,14 +114,30 @@ impl Calling {
     }
 
     /// Does it. Whether what it gives is right.
-    fn do_it(&mut self) -> Result<bool, Miss> {
+    fn do_it(&mut self, alloc: Global) -> Result<bool, Miss> {
         let client = &mut self.client;
         let out = &mut self.output.out;
         match self.act {
             Act::CallUnconnected | Act::Call => Ok(call_add(client, out)? == 1),
+            Act::Recall => {
+                let seven = [Val::Long(7)];
+                let again = client.recall(1, 50, b"c", b"add", &seven, 100, out);
+                Ok(again.map_err(recall_miss).map(|()| true)?)
+            }
+            Act::RecallRaw => {
+                let again = client.recall_raw(1, 50, &RAW_ADD, out);
+                Ok(again.map_err(raw_recall_miss).map(|()| true)?)
+            }
             Act::Connect => {
                 connect(client, out)?;
                 Ok(client.is_connected())
+            }
+            Act::Resend => {
+                if !client.is_connected() {
+                    put_off(alloc, client)?;
+                }
+                client.resend(50, out)?;
+                Ok(client.take_completion().is_none())
             }
             Act::Cancel => {
                 let was = client.cancel(1, out)?;
@@ -109,8 +156,8 @@ impl Trial for Calling {
     // The sample's octets stand after those from before.
     ghost is_right = { λ c. c.output.out.items ≡ c.output.before.now ++ c.sample.now.octets.now };
 
-    fn call(&mut self, _alloc: Global) -> Result<(), Miss> {
-        if !self.do_it()? {
+    fn call(&mut self, alloc: Global) -> Result<(), Miss> {
+        if !self.do_it(alloc)? {
             return Err(Wrong::Value.into());
         }
         if !self.output.has_gained(self.sample.octets) {
@@ -121,7 +168,10 @@ impl Trial for Calling {
 
     /// Nothing is written, and the client is connected where it was.
     fn is_unchanged(&self) -> bool {
-        let was = matches!(self.act, Act::Call | Act::Cancel);
+        let was = matches!(
+            self.act,
+            Act::Call | Act::Recall | Act::RecallRaw | Act::Cancel
+        );
         self.client.is_connected() == was && self.output.has_gained(&[])
     }
 }

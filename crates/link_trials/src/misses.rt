@@ -1,6 +1,6 @@
 //! What an error of a call says: that memory ran out, or that something is wrong.
 
-use ft_client::CallError;
+use ft_client::{CallError, RawRecallError, RecallError};
 use giop_link::{LinkFault, SendError};
 use trials::{Miss, Wrong};
 
@@ -29,5 +29,24 @@ pub(crate) fn call_miss(error: CallError) -> Miss {
         CallError::Expired | CallError::IdsUsed | CallError::TooManyCalls | CallError::TooLong =>
             Miss::Wrong(Wrong::Fault),
         CallError::Memory => Miss::Memory,
+    }
+}
+
+/// Out of memory, or a call of before that is not taken up where it is to be.
+pub(crate) fn recall_miss(error: RecallError) -> Miss {
+    match error {
+        RecallError::NumberUsed
+        | RecallError::Expired
+        | RecallError::TooManyCalls
+        | RecallError::TooLong => Miss::Wrong(Wrong::Fault),
+        RecallError::Memory => Miss::Memory,
+    }
+}
+
+/// The same of a raw one.
+pub(crate) fn raw_recall_miss(error: RawRecallError) -> Miss {
+    match error {
+        RawRecallError::FtRequest | RawRecallError::Misplaced => Miss::Wrong(Wrong::Fault),
+        RawRecallError::Untaken(error) => recall_miss(error),
     }
 }

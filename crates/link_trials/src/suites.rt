@@ -1,6 +1,6 @@
 //! The samples on which each call is made.
 
-use crate::call_samples::{CALLED, CALLED_TWICE, COMPLETED, UNSENT};
+use crate::call_samples::{CALLED, CALLED_AGAIN, CALLED_TWICE, COMPLETED, UNSENT};
 use crate::calling::Act;
 use crate::calls::Call;
 use crate::link_samples::{ANSWERED, HEARD, SENT_CANCELS, SENT_LOCATES, SENT_REQUESTS};
@@ -23,6 +23,8 @@ pub enum Set {
     Answered,
     /// What a client writes for a call.
     Called,
+    /// What it writes for one that is sent again.
+    CalledAgain,
     /// What it writes for two.
     CalledTwice,
     /// What it writes for a call without a connection.
@@ -41,6 +43,7 @@ impl Samples for Set {
             Set::SentCancels => &SENT_CANCELS,
             Set::Answered => &ANSWERED,
             Set::Called => &CALLED,
+            Set::CalledAgain => &CALLED_AGAIN,
             Set::CalledTwice => &CALLED_TWICE,
             Set::Unsent => &UNSENT,
             Set::Completed => &COMPLETED,
@@ -55,7 +58,7 @@ const HALF: usize = 26;
 const WHOLE: usize = 4096;
 
 /// The calls of `giop_link` and `ft_client`.
-pub static SUITES: [Suite<Call, Set>; 27] = [
+pub static SUITES: [Suite<Call, Set>; 33] = [
     Suite("hear_whole", Call::Hear(WHOLE), Set::Heard),
     Suite("hear_in_two", Call::Hear(HALF), Set::Heard),
     Suite(
@@ -129,6 +132,36 @@ pub static SUITES: [Suite<Call, Set>; 27] = [
         "client_call_full",
         Call::Act(Act::Call, Room::Full),
         Set::Called,
+    ),
+    Suite(
+        "client_recall_empty",
+        Call::Act(Act::Recall, Room::Empty),
+        Set::Called,
+    ),
+    Suite(
+        "client_recall_full",
+        Call::Act(Act::Recall, Room::Full),
+        Set::Called,
+    ),
+    Suite(
+        "client_recall_raw_empty",
+        Call::Act(Act::RecallRaw, Room::Empty),
+        Set::Called,
+    ),
+    Suite(
+        "client_recall_raw_full",
+        Call::Act(Act::RecallRaw, Room::Full),
+        Set::Called,
+    ),
+    Suite(
+        "client_resend_empty",
+        Call::Act(Act::Resend, Room::Empty),
+        Set::CalledAgain,
+    ),
+    Suite(
+        "client_resend_full",
+        Call::Act(Act::Resend, Room::Full),
+        Set::CalledAgain,
     ),
     Suite(
         "client_connect_empty",

@@ -7,9 +7,10 @@
 //!
 //! - `call K NOW KEY OPERATION EXPIRATION` and `call K NOW KEY OPERATION EXPIRATION LONG`
 //! - `recall K NUMBER NOW KEY OPERATION EXPIRATION`, or with `LONG`, and `skip K NUMBER`
-//! - `connect K NOW`, `cut K`, `shut K`
+//! - `connect K NOW`, `resend K NOW`, `cut K`, `shut K`
 //! - `up K COUNT NOW`, `down K COUNT`
 //! - `cancel K ID`, `tick K NOW`
+//! - `keep K 1`, `keep K 0`: whether TRANSIENT leaves calls pending
 //!
 //! There is one space between words, numbers are in decimal digits, and KEY and OPERATION are the octets of the word.
 

@@ -95,7 +95,15 @@ fn numbered_step(name: &str, client: u32, number: &str) -> Result<Step, Stop>
             client,
             number: ulong(number)?,
         }),
+        "keep" => Ok(Step::Keep {
+            client,
+            keeps: ulong(number)? != 0,
+        }),
         "connect" => Ok(Step::Connect {
+            client,
+            now: moment(number)?,
+        }),
+        "resend" => Ok(Step::Resend {
             client,
             now: moment(number)?,
         }),

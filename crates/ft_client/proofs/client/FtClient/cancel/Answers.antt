@@ -74,6 +74,8 @@ returns-clause-stands c = λ m st.
         pending = ap (λ (ps : List CodePending). map kept_by ps) c.complete.ensures.pending ∙ map_remove kept_by s.pending.items place ∙ ap (λ (ks : List Kept). remove ks place) st.fields.pending ∙ sym (map_remove (kept_of m.version m.client_id) m.pending place) ∙ ap (λ (ps : List Pending). map (kept_of m.version m.client_id) ps) f.left;
         completions = ap (λ cs. map completion_of cs) (c.complete.ensures.ended x (get_there s.pending.items place d lt)) ∙ map_push completion_of s.completions.items (x.id, code.Cancelled) ∙ (λ i. st.fields.completions i ++ (xid i, Cancelled) ∷ []) ∙ sym (map_push numbered m.completions (p.id, Cancelled));
         rising = without-rising m.last p.id m.pending st.fields.rising;
+        keeps = st.fields.keeps;
+        forwards = st.fields.forwards;
       };
       link = w.link;
     })

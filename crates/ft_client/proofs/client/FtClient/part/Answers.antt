@@ -14,6 +14,8 @@ returns-clause-stands c = λ m st. record {
     pending = ap (λ (ps : List CodePending). map kept_by ps) (written_over c.forget_sent.new.pending c.args.self.now.pending.items _ (c.forget_sent.ensures.len ∙ c.deref_mut.ensures.len)) ∙ c.forget_sent.ensures.kept ∙ ap (λ (ps : List CodePending). unmarked (map kept_by ps)) c.deref_mut.ensures.value ∙ ap unmarked st.pending ∙ unmarked_kept m.version m.client_id m.pending;
     completions = st.completions;
     rising = rising_unsent m.last m.pending st.rising;
+    keeps = st.keeps;
+    forwards = st.forwards;
   };
   link = unsent_ids m.pending;
 }

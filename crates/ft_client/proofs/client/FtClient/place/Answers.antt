@@ -1,7 +1,7 @@
 use Rattle.std.proofs.Common.{◌≡◌, suc, ◌<◌, [], ◌∷◌, ◌++◌, map, pos, true, false, None, Some, sym, ap, ◌∙◌, refl, subst, arith, w32, to_z}
 use Rattle.std.proofs.lemmas.Int.{to_z_pos}
 use Rattle.ft_client.specs.declared.ended.Ended.TheVariants as code
-use Rattle.ft_client.specs.Clients.{Sent, placed}
+use Rattle.ft_client.specs.Clients.{Sent, begun, placed}
 use Rattle.ft_client.specs.Ends.{completion_of, numbered}
 use Rattle.ft_client.specs.Keeping.{Kept, kept_by}
 use Rattle.ft_client.specs.Messages.{is_oneway}
@@ -21,9 +21,11 @@ returns-in_default-clause-stands c = λ m call st k.
         version = st.fields.version;
         limits = st.fields.limits;
         last = refl;
-        pending = kept_push m s.pending.items c.reserve.new.self.items c.push_reserved.new.self.items c.args.kept (record { id = n; call = call; sent = None }) c.push_reserved.ensures.items c.in_ok-reserve.ensures.items st.fields.pending k;
+        pending = kept_push m s.pending.items c.reserve.new.self.items c.push_reserved.new.self.items c.args.kept (begun n call None) c.push_reserved.ensures.items c.in_ok-reserve.ensures.items st.fields.pending k;
         completions = ap (λ xs. map completion_of xs) c.in_ok-reserve-2.ensures.items ∙ st.fields.completions;
-        rising = rising-push m.last m.pending (record { id = n; call = call; sent = None }) (subst (λ l. l < n) st.fields.last c.requires.greater) st.fields.rising;
+        rising = rising-push m.last m.pending (begun n call None) (subst (λ l. l < n) st.fields.last c.requires.greater) st.fields.rising;
+        keeps = st.fields.keeps;
+        forwards = st.fields.forwards;
       };
       link = unlinked_push s.link m (placed n call m None) n call c.in_default.is none.1 refl;
     })
@@ -45,8 +47,10 @@ returns-then-is_oneway-clause-stands c = λ m call st k.
         pending = ap (λ xs. map kept_by xs) c.in_ok-reserve.ensures.items ∙ st.fields.pending;
         completions = ap (λ xs. map completion_of xs) (c.push_back_reserved.ensures.items ∙ ap (λ xs. xs ++ (to_z w32 n, code.Sent) ∷ []) c.in_ok-reserve-2.ensures.items) ∙ map_push completion_of s.completions.items (to_z w32 n, code.Sent) ∙ (λ i. st.fields.completions i ++ (id i, Sent) ∷ []) ∙ sym (map_push numbered m.completions (n, Sent));
         rising = rising-later m.last n m.pending (let lt : m.last < n = subst (λ l. l < n) st.fields.last c.requires.greater in omega (arith, lt)) st.fields.rising;
+        keeps = st.fields.keeps;
+        forwards = st.fields.forwards;
       };
-      link = placed_link m n call l c.in-Some.link c.transmit.new.link c.args.kept.wish true there.2 one c.in_ok-request_id.ensures.ok.1;
+      link = placed_link m n call l c.in-Some.link c.transmit.new.link c.args.kept.wish true there.2 (ap (λ (x : Kept). x.wish) k) one c.in_ok-request_id.ensures.ok.1;
     })
 
 pub returns-then-is_oneway-clause-out : goal.returns-then-is_oneway-clause-out
@@ -70,11 +74,13 @@ returns-clause-stands c = λ m call st k.
         version = st.fields.version;
         limits = st.fields.limits;
         last = refl;
-        pending = kept_push m s.pending.items c.reserve.new.self.items c.push_reserved-2.new.self.items _ (record { id = n; call = call; sent = Some (suc l.given) }) c.push_reserved-2.ensures.items c.in_ok-reserve.ensures.items st.fields.pending (kept_sent m call (kept_by c.args.kept) n id l.given k ed);
+        pending = kept_push m s.pending.items c.reserve.new.self.items c.push_reserved-2.new.self.items _ (begun n call (Some (suc l.given))) c.push_reserved-2.ensures.items c.in_ok-reserve.ensures.items st.fields.pending (kept_sent m call (kept_by c.args.kept) n id l.given k ed);
         completions = ap (λ xs. map completion_of xs) c.in_ok-reserve-2.ensures.items ∙ st.fields.completions;
-        rising = rising-push m.last m.pending (record { id = n; call = call; sent = Some (suc l.given) }) (subst (λ l. l < n) st.fields.last c.requires.greater) st.fields.rising;
+        rising = rising-push m.last m.pending (begun n call (Some (suc l.given))) (subst (λ l. l < n) st.fields.last c.requires.greater) st.fields.rising;
+        keeps = st.fields.keeps;
+        forwards = st.fields.forwards;
       };
-      link = placed_link m n call l c.in-Some.link c.transmit.new.link c.args.kept.wish false there.2 two c.in_ok-request_id.ensures.ok.1;
+      link = placed_link m n call l c.in-Some.link c.transmit.new.link c.args.kept.wish false there.2 (ap (λ (x : Kept). x.wish) k) two c.in_ok-request_id.ensures.ok.1;
     })
 
 pub returns-clause-out : goal.returns-clause-out

@@ -68,6 +68,8 @@ loop-place-preserved c = λ m st.
           pending = ap (λ (ps : List CodePending). map kept_by ps) c.complete.ensures.pending ∙ map_remove kept_by s.pending.items place ∙ ap (λ (ks : List Kept). remove ks place) t.stands.fields.pending ∙ sym (map_remove (kept_of a.version a.client_id) a.pending place) ∙ ap (λ (ps : List Pending). map (kept_of a.version a.client_id) ps) f.left;
           completions = ap (λ cs. map completion_of cs) (c.complete.ensures.ended x (get_there s.pending.items place d lt)) ∙ map_push completion_of s.completions.items (x.id, code.Expired) ∙ (λ i. t.stands.fields.completions i ++ (xid i, Expired) ∷ []) ∙ sym (map_push numbered a.completions (p.id, Expired));
           rising = without-rising a.last p.id a.pending t.stands.fields.rising;
+          keeps = t.stands.fields.keeps;
+          forwards = t.stands.fields.forwards;
         };
         link = link_given_up a p place Expired s.link c.give_up.new.link d2.sent t.stands.link f.at f.left sent h.unsent h.unlinked h.sent;
       };
