@@ -1,8 +1,9 @@
 """Plays random lists of an owner's deeds with the program `deeds_player`, and compares with a model.
 
 A list is requests for the counter and what the owner does of each, by a seed; what is parked is settled or withdrawn
-later, and meanwhile the counter is hidden and offered again, and the ids of clients are bounded. The lines of a list are
-those of crates/deeds_player/src/lines.rt. All that is printed must be what the model says (tests/engine_model.py): for
+later, and meanwhile the counter is hidden, or taken away all the same, and offered again, and the ids of clients are
+bounded. What is parked and lost its object is settled with a system exception. The lines of a list are those of
+crates/deeds_player/src/lines.rt. All that is printed must be what the model says (tests/engine_model.py): for
 each deed its connection, how it ended, and what was written. A list that fails is printed with as few lines as are found
 with which it still does, as the program takes them.
 """
@@ -21,6 +22,9 @@ COUNT = 200
 STEPS = 40
 PLAYERS = 4
 LIMIT = 1048576
+
+# what is known of a call whose object was taken away meanwhile
+GONE = refused("UNKNOWN", 0, giop.MAYBE)
 
 # a line of a request: its connection, its moment, and what it asks. A deed or a change is (NAME, WORDS..)
 Asking = namedtuple("Asking", "connection now asked")
@@ -43,6 +47,8 @@ def outcome_words(outcome):
 
 def outcome_in(outcome):
     """The word of an outcome in a deed."""
+    if outcome == GONE:
+        return "unknown"
     words = outcome_words(outcome)
     return "overflow" if words.startswith("IDL:") else words
 
@@ -113,7 +119,7 @@ class Owned(Engine):
             self.refused("park", "unparked full")
             manner = "answer"
         if manner == "look":
-            for line in ("hide", "bound 0", "opened 1000"):
+            for line in ("hide", "drop", "bound 0", "opened 1000"):
                 self.while_asking(line)
             manner = "answer"
         if manner == "give_up":
@@ -181,12 +187,23 @@ class Owned(Engine):
         parked = self.parked.get(number)
         if parked is None:
             return self.refused(f"{verb} {number}{' 0' if verb == 'settle' else ''}", "not parked")
-        outcome = self.apply(parked.call) if verb == "settle" else NOT_NOW
+        outcome = self.outcome_of(number, parked) if verb == "settle" else NOT_NOW
         kept = [(key, end, came) for key, end, came in self.performed if verb == "settle" or came is not parked]
         self.performed = [(key, end, outcome if came is parked else came) for key, end, came in kept]
         del self.parked[number]
         told = [f"{c} done reply {asked.request_id} {outcome_words(outcome)}" for c, asked in self.going(parked)]
         return self.deed(f"{verb} {number}{' ' + outcome_in(outcome) if verb == 'settle' else ''}", *told)
+
+    def outcome_of(self, number, parked):
+        """The outcome of what is parked: a system exception where its object is gone, and nothing else is taken."""
+        if not self.is_hidden:
+            return self.apply(parked.call)
+        self.refused(f"settle {number} 0", "not parked")
+        return GONE
+
+    def do_drop(self):
+        self.give("drop")
+        self.is_hidden = True
 
     def do_offer(self, is_hidden):
         self.give("hide" if is_hidden else "show")
@@ -247,7 +264,7 @@ class Maker:
         if chance < 0.76:
             return "late", dice.choice(["settle", "settle", "withdraw"]), dice.randrange(64)
         if chance < 0.84:
-            return "offer", dice.random() < 0.4
+            return ("drop",) if dice.random() < 0.2 else ("offer", dice.random() < 0.4)
         if chance < 0.89:
             return "bound", dice.choice([0, 1, 2, 6, 255, 256, 256])
         if chance < 0.95:

@@ -2,7 +2,7 @@
 
 use crate::requests::requests_in;
 use cdr_core::Val;
-use ft_log::{Outcome, SystemName};
+use ft_log::{Completion, Outcome, SystemName};
 use ft_orb::{Deed, Event};
 use std::alloc::Global;
 use trials::{Stop, parted};
@@ -15,11 +15,14 @@ pub(crate) fn number(word: &str) -> Result<u64, Stop> {
     word.parse().map_err(|_| Stop::BadLine)
 }
 
-/// The outcome that a word is: the total that is returned, or `overflow`.
+/// The outcome that a word is: the total that is returned, `overflow`, or `unknown`.
 fn outcome_in(alloc: Global, word: &str) -> Result<Outcome, Stop> {
     if word == "overflow" {
         let id = Vec::from_slice(alloc, OVERFLOW)?;
         return Ok(Outcome::Raised(id, Vec::new(alloc)));
+    }
+    if word == "unknown" {
+        return Ok(Outcome::System(SystemName::Unknown, 0, Completion::Maybe));
     }
     let total = word.parse().map_err(|_| Stop::BadLine)?;
     Ok(Outcome::Returned(vec![in alloc; Val::LongLong(total)]?))

@@ -8,11 +8,12 @@
 //! - `opened C`, `close C`, `lost C`
 //! - `piece C NOW HEX`: octets in hexadecimal digits
 //! - `asks C NOW REQUEST,..`: requests as `requests` says, with a comma between them
-//! - `answer OUTCOME`, `park`, `give_up`, `settle NUMBER OUTCOME`: an outcome is a total, or `overflow`
+//! - `answer OUTCOME`, `park`, `give_up`, `settle NUMBER OUTCOME`: an outcome is a total, `overflow`, or `unknown`, the
+//!   system exception with the minor code 0 and COMPLETED_MAYBE
 //! - `decline`, `withdraw NUMBER`: with TRANSIENT and the minor code 0
 //!
-//! `hide` takes the counter away from what is on offer and `show` offers it again, unless a request of it is parked; `bound N`
-//! allows the ids of clients N octets. While a request waits nothing of this changes.
+//! `hide` takes the counter away from what is on offer and `show` offers it again, unless a request of it is parked; `drop`
+//! takes it away also then; `bound N` allows the ids of clients N octets. While a request waits nothing of this changes.
 //!
 //! The line `counts` prints the engine's counts, `ending C` why a connection ended, and `heard` what became of each request
 //! since the last one. `tick NOW` tells the engine a moment, and prints its moment, how many outcomes it keeps, how many of the client
@@ -100,6 +101,15 @@ fn offer<W: Write>(
     }
 }
 
+/// Takes the counter away, also where a request of it is parked.
+fn drop_counter<W: Write>(engine: &mut Engine<HeardCounter>, out: &mut W) -> Result<(), Stop> {
+    if engine.asked().is_some() {
+        return Ok(writeln!(out, "asking")?);
+    }
+    engine.change(|counter| counter.is_hidden = true);
+    Ok(())
+}
+
 /// Bounds the ids of clients.
 fn bound<W: Write>(
     engine: &mut Engine<HeardCounter>,
@@ -134,6 +144,7 @@ fn take_deed<W: Write>(
         "play" => play(alloc, player, out),
         "hide" => offer(&mut player.engine, true, out),
         "show" => offer(&mut player.engine, false, out),
+        "drop" => drop_counter(&mut player.engine, out),
         "counts" => Ok(print_counts(&player.engine.counts(), out)?),
         "heard" => Ok(player.engine.catalogue().print(out)?),
         _ => Ok(player.deeds.push(deed_in(alloc, line)?)?),

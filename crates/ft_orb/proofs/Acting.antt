@@ -14,7 +14,7 @@ use Rattle.ft_log.specs.Performed.{Performed}
 use Rattle.ft_log.specs.declared.system_exception.SystemName.{SystemName}
 use Rattle.ft_log.specs.declared.system_exception.SystemName.TheVariants.{BadContext}
 use Rattle.ft_objects.specs.Catalogues.{Offer}
-use Rattle.ft_objects.specs.Interfaces.{Interface, IsOutcomeOf}
+use Rattle.ft_objects.specs.Interfaces.{IsOutcomeOf}
 use Rattle.ft_orb.specs.declared.deeds.Deed.{Deed as CodeDeed}
 use Rattle.ft_orb.specs.declared.deeds.Deed.TheVariants as code
 use Rattle.ft_orb.specs.declared.engine.Engine.{Engine}
@@ -29,12 +29,12 @@ use Rattle.ft_orb.specs.declared.events.Written.{Written}
 use Rattle.ft_orb.specs.declared.parked.Parked.{Parked as CodeParked}
 use Rattle.ft_orb.specs.declared.parked.Places.{Places}
 use Rattle.ft_orb.specs.declared.parked.Waiter.{Waiter}
-use Rattle.ft_orb.specs.Deeds.{AreTaken, AreTold, Answered, Asking, Declined, Deed, GivenUp, Happened, HasPlace, IsFor, IsFree, IsUnawaited, Joined, Ledger, Missed, Parked, Reached, Runs, Settled, Stopped, Told, Withdrawn, Wrote, after_deeds, note_told, notes_of, opening, piece_of, reply_to, rest_of, told_all, told_one, without_call}
+use Rattle.ft_orb.specs.Deeds.{AreTaken, AreTold, Answered, Asking, Declined, Deed, GivenUp, Happened, HasPlace, IsDeed, IsFor, IsFree, IsUnawaited, Joined, Ledger, Missed, Parked, Reached, Runs, Settled, Stopped, Told, Withdrawn, Wrote, after_deed, after_deeds, changing, note_told, notes_of, opening, piece_of, reply_to, rest_of, told_all, told_one, without_call}
 use Rattle.ft_orb.specs.DeedsPlayed.{AreOf, Holds, LeaveAtLast, RunsAreAnsweredLate, IsDone, IsOf, IsTold, Shows, StandsAt, left_after, left_fed, left_of}
 use Rattle.ft_orb.specs.Counts.{waiters_on}
 use Rattle.ft_orb.specs.Engines.{Awaited, CanAnswer, IsNumbered, asks_in, awaited_of, waits_in}
 use Rattle.ft_orb.specs.ExactlyOnce.{Absent, Arrival, Bad, Field, OneExpiration, Present, Rules, state_after, state_of}
-use Rattle.ft_orb.specs.History.{Close, Event, KeepsAll, Lost, Piece, Withdrew, arrivals, completed, connection_of, event_of, changes}
+use Rattle.ft_orb.specs.History.{Changed, Close, Event, KeepsAll, Lost, Piece, Withdrew, arrivals, completed, connection_of, event_of, changes}
 use Rattle.ft_orb.specs.Now.{performed_now}
 use Rattle.ft_orb.specs.Outputs.{Noted, after, noted, output_cut}
 use Rattle.ft_orb.specs.Owners.{owned_rules, owned_says, owned_table, owner_rules}
@@ -181,12 +181,12 @@ module _ {C : Type 0} (offers : C → Offer) (s : Settings) where
 
   -- An event, to its end.
   pub ends-deed : (g : Ledger) (old new : Engine C) → Resting g old → (e : Event) (note : Note) (before out : List ℕ) → before ≡ [] → EndsLate offers s g.held g.calls g.past g.waiting e note new before out → AreParked old new → asks_in new ≡ asks_in old → IsUnawaited e g.waiting
-      → (told : CodeDeed) → IsOf told (Happened e out note) → IsDone offers s g told None (record { connection = connection_of e; octets = out; note = note } ∷ []) new
-  ends-deed g old new r e note before out none x are asks free told of = (
+      → notes_of (Happened e out note) ≡ record { connection = connection_of e; octets = out; note = note } ∷ [] → (told : CodeDeed) → IsOf told (Happened e out note) → IsDone offers s g told None (record { connection = connection_of e; octets = out; note = note } ∷ []) new
+  ends-deed g old new r e note before out none x are asks free on told of = (
     Happened e out note,
     of,
     (r.none, λ late. let y = x.ends late in subst (λ (l : List ℕ). Wrote s late g.held g.past e l note) (sym (y.appended ∙ ap (λ (l : List ℕ). l ++ y.written) none)) y.writes, x.stays.rests.stands.table.state, free),
-    refl,
+    on,
     refl,
     record { stands = x.stays; nobody = λ n is. still-none (after s.limits g.past e note) g.waiting n (r.nobody n is); shows = shows-on g.asked g.there old new r.shows are asks },
   )
@@ -201,6 +201,33 @@ module _ {C : Type 0} (offers : C → Offer) (s : Settings) where
     refl,
     record { stands = x; nobody = λ n is. still-none (Lost c ∷ g.past) g.waiting n (r.nobody n is); shows = shows-on g.asked g.there old new r.shows are asks },
   )
+
+  -- what is served has changed
+  pub changed-deed : (g : Ledger) (old new : Engine C) → Resting g old → Stays offers s g.held g.calls new (Changed ∷ g.past) g.waiting → AreParked old new → asks_in new ≡ asks_in old
+      → IsDeed s g changing × ((n : ℕ) → (after_deed s g changing).waiting n ≡ g.waiting n) × Holds offers s (after_deed s g changing) new
+  changed-deed g old new r x are asks = (
+    (r.none, λ late. (refl, refl), x.rests.stands.table.state, tt),
+    on,
+    record {
+      stands = subst (λ (f : ℕ → List Waiter). Stays offers s g.held g.calls new (Changed ∷ g.past) f) (sym same) x;
+      nobody = λ n is. still-none (Changed ∷ g.past) g.waiting n (r.nobody n is);
+      shows = shows-on g.asked g.there old new r.shows are asks;
+    },
+  )
+    where
+      by : (n : ℕ) (o : Option CodeParked) → parked_at old n ≡ o → on_going (goes_on s.limits g.past) (g.waiting n) ≡ g.waiting n
+      by n None is =
+          let none = r.nobody n (sym (r.shows.there n) ∙ ap (λ (o : Option CodeParked). option_map (λ (p : CodeParked). awaited_of p.pending) o) is) in
+          ap (on_going (goes_on s.limits g.past)) none ∙ sym none
+      by n (Some p) is =
+          let lists = r.stays.parks.lists n p is in
+          ap (on_going (goes_on s.limits g.past)) (sym lists) ∙ twice (goes_on s.limits g.past) p.waiters.items ∙ lists
+
+      on : (n : ℕ) → still s.limits (Changed ∷ g.past) g.waiting n ≡ g.waiting n
+      on n = by n (parked_at old n) refl
+
+      same : still s.limits (Changed ∷ g.past) g.waiting ≡ g.waiting
+      same i n = on n i
 
   -- A part of a piece, up to a request that waits now, ..
   stops-deed : (g : Ledger) (old new : Engine C) → Resting g old → (c moment : ℕ) (piece : List ℕ) (taken : ℕ) (before out : List ℕ) → before ≡ [] → StopsLate offers s g.held g.calls g.past g.waiting c moment piece taken new before out
@@ -290,10 +317,10 @@ module _ {C : Type 0} (offers : C → Offer) (s : Settings) where
   pub feeds-deed : (g : Ledger) (old new : Engine C) → Resting g old → (c moment : ℕ) (piece : List ℕ) (result : Result Fed ServeError) (before out : List ℕ) → before ≡ []
       → FeedsLate offers s g.held g.calls g.past g.waiting c moment piece result new before out → AreParked old new → IsNumbered (asks_in old) (asks_in new) result (waits_in new) → (e : CodeEvent) → event_of e ≡ Piece c moment piece
       → IsDone offers s g (code.Event e) (left_fed (length piece) result) (record { connection = c; octets = out; note = note_of result } ∷ []) new
-  feeds-deed g old new r c moment piece (Ok fed.Whole) before out none x are number e of = ends-deed g old new r (Piece c moment piece) Done before out none x are number tt (code.Event e) (sym of)
+  feeds-deed g old new r c moment piece (Ok fed.Whole) before out none x are number e of = ends-deed g old new r (Piece c moment piece) Done before out none x are number tt refl (code.Event e) (sym of)
   feeds-deed g old new r c moment piece (Ok (fed.Asks taken)) before out none x are number e of = stops-deed g old new r c moment piece taken before out none x are number e of
   feeds-deed g old new r c moment piece (Ok (fed.Repeats taken)) before out none x are number e of = repeats-deed g old new r c moment piece taken before out none x are number e of
-  feeds-deed g old new r c moment piece (Err error) before out none x are number e of = ends-deed g old new r (Piece c moment piece) (note_of {A = Fed} (Err error)) before out none x are number tt (code.Event e) (sym of)
+  feeds-deed g old new r c moment piece (Err error) before out none x are number e of = ends-deed g old new r (Piece c moment piece) (note_of {A = Fed} (Err error)) before out none x are number tt refl (code.Event e) (sym of)
 
   fits-here : (g : Ledger) (old : Engine C) (x : Awaiting g old) (o : Performed) → CanAnswer (offers old.offering.catalogue) (waits_in old) x.a.request.number o → IsFor s (s.terms (changes g.past)).interface (Some x.a.request) o
   fits-here g old x o can =

@@ -36,7 +36,7 @@ stay-then parked told old mid new x y q = ((y q).0 ∙ (x q).0, (y q).1 ∙ (x q
 
 -- Logs, one after the other.
 
-handed-joined : (xs ys : List Handover) → handed_in (xs ++ ys) ≡ handed_in xs ++ handed_in ys
+pub handed-joined : (xs ys : List Handover) → handed_in (xs ++ ys) ≡ handed_in xs ++ handed_in ys
 handed-joined xs ys = map-append (λ (h : Handover). record { call = h.call; outcome = h.handed }) xs ys
 
 pub says-joined : (xs ys : List Handover) (old mid new : Option (List Answer)) → OwnerSays xs old mid → OwnerSays ys mid new → OwnerSays (xs ++ ys) old new

@@ -408,7 +408,7 @@ module _ (s : Settings) where
   keeps-event past (Close c) waiting free kept = kept
   keeps-event past (Lost c) waiting free kept = kept
   keeps-event past (Withdrew i) waiting free kept = absurd free
-  keeps-event past Changed waiting free kept = absurd free
+  keeps-event past Changed waiting free kept = kept
 
   keeps-after : (past : List Event) (e : Event) (note : Note) (waiting : ℕ → List Waiter) → IsUnawaited e waiting → KeepsAll past → KeepsAll (after s.limits past e note)
   keeps-after past e Done waiting free kept = keeps-event past e waiting free kept

@@ -17,7 +17,7 @@ use Rattle.ft_orb.specs.Parking.{others_of}
 use Rattle.ft_orb.proofs.Clearing.{going-append}
 
 module _ (c : ℕ) where
-  here-not : (g : Bool) (w : Waiter) (ws : List Waiter) → (w.connection == c) ≡ true → elsewhere c (cond g (w ∷ ws) ws) ≡ elsewhere c ws
+  pub here-not : (g : Bool) (w : Waiter) (ws : List Waiter) → (w.connection == c) ≡ true → elsewhere c (cond g (w ∷ ws) ws) ≡ elsewhere c ws
   here-not true w ws is = ap (λ (b : Bool). cond (not b) (w ∷ elsewhere c ws) (elsewhere c ws)) is
   here-not false w ws is = refl
 
@@ -26,7 +26,7 @@ module _ (c : ℕ) where
   both-by false w ws vs same = same
 
   -- only c may go on now and not before, or the other way around
-  others-same : (was goes : ℕ → Bool) → ((q : ℕ) → (q == c) ≡ false → goes q ≡ was q) → (ws : List Waiter) → elsewhere c (on_going goes ws) ≡ elsewhere c (on_going was ws)
+  pub others-same : (was goes : ℕ → Bool) → ((q : ℕ) → (q == c) ≡ false → goes q ≡ was q) → (ws : List Waiter) → elsewhere c (on_going goes ws) ≡ elsewhere c (on_going was ws)
   others-same was goes same [] = refl
   others-same was goes same (w ∷ ws) = by (w.connection == c) refl (others-same was goes same ws)
     where
@@ -37,7 +37,7 @@ module _ (c : ℕ) where
           ap (λ (g : Bool). elsewhere c (cond g (w ∷ on_going goes ws) (on_going goes ws))) (same w.connection is)
           ∙ both-by (was w.connection) w (on_going goes ws) (on_going was ws) rest
 
-  elsewhere-append : (ws vs : List Waiter) → elsewhere c (ws ++ vs) ≡ elsewhere c ws ++ elsewhere c vs
+  pub elsewhere-append : (ws vs : List Waiter) → elsewhere c (ws ++ vs) ≡ elsewhere c ws ++ elsewhere c vs
   elsewhere-append [] vs = refl
   elsewhere-append (x ∷ ws) vs =
       ap (λ (l : List Waiter). cond (not (x.connection == c)) (x ∷ l) l) (elsewhere-append ws vs)

@@ -76,6 +76,10 @@ pub data Deed : Type 0 where
   Declined : Asking → SystemName → (minor : ℕ) → (written : List ℕ) → Deed
   Withdrawn : (i n : ℕ) → SystemName → (minor : ℕ) → List Told → Deed
 
+-- what is served changes: nothing is written
+abbrev pub changing : Deed
+changing = Happened Changed [] Done
+
 -- what happened in them
 abbrev pub part_of : Part → Event
 part_of p = Piece p.connection p.moment (take p.taken p.piece)
@@ -92,8 +96,13 @@ abbrev pub note_told : Performed → Told → Noted
 note_told outcome (Reached w) = record { connection = w.connection; octets = reply_to outcome w; note = Done }
 note_told outcome (Missed w) = record { connection = w.connection; octets = []; note = Memory 0 0 }
 
+-- .. where something happened on one: what is served changes on none
+abbrev pub notes_on : Event → List ℕ → Note → List Noted
+notes_on Changed written note = []
+notes_on e written note = record { connection = connection_of e; octets = written; note = note } ∷ []
+
 abbrev pub notes_of : Deed → List Noted
-notes_of (Happened e written note) = record { connection = connection_of e; octets = written; note = note } ∷ []
+notes_of (Happened e written note) = notes_on e written note
 notes_of (Stopped p written w q) = record { connection = p.connection; octets = written; note = Done } ∷ []
 notes_of (Joined p written n joined) = record { connection = p.connection; octets = written; note = Done } ∷ []
 notes_of (Answered a outcome written note) = record { connection = a.request.connection; octets = written; note = note } ∷ []
@@ -143,7 +152,7 @@ IsUnawaited (Piece c moment octets) waiting = Unit {0}
 IsUnawaited (Close c) waiting = (n : ℕ) → list_any (λ w. w.connection == c) (waiting n) ≡ false
 IsUnawaited (Lost c) waiting = Unit {0}
 IsUnawaited (Withdrew i) waiting = ⊥
-IsUnawaited Changed waiting = ⊥
+IsUnawaited Changed waiting = Unit {0}
 
 -- something was settled, or declined, under number n
 abbrev pub settles : ℕ → Deed → Bool

@@ -1,5 +1,5 @@
 -- What a list of deeds makes of an engine, and what it says of it.
-use Rattle.std.specs.Prelude.{◌≡◌, ◌+◌, ◌≤◌, ◌<◌, ℕ, nat_lt, false, if◌then◌else◌, List, [], ◌∷◌, ◌++◌, flat_map, length, map, take, Option, Some, None, IsSome, IfSome, Result, Ok, Err}
+use Rattle.std.specs.Prelude.{◌≡◌, ◌+◌, ◌≤◌, ◌<◌, ℕ, suc, nat_lt, false, if◌then◌else◌, List, [], ◌∷◌, ◌++◌, flat_map, length, map, take, Option, Some, None, IsSome, IfSome, Result, Ok, Err}
 use Rattle.std.specs.List.{list_any}
 use Rattle.ft_log.specs.Holding.{Holding, known, parked}
 use Rattle.ft_log.specs.Performed.{Performed}
@@ -21,11 +21,12 @@ use Rattle.ft_orb.specs.declared.events.Event.TheVariants as happening
 use Rattle.ft_orb.specs.declared.events.Note.{Note}
 use Rattle.ft_orb.specs.declared.events.Written.{Written}
 use Rattle.ft_orb.specs.Declined.{standing}
-use Rattle.ft_orb.specs.Deeds.{AreTold, Answered, Asking, Declined, Deed, GivenUp, Happened, IsDeed, IsLeftOf, Joined, Ledger, Parked, Runs, Settled, Stopped, Told, Withdrawn, after_deed, after_deeds, came_to, note_told, notes_of, opening, reply_to, settles, told_all, told_of}
+use Rattle.ft_orb.specs.Deeds.{AreTold, Answered, Asking, Declined, Deed, GivenUp, Happened, IsDeed, IsLeftOf, Joined, Ledger, Parked, Runs, Settled, Stopped, Told, Withdrawn, after_deed, after_deeds, came_to, changing, note_told, notes_of, opening, reply_to, settles, told_all, told_of}
 use Rattle.ft_orb.specs.Engines.{Awaited, CanAnswer, asks_in, waits_in}
 use Rattle.ft_orb.specs.ExactlyOnce.{OneExpiration, state_after, state_of}
-use Rattle.ft_orb.specs.History.{KeepsAll, Piece, arrivals, event_of}
+use Rattle.ft_orb.specs.History.{KeepsAll, Piece, arrivals, changes, event_of}
 use Rattle.ft_orb.specs.Now.{performed_now}
+use Rattle.ft_orb.specs.Offerings.{terms_by}
 use Rattle.ft_orb.specs.Outputs.{Noted, noted}
 use Rattle.ft_orb.specs.Owners.{owned_rules}
 use Rattle.ft_orb.specs.Parking.{AsksLate, CanSettle, Settings, Stays, by_number, goes_on, not_now, parked_at, parked_count, parked_in, parked_of, places_of, places_of_one, put_at, told_in, waiter_of, waits_on}
@@ -157,6 +158,11 @@ Becomes {C} offers told left notes old new = (s : Settings) (g : Ledger) → Hol
 
 abbrev pub Remains : {C : Type 0} → (C → Offer) → Engine C → Engine C → Type 0
 Remains {C} offers old new = (s : Settings) (g : Ledger) → Holds offers s g old → Holds offers s g new
+
+-- What is served has changed, to what the settings have for it next. That is a deed too, after which all wait who waited before.
+abbrev pub IsChange : {C : Type 0} → (C → Offer) → Engine C → Engine C → Type 0
+IsChange {C} offers old new = (s : Settings) (g : Ledger) → Holds offers s g old → s.terms (suc (changes g.past)) ≡ terms_by offers new.offering
+    → IsDeed s g changing × ((n : ℕ) → (after_deed s g changing).waiting n ≡ g.waiting n) × Holds offers s (after_deed s g changing) new
 
 -- What holds of a run from a new engine on: what is answered or told of a call is the outcome or the refusal that is known of it at
 -- the end; of those who came to wait under a number each is told once, waits on, or its connection has ended; and what is told

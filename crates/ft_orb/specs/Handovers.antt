@@ -1,17 +1,24 @@
 -- What the owner of an engine performs, and what is handed in to the engine for it.
-use Rattle.std.specs.Prelude.{◌≡◌, ◌⊎◌, List, [], ◌∷◌, ◌++◌, map, Option, Some, None}
+use Rattle.std.specs.Prelude.{◌≡◌, ◌⊎◌, ℕ, ◌+◌, ◌<◌, ◌≤◌, List, [], ◌∷◌, ◌++◌, length, map, Option, Some, None}
 use Rattle.std.specs.List.{AllByRecursion}
+use Rattle.ft_log.specs.Holding.{Holding, known}
 use Rattle.ft_log.specs.Performed.{Performed, system}
 use Rattle.ft_log.specs.View.{performed_in}
 use Rattle.ft_log.specs.declared.outcome.Outcome.{Outcome}
 use Rattle.ft_log.specs.declared.system_exception.Completion.TheVariants.{Maybe}
 use Rattle.ft_log.specs.declared.system_exception.SystemName.TheVariants.{Internal}
-use Rattle.ft_orb.specs.Answers.{Answer}
+use Rattle.ft_orb.specs.declared.engine.Engine.{Engine}
+use Rattle.ft_orb.specs.declared.parked.Waiter.{Waiter}
+use Rattle.ft_orb.specs.declared.wire.StreamEnd.{StreamEnd}
+use Rattle.ft_orb.specs.declared.wire.StreamEnd.TheVariants.{Memory}
+use Rattle.ft_orb.specs.Answers.{Answer, calls_of}
+use Rattle.ft_orb.specs.History.{Changed, Close, Event, Lost, Opened, Piece, Withdrew, changes}
 use Rattle.ft_objects.specs.Catalogues.{Offer}
 use Rattle.ft_objects.specs.Interfaces.{IsOutcomeOf}
 use Rattle.ft_objects.specs.Replies.{IsRenderable}
-use Rattle.ft_orb.specs.Requests.{Call}
-use Rattle.ft_orb.specs.Wires.{IfKnown}
+use Rattle.ft_orb.specs.Parking.{Settings, Stays, put_at, still}
+use Rattle.ft_orb.specs.Requests.{Call, offer_in}
+use Rattle.ft_orb.specs.Wires.{Act, Gave, GaveNone, IfKnown, ReadFailed, Took, TookNone, WriteFailed}
 
 -- a call that the owner performed: the outcome that it gave, and the one that was handed in for it
 pub record Handover : Type 0 where
@@ -50,3 +57,60 @@ AreHandedIn offer log = AllByRecursion (λ h. IsHandedIn offer h.call h.gave h.h
 -- what is known of an owner says that it answered these calls
 abbrev pub OwnerSays : List Handover → Option (List Answer) → Option (List Answer) → Type 0
 OwnerSays log old new = IfKnown (λ before now. now ≡ before ++ given_in log) old new
+
+-- what is known of calls, where the outcomes of those from call i on were handed in
+abbrev pub known_from : (i : ℕ) → List Answer → (ℕ → Holding) → ℕ → Holding
+known_from i [] held = held
+known_from i (a ∷ later) held = known_from (i + 1) later (put_at i (known a.outcome) held)
+
+-- what may happen to connection c while it is served: it brings a piece, is closed, or is lost
+abbrev pub IsOn : ℕ → Event → Type 0
+IsOn c (Opened d) = ⊥
+IsOn c (Piece d moment octets) = d ≡ c
+IsOn c (Close d) = d ≡ c
+IsOn c (Lost d) = d ≡ c
+IsOn c (Withdrew i) = ⊥
+IsOn c Changed = ⊥
+
+abbrev pub AreOn : ℕ → List Event → Type 0
+AreOn c events = AllByRecursion (IsOn c) events
+
+-- the octets of the pieces among events, of which the newest is the first, in the order in which they came ..
+abbrev pub octets_in : List Event → List ℕ
+octets_in [] = []
+octets_in (Opened c ∷ past) = octets_in past
+octets_in (Piece c moment octets ∷ past) = octets_in past ++ octets
+octets_in (Close c ∷ past) = octets_in past
+octets_in (Lost c ∷ past) = octets_in past
+octets_in (Withdrew i ∷ past) = octets_in past
+octets_in (Changed ∷ past) = octets_in past
+
+-- .. and those that a wire gave
+abbrev pub given_by : List Act → List ℕ
+given_by [] = []
+given_by (Gave octets ∷ acts) = octets ++ given_by acts
+given_by (GaveNone ∷ acts) = given_by acts
+given_by (ReadFailed ∷ acts) = given_by acts
+given_by (Took octets ∷ acts) = given_by acts
+given_by (TookNone ∷ acts) = given_by acts
+given_by (WriteFailed ∷ acts) = given_by acts
+
+-- what is left of the octets that were read: some of the last read, where an allocation failed, and else none
+abbrev pub IsLeftAt : StreamEnd → List ℕ → Type 0
+IsLeftAt end rest = ((end ≡ Memory → ⊥) → rest ≡ []) × (length rest ≤ 4096)
+
+-- what is known of a wire says that it gave these octets, and what is left of them
+abbrev pub AreFromWire : StreamEnd → List ℕ → Option (List Act) → Option (List Act) → Type 0
+AreFromWire end octets old new = IfKnown (λ before now. (acts : List Act) × (rest : List ℕ) × (now ≡ before ++ acts) × (given_by acts ≡ octets ++ rest) × IsLeftAt end rest) old new
+
+-- Connection c was served to its end while requests are parked, by an owner who performed the calls of a log. These were taken, after
+-- those before, and of each is known what was handed in, which is an outcome of its operation as that is on offer; of the others as much
+-- is known as before. What happened did so on this connection, whose pieces are what the wire gave, cut anywhere, and which was lost at
+-- last; and who waits on one that goes on waits on.
+pub record IsServedLate {C : Type 0} (offers : C → Offer) (s : Settings) (held : ℕ → Holding) (calls : List Call) (past : List Event) (waiting : ℕ → List Waiter) (c : ℕ) (log : List Handover) (end : StreamEnd) (old new : Option (List Act)) (engine : Engine C) : Type 0 where
+  pub handed : AreHandedIn (offer_in (s.terms (changes past))) log
+  pub before : (i : ℕ) → i < length calls → known_from (length calls) (handed_in log) held i ≡ held i
+  pub events : List Event
+  pub on : AreOn c events
+  pub given : AreFromWire end (octets_in events) old new
+  pub stays : Stays offers s (known_from (length calls) (handed_in log) held) (calls ++ calls_of (handed_in log)) engine (Lost c ∷ events ++ past) (still s.limits (Lost c ∷ events ++ past) waiting)

@@ -148,7 +148,8 @@ others_of goes c (Some p) = elsewhere c (on_going goes p.waiters.items)
 abbrev pub others_under : {C : Type 0} → Engine C → (c n : ℕ) → List Waiter
 others_under e c n = others_of (going_in e.links) c (parked_at e n)
 
--- an outcome can be that of the request that is parked so: it has none yet, and it can be sent, and is one of its operation
+-- an outcome can be that of the request that is parked so: it has none yet, and it can be sent, and is one of its operation as that is
+-- on offer now
 abbrev pub CanSettle : Offer → Option Parked → Performed → Type 0
 CanSettle offer None outcome = ⊥
 CanSettle offer (Some p) outcome = (p.outcome ≡ None) × IsRenderable outcome × IsOutcomeOf (offer.interface p.pending.waiting.object_key.items p.pending.waiting.operation.items) outcome

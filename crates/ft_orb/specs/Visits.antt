@@ -1,10 +1,11 @@
 -- Words of private functions: a piece of a connection that is fed to an engine in parts, whose owner performs. No public contract cites them.
-use Rattle.std.specs.Prelude.{◌≡◌, ◌⊎◌, ℕ, ◌<◌, List, length, take, Option, None, Some, Result, Ok, Err}
+use Rattle.std.specs.Prelude.{◌≡◌, ◌⊎◌, ℕ, ◌<◌, List, [], ◌++◌, length, take, Option, None, Some, Result, Ok, Err}
 use Rattle.ft_log.specs.Performed.{Performed}
 use Rattle.ft_orb.specs.declared.engine.Engine.{Engine}
 use Rattle.ft_orb.specs.declared.events.Note.{Note}
 use Rattle.ft_orb.specs.declared.events.Note.TheVariants.{Done}
 use Rattle.ft_orb.specs.declared.wire.StreamEnd.{StreamEnd}
+use Rattle.ft_orb.specs.declared.wire.StreamEnd.TheVariants.{Memory}
 use Rattle.ft_objects.specs.Catalogues.{Offer}
 use Rattle.ft_orb.specs.Engines.{Awaited, Ends, Rests}
 use Rattle.ft_orb.specs.Handovers.{IsHandedIn}
@@ -18,6 +19,16 @@ use Rattle.giop_frames.specs.declared.limits.Limits.{Limits}
 abbrev pub HandsIn : Offer → Option Awaited → (gave handed : Performed) → Type 0
 HandsIn offer None gave handed = ⊥
 HandsIn offer (Some w) gave handed = IsHandedIn offer w.call gave handed
+
+-- so many octets of a piece were served, or, where it ended in between, a front of them
+abbrev pub ServesPart : List ℕ → Result ℕ StreamEnd → List ℕ → Type 0
+ServesPart piece (Ok n) octets = octets ≡ take n piece
+ServesPart piece (Err e) octets = (rest : List ℕ) × (piece ≡ octets ++ rest) × ((e ≡ Memory → ⊥) → rest ≡ [])
+
+-- .. of a piece that a request ended
+abbrev pub ServesAsked : List ℕ → Result (Unit {0}) StreamEnd → List ℕ → Type 0
+ServesAsked piece (Ok x) octets = octets ≡ piece
+ServesAsked piece (Err e) octets = (rest : List ℕ) × (piece ≡ octets ++ rest) × (e ≡ Memory)
 
 module _ (limits : Limits) (past : List Event) (c moment : ℕ) (piece : List ℕ) where
   -- how many arrivals so many of its octets complete

@@ -1,21 +1,23 @@
 //! A connection served over a wire by an engine, whose owner performs.
 
 ghost use Rattle.std.specs.Prelude.{◌≡◌, ◌<◌, ◌≤◌, ◌∷◌, ◌++◌, ℕ, false, true, List, IfOk, IsSome, None, Some, length};
+ghost use Rattle.ft_log.specs.Holding.{Holding};
 ghost use Rattle.ft_log.specs.View.{performed_in};
 ghost use Rattle.ft_orb.specs.Answers.{Agrees, calls_of};
 ghost use Rattle.ft_orb.specs.Engines.{Asks, Awaited, CanAnswer, IsFit, IsOpen, Rests, Resumes, waits_in};
-ghost use Rattle.ft_orb.specs.Handovers.{AreHandedIn, Handover, OwnerSays, handed_in};
+ghost use Rattle.ft_orb.specs.Handovers.{AreHandedIn, Handover, IsServedLate, OwnerSays, handed_in};
 ghost use Rattle.ft_orb.specs.History as history;
 ghost use Rattle.ft_orb.specs.History.{line};
 ghost use Rattle.ft_orb.specs.Now.{now_says, state_now};
 ghost use Rattle.ft_orb.specs.Outputs.{Plays, is_going, is_gone, table_says};
 ghost use Rattle.ft_orb.specs.Owners.{Owner, made_of, meaning_of};
-ghost use Rattle.ft_orb.specs.Parking.{AreParked, others_under, parked_in, told_in};
+ghost use Rattle.ft_orb.specs.Parking.{AreParked, AsksLate, Settings, Stays, others_under, parked_in, told_in};
 ghost use Rattle.ft_orb.specs.Requests.{Call};
-ghost use Rattle.ft_orb.specs.Sessions.{Attends, IsEnded, calls_with};
-ghost use Rattle.ft_orb.specs.Visits.{HandsIn, TakesPart};
+ghost use Rattle.ft_orb.specs.Sessions.{Attends, AttendsLate, IsAttended, IsEnded, calls_with};
+ghost use Rattle.ft_orb.specs.Visits.{HandsIn, ServesAsked, ServesPart, TakesPart};
 ghost use Rattle.ft_orb.specs.Wires.{Act, AreNoted, AreReadInTime, AreSmall, ClockSays, HasEnded, Turn, WireSays, entries_of, events_in, past_with};
 ghost use Rattle.ft_orb.specs.declared.events.Note.{Note};
+ghost use Rattle.ft_orb.specs.declared.parked.Waiter.{Waiter};
 
 use crate::engine::{Engine, Fed};
 use crate::error::{CloseError, ServeError};
@@ -51,6 +53,8 @@ fn attend_ask<C: Catalogue + Drop, O: Performer>(
     ensures idle { waits_in engine.new ≡ None }
     ensures parked { AreParked engine.old engine.new }
     ensures waiting { (w : Awaited) → waits_in engine.old ≡ Some w → (q : ℕ) → others_under engine.new w.connection q ≡ others_under engine.old w.connection q }
+    ensures late { (log : List Handover) × OwnerSays log (O.answered owner.old) (O.answered owner.new) × ((s : Settings) (held : ℕ → Holding) (calls : List Call) (past : List history.Event) (waiting : ℕ → List Waiter) (moment : ℕ) (octets written : List ℕ) (w : Awaited)
+        → AsksLate C.offers s held calls engine.old past waiting moment octets written w → IsAttended (λ s held calls engine past waiting. Stays C.offers s held calls engine past waiting) w.connection (ServesAsked octets result) s held calls past waiting log engine.new) }
     ensures table { (log : List Handover) × OwnerSays log (O.answered owner.old) (O.answered owner.new) × ((o : Owner) (calls : List Call) (past : List history.Event) (moment : ℕ) (octets written : List ℕ) (w : Awaited) → Asks C.offers o calls engine.old past moment octets written w
         → is_gone (line past w.connection) ≡ false → Agrees o.answers calls (handed_in log) → AreHandedIn o.offer log × (note : Note) × IsEnded result note
         × Resumes C.offers o (calls_with calls log) past w.connection moment octets written note engine.new out.old.items out.new.items) }
@@ -87,6 +91,7 @@ fn attend_part<C: Catalogue + Drop, O: Performer>(
     ensures parked { AreParked engine.old engine.new }
     ensures waiting { (q : ℕ) → others_under engine.new connection q ≡ others_under engine.old connection q }
     ensures taken { IfOk result (λ n. (0 < n) × (n ≤ length piece.now)) }
+    ensures late { AttendsLate (λ s held calls engine past waiting. Stays C.offers s held calls engine past waiting) connection (ServesPart piece.now result) (O.answered owner.old) (O.answered owner.new) engine.old engine.new }
     ensures table { Attends (λ o. o) (O.answered owner.old) (O.answered owner.new) (λ o calls past. Rests C.offers o calls engine.old past × (is_gone (line past connection) ≡ false))
         (λ o calls past. TakesPart C.offers o calls past connection moment piece.now result engine.new out.old.items out.new.items) }
 {
@@ -111,6 +116,8 @@ impl<C: Catalogue + Drop, O: Performer> Host<O> for Engine<C> {
     ghost says = { λ o. table_says (meaning_of o) (made_of o) };
 
     ghost Holds = { λ o calls engine past. Rests C.offers o calls engine past };
+
+    ghost HoldsLate = { λ s held calls engine past waiting. Stays C.offers s held calls engine past waiting };
 
     ghost IsIdle = { λ engine. waits_in engine ≡ None };
 
@@ -176,8 +183,10 @@ impl<C: Catalogue + Drop, O: Performer> Host<O> for Engine<C> {
 ///
 /// What is parked in the engine stays (`parked`), and who waits for it on other connections waits on (`waiting`). While a
 /// request is parked that has a key and is not expired, the engine stands for no past in which each outcome is known
-/// (`Rests`): its log keeps a number in place of the outcome. So `table` and `now` say nothing then, and `parked`
-/// and `waiting` alone hold.
+/// (`Rests`): its log keeps a number in place of the outcome. So `table` and `now` say nothing then, nor once what is
+/// served has changed. What holds in every case is `late`: which calls were taken, and what is known of each, that what
+/// happened did so on this connection alone, whose pieces are what the wire gave, and that the engine goes on. That
+/// nothing was lost before its pieces it does not say.
 pub fn serve_engine<C: Catalogue + Drop, O: Performer, W: Wire, K: Clock>(
     alloc: Global,
     engine: &mut Engine<C>,
@@ -191,6 +200,9 @@ pub fn serve_engine<C: Catalogue + Drop, O: Performer, W: Wire, K: Clock>(
     ensures idle { waits_in engine.new ≡ None }
     ensures parked { AreParked engine.old engine.new }
     ensures waiting { (q : ℕ) → others_under engine.new connection q ≡ others_under engine.old connection q }
+    // whatever is parked, and however often what is served has changed
+    ensures late { (log : List Handover) × OwnerSays log (O.answered owner.old) (O.answered owner.new) × ((s : Settings) (held : ℕ → Holding) (calls : List Call) (past : List history.Event) (waiting : ℕ → List Waiter) → Stays C.offers s held calls engine.old past waiting
+        → IsServedLate C.offers s held calls past waiting connection log result (W.traffic wire.old) (W.traffic wire.new) engine.new) }
     // each call that the owner performed was handed in once; in turns a piece is read and the table's answers to what it
     // completes are written, by the owner that answers as it did; and each end has its cause
     ensures table { (log : List Handover) × OwnerSays log (O.answered owner.old) (O.answered owner.new) × ((o : Owner) (calls : List Call) (past : List history.Event) → Rests C.offers o calls engine.old past

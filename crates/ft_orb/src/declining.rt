@@ -86,9 +86,9 @@ impl<C: Catalogue + Drop> Engine<C> {
     }
 
     /// Declines the request that is parked under this number, as `can_settle` tests of that system exception with
-    /// COMPLETED_NO: `due` and `reply` tell it to all who wait, and nothing is kept. Its room in what is kept and its key are free
-    /// at once: a repeat that comes from now on is asked for anew. Its place among those that are parked is free once all were
-    /// told. What `decline` says of COMPLETED_NO holds here too.
+    /// COMPLETED_NO, whatever is on offer: `due` and `reply` tell it to all who wait, and nothing is kept. Its room in what is
+    /// kept and its key are free at once: a repeat that comes from now on is judged anew. Its place among those that are
+    /// parked is free once all were told. What `decline` says of COMPLETED_NO holds here too.
     pub fn withdraw(&mut self, number: u64, name: SystemName, minor: u32)
         requires idle { waits_in self.old ≡ None }
         requires can { CanSettle (C.offers self.old.offering.catalogue) (parked_at self.old number) (not_now name minor) }

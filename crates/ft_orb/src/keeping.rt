@@ -1,15 +1,17 @@
 //! What is kept for clients once a request is performed, or parked.
 
-ghost use Rattle.std.specs.Prelude.{◌≡◌, max};
+ghost use Rattle.std.specs.Prelude.{◌≡◌, map, max};
+ghost use Rattle.giop_core.specs.Items.{item_at};
 ghost use Rattle.ft_log.specs.Holding.{known, parked};
 ghost use Rattle.ft_log.specs.Kept.{unexpired};
 ghost use Rattle.ft_log.specs.Logged.{logged};
 ghost use Rattle.ft_log.specs.View.{performed_in};
 ghost use Rattle.ft_objects.specs.Replies.{IsRenderable};
+ghost use Rattle.ft_orb.specs.Carrying.{AreShort, reply_with};
 ghost use Rattle.ft_orb.specs.Parking.{not_now};
 ghost use Rattle.ft_orb.specs.Private.{IsPut};
 ghost use Rattle.ft_orb.specs.Tellings.{reply_by};
-ghost use Rattle.ft_orb.specs.Waits.{Finishes, IsReady, filled_with, kept_with, without_parked};
+ghost use Rattle.ft_orb.specs.Waits.{IsReady, filled_with, kept_with, without_parked};
 
 use crate::desk::{Step, forget_expired};
 use crate::keeper::{Keeper, Retained};
@@ -110,19 +112,27 @@ impl Keeper {
         forget_expired(&mut self.log, self.clock);
     }
 
-    /// Keeps the outcome of the request in the slot, if it has a key, and answers with it.
+    /// Keeps the outcome of the request in the slot, if it has a key, and answers with it and with these service contexts,
+    /// which are not kept.
     #[inline(always)]
-    pub(crate) fn finish(&mut self, outcome: Outcome, out: &mut Vec<u8>) -> Step
+    pub(crate) fn finish(
+        &mut self,
+        outcome: Outcome,
+        contexts: &[(u32, &[u8])],
+        out: &mut Vec<u8>,
+    ) -> Step
         requires ready { IsReady self.old.slot.retained (logged self.old.log).room }
         requires renderable { IsRenderable (performed_in outcome) }
-        ensures did { Finishes self.old.slot (performed_in outcome) (logged self.old.log).entries result (logged self.new.log).entries out.old.items out.new.items }
+        requires short { AreShort (map item_at contexts.now) }
+        ensures kept { (logged self.new.log).entries ≡ kept_with self.old.slot.retained (known (performed_in outcome)) (logged self.old.log).entries }
+        ensures put { IsPut (reply_with (map item_at contexts.now) self.old.slot.asker (performed_in outcome)) result out.old.items out.new.items }
         ensures clock { self.new.clock ≡ self.old.clock }
         ensures capacity { (logged self.new.log).capacity ≡ (logged self.old.log).capacity }
         ensures share { (logged self.new.log).share ≡ (logged self.old.log).share }
         ensures counts { self.new.counts ≡ self.old.counts }
         ensures ended { self.new.ended ≡ self.old.ended }
     {
-        let step = self.slot.asker.answer(&outcome, out);
+        let step = self.slot.asker.answer_with(&outcome, contexts, out);
         let retained = self.slot.retained.take();
         self.keep(retained, outcome);
         self.slot.arguments.clear();

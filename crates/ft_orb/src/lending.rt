@@ -1,8 +1,9 @@
 //! What waits in an engine, as its owner sees it.
 
-ghost use Rattle.std.specs.Prelude.{◌≡◌, ◌↔◌, ◌∷◌, ℕ, List, IsTrue, IsSome, None, Some, not};
+ghost use Rattle.std.specs.Prelude.{◌≡◌, ◌↔◌, ◌∷◌, ℕ, List, IsTrue, IsSome, None, Some, map, not};
 ghost use Rattle.std.specs.Option.{option_map};
 ghost use Rattle.ft_log.specs.View.{performed_in};
+ghost use Rattle.giop_core.specs.Items.{item_at};
 ghost use Rattle.giop_link.specs.Hearing.{asks, says};
 ghost use Rattle.giop_link.specs.Linking.{meaning_at};
 ghost use Rattle.ft_orb.specs.History as history;
@@ -12,6 +13,7 @@ ghost use Rattle.ft_orb.specs.Owners.{Owner};
 ghost use Rattle.ft_orb.specs.Requests.{Call};
 
 use crate::asked::{Asked, lent};
+use crate::carrying::can_carry;
 use crate::counts::Counts;
 use crate::ending::{Ended, Ending};
 use crate::engine::Engine;
@@ -21,6 +23,7 @@ use ft_objects::Catalogue;
 use giop_link::Inbound;
 
 impl<C: Catalogue + Drop> Engine<C> {
+    ghost use Rattle.ft_orb.specs.Carrying.{CanCarry, asker_in};
     ghost use Rattle.ft_orb.specs.Engines.{Asks, Awaited, CanAnswer, IsOpen, Rests, awaited_lent, counts_in, ending_in, waits_in};
     ghost use Rattle.ft_orb.specs.Parking.{AsksLate, Settings, Stays};
     ghost use Rattle.ft_orb.specs.declared.parked.Waiter.{Waiter};
@@ -94,7 +97,8 @@ impl<C: Catalogue + Drop> Engine<C> {
         }
     }
 
-    /// Whether an outcome can answer the request of this number: that waits, and the outcome can be sent, and fits it.
+    /// Whether an outcome can answer the request of this number: that waits, and the outcome can be sent, and is one of its
+    /// operation, as each system exception is.
     pub fn can_answer(&self, number: u64, outcome: &Outcome) -> bool
         ensures { IsTrue result ↔ CanAnswer (C.offers self.now.offering.catalogue) (waits_in self.now) number (performed_in outcome.now) }
     {
@@ -111,6 +115,15 @@ impl<C: Catalogue + Drop> Engine<C> {
             .catalogue
             .interface(&waiting.object_key, &waiting.operation);
         is_renderable(outcome) && is_outcome_of(lookup, outcome)
+    }
+
+    /// Whether an outcome can answer the request of this number (`can_answer`), and the Reply can carry these service contexts:
+    /// they take at most 1,048,576 octets, and the octets of a raw outcome stand behind them at a place divisible by 8,
+    /// which only a Reply of 1.0 or 1.1 can miss (CDR 9.3.1).
+    pub fn can_answer_with(&self, number: u64, outcome: &Outcome, contexts: &[(u32, &[u8])]) -> bool
+        ensures { IsTrue result ↔ (CanAnswer (C.offers self.now.offering.catalogue) (waits_in self.now) number (performed_in outcome.now) × CanCarry (map item_at contexts.now) (asker_in self.now) (Some (performed_in outcome.now))) }
+    {
+        self.can_answer(number, outcome) && can_carry(contexts, self.keeper.slot.asker, outcome)
     }
 
     /// Whether what comes on a connection has no meaning: false exactly where it is connected, the engine has not

@@ -36,21 +36,28 @@ impl<C: Drop> Offering<C> {
 }
 
 impl<C: Catalogue + Drop> Engine<C> {
-    ghost use Rattle.ft_orb.specs.Engines.{AreEndings, asks_in, counts_in, waits_in};
+    ghost use Rattle.ft_orb.specs.DeedsPlayed.{IsChange};
+    ghost use Rattle.ft_orb.specs.Engines.{AreEndings, Rests, asks_in, counts_in, waits_in};
+    ghost use Rattle.ft_orb.specs.Owners.{Owner};
     ghost use Rattle.ft_orb.specs.Parking.{AreParked, Settings, Stays, is_wanted_in, others_under};
 
     /// Changes what is on offer: calls `change` with the catalogue, to add objects to it or take some away. What comes from
     /// now on is served by what it is then. What is kept stays: a repeat is known by its key alone, so it gets the outcome of
     /// its first performance though its object is gone.
     ///
-    /// A request that is parked is settled with an outcome of its operation as that is on offer when it is settled
-    /// (`change_object`).
+    /// A request that is parked is settled with an outcome of its operation as that is on offer when it is settled, or with a
+    /// system exception, whatever is on offer (`change_object`).
     pub fn change<R, F: FnOnce(&mut C) -> R>(&mut self, change: F) -> R
         requires idle { waits_in self.old ≡ None }
         requires callable { F.IsAlwaysCallable change }
         ensures changed { FnOnceReturnsAtMut F.FnOnce change self.old.offering.catalogue result self.new.offering.catalogue }
         ensures late { (s : Settings) (held : ℕ → Holding) (calls : List Call) (past : List history.Event) (waiting : ℕ → List Waiter) → Stays C.offers s held calls self.old past waiting
             → s.terms (suc (changes past)) ≡ terms_by C.offers self.new.offering → Stays C.offers s held calls self.new (history.Changed ∷ past) waiting }
+        // .. and it is a deed, which a run of deeds may have
+        ensures deed { IsChange C.offers self.old self.new }
+        // where the same is served as before
+        ensures table { (owner : Owner) (calls : List Call) (past : List history.Event) → Rests C.offers owner calls self.old past
+            → terms_by C.offers self.new.offering ≡ terms_by C.offers self.old.offering → Rests C.offers owner calls self.new (history.Changed ∷ past) }
         ensures bound { self.new.offering.longest ≡ self.old.offering.longest }
         ensures idle { waits_in self.new ≡ None }
         ensures asks { asks_in self.new ≡ asks_in self.old }
@@ -70,8 +77,9 @@ impl<C: Catalogue + Drop> Engine<C> {
             == object_key)
     }
 
-    /// Changes what is on offer as `change` does, but for an object of which a request is parked: so one that is wanted is not
-    /// taken away. Where it is refused nothing has changed.
+    /// Changes what is on offer as `change` does, unless a request of the object under this key is parked (`is_wanted`): then
+    /// `change` is not called, and nothing has changed. It looks at this key alone, and not at what `change` does: that it
+    /// leaves the objects under other keys as they are is left to who calls.
     pub fn change_object<R, F: FnOnce(&mut C) -> R>(
         &mut self,
         object_key: &[u8],
@@ -85,6 +93,9 @@ impl<C: Catalogue + Drop> Engine<C> {
         ensures changed { IfOk result (λ r. FnOnceReturnsAtMut F.FnOnce change self.old.offering.catalogue r self.new.offering.catalogue) }
         ensures late { OnOk result ((s : Settings) (held : ℕ → Holding) (calls : List Call) (past : List history.Event) (waiting : ℕ → List Waiter) → Stays C.offers s held calls self.old past waiting
             → s.terms (suc (changes past)) ≡ terms_by C.offers self.new.offering → Stays C.offers s held calls self.new (history.Changed ∷ past) waiting) }
+        ensures deed { OnOk result (IsChange C.offers self.old self.new) }
+        ensures table { OnOk result ((owner : Owner) (calls : List Call) (past : List history.Event) → Rests C.offers owner calls self.old past
+            → terms_by C.offers self.new.offering ≡ terms_by C.offers self.old.offering → Rests C.offers owner calls self.new (history.Changed ∷ past)) }
         ensures bound { self.new.offering.longest ≡ self.old.offering.longest }
         ensures idle { waits_in self.new ≡ None }
         ensures asks { asks_in self.new ≡ asks_in self.old }
@@ -100,12 +111,15 @@ impl<C: Catalogue + Drop> Engine<C> {
     }
 
     /// Bounds the ids of clients, in octets. From now on a request whose FT_REQUEST context names a client by more is refused
-    /// BAD_CONTEXT, unless its key is one under which an outcome is kept. An engine is made without a bound.
+    /// BAD_CONTEXT, unless its key is one under which an outcome is kept or a request is parked. An engine is made without a
+    /// bound.
     pub fn bound_client_ids(&mut self, octets: usize)
         requires idle { waits_in self.old ≡ None }
         ensures bound { self.new.offering ≡ record { catalogue = self.old.offering.catalogue; longest = Some octets } }
         ensures late { (s : Settings) (held : ℕ → Holding) (calls : List Call) (past : List history.Event) (waiting : ℕ → List Waiter) → Stays C.offers s held calls self.old past waiting
             → s.terms (suc (changes past)) ≡ terms_by C.offers self.new.offering → Stays C.offers s held calls self.new (history.Changed ∷ past) waiting }
+        // .. and it is a deed, which a run of deeds may have
+        ensures deed { IsChange C.offers self.old self.new }
         ensures idle { waits_in self.new ≡ None }
         ensures asks { asks_in self.new ≡ asks_in self.old }
         ensures parked { AreParked self.old self.new }

@@ -80,8 +80,8 @@ fn refused_len(name: SystemName, minor: u32, completion: Completion) -> Option<u
     raised_len(name.repository_id(), &members)
 }
 
-/// How many octets the body of a Reply takes that tells an outcome, in that order and from the place 24 on (GIOP 9.4.3).
-/// None where the outcome can't be sent.
+/// How many octets the body of a Reply takes that tells an outcome, from the place 24 on (GIOP 9.4.3), in the byte order in
+/// which it is written: that of a raw body, else big-endian. None where the outcome can't be sent.
 pub fn outcome_len(outcome: &Outcome) -> Option<u64>
     ensures some { IfSome result (λ n. n ≡ length (octets_of_all (order_of (performed_in outcome.now)) (body_of (performed_in outcome.now)) 24)) }
     ensures can { IsSome result ↔ IsRenderable (performed_in outcome.now) }
@@ -128,14 +128,14 @@ fn is_raised(raises: &[(Vec<u8>, Vec<Ty>)], id: &[u8], members: &[Val]) -> bool
     false
 }
 
-/// Whether an outcome is one of an operation: results of its types, an exception that it declares, or a system
-/// exception; of a raw one octets, or a system exception.
+/// Whether an outcome is one of an operation: results of its types, or an exception that it declares; of a raw one
+/// octets; and a system exception, whatever is on offer.
 pub(crate) fn is_outcome_of(lookup: Lookup<'_>, outcome: &Outcome) -> bool
     requires { IsValidInterface (interface_of lookup) }
     ensures { IsTrue result ↔ IsOutcomeOf (interface_of lookup.entry) (performed_in outcome.now) }
 {
     match (lookup, outcome) {
-        (Lookup::Operation(_) | Lookup::Raw, Outcome::System(..)) => true,
+        (_, Outcome::System(..)) => true,
         (Lookup::Operation(types), Outcome::Returned(results)) => are_of(&types.results, results),
         (Lookup::Operation(types), Outcome::Raised(id, members)) => {
             has_no_nul(id) && is_raised(&types.raises, id, members)

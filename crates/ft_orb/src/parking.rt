@@ -1,7 +1,8 @@
 //! Requests whose outcomes come later: the engine goes on while they are parked.
 
-ghost use Rattle.std.specs.Prelude.{◌≡◌, ◌==◌, ◌↔◌, ◌⊎◌, ◌+◌, ◌<◌, ◌≤◌, ◌++◌, ◌∷◌, [], ℕ, Bool, List, IsTrue, IsSome, IfErr, IfSome, false, IsOk, OnOk, OnErr, None, Some, Err, Option, length};
+ghost use Rattle.std.specs.Prelude.{◌≡◌, ◌==◌, ◌↔◌, ◌⊎◌, ◌+◌, ◌<◌, ◌≤◌, ◌++◌, ◌∷◌, [], ℕ, Bool, List, IsTrue, IsSome, IfErr, IfSome, false, IsOk, OnOk, OnErr, None, Some, Err, Option, length, map};
 ghost use Rattle.std.specs.Option.{option_map};
+ghost use Rattle.giop_core.specs.Items.{item_at};
 ghost use Rattle.ft_log.specs.Holding.{Holding, known, parked};
 ghost use Rattle.ft_log.specs.Performed.{Performed};
 ghost use Rattle.ft_log.specs.View.{performed_in};
@@ -18,6 +19,7 @@ ghost use Rattle.ft_orb.specs.declared.error.ParkError.TheVariants.{Full, Share}
 ghost use Rattle.ft_orb.specs.declared.events.Note.TheVariants.{Done};
 
 use crate::asked::{Asked, lent};
+use crate::carrying::{are_short, can_carry};
 use crate::counts::count;
 use crate::desk::Step;
 use crate::ending::{Ended, Ending};
@@ -34,6 +36,7 @@ use std::mem;
 
 impl<C: Catalogue + Drop> Engine<C> {
     ghost use Rattle.ft_orb.specs.Engines.{AreEndings, Awaited, EndsShort, IsOpen, asks_in, awaited_lent, counts_in, handled_in, waits_in};
+    ghost use Rattle.ft_orb.specs.Carrying.{CanCarry, due_in, reply_if, unless_failed};
     ghost use Rattle.ft_orb.specs.Decisions.{one_more};
     ghost use Rattle.ft_orb.specs.Parked.{own_waiters};
     ghost use Rattle.ft_orb.specs.Parking.{AreParked, AsksLate, CanSettle, IsDueLate, RepliesLate, ResumesLate, Settings, Stays, by_number, own_of, parked_at, parked_count, parked_in, parked_of, places_of, places_of_one, put_at, left_in, told_in, waits_on};
@@ -80,7 +83,7 @@ impl<C: Catalogue + Drop> Engine<C> {
     }
 
     /// Whether an outcome can be that of the request that is parked under this number: it has none yet, and the outcome can be
-    /// sent, and fits it.
+    /// sent, and is one of its operation as that is on offer now. A system exception is, whatever is on offer.
     pub fn can_settle(&self, number: u64, outcome: &Outcome) -> bool
         ensures { IsTrue result ↔ CanSettle (C.offers self.now.offering.catalogue) (parked_at self.now number) (performed_in outcome.now) }
     {
@@ -218,12 +221,59 @@ impl<C: Catalogue + Drop> Engine<C> {
         None
     }
 
-    /// Appends the reply that is due on the connection that `due` gave for this number. Where an allocation fails the
-    /// connection is lost.
+    /// Appends the reply that is due for this number on the connection that `due` gives: whoever calls anything in between,
+    /// as `lost`, asks `due` again. Where an allocation fails the connection is lost.
     pub fn reply(&mut self, number: u64, out: &mut Vec<u8>) -> Result<(), ServeError>
         requires idle { waits_in self.old ≡ None }
         ensures late { (s : Settings) (held : ℕ → Holding) (calls : List Call) (past : List history.Event) (waiting : ℕ → List Waiting) (outcome : Performed) (w : Waiting) (rest : List Waiting) → Stays C.offers s held calls self.old past waiting
             → told_in self.old number ≡ Some outcome → waiting number ≡ w ∷ rest → RepliesLate C.offers s held calls past waiting number outcome w rest result self.new out.old.items out.new.items }
+        // .. and where none is due nothing is done
+        ensures nothing { (s : Settings) (held : ℕ → Holding) (calls : List Call) (past : List history.Event) (waiting : ℕ → List Waiting) → Stays C.offers s held calls self.old past waiting → (told_in self.old number ≡ None) ⊎ (waiting number ≡ [])
+            → IsOk result × (out.new.items ≡ out.old.items) × Stays C.offers s held calls self.new past waiting }
+        ensures parked { AreParked self.old self.new }
+        ensures fewer { IsSome (told_in self.old number) → 0 < left_in self.old number → left_in self.new number < left_in self.old number }
+        ensures waits { waits_in self.new ≡ waits_in self.old }
+        ensures asks { asks_in self.new ≡ asks_in self.old }
+        ensures catalogue { self.new.offering ≡ self.old.offering }
+        ensures counts { counts_in self.new ≡ counts_in self.old }
+        ensures ended { OnOk result (AreEndings self.old self.new) }
+        ensures short { (s : Settings) (held : ℕ → Holding) (calls : List Call) (past : List history.Event) (waiting : ℕ → List Waiting) (w : Waiting) (rest : List Waiting) → Stays C.offers s held calls self.old past waiting
+            → waiting number ≡ w ∷ rest → IfErr result (λ e. EndsShort self.old self.new w.connection e) }
+    {
+        self.reply_with(number, &[], out)
+    }
+
+    /// Whether the reply that is due for what is parked under this number can carry these service contexts: they take at most
+    /// 1,048,576 octets, and the octets of a raw outcome stand behind them at a place divisible by 8, which only a Reply
+    /// of 1.0 or 1.1 can miss (CDR 9.3.1).
+    pub fn can_reply_with(&self, number: u64, contexts: &[(u32, &[u8])]) -> bool
+        ensures { IsTrue result ↔ CanCarry (map item_at contexts.now) (due_in self.now number) (told_in self.now number) }
+    {
+        let Some(parked) = self.parked.requests.get(&number) else {
+            return are_short(contexts);
+        };
+        match (parked.first_going(&self.links), &parked.outcome) {
+            (Some(asker), Some(outcome)) => can_carry(contexts, asker, outcome),
+            _ => are_short(contexts),
+        }
+    }
+
+    /// Appends the reply that is due for this number on the connection that `due` gives, as `reply` does, and it carries these
+    /// service contexts in their order (GIOP 9.4.3), as `can_reply_with` tests. They are those of this reply alone: others
+    /// who wait for the outcome, and who ask again, are told it without them.
+    pub fn reply_with(
+        &mut self,
+        number: u64,
+        contexts: &[(u32, &[u8])],
+        out: &mut Vec<u8>,
+    ) -> Result<(), ServeError>
+        requires idle { waits_in self.old ≡ None }
+        requires carries { CanCarry (map item_at contexts.now) (due_in self.old number) (told_in self.old number) }
+        // what goes out carries the contexts ..
+        ensures sent { out.new.items ≡ out.old.items ++ unless_failed result (reply_if (map item_at contexts.now) (due_in self.old number) (told_in self.old number)) }
+        // .. and for the rest as `reply`, as if it carried none
+        ensures late { (s : Settings) (held : ℕ → Holding) (calls : List Call) (past : List history.Event) (waiting : ℕ → List Waiting) (outcome : Performed) (w : Waiting) (rest : List Waiting) → Stays C.offers s held calls self.old past waiting
+            → told_in self.old number ≡ Some outcome → waiting number ≡ w ∷ rest → RepliesLate C.offers s held calls past waiting number outcome w rest result self.new out.old.items (out.old.items ++ unless_failed result (reply_if [] (due_in self.old number) (told_in self.old number))) }
         // .. and where none is due nothing is done
         ensures nothing { (s : Settings) (held : ℕ → Holding) (calls : List Call) (past : List history.Event) (waiting : ℕ → List Waiting) → Stays C.offers s held calls self.old past waiting → (told_in self.old number ≡ None) ⊎ (waiting number ≡ [])
             → IsOk result × (out.new.items ≡ out.old.items) × Stays C.offers s held calls self.new past waiting }
@@ -248,7 +298,7 @@ impl<C: Catalogue + Drop> Engine<C> {
         let Some(first) = parked.waiters.pop_front() else {
             return Ok(());
         };
-        if let Step::Answered = first.asker.answer(outcome, out) {
+        if let Step::Answered = first.asker.answer_with(outcome, contexts, out) {
             return Ok(());
         }
         self.links.remove(&first.connection);

@@ -1,6 +1,7 @@
 //! What waits in an engine has its outcome, or is given up.
 
-ghost use Rattle.std.specs.Prelude.{◌≡◌, ◌+◌, ◌++◌, ◌∷◌, [], ℕ, List, None, Some, IfErr, OnOk, length};
+ghost use Rattle.std.specs.Prelude.{◌≡◌, ◌+◌, ◌++◌, ◌∷◌, [], ℕ, List, None, Some, IfErr, OnOk, length, map};
+ghost use Rattle.giop_core.specs.Items.{item_at};
 ghost use Rattle.ft_log.specs.View.{performed_in};
 ghost use Rattle.ft_orb.specs.History as history;
 ghost use Rattle.ft_orb.specs.History.{completed};
@@ -16,6 +17,7 @@ use ft_log::Outcome;
 use ft_objects::Catalogue;
 
 impl<C: Catalogue + Drop> Engine<C> {
+    ghost use Rattle.ft_orb.specs.Carrying.{CanCarry, asker_in, reply_if, unless_failed};
     ghost use Rattle.ft_orb.specs.Decisions.{one_more};
     ghost use Rattle.ft_orb.specs.Engines.{AreEndings, Asks, Awaited, CanAnswer, EndsLast, EndsShort, IsOpen, Resumes, ResumesOnce, asks_in, counts_in, handled_in, waits_in};
     ghost use Rattle.ft_orb.specs.EnginesNow.{ResumesNow};
@@ -99,11 +101,55 @@ impl<C: Catalogue + Drop> Engine<C> {
         ensures ended { OnOk result (AreEndings self.old self.new) }
         ensures short { (w : Awaited) → waits_in self.old ≡ Some w → IfErr result (λ e. EndsShort self.old self.new w.connection e) }
     {
+        self.answer_with(number, outcome, &[], out)
+    }
+
+    /// Takes the outcome of the request of this number, which waits, as `answer` does, and the Reply that it appends carries
+    /// these service contexts in their order (GIOP 9.4.3), as `can_answer_with` tests. No contexts go out where no Reply is
+    /// wished for. They are those of this Reply alone and are not kept: where the request comes again, the outcome is told
+    /// without them.
+    #[inline(always)]
+    pub fn answer_with(
+        &mut self,
+        number: u64,
+        outcome: Outcome,
+        contexts: &[(u32, &[u8])],
+        out: &mut Vec<u8>,
+    ) -> Result<(), ServeError>
+        requires can { CanAnswer (C.offers self.old.offering.catalogue) (waits_in self.old) number (performed_in outcome) }
+        requires carries { CanCarry (map item_at contexts.now) (asker_in self.old) (Some (performed_in outcome)) }
+        // what goes out carries the contexts ..
+        ensures sent { out.new.items ≡ out.old.items ++ unless_failed result (reply_if (map item_at contexts.now) (asker_in self.old) (Some (performed_in outcome))) }
+        // .. and for the rest as `answer`, as if it carried none
+        ensures table { (owner : Owner) (calls : List Call) (past : List history.Event) (moment : ℕ) (octets written : List ℕ) (w : Awaited) → Asks C.offers owner calls self.old past moment octets written w
+            → owner.answers calls w.call ≡ performed_in outcome
+            → Resumes C.offers owner (calls ++ w.call ∷ []) past w.connection moment octets written (note_of result) self.new out.old.items (out.old.items ++ unless_failed result (reply_if [] (asker_in self.old) (Some (performed_in outcome)))) }
+        // each distinct admissible request is answered once
+        ensures once { (owner : Owner) (calls : List Call) (past : List history.Event) (moment : ℕ) (octets written : List ℕ) (w : Awaited) → Asks C.offers owner calls self.old past moment octets written w
+            → owner.answers calls w.call ≡ performed_in outcome
+            → ResumesOnce C.offers owner (calls ++ w.call ∷ []) past w.connection moment octets written (note_of result) out.old.items (out.old.items ++ unless_failed result (reply_if [] (asker_in self.old) (Some (performed_in outcome)))) }
+        // each key by itself
+        ensures now { (owner : Owner) (calls : List Call) (past : List history.Event) (moment : ℕ) (octets written : List ℕ) (w : Awaited) → Asks C.offers owner calls self.old past moment octets written w
+            → owner.answers calls w.call ≡ performed_in outcome
+            → ResumesNow owner (calls ++ w.call ∷ []) past w.connection moment octets written (note_of result) out.old.items (out.old.items ++ unless_failed result (reply_if [] (asker_in self.old) (Some (performed_in outcome)))) }
+        // while requests are parked
+        ensures late { (s : Settings) (held : ℕ → Holding) (calls : List Call) (past : List history.Event) (waiting : ℕ → List Waiter) (moment : ℕ) (octets written : List ℕ) (w : Awaited) → AsksLate C.offers s held calls self.old past waiting moment octets written w
+            → ResumesLate C.offers s (put_at (length calls) (known (performed_in outcome)) held) (calls ++ w.call ∷ []) past waiting w.connection moment octets written (note_of result) self.new out.old.items (out.old.items ++ unless_failed result (reply_if [] (asker_in self.old) (Some (performed_in outcome)))) }
+        ensures idle { waits_in self.new ≡ None }
+        ensures asks { asks_in self.new ≡ asks_in self.old }
+        ensures parked { AreParked self.old self.new }
+        ensures waiting { (w : Awaited) → waits_in self.old ≡ Some w → (q : ℕ) → others_under self.new w.connection q ≡ others_under self.old w.connection q }
+        ensures catalogue { self.new.offering ≡ self.old.offering }
+        ensures counted { counts_in self.new ≡ record (counts_in self.old) { answered = one_more (counts_in self.old).answered } }
+        ensures few { IfErr result (λ e. e ≡ Short (handled_in self.old + 1) (handled_in self.old)) }
+        ensures ended { OnOk result (AreEndings self.old self.new) }
+        ensures short { (w : Awaited) → waits_in self.old ≡ Some w → IfErr result (λ e. EndsShort self.old self.new w.connection e) }
+    {
         giop_link::laws::streams_are_heard::<giop_link::Server>();
         let Some(ask) = self.asking.take() else {
             return Ok(());
         };
-        let step = self.keeper.finish(outcome, out);
+        let step = self.keeper.finish(outcome, contexts, out);
         count(&mut self.keeper.counts.answered);
         match counted(ask.place.handled, step) {
             Ok(_) => Ok(()),

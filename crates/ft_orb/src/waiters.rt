@@ -3,8 +3,9 @@
 ghost use Rattle.std.specs.Prelude.{◌≡◌, ◌==◌, ◌+◌, ℕ, false, ◌<◌, ◌≤◌, IfOk, length};
 ghost use Rattle.std.specs.BTreeMap.{btree_map_len, get};
 ghost use Rattle.std.specs.Ordering.{nat_cmp};
+ghost use Rattle.ft_orb.specs.Carrying.{first_of};
 ghost use Rattle.ft_orb.specs.Counts.{on_connection, waiters_on};
-ghost use Rattle.ft_orb.specs.Parked.{IsCleared, IsCopy, JoinsAs, JoinsBy, going_in, own_waiters};
+ghost use Rattle.ft_orb.specs.Parked.{IsCleared, IsCopy, JoinsAs, JoinsBy, going_in, on_going, own_waiters};
 ghost use Rattle.ft_orb.specs.Parking.{left_of};
 
 use crate::answering::Asker;
@@ -173,5 +174,19 @@ impl Parked {
             self.waiters
                 .retain(|waiter| is_going(links, waiter.connection));
         }
+    }
+
+    /// Who waits first on a connection that goes on, if somebody does.
+    #[tactic(auto, using(crate::proofs::Carried::first_here, crate::proofs::Carried::first_later))]
+    pub(crate) fn first_going(&self, links: &BTreeMap<u64, ServerLink>) -> Option<Asker>
+        ensures { result ≡ first_of (on_going (going_in links.now) self.now.waiters.items) }
+    {
+        for i in 0..self.waiters.len() {
+            let waiter = self.waiters[i];
+            if is_going(links, waiter.connection) {
+                return Some(waiter.asker);
+            }
+        }
+        None
     }
 }

@@ -4,6 +4,8 @@
 
 mod clock;
 #[cfg(test)]
+mod contexts;
+#[cfg(test)]
 mod ends;
 #[cfg(test)]
 mod faults;

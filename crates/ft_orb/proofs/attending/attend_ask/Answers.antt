@@ -2,8 +2,10 @@ use Rattle.std.proofs.Common.{[], ◌∷◌, refl}
 use Rattle.ft_log.specs.View.{performed_in}
 use Rattle.ft_orb.specs.declared.events.Note.TheVariants.{Done, Memory}
 use Rattle.ft_orb.specs.Engines.{awaited_lent}
+use Rattle.ft_orb.specs.History.{Piece}
 use Rattle.ft_orb.specs.Standing.{note_of}
 use Rattle.ft_orb.specs.Sessions.{calls_with}
+use Rattle.ft_orb.proofs.Elsewhere.{all-of, event-late, performed-late}
 use Rattle.ft_orb.proofs.Handing.{ask-answered, ask-left, ask-resumes, err-not-done, resumed-memory}
 use Rattle.ft_orb.proofs.attending.attend_ask.Goals as goal
 
@@ -44,4 +46,34 @@ returns-in-Err-clause-table g c =
           let note = note_of c.answer.result in
           let all = ask-resumes g.C.Catalogue.offers o calls past w.connection moment octets written w x gave handed note c.answer.new.self c.args.out.now.items c.answer.new.out.items h.1 (c.answer.ensures.table o calls past moment octets written w a h.2) in
           (h.0, note, resumed-memory g.C.Catalogue.offers o (calls_with calls (record { call = x.call; gave = gave; handed = handed } ∷ [])) past w.connection moment octets written note c.answer.new.self c.args.out.now.items c.answer.new.out.items there all (rw c.in-Err.is (err-not-done (Unit {0}) c.in-Err.field-0)), all),
+    )
+
+pub returns-in_default-perform-clause-late : goal.returns-in_default-perform-clause-late
+returns-in_default-perform-clause-late g c = (
+  [],
+  c.in_default-perform.ensures.answered,
+  λ s held calls past waiting moment octets written w a.
+      event-late g.C.Catalogue.offers s held calls past waiting w.connection _ (Piece w.connection moment octets) (Memory c.give_up.result c.give_up.result) c.give_up.new.self refl (λ front rest is plain. (rest, is, refl)) (c.give_up.ensures.late s held calls past waiting moment octets written w a).stays,
+)
+
+pub returns-in-Ok-clause-late : goal.returns-in-Ok-clause-late
+returns-in-Ok-clause-late g c =
+    let x = awaited_lent c.in-Some.asked in
+    let gave = performed_in c.in-Some-perform.outcome in
+    let handed = performed_in c.fitting-outcome.result in (
+      record { call = x.call; gave = gave; handed = handed } ∷ [],
+      c.in-Some-perform.ensures.answered,
+      λ s held calls past waiting moment octets written w a.
+          performed-late g.C.Catalogue.offers s held calls past waiting c.args.engine.now x gave handed c.in-Some.ensures c.fitting-outcome.ensures.handed moment octets written w a Done c.answer.new.self c.args.out.now.items c.answer.new.out.items (c.in-Ok.ensures.late s held calls past waiting moment octets written w a) _ (λ front rest is plain. all-of front rest octets is (plain refl)),
+    )
+
+pub returns-in-Err-clause-late : goal.returns-in-Err-clause-late
+returns-in-Err-clause-late g c =
+    let x = awaited_lent c.in-Some.asked in
+    let gave = performed_in c.in-Some-perform.outcome in
+    let handed = performed_in c.fitting-outcome.result in (
+      record { call = x.call; gave = gave; handed = handed } ∷ [],
+      c.in-Some-perform.ensures.answered,
+      λ s held calls past waiting moment octets written w a.
+          performed-late g.C.Catalogue.offers s held calls past waiting c.args.engine.now x gave handed c.in-Some.ensures c.fitting-outcome.ensures.handed moment octets written w a (note_of c.answer.result) c.answer.new.self c.args.out.now.items c.answer.new.out.items (c.answer.ensures.late s held calls past waiting moment octets written w a) _ (λ front rest is plain. (rest, is, refl)),
     )

@@ -20,4 +20,4 @@ returns-clause-ok g c s h holds =
     (c.close.ensures.late s h.held h.calls h.past h.waiting r.stays) in
     let none : waits_on c.args.engine.now c.args.connection ≡ 0 = none-left _ (λ some. let refused : None ≡ Some c.in-Some.note = ap note_of_closing (sym (c.close.ensures.waits.1 some)) ∙ is in cc) in
     ends-deed g.C.Catalogue.offers s h c.args.engine.now c.close.new.self r (history.Close c.args.connection) c.in-Some.note c.new-octets.result.items c.close.new.out.items c.new-octets.ensures.items late c.close.ensures.parked c.close.ensures.asks (unawaited g.C.Catalogue.offers s h c.args.engine.now r c.args.connection none)
-    (code.Event (happening.Close c.args.connection)) refl
+    refl (code.Event (happening.Close c.args.connection)) refl

@@ -13,7 +13,7 @@ returns-clause-ok g c s h holds =
     let r = resting g.C.Catalogue.offers s h c.args.engine.now holds c.requires.idle in
     elim c.match-event.branch [
       | in-Opened w ↦
-          let d = ends-deed g.C.Catalogue.offers s h c.args.engine.now w.connect.new.self r (history.Opened w.in-Opened.c) (note_of_opening w.connect.result) [] [] refl (w.connect.ensures.late s h.held h.calls h.past h.waiting r.stays) w.connect.ensures.parked w.connect.ensures.asks tt (code.Event (event.Opened w.in-Opened.c)) refl in
+          let d = ends-deed g.C.Catalogue.offers s h c.args.engine.now w.connect.new.self r (history.Opened w.in-Opened.c) (note_of_opening w.connect.result) [] [] refl (w.connect.ensures.late s h.held h.calls h.past h.waiting r.stays) w.connect.ensures.parked w.connect.ensures.asks tt refl (code.Event (event.Opened w.in-Opened.c)) refl in
           rw (w.engine-is, w.octets-is, w.connection-is, w.in-Opened.is, w.opened.ensures, c.new-octets.ensures.items) d
       | in-Piece w ↦
           let size : w.len.result ≡ length w.deref.result.now = w.len.ensures ∙ grind (arith, common_steps) in

@@ -1,6 +1,7 @@
 use Rattle.std.proofs.Common.{◌≡◌, List, ℕ, [], ◌++◌, ap, subst, ◌∙◌}
 use Rattle.giop_link.specs.Linking.{close_connection}
 use Rattle.ft_orb.specs.Sessions.{TookAll, TookFront}
+use Rattle.ft_orb.proofs.Elsewhere.{read-none, said-all, said-front}
 use Rattle.ft_orb.proofs.Streams.{grows-none, parted}
 use Rattle.ft_orb.proofs.hosting.say_farewell.Goals as goal
 
@@ -23,3 +24,12 @@ returns-in-Err-write_all-clause-table g c w calls past st going =
     let octets : c.deref.result.now ≡ close_connection = c.deref.ensures.value ∙ x.2 ∙ ap (λ (xs : List ℕ). xs ++ close_connection) c.clear.ensures.items in
     let took = subst (λ (xs : List ℕ). TookFront xs (g.W.Wire.traffic c.args.wire.now) (g.W.Wire.traffic c.write_all.new.wire)) octets c.in-Err-write_all.ensures.err in
     (took.0, x.0, took.1, tt, took.2, x.3)
+
+pub returns-in-Err-clause-wire : goal.returns-in-Err-clause-wire
+returns-in-Err-clause-wire g c = read-none (g.W.Wire.traffic c.args.wire.now)
+
+pub returns-in-Ok-clause-wire : goal.returns-in-Ok-clause-wire
+returns-in-Ok-clause-wire g c = said-all _ (g.W.Wire.traffic c.args.wire.now) (g.W.Wire.traffic c.write_all.new.wire) c.in-Ok.ensures.ok
+
+pub returns-in-Err-write_all-clause-wire : goal.returns-in-Err-write_all-clause-wire
+returns-in-Err-write_all-clause-wire g c = said-front _ (g.W.Wire.traffic c.args.wire.now) (g.W.Wire.traffic c.write_all.new.wire) c.in-Err-write_all.ensures.err

@@ -1,7 +1,9 @@
-use Rattle.std.proofs.Common.{ap, sym, subst, ◌∙◌}
+use Rattle.std.proofs.Common.{List, ℕ, [], ◌++◌, None, ap, sym, subst, ◌∙◌}
 use Rattle.ft_orb.specs.History.{Close}
 use Rattle.ft_orb.specs.Outputs.{after}
+use Rattle.ft_orb.specs.Sessions.{LosesLate, ServesRead}
 use Rattle.ft_orb.specs.Wires.{past_with}
+use Rattle.ft_orb.proofs.Elsewhere.{late-alone, late-left, late-then, read-then, read-wire}
 use Rattle.ft_orb.proofs.Handing.{attends-so}
 use Rattle.ft_orb.proofs.Streams.{served-all, served-early}
 use Rattle.ft_orb.proofs.hosting.serve_host.Goals as goal
@@ -44,4 +46,23 @@ returns-clause-table g c =
           let f = b.say_farewell-end.ensures.table w later then y.1.turned.stands y.1.ongoing.1 in
           served-all (g.H.Host.as_owner w) (g.H.Host.says w) past c.args.connection c.args.max_reads _ _ _ _ (g.H.Host.Holds w later c.serve_pieces.new.host) (g.H.Host.Holds w later c.forget.new.self) b.say_farewell-end.result _ y f.0 f.2 f.4
           (c.forget.ensures.closed w later then f.1 (subst (λ (host : g.row.H.Denot). g.H.Host.Holds w later host (after (g.H.Host.as_owner w).limits then (Close c.args.connection) f.1)) (sym b.host-is) f.5))))
+    ]
+
+pub returns-clause-late : goal.returns-clause-late
+returns-clause-late g c =
+    let stays = g.H.Host.HoldsLate in
+    let lost = λ (host : g.row.H.Denot). LosesLate stays c.args.connection host c.forget.new.self in
+    elim c.match-serve_pieces.branch [
+      | in-Some b ↦
+          rw (b.end-is, b.wire-is)
+          (late-left stays c.args.connection _ _ _ c.args.host.now c.serve_pieces.new.host c.forget.new.self
+          b.in-Some.ensures.late
+          (subst lost b.host-is c.forget.ensures.late))
+      | in-None b ↦
+          rw (b.end-is, b.wire-is)
+          (late-left stays c.args.connection _ _ _ c.args.host.now b.say_farewell-end.new.host c.forget.new.self
+          (late-then stays c.args.connection _ _ _
+          (λ (x y : List ℕ) p q. read-wire b.say_farewell-end.result (x ++ y) _ _ (subst (λ (l : List ℕ). ServesRead None (x ++ l) (g.W.Wire.traffic c.args.wire.now) (g.W.Wire.traffic b.say_farewell-end.new.wire)) (sym q) (read-then None x [] _ _ _ p b.say_farewell-end.ensures.wire))) _ _ _ c.args.host.now c.serve_pieces.new.host b.say_farewell-end.new.host b.in-None.ensures.late
+          (late-alone stays c.args.connection _ _ c.serve_pieces.new.host b.say_farewell-end.new.host b.say_farewell-end.ensures.late))
+          (subst lost b.host-is c.forget.ensures.late))
     ]

@@ -2,6 +2,7 @@ use Rattle.std.proofs.Common.{refl}
 use Rattle.ft_orb.specs.declared.events.Note.TheVariants.{Done, Memory}
 use Rattle.ft_orb.specs.History.{line}
 use Rattle.ft_orb.specs.Runs.{owner_by}
+use Rattle.ft_orb.proofs.Elsewhere.{late-alone}
 use Rattle.ft_orb.proofs.Handing.{attends-none}
 use Rattle.ft_orb.proofs.Streams.{refused-gone}
 use Rattle.ft_orb.proofs.streaming.ServerHostUnit.feed_whole.Goals as goal
@@ -16,3 +17,12 @@ returns-in-Err-NoConnection-clause-table g c =
 pub returns-in-Err-Memory-clause-table : goal.returns-in-Err-Memory-clause-table
 returns-in-Err-Memory-clause-table g c =
     attends-none (owner_by g.S.Servant.meaning) _ (λ made calls past x. (Memory c.in-Err-Memory.field-0-0 c.in-Err-Memory.field-0-1, refl, rw c.in-Err-Memory.field-0-is at (c.in-Err-Memory.ensures.table made past x.0)))
+
+pub returns-in-Ok-clause-late : goal.returns-in-Ok-clause-late
+returns-in-Ok-clause-late g c = late-alone _ c.args.connection _ _ c.args.self.now c.feed.new.self (λ s held calls past waiting x. absurd x)
+
+pub returns-in-Err-NoConnection-clause-late : goal.returns-in-Err-NoConnection-clause-late
+returns-in-Err-NoConnection-clause-late g c = late-alone _ c.args.connection _ _ c.args.self.now c.feed.new.self (λ s held calls past waiting x. absurd x)
+
+pub returns-in-Err-Memory-clause-late : goal.returns-in-Err-Memory-clause-late
+returns-in-Err-Memory-clause-late g c = late-alone _ c.args.connection _ _ c.args.self.now c.feed.new.self (λ s held calls past waiting x. absurd x)

@@ -14,3 +14,9 @@ pub returns-in-Err-clause-table : goal.returns-in-Err-clause-table
 returns-in-Err-clause-table g c made calls past st going =
     let w = c.close.ensures.table made past st in
     (note_of c.close.result, given-up made.limits g.S.Servant.meaning.knows (table_says g.S.Servant.meaning made) past c.args.connection c.close.result w.0 (ap is_err c.in-Err.is) going w.2, tt, w.3)
+
+pub returns-in-Ok-clause-late : goal.returns-in-Ok-clause-late
+returns-in-Ok-clause-late g c s held calls past waiting x = absurd x
+
+pub returns-in-Err-clause-late : goal.returns-in-Err-clause-late
+returns-in-Err-clause-late g c s held calls past waiting x = absurd x
