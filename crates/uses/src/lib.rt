@@ -1,4 +1,4 @@
-//! Twenty-one uses of the libraries, as a caller writes them: each is one file with one subject, proved, and
+//! Twenty-two uses of the libraries, as a caller writes them: each is one file with one subject, proved, and
 //! run by a test of `uses_tests`, whose octets are written out by hand from the standard's layouts (CDR 9.3, GIOP 9.4).
 //! The pages of the repository quote them.
 #![tactic(auto)]
@@ -22,6 +22,7 @@ mod pieces;
 mod relaying;
 mod retrying;
 mod saving;
+mod securing;
 mod serving;
 mod tickets;
 
@@ -44,5 +45,6 @@ pub use pieces::{Piece, serve_pieces};
 pub use relaying::{Back, Behind, Relay, serve_relay};
 pub use retrying::{RetryingError, next_ticket};
 pub use saving::Savings;
+pub use securing::answer_secured;
 pub use serving::{ServingError, serve_once};
 pub use tickets::Tickets;

@@ -45,4 +45,6 @@ mod retrying;
 #[cfg(test)]
 mod saving;
 #[cfg(test)]
+mod securing;
+#[cfg(test)]
 mod serving;
