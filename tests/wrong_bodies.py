@@ -142,7 +142,8 @@ class Trials:
         self.room = tempfile.mkdtemp(prefix="wrong-bodies-")
 
     def has_time(self):
-        return self.budget is None or self.spent < self.budget
+        """Whether another check may begin: within the budget, and as long as nothing has come of any edit."""
+        return self.budget is None or self.spent < self.budget or not self.results
 
     def note(self, edit, result, is_known=False):
         """Notes what came of an edit, and that it is refused as its file says; or adds that to its file."""
