@@ -103,10 +103,6 @@ class OfChecks(unittest.TestCase):
             self.assertEqual(Trials.compared(trials, edit, seen).kind, kind, said)
 
 
-if __name__ == "__main__":
-    unittest.main()
-
-
 class OfTurns(unittest.TestCase):
     """Which wrong bodies are due."""
 
@@ -123,3 +119,14 @@ class OfTurns(unittest.TestCase):
                 self.assertTrue(taken)
                 met += [it for _, some in taken for it in some]
         self.assertEqual([it.name for some in edits.values() for it in some if it not in met], [])
+
+    def test_time(self):
+        """A check that took the whole budget and told nothing, as where an edit of its round does not compile, is no end."""
+        for spent, results, has_time in ((599, {"edit": REFUSED}, True), (601, {"edit": REFUSED}, False), (950, {}, True)):
+            trials = types.SimpleNamespace(budget=600, spent=spent, results=results)
+            self.assertEqual(Trials.has_time(trials), has_time, spent)
+        self.assertTrue(Trials.has_time(types.SimpleNamespace(budget=None, spent=9e9, results={"edit": REFUSED})))
+
+
+if __name__ == "__main__":
+    unittest.main()
