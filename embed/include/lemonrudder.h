@@ -35,12 +35,19 @@
 extern "C" {
 #endif
 
-/* The version of this header: major, minor and patch. */
+/* Stands before each function that the library has: empty, or what you define before, an attribute say. */
+#ifndef LR_API
+#define LR_API
+#endif
+
+/* The version of this header: major, minor and patch, and all three as one number, which #if can compare. */
 #define LR_VERSION_MAJOR 0
 #define LR_VERSION_MINOR 1
 #define LR_VERSION_PATCH 0
+#define LR_VERSION_NUMBER (LR_VERSION_MAJOR * 65536 + LR_VERSION_MINOR * 256 + LR_VERSION_PATCH)
 
-/* The version of the library that is linked: major * 65536 + minor * 256 + patch. */
+/* The version of the library that is linked, as LR_VERSION_NUMBER is. It serves this header where it is not less, and
+ * of the same series: it has the same major number, and before 1.0 the same minor number. */
 uint32_t lr_version(void);
 
 /* ---- slots ---- */
@@ -56,6 +63,13 @@ typedef struct { uint32_t kind; void *at; } lr_ior;       /* a reference to an o
 
 /* Empties a slot of any kind. */
 void lr_close(void *slot);
+
+/* The same, of one kind: a compiler refuses a pointer to anything else. */
+static inline void lr_catalogue_close(lr_catalogue *catalogue) { lr_close(catalogue); }
+static inline void lr_server_close(lr_server *server) { lr_close(server); }
+static inline void lr_client_close(lr_client *client) { lr_close(client); }
+static inline void lr_assembler_close(lr_assembler *assembler) { lr_close(assembler); }
+static inline void lr_ior_close(lr_ior *ior) { lr_close(ior); }
 
 /* ---- errors ---- */
 
@@ -88,8 +102,12 @@ enum {
   LR_E_PLACE = -25      /* the body would stand at a place that is not divisible by 8 */
 };
 
-/* The text of an error, with a NUL at its end. */
+/* The text of an error, with a NUL at its end; that of LR_OK, where the number is 0 or more. */
 const char *lr_strerror(int64_t error);
+
+/* The name of an error, with a NUL at its end: "LR_E_RANGE". "LR_OK", where the number is 0 or more; "LR_E_UNKNOWN",
+ * where this library has no such error. */
+const char *lr_error_name(int64_t error);
 
 /* ---- names of numbers ---- */
 
@@ -597,7 +615,8 @@ int64_t lr_put_octets(void *room, size_t size, lr_place *place, const void *data
 
 /* All memory comes from malloc, realloc and free, unless you give others: allocate and reallocate answer NULL where
  * there is no memory. Call it before any other function, or not at all. Memory is aligned to 16. It is the one thing
- * that all slots share. LR_E_RANGE, where one of them is NULL: the heap is as it was. */
+ * that all slots share. LR_E_RANGE, where one of them is NULL, and LR_E_OPEN, once memory was taken from the heap, also
+ * where all of it was given back: the heap is as it was. */
 int64_t lr_set_heap(void *(*allocate)(size_t), void *(*reallocate)(void *, size_t), void (*release)(void *));
 
 #ifdef __cplusplus
