@@ -8,9 +8,8 @@
 #include <stdlib.h>
 
 /* What the header declares is exported, and nothing else, where this file is compiled with -fvisibility=hidden. */
-#pragma GCC visibility push(default)
+#define LR_API __attribute__((visibility("default")))
 #include "lemonrudder.h"
-#pragma GCC visibility pop
 
 static void *(*allocate_octets)(size_t) = malloc;
 static void *(*reallocate_octets)(void *, size_t) = realloc;
