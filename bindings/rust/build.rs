@@ -1,9 +1,14 @@
 //! Finds liblemonrudder.a: in LEMONRUDDER_LIB_DIR; else where pkg-config says; else in the
-//! repository's `out/lib`.
+//! repository's `out/lib`. Where the library is of another version than the crate wants, the build
+//! ends.
 
 use std::env;
+use std::fs;
 use std::path::{Path, PathBuf};
 use std::process::Command;
+
+#[path = "src/versions.rs"]
+mod versions;
 
 const ARCHIVE: &str = "liblemonrudder.a";
 
@@ -26,6 +31,23 @@ fn built() -> Option<PathBuf> {
     root.join(ARCHIVE).is_file().then_some(root)
 }
 
+/// Looks whether the library in a folder is one for this crate, by the file for pkg-config that is installed with it.
+fn check_version(folder: &Path) {
+    let package = folder.join("pkgconfig/lemonrudder.pc");
+    let wanted = env!("CARGO_PKG_VERSION");
+    let text = fs::read_to_string(&package).unwrap_or_default();
+    match text.lines().find_map(|line| line.strip_prefix("Version:")) {
+        Some(version) => assert!(
+            versions::serves(version, wanted),
+            "the library in {} is of version {}: this crate wants {wanted}, or a later one of its series",
+            folder.display(),
+            version.trim(),
+        ),
+        None => println!("cargo:warning={} does not say which version the library is", package.display()),
+    }
+    println!("cargo:rerun-if-changed={}", package.display());
+}
+
 fn main() {
     for name in ["LEMONRUDDER_LIB_DIR", "PKG_CONFIG_PATH", "PKG_CONFIG_LIBDIR"] {
         println!("cargo:rerun-if-env-changed={name}");
@@ -35,6 +57,7 @@ fn main() {
     };
     let archive = folder.join(ARCHIVE);
     assert!(archive.is_file(), "there is no {}", archive.display());
+    check_version(&folder);
     println!("cargo:rerun-if-changed={}", archive.display());
     println!("cargo:rustc-link-search=native={}", folder.display());
     println!("cargo:rustc-link-lib=static=lemonrudder");
