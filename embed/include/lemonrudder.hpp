@@ -5,8 +5,9 @@
  * made without `open`: its calls answer LR_E_EMPTY. No function throws. What may fail answers a Result, which must be
  * looked at. Octets that go in are lent for the time of a call; a copy that comes out is a std::vector.
  *
- * All of it is in an inline namespace of this series of versions, so that parts of a program which were compiled with
- * others do not mix. Write lemonrudder::Server; what you declare ahead, take from this header.
+ * Its names are written lemonrudder::Server and so on. They stand in an inline namespace, one for each minor version
+ * before 1.0 and then for each major one, so that parts of a program that were compiled with two of these do not mix;
+ * so a declaration of your own, as `namespace lemonrudder { class Server; }`, is of another class.
  */
 #ifndef LEMONRUDDER_HPP
 #define LEMONRUDDER_HPP
@@ -67,14 +68,14 @@ struct Element<Range, std::void_t<decltype(static_cast<std::size_t>(std::declval
 template <class Range>
 using ElementOf = typename Element<Range>::type;
 
-/* Whether a range owns its elements, which are gone with it: an array, or one that is const with its elements. Else it
- * is a view. */
+/* Whether a range owns its elements, which are gone with it, as an array does, and what makes them const where it is
+ * const itself. A view does not. */
 template <class Range>
 inline constexpr bool owns = !std::is_same_v<ElementOf<Range>, ElementOf<const Range>>;
 template <class T, std::size_t N>
 inline constexpr bool owns<std::array<T, N>> = true;
 
-/* Whether what a forwarding reference takes owns its elements, and may be gone before they are looked at. */
+/* Whether what a forwarding reference takes owns its elements, and is gone after the expression. */
 template <class Range>
 inline constexpr bool is_gone = !std::is_reference_v<Range> && owns<std::remove_const_t<Range>>;
 
@@ -94,7 +95,7 @@ template <std::size_t N>
 inline constexpr bool is_literal<char8_t[N]> = true;
 #endif
 
-/* The same place, where octets stand. */
+/* The same place, as one of octets. */
 template <class T>
 constexpr const std::uint8_t* octets_at(const T* at) noexcept {
   if constexpr (std::is_same_v<T, std::uint8_t>)
@@ -211,8 +212,8 @@ Changed<Change, Values...> changed(Change&& change, Values&&... values) {
 
 }  // namespace detail
 
-/* A value, or an error. The value is looked at only where there is one: else `*` ends the process, by assert(). Of a
- * Result<bool> only ok() says that: as a condition it could be taken for the value. */
+/* A value, or an error. The value is looked at only where there is one, which assert() checks. Of a Result<bool> only
+ * ok() says that: as a condition it could be taken for the value. */
 template <class T>
 class [[nodiscard]] Result {
  public:
@@ -360,7 +361,7 @@ bool resize(Container& octets, std::size_t size) noexcept {
 }
 
 /* What most keys, names and contexts fit into. */
-constexpr std::size_t small_room = 64;
+inline constexpr std::size_t small_room = 64;
 
 /* All octets of what `copy(room, size)` copies and answers the size of. There are probably so many at most; where that
  * is so, it is asked once. */
@@ -673,7 +674,7 @@ class Server : public Slot<lr_server> {
   Count output(Room room) noexcept { return detail::count(lr_server_output(slot(), room.data(), room.size())); }
 };
 
-/* A call of a client. */
+/* A call of a client. What it names lives until it is handed in. */
 struct Call {
   Octets key;
   Octets operation;
@@ -933,7 +934,7 @@ class Reader {
 namespace detail {
 
 /* The greatest length of a text, or of a sequence. */
-constexpr std::uint64_t most = 0xffffffff;
+inline constexpr std::uint64_t most = 0xffffffff;
 
 }  // namespace detail
 
@@ -958,7 +959,7 @@ class Writer {
   Done put_enumerator(Enum name) noexcept {
     return put_ulong(static_cast<std::uint32_t>(name));
   }
-  /* How many elements of a sequence follow. LR_E_LONG. */
+  /* How many elements of a sequence follow. */
   Done put_count(std::size_t count) noexcept {
     return count > detail::most ? Done(Error(LR_E_LONG)) : put_ulong(static_cast<std::uint32_t>(count));
   }
@@ -983,7 +984,7 @@ class Writer {
 };
 
 /* Writes values one after another into octets of its own, which grow, aligned from place 0. The first error is kept,
- * and nothing is written after it: so one look at the end is enough, at done() or take(). */
+ * and nothing is written after it: so it is enough to look once, at done() or take(), after the last value. */
 class GrowingWriter {
  public:
   explicit GrowingWriter(Order order = Order::big) noexcept : place_{0, 0, static_cast<std::uint32_t>(order), 0} {}
