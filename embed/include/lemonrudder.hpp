@@ -68,8 +68,8 @@ struct Element<Range, std::void_t<decltype(static_cast<std::size_t>(std::declval
 template <class Range>
 using ElementOf = typename Element<Range>::type;
 
-/* Whether a range owns its elements, which are gone with it, as an array does, and what makes them const where it is
- * const itself. A view does not. */
+/* Whether a range owns its elements, which are gone with it: so does an array, and a range whose elements are const
+ * where it is. A view does not. */
 template <class Range>
 inline constexpr bool owns = !std::is_same_v<ElementOf<Range>, ElementOf<const Range>>;
 template <class T, std::size_t N>
@@ -474,8 +474,9 @@ enum class MessageType : std::uint32_t {
   fragment = LR_FRAGMENT
 };
 
-/* A request that waits for its outcome. Here and below, functions give numbers of the structs of lemonrudder.h as one
- * of these names. */
+/* Three structs of lemonrudder.h, with functions that answer what some of their numbers are called above. */
+
+/* A request that waits for its outcome. */
 struct Request : lr_request {
   Order byte_order() const noexcept { return Order{body_order}; }
   Wish wished() const noexcept { return Wish{wish}; }
