@@ -3,6 +3,7 @@
 #include <cstdio>
 #include <cstdlib>
 #include <lemonrudder.hpp>
+#include <new>
 #include <string>
 #include <type_traits>
 #include <utility>
@@ -13,6 +14,19 @@
 
 namespace lr = lemonrudder;
 using namespace lr::literals;
+
+#ifdef __cpp_exceptions
+/* Whether `new` finds no memory. */
+static bool is_without_memory = false;
+
+void* operator new(std::size_t size) {
+  void* const at = is_without_memory ? nullptr : std::malloc(size);
+  if (at == nullptr) throw std::bad_alloc();
+  return at;
+}
+void operator delete(void* at) noexcept { std::free(at); }
+void operator delete(void* at, std::size_t) noexcept { std::free(at); }
+#endif
 
 namespace {
 
@@ -406,10 +420,6 @@ void parts_are_asked_for_once() {
     const auto known = lr::detail::copied(copy, size);
     CHECK(known && *known == sevens && asked == 1);
   }
-#ifdef __cpp_exceptions
-  Vector none;
-  CHECK(!lr::detail::resize(none, none.max_size() + 1) && none.empty());
-#endif
 }
 
 enum class Colour { red, green, blue };
@@ -480,6 +490,22 @@ void first_errors_are_kept() {
   CHECK(lr::GrowingWriter(static_cast<lr::Order>(2)).put_short(1).done().error() == LR_E_RANGE);
 }
 
+#ifdef __cpp_exceptions
+/* Where there is no memory an error is answered, and what was written stays. */
+void want_of_memory_is_answered() {
+  const std::array<std::uint8_t, 4096> many{};
+  lr::GrowingWriter out;
+  CHECK(out.put_octet(1).done());
+  is_without_memory = true;
+  const auto error = out.put_octets(many).put_octet(2).done().error();
+  const auto copied = lr::detail::copied([](std::uint8_t*, std::size_t) { return std::int64_t{5}; });
+  is_without_memory = false;
+  CHECK(error == LR_E_MEMORY && out.octets().size() == 1 && copied.error() == LR_E_MEMORY);
+  out.clear();
+  CHECK(out.put_octets(many).done() && out.octets().size() == 4100);
+}
+#endif
+
 /* A sequence that says more elements than octets are left is refused, and the reader stands where it stood. */
 void counts_are_bounded() {
   std::array<std::uint8_t, 6> room;
@@ -516,6 +542,9 @@ int main() {
   parts_are_asked_for_once();
   octets_grow();
   first_errors_are_kept();
+#ifdef __cpp_exceptions
+  want_of_memory_is_answered();
+#endif
   counts_are_bounded();
   moments_are_counted();
   std::printf("%ld passed, %ld failed\n", passed, failed);
