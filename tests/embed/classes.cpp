@@ -301,7 +301,7 @@ void messages_have_names() {
   const auto located = read(lr::write_locate_reply(room, {}, lr::LocateStatus::object_here));
   CHECK(located.message_type() == lr::MessageType::locate_reply);
   CHECK(located.locate_status() == lr::LocateStatus::object_here);
-  CHECK(assembler->feed("no message at all").ok());
+  CHECK(assembler->feed("no message at all").error() == LR_E_STREAM);
   const auto fault = assembler->fault();
   CHECK(fault && *fault == lr::Fault::magic);
 }
