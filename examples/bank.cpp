@@ -61,11 +61,11 @@ class Bank {
       const auto read = in.get_longlong();
       amount = read ? *read : 0;
     }
-    if (!account || account->empty()) return server.system(LR_BAD_PARAM, 0, LR_COMPLETED_NO);
+    if (!account || account->empty()) return server.system(lr::SystemException::bad_param, 0, lr::Completed::no);
     const auto found = accounts_.find(*account);
     const std::int64_t before = found == accounts_.end() ? 0 : found->second;
     if (amount > 0 && before > std::numeric_limits<std::int64_t>::max() - amount)
-      return server.system(LR_BAD_PARAM, 0, LR_COMPLETED_NO);
+      return server.system(lr::SystemException::bad_param, 0, lr::Completed::no);
     const std::int64_t after = before + amount;
     std::array<std::uint8_t, 8> room;
     lr::Writer out(room);

@@ -27,7 +27,7 @@ int main() {
   sure(client.call(now, {"counter", "add", now + 600000000, types, seven}));
 
   std::int64_t total = 0;
-  for (std::uint64_t connection : {1, 2}) {
+  for (std::uint64_t connection : {1u, 2u}) {
     std::uint8_t room[4096];
     sure(server.connect(connection));
     sure(client.connected(now));
@@ -53,8 +53,7 @@ int main() {
   }
   if (const auto completion = sure(client.completed())) {
     const auto body = sure(client.body());
-    const auto order = static_cast<lr::Order>(completion->body_order);
-    const auto result = sure(lr::Reader(body, order, completion->body_at).get_longlong());
+    const auto result = sure(lr::Reader(body, completion->byte_order(), completion->body_at).get_longlong());
     std::printf("add returned %lld, the total is %lld\n", (long long)result, (long long)total);
   }
 }

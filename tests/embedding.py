@@ -36,7 +36,7 @@ from tests.programs import ROOT
 EMBED = os.path.join(ROOT, "tests", "embed")
 EXAMPLES = os.path.join(ROOT, "examples")
 WARNINGS = ["-Wall", "-Wextra", "-Wpedantic", "-Wshadow", "-Werror"]
-C, CPP = ["-std=c99", *WARNINGS], ["-std=c++17", *WARNINGS]
+C, CPP = ["-std=c99", *WARNINGS], ["-std=c++17", *WARNINGS, "-Wconversion"]
 SANITIZED = ["-fsanitize=address,undefined", "-fno-sanitize-recover=all"]
 THREADS = ["-fsanitize=thread"]
 VALGRIND = ["valgrind", "-q", "--error-exitcode=9", "--leak-check=full"]
@@ -384,6 +384,50 @@ def run_program(kit: Kit, source: str, way: str) -> None:
     name = f"{source} {way}".replace(".", "_").replace(" ", "_")
     libraries = kit.shared() if way == "with the shared library" else None
     ran_well([*before, kit.compile(name, [os.path.join(EMBED, source)], [f"-I{EMBED}", *flags], libraries)])
+
+
+# ---- the header for C++ ----
+
+STANDARDS = ["c++17", "c++20", "c++2b"]
+BARE = ["-fno-exceptions", "-fno-rtti", "-DNDEBUG"]
+
+
+def header_compiles(kit: Kit) -> None:
+    """What uses it compiles silently by both compilers, in each standard, without exceptions and assert() too."""
+    classes = os.path.join(EMBED, "classes.cpp")
+    others = [os.path.join(EXAMPLES, "first.cpp"), os.path.join(EXAMPLES, "bank.cpp")]
+    for compiler in [programs.tool("g++"), *(["clang++"] if shutil.which("clang++") else [])]:
+        for standard in STANDARDS:
+            for flags, sources in (([], [classes]), (BARE, [classes, *(others if standard == STANDARDS[-1] else [])])):
+                run(compiler, *CPP, f"-std={standard}", *flags, f"-I{kit.include}", "-fsyntax-only", *sources)
+
+
+def header_names_have_a_version(kit: Kit) -> None:
+    """All that a program is given by it has the version in its name, so that two versions may be in one program."""
+    made = os.path.join(kit.work, "classes.o")
+    run(programs.tool("g++"), *CPP, f"-I{kit.include}", "-c", os.path.join(EMBED, "classes.cpp"), "-o", made)
+    found = set(re.findall(r"lemonrudder::(\w+)", run("nm", "-C", made)))
+    with open(os.path.join(kit.include, "lemonrudder.h"), encoding="ascii") as file:
+        major, minor = re.findall(r"#define LR_VERSION_M\w+ (\d+)", file.read())
+    want(found, {f"v0_{minor}" if major == "0" else f"v{major}"})
+
+
+def header_names_numbers(kit: Kit) -> None:
+    """Each number that the header for C names has a name in it too; errors and types have but the one."""
+    with open(os.path.join(kit.include, "lemonrudder.h"), encoding="ascii") as file:
+        text = file.read()
+    types = re.findall(r"\b(LR_\w+) =", text[text.index("LR_BOOLEAN ="):text.index("/* A moment,")])
+    named = set(re.findall(r"\b(LR_\w+) = \d", text)) - {"LR_OK", *types}
+    with open(os.path.join(kit.include, "lemonrudder.hpp"), encoding="ascii") as file:
+        want(named - set(re.findall(r"\bLR_\w+", file.read())), set())
+
+
+def header_checks_results(kit: Kit) -> None:
+    """Who looks at the value of an error is ended by assert()."""
+    program = kit.compile("value", [os.path.join(EMBED, "value.cpp")], [])
+    for words in range(8):
+        ran = subprocess.run([program, *["word"] * words], stderr=subprocess.DEVNULL, check=False)
+        want(ran.returncode, 0 if words < 4 else -signal.SIGABRT)
 
 
 # ---- processes ----
@@ -958,6 +1002,15 @@ def of_functions(functions: list[Callable]) -> Callable:
             setattr(tests, f"test_{function.__name__}", test)
         return tests
     return made
+
+
+@of_functions([header_compiles, header_names_have_a_version, header_names_numbers, header_checks_results])
+class Header(unittest.TestCase):
+    """The header for C++."""
+
+    @classmethod
+    def setUpClass(cls) -> None:
+        cls.subject = the_kit()
 
 
 @of_functions(LIBRARY)

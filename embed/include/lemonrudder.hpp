@@ -4,11 +4,16 @@
  * Objects own what they hold and free it; they are moved, and not copied. A moved-from object is empty, as one that was
  * made without `open`: its calls answer LR_E_EMPTY. No function throws. What may fail answers a Result, which must be
  * looked at. Octets that go in are lent for the time of a call; a copy that comes out is a std::vector.
+ *
+ * Its names are written lemonrudder::Server and so on. They stand in an inline namespace, one for each minor version
+ * before 1.0 and then for each major one, so that parts of a program that were compiled with two of these do not mix;
+ * so a declaration of your own, as `namespace lemonrudder { class Server; }`, is of another class.
  */
 #ifndef LEMONRUDDER_HPP
 #define LEMONRUDDER_HPP
 
 #include <array>
+#include <cassert>
 #include <chrono>
 #include <cstddef>
 #include <cstdint>
@@ -21,27 +26,107 @@
 #include <utility>
 #include <vector>
 
+#if __has_include(<version>)
+#include <version>
+#endif
+#ifdef __cpp_lib_expected
+#include <expected>
+#endif
+
 #include "lemonrudder.h"
 
 namespace lemonrudder {
+inline namespace v0_1 {
 
 /* ---- octets ---- */
 
-/* Octets that are lent: a pointer and a size. */
+namespace detail {
+
+/* Whether values of a type are octets. */
+template <class T>
+inline constexpr bool is_octet = std::is_same_v<T, std::uint8_t> || std::is_same_v<T, std::byte> ||
+                                 std::is_same_v<T, char> || std::is_same_v<T, signed char>;
+#ifdef __cpp_char8_t
+template <>
+inline constexpr bool is_octet<char8_t> = true;
+#endif
+
+/* The type of the elements of a contiguous range, which is an array or has data() and size(); else void. */
+template <class Range, class = void>
+struct Element {
+  using type = void;
+};
+template <class T, std::size_t N>
+struct Element<T[N]> {
+  using type = T;
+};
+template <class Range>
+struct Element<Range, std::void_t<decltype(static_cast<std::size_t>(std::declval<Range&>().size())),
+                                  decltype(std::declval<Range&>().data())>> {
+  using type = std::remove_pointer_t<decltype(std::declval<Range&>().data())>;
+};
+template <class Range>
+using ElementOf = typename Element<Range>::type;
+
+/* Whether a range owns its elements, which are gone with it: so does an array, and a range whose elements are const
+ * where it is. A view does not. */
+template <class Range>
+inline constexpr bool owns = !std::is_same_v<ElementOf<Range>, ElementOf<const Range>>;
+template <class T, std::size_t N>
+inline constexpr bool owns<std::array<T, N>> = true;
+
+/* Whether what a forwarding reference takes owns its elements, and is gone after the expression. */
+template <class Range>
+inline constexpr bool is_gone = !std::is_reference_v<Range> && owns<std::remove_const_t<Range>>;
+
+/* Whether the elements of a range are lent as octets, or as room. */
+template <class Range>
+inline constexpr bool is_lent = is_octet<std::remove_cv_t<ElementOf<const Range>>>;
+template <class Range>
+inline constexpr bool is_room = is_octet<ElementOf<std::remove_reference_t<Range>>> && !is_gone<Range>;
+
+/* Whether a type is an array of characters, as a literal is. */
+template <class Range>
+inline constexpr bool is_literal = false;
+template <std::size_t N>
+inline constexpr bool is_literal<char[N]> = true;
+#ifdef __cpp_char8_t
+template <std::size_t N>
+inline constexpr bool is_literal<char8_t[N]> = true;
+#endif
+
+/* The same place, as one of octets. */
+template <class T>
+constexpr const std::uint8_t* octets_at(const T* at) noexcept {
+  if constexpr (std::is_same_v<T, std::uint8_t>)
+    return at;
+  else
+    return reinterpret_cast<const std::uint8_t*>(at);
+}
+template <class T>
+constexpr std::uint8_t* room_at(T* at) noexcept {
+  if constexpr (std::is_same_v<T, std::uint8_t>)
+    return at;
+  else
+    return reinterpret_cast<std::uint8_t*>(at);
+}
+
+}  // namespace detail
+
+/* Octets that are lent: a pointer and a size. Any contiguous range of octets, bytes or characters becomes that: a
+ * vector, string, array, view or span. A `const char*`, and a literal, is a text that ends before its first NUL; what
+ * has NULs is "\0\1"_o, or a pointer and a size. */
 class Octets {
  public:
   constexpr Octets() noexcept = default;
   constexpr Octets(const std::uint8_t* data, std::size_t size) noexcept : data_(data), size_(size) {}
-  template <std::size_t N>
-  constexpr Octets(const std::uint8_t (&octets)[N]) noexcept : data_(octets), size_(N) {}
-  template <std::size_t N>
-  constexpr Octets(const std::array<std::uint8_t, N>& octets) noexcept : data_(octets.data()), size_(N) {}
-  Octets(const std::vector<std::uint8_t>& octets) noexcept : data_(octets.data()), size_(octets.size()) {}
-  Octets(std::string_view text) noexcept
-      : data_(reinterpret_cast<const std::uint8_t*>(text.data())), size_(text.size()) {}
-  Octets(const std::string& text) noexcept : Octets(std::string_view(text)) {}
+  template <class T, std::enable_if_t<detail::is_octet<T>, int> = 0>
+  constexpr Octets(const T* data, std::size_t size) noexcept : data_(detail::octets_at(data)), size_(size) {}
+  template <class Range, std::enable_if_t<detail::is_lent<Range> && !detail::is_literal<Range>, int> = 0>
+  constexpr Octets(const Range& range) noexcept
+      : Octets(std::data(range), static_cast<std::size_t>(std::size(range))) {}
+  Octets(std::string_view text) noexcept : Octets(text.data(), text.size()) {}
   Octets(const char* text) noexcept : Octets(std::string_view(text)) {}
-  Octets(const char* text, std::size_t size) noexcept : Octets(std::string_view(text, size)) {}
 
   constexpr const std::uint8_t* data() const noexcept { return data_; }
   constexpr std::size_t size() const noexcept { return size_; }
@@ -60,16 +145,22 @@ class Octets {
   std::size_t size_ = 0;
 };
 
-/* Room for octets: a pointer and a size. */
+inline namespace literals {
+
+/* All octets of a literal, NULs too: "\0\1"_o. */
+inline Octets operator""_o(const char* text, std::size_t size) noexcept { return {text, size}; }
+
+}  // namespace literals
+
+/* Room for octets: a pointer and a size. A vector, array or span of octets, bytes or characters becomes that. */
 class Room {
  public:
   constexpr Room() noexcept = default;
   constexpr Room(std::uint8_t* data, std::size_t size) noexcept : data_(data), size_(size) {}
-  template <std::size_t N>
-  constexpr Room(std::uint8_t (&room)[N]) noexcept : data_(room), size_(N) {}
-  template <std::size_t N>
-  constexpr Room(std::array<std::uint8_t, N>& room) noexcept : data_(room.data()), size_(N) {}
-  Room(std::vector<std::uint8_t>& room) noexcept : data_(room.data()), size_(room.size()) {}
+  template <class T, std::enable_if_t<detail::is_octet<T>, int> = 0>
+  constexpr Room(T* data, std::size_t size) noexcept : data_(detail::room_at(data)), size_(size) {}
+  template <class Range, std::enable_if_t<detail::is_room<Range>, int> = 0>
+  constexpr Room(Range&& range) noexcept : Room(std::data(range), static_cast<std::size_t>(std::size(range))) {}
 
   constexpr std::uint8_t* data() const noexcept { return data_; }
   constexpr std::size_t size() const noexcept { return size_; }
@@ -99,8 +190,32 @@ class Error {
   std::int64_t number_;
 };
 
-/* A value, or an error. The value is looked at only where there is one. Of a Result<bool> only ok() says that: as a
- * condition it could be taken for the value. */
+template <class T>
+class Result;
+
+namespace detail {
+
+/* What a call answers, and the Result of that. */
+template <class Next, class... Values>
+using Answer = std::decay_t<std::invoke_result_t<Next, Values...>>;
+template <class Change, class... Values>
+using Changed = Result<Answer<Change, Values...>>;
+
+/* The Result of what `change` makes of values. */
+template <class Change, class... Values>
+Changed<Change, Values...> changed(Change&& change, Values&&... values) {
+  if constexpr (std::is_void_v<Answer<Change, Values...>>) {
+    std::forward<Change>(change)(std::forward<Values>(values)...);
+    return {};
+  } else {
+    return std::forward<Change>(change)(std::forward<Values>(values)...);
+  }
+}
+
+}  // namespace detail
+
+/* A value, or an error. The value is looked at only where there is one, which assert() checks. Of a Result<bool> only
+ * ok() says that: as a condition it could be taken for the value. */
 template <class T>
 class [[nodiscard]] Result {
  public:
@@ -112,15 +227,66 @@ class [[nodiscard]] Result {
   explicit operator bool() const noexcept {
     return ok();
   }
-  T& operator*() & noexcept { return *value_; }
-  const T& operator*() const& noexcept { return *value_; }
-  T&& operator*() && noexcept { return std::move(*value_); }
-  T* operator->() noexcept { return &*value_; }
-  const T* operator->() const noexcept { return &*value_; }
+  T& operator*() & noexcept { return value(); }
+  const T& operator*() const& noexcept { return value(); }
+  T&& operator*() && noexcept { return std::move(value()); }
+  T* operator->() noexcept { return &value(); }
+  const T* operator->() const noexcept { return &value(); }
   /* The error, or LR_OK. */
   Error error() const noexcept { return error_; }
 
+  /* The value, or another where there is an error. */
+  template <class Other = T>
+  T value_or(Other&& other) const& {
+    return ok() ? value() : static_cast<T>(std::forward<Other>(other));
+  }
+  template <class Other = T>
+  T value_or(Other&& other) && {
+    return ok() ? std::move(value()) : static_cast<T>(std::forward<Other>(other));
+  }
+  /* What `next` answers to the value, a Result of any type; or the error. */
+  template <class Next>
+  detail::Answer<Next, const T&> and_then(Next&& next) const& {
+    if (!ok()) return error_;
+    return std::forward<Next>(next)(value());
+  }
+  template <class Next>
+  detail::Answer<Next, T> and_then(Next&& next) && {
+    if (!ok()) return error_;
+    return std::forward<Next>(next)(std::move(value()));
+  }
+  /* What `change` makes of the value, or the error. */
+  template <class Change>
+  detail::Changed<Change, const T&> transform(Change&& change) const& {
+    if (!ok()) return error_;
+    return detail::changed(std::forward<Change>(change), value());
+  }
+  template <class Change>
+  detail::Changed<Change, T> transform(Change&& change) && {
+    if (!ok()) return error_;
+    return detail::changed(std::forward<Change>(change), std::move(value()));
+  }
+#ifdef __cpp_lib_expected
+  operator std::expected<T, Error>() const& {
+    if (!ok()) return std::unexpected(error_);
+    return value();
+  }
+  operator std::expected<T, Error>() && {
+    if (!ok()) return std::unexpected(error_);
+    return std::move(value());
+  }
+#endif
+
  private:
+  T& value() noexcept {
+    assert(ok());
+    return *value_;
+  }
+  const T& value() const noexcept {
+    assert(ok());
+    return *value_;
+  }
+
   std::optional<T> value_;
   Error error_{LR_OK};
 };
@@ -135,6 +301,24 @@ class [[nodiscard]] Result<void> {
   bool ok() const noexcept { return error_ == LR_OK; }
   explicit operator bool() const noexcept { return ok(); }
   Error error() const noexcept { return error_; }
+
+  /* What `next` answers, or the error; and what `change` makes, or the error. */
+  template <class Next>
+  detail::Answer<Next> and_then(Next&& next) const {
+    if (!ok()) return error_;
+    return std::forward<Next>(next)();
+  }
+  template <class Change>
+  detail::Changed<Change> transform(Change&& change) const {
+    if (!ok()) return error_;
+    return detail::changed(std::forward<Change>(change));
+  }
+#ifdef __cpp_lib_expected
+  operator std::expected<void, Error>() const {
+    if (!ok()) return std::unexpected(error_);
+    return {};
+  }
+#endif
 
  private:
   Error error_{LR_OK};
@@ -162,7 +346,8 @@ inline Result<std::int64_t> number(std::int64_t answer) noexcept {
   return answer;
 }
 
-/* Gives a container a size, and answers whether there was memory. */
+/* Gives a container a size, and answers whether there was memory. (Without exceptions there is no answer where there is
+ * none: a container ends the process then.) */
 template <class Container>
 bool resize(Container& octets, std::size_t size) noexcept {
 #ifdef __cpp_exceptions
@@ -177,9 +362,13 @@ bool resize(Container& octets, std::size_t size) noexcept {
   return true;
 }
 
-/* All octets of what `copy(room, size)` copies and answers the size of. There are probably so many. */
+/* What most keys, names and contexts fit into. */
+inline constexpr std::size_t small_room = 64;
+
+/* All octets of what `copy(room, size)` copies and answers the size of. There are probably so many at most; where that
+ * is so, it is asked once. */
 template <class Copy>
-Result<std::vector<std::uint8_t>> copied(Copy copy, std::uint64_t probably = 0) noexcept {
+Result<std::vector<std::uint8_t>> copied(Copy copy, std::uint64_t probably = small_room) noexcept {
   std::vector<std::uint8_t> octets;
   if (!resize(octets, static_cast<std::size_t>(probably))) return Error(LR_E_MEMORY);
   std::int64_t size = copy(octets.data(), octets.size());
@@ -214,6 +403,102 @@ enum class Part : std::uint32_t {
 };
 
 enum class IorPart : std::uint32_t { data = LR_IOR_DATA, host = LR_IOR_HOST, key = LR_IOR_KEY };
+
+enum class ReplyStatus : std::uint32_t {
+  no_exception = LR_NO_EXCEPTION,
+  user_exception = LR_USER_EXCEPTION,
+  system_exception = LR_SYSTEM_EXCEPTION,
+  location_forward = LR_LOCATION_FORWARD,
+  location_forward_perm = LR_LOCATION_FORWARD_PERM,
+  needs_addressing_mode = LR_NEEDS_ADDRESSING_MODE
+};
+
+enum class LocateStatus : std::uint32_t {
+  unknown_object = LR_UNKNOWN_OBJECT,
+  object_here = LR_OBJECT_HERE,
+  object_forward = LR_OBJECT_FORWARD,
+  object_forward_perm = LR_OBJECT_FORWARD_PERM,
+  system_exception = LR_LOC_SYSTEM_EXCEPTION,
+  needs_addressing_mode = LR_LOC_NEEDS_ADDRESSING_MODE
+};
+
+enum class SystemException : std::uint32_t {
+  marshal = LR_MARSHAL,
+  bad_context = LR_BAD_CONTEXT,
+  no_resources = LR_NO_RESOURCES,
+  bad_operation = LR_BAD_OPERATION,
+  object_not_exist = LR_OBJECT_NOT_EXIST,
+  unknown = LR_UNKNOWN,
+  bad_param = LR_BAD_PARAM,
+  no_permission = LR_NO_PERMISSION,
+  imp_limit = LR_IMP_LIMIT,
+  internal = LR_INTERNAL,
+  transient = LR_TRANSIENT
+};
+
+enum class Completed : std::uint32_t { yes = LR_COMPLETED_YES, no = LR_COMPLETED_NO, maybe = LR_COMPLETED_MAYBE };
+
+enum class Ended : std::uint32_t {
+  returned = LR_ENDED_RETURNED,
+  raised = LR_ENDED_RAISED,
+  system = LR_ENDED_SYSTEM,
+  forwarded = LR_ENDED_FORWARDED,
+  needs_addressing = LR_ENDED_NEEDS_ADDRESSING,
+  expired = LR_ENDED_EXPIRED,
+  cancelled = LR_ENDED_CANCELLED
+};
+
+enum class Fault : std::uint32_t {
+  none = 0,
+  magic = LR_FAULT_MAGIC,
+  version = LR_FAULT_VERSION,
+  flags = LR_FAULT_FLAGS,
+  type = LR_FAULT_TYPE,
+  cut = LR_FAULT_CUT,
+  too_large = LR_FAULT_TOO_LARGE,
+  unaligned_fragment = LR_FAULT_UNALIGNED_FRAGMENT,
+  stray_fragment = LR_FAULT_STRAY_FRAGMENT,
+  twice_started = LR_FAULT_TWICE_STARTED,
+  too_many_partial = LR_FAULT_TOO_MANY_PARTIAL,
+  body = LR_FAULT_BODY,
+  mixed_order = LR_FAULT_MIXED_ORDER,
+  memory = LR_FAULT_MEMORY
+};
+
+enum class MessageType : std::uint32_t {
+  request = LR_REQUEST,
+  reply = LR_REPLY,
+  cancel_request = LR_CANCEL_REQUEST,
+  locate_request = LR_LOCATE_REQUEST,
+  locate_reply = LR_LOCATE_REPLY,
+  close_connection = LR_CLOSE_CONNECTION,
+  message_error = LR_MESSAGE_ERROR,
+  fragment = LR_FRAGMENT
+};
+
+/* Three structs of lemonrudder.h, with functions that answer what some of their numbers are called above. */
+
+/* A request that waits for its outcome. */
+struct Request : lr_request {
+  Order byte_order() const noexcept { return Order{body_order}; }
+  Wish wished() const noexcept { return Wish{wish}; }
+};
+
+/* How a call ended. */
+struct Completion : lr_completion {
+  Ended ended() const noexcept { return Ended{how}; }
+  Order byte_order() const noexcept { return Order{body_order}; }
+};
+
+/* A message of a stream. */
+struct Message : lr_message {
+  MessageType message_type() const noexcept { return MessageType{type}; }
+  Order byte_order() const noexcept { return Order{order}; }
+  Wish wished() const noexcept { return Wish{wish}; }
+  /* Of a Reply, and of a LocateReply. */
+  ReplyStatus reply_status() const noexcept { return ReplyStatus{status}; }
+  LocateStatus locate_status() const noexcept { return LocateStatus{status}; }
+};
 
 /* How long a message may be, and how many may be partial at a time. */
 struct Limits {
@@ -348,8 +633,8 @@ class Server : public Slot<lr_server> {
   }
 
   /* The request that waits for its outcome, if one does. */
-  Result<std::optional<lr_request>> asked() noexcept {
-    lr_request request{};
+  Result<std::optional<Request>> asked() noexcept {
+    Request request{};
     const std::int64_t answer = lr_server_asked(slot(), &request);
     return detail::found(answer, request);
   }
@@ -360,11 +645,11 @@ class Server : public Slot<lr_server> {
   /* A part of the request that waits. The library makes the body of its values, so it is asked for once. */
   Result<std::vector<std::uint8_t>> part(Part part) noexcept {
     lr_request request{};
-    lr_server_asked(slot(), &request);
+    if (part == Part::body) lr_server_asked(slot(), &request);
     const auto copy = [&](std::uint8_t* room, std::size_t size) {
       return lr_server_part(slot(), static_cast<std::uint32_t>(part), room, size);
     };
-    return detail::copied(copy, part == Part::body ? request.body_size : 0);
+    return detail::copied(copy, part == Part::body ? request.body_size : detail::small_room);
   }
 
   Done answer(Order order, Octets results) noexcept {
@@ -374,14 +659,15 @@ class Server : public Slot<lr_server> {
     return detail::done(lr_server_raise(slot(), id.data(), id.size(), static_cast<std::uint32_t>(order), members.data(),
                                         members.size()));
   }
-  /* Answers by a system exception: LR_MARSHAL to LR_TRANSIENT, and LR_COMPLETED_... */
-  Done system(std::uint32_t name, std::uint32_t minor, std::uint32_t completed) noexcept {
-    return detail::done(lr_server_system(slot(), name, minor, completed));
-  }
-  /* Answers a raw operation by a status, LR_NO_EXCEPTION to LR_LOCATION_FORWARD, and the body of a Reply. */
-  Done answer_raw(std::uint32_t status, Order order, Octets body) noexcept {
+  /* Answers by a system exception. */
+  Done system(SystemException name, std::uint32_t minor, Completed completed) noexcept {
     return detail::done(
-        lr_server_answer_raw(slot(), status, static_cast<std::uint32_t>(order), body.data(), body.size()));
+        lr_server_system(slot(), static_cast<std::uint32_t>(name), minor, static_cast<std::uint32_t>(completed)));
+  }
+  /* Answers a raw operation by a status, `no_exception` to `location_forward`, and the body of a Reply. */
+  Done answer_raw(ReplyStatus status, Order order, Octets body) noexcept {
+    return detail::done(lr_server_answer_raw(slot(), static_cast<std::uint32_t>(status),
+                                             static_cast<std::uint32_t>(order), body.data(), body.size()));
   }
   /* Answers _is_a and _non_existent: true where that is what waits. */
   Result<bool> identify() noexcept { return detail::truth(lr_server_identify(slot())); }
@@ -391,7 +677,7 @@ class Server : public Slot<lr_server> {
   Count output(Room room) noexcept { return detail::count(lr_server_output(slot(), room.data(), room.size())); }
 };
 
-/* A call of a client. */
+/* A call of a client. What it names lives until it is handed in. */
 struct Call {
   Octets key;
   Octets operation;
@@ -426,18 +712,23 @@ class Client : public Slot<lr_client> {
   Done feed(Octets octets) noexcept { return detail::done(lr_client_feed(slot(), octets.data(), octets.size())); }
 
   /* The next completion, if there is one. */
-  Result<std::optional<lr_completion>> completed() noexcept {
-    lr_completion completion{};
+  Result<std::optional<Completion>> completed() noexcept {
+    Completion completion{};
     const std::int64_t answer = lr_client_completed(slot(), &completion);
+    if (answer == 1) body_size_ = completion.body_size;
     return detail::found(answer, completion);
   }
   /* The body of the completion that was taken last. */
   Count body(Room room) noexcept { return detail::count(lr_client_body(slot(), room.data(), room.size())); }
   Result<std::vector<std::uint8_t>> body() noexcept {
-    return detail::copied([&](std::uint8_t* room, std::size_t size) { return lr_client_body(slot(), room, size); });
+    const auto copy = [&](std::uint8_t* room, std::size_t size) { return lr_client_body(slot(), room, size); };
+    return detail::copied(copy, body_size_);
   }
 
   Count output(Room room) noexcept { return detail::count(lr_client_output(slot(), room.data(), room.size())); }
+
+ private:
+  std::uint64_t body_size_ = 0;  // of the completion that was taken last
 };
 
 /* A service context, or a tagged component: its id or tag, and its data. */
@@ -469,12 +760,16 @@ class Assembler : public Slot<lr_assembler> {
 
   /* Takes octets up to the end of the next message, and answers how many. */
   Count feed(Octets octets) noexcept { return detail::count(lr_assembler_feed(slot(), octets.data(), octets.size())); }
-  /* The first fault of the stream: LR_FAULT_.., or 0. */
-  Result<std::int64_t> fault() noexcept { return detail::number(lr_assembler_fault(slot())); }
+  /* The first fault of the stream, or `none`. */
+  Result<Fault> fault() noexcept {
+    const std::int64_t answer = lr_assembler_fault(slot());
+    if (answer < 0) return Error(answer);
+    return static_cast<Fault>(answer);
+  }
 
   /* The message that was completed last, if one was. */
-  Result<std::optional<lr_message>> message() noexcept {
-    lr_message message{};
+  Result<std::optional<Message>> message() noexcept {
+    Message message{};
     const std::int64_t answer = lr_assembler_message(slot(), &message);
     return detail::found(answer, message);
   }
@@ -483,9 +778,15 @@ class Assembler : public Slot<lr_assembler> {
     return detail::count(lr_assembler_part(slot(), static_cast<std::uint32_t>(part), room.data(), room.size()));
   }
   Result<std::vector<std::uint8_t>> part(Part part) noexcept {
-    return detail::copied([&](std::uint8_t* room, std::size_t size) {
+    lr_message message{};
+    lr_assembler_message(slot(), &message);
+    const auto copy = [&](std::uint8_t* room, std::size_t size) {
       return lr_assembler_part(slot(), static_cast<std::uint32_t>(part), room, size);
-    });
+    };
+    std::uint64_t probably = detail::small_room;
+    if (part == Part::body) probably = message.body_size;
+    if (part == Part::payload) probably = message.payload_size;
+    return detail::copied(copy, probably);
   }
   /* A service context of that message, counted from 0. */
   Result<Tagged> context(std::uint32_t index) noexcept {
@@ -550,25 +851,12 @@ class Ior : public Slot<lr_ior> {
 
 /* Reads values one after another. At an error it stands where it stood. It owns nothing, and may be copied. */
 class Reader {
-  /* Whether a type, as a forwarding reference has it, is an object that owns octets and is gone before they are read.
-   * (It is no reference then.) */
-  template <class T>
-  struct IsGone : std::false_type {};
-  template <class T>
-  struct IsGone<const T> : IsGone<T> {};
-  template <class T, class Heap>
-  struct IsGone<std::vector<T, Heap>> : std::true_type {};
-  template <class T, class Traits, class Heap>
-  struct IsGone<std::basic_string<T, Traits, Heap>> : std::true_type {};
-  template <class T, std::size_t N>
-  struct IsGone<std::array<T, N>> : std::true_type {};
-
  public:
   /* Numbers are aligned from `at`, the place of the first octet: 0 for an encapsulation, body_at for a body. */
   explicit Reader(Octets octets, Order order = Order::big, std::uint64_t at = 0) noexcept
       : octets_(octets), place_{at, 0, static_cast<std::uint32_t>(order), 0} {}
   /* A vector, string or array that is gone before it is read. */
-  template <class Owner, std::enable_if_t<IsGone<Owner>::value, int> = 0>
+  template <class Owner, std::enable_if_t<detail::is_gone<Owner>, int> = 0>
   explicit Reader(Owner&& octets, Order order = Order::big, std::uint64_t at = 0) = delete;
 
   Result<std::uint8_t> get_octet() noexcept { return get<std::uint8_t>(lr_get_octet); }
@@ -582,6 +870,24 @@ class Reader {
   Result<bool> get_boolean() noexcept {
     const auto value = get<std::uint8_t>(lr_get_boolean);
     return value ? Result<bool>(*value != 0) : value.error();
+  }
+
+  /* One of so many names of an enum, counted from 0. LR_E_VALUE. */
+  Result<std::uint32_t> get_enumerator(std::uint32_t names) noexcept {
+    const lr_place before = place_;
+    const auto number = get_ulong();
+    if (!number || *number < names) return number;
+    place_ = before;
+    return Error(LR_E_VALUE);
+  }
+  /* How many elements of a sequence follow. LR_E_SHORT where fewer octets are left than that. */
+  Count get_count() noexcept {
+    const lr_place before = place_;
+    const auto number = get_ulong();
+    if (!number) return number.error();
+    if (*number <= rest().size()) return static_cast<std::size_t>(*number);
+    place_ = before;
+    return Error(LR_E_SHORT);
   }
 
   /* A string without its NUL, and a sequence of octets: both are lent from what is read. */
@@ -628,6 +934,13 @@ class Reader {
   lr_place place_;
 };
 
+namespace detail {
+
+/* The greatest length of a text, or of a sequence. */
+inline constexpr std::uint64_t most = 0xffffffff;
+
+}  // namespace detail
+
 /* Writes values one after another into room. At an error it stands where it stood. */
 class Writer {
  public:
@@ -643,6 +956,16 @@ class Writer {
   Done put_ulong(std::uint32_t value) noexcept { return put(lr_put_ulong, value); }
   Done put_longlong(std::int64_t value) noexcept { return put(lr_put_longlong, value); }
   Done put_ulonglong(std::uint64_t value) noexcept { return put(lr_put_ulonglong, value); }
+  /* The name of an enum, counted from 0. */
+  Done put_enumerator(std::uint32_t number) noexcept { return put_ulong(number); }
+  template <class Enum, std::enable_if_t<std::is_enum_v<Enum>, int> = 0>
+  Done put_enumerator(Enum name) noexcept {
+    return put_ulong(static_cast<std::uint32_t>(name));
+  }
+  /* How many elements of a sequence follow. */
+  Done put_count(std::size_t count) noexcept {
+    return count > detail::most ? Done(Error(LR_E_LONG)) : put_ulong(static_cast<std::uint32_t>(count));
+  }
   Done put_string(std::string_view text) noexcept {
     return detail::done(lr_put_string(room_.data(), room_.size(), &place_, text.data(), text.size()));
   }
@@ -661,6 +984,106 @@ class Writer {
 
   Room room_;
   lr_place place_;
+};
+
+/* Writes values one after another into octets of its own, which grow, aligned from place 0. The first error is kept,
+ * and nothing is written after it: so it is enough to look once, at done() or take(), after the last value. */
+class GrowingWriter {
+ public:
+  explicit GrowingWriter(Order order = Order::big) noexcept : place_{0, 0, static_cast<std::uint32_t>(order), 0} {}
+  GrowingWriter(const GrowingWriter&) = delete;
+  GrowingWriter& operator=(const GrowingWriter&) = delete;
+  GrowingWriter(GrowingWriter&& other) noexcept
+      : octets_(std::move(other.octets_)), place_(other.place_), error_(other.error_) {
+    other.clear();
+  }
+  GrowingWriter& operator=(GrowingWriter&& other) noexcept {
+    if (this != &other) {
+      octets_ = std::exchange(other.octets_, {});
+      place_ = other.place_;
+      error_ = other.error_;
+      other.clear();
+    }
+    return *this;
+  }
+  ~GrowingWriter() = default;
+
+  GrowingWriter& put_octet(std::uint8_t value) noexcept { return put(lr_put_octet, value); }
+  GrowingWriter& put_char(std::uint8_t value) noexcept { return put(lr_put_char, value); }
+  GrowingWriter& put_boolean(bool value) noexcept { return put(lr_put_boolean, static_cast<std::uint8_t>(value)); }
+  GrowingWriter& put_short(std::int16_t value) noexcept { return put(lr_put_short, value); }
+  GrowingWriter& put_ushort(std::uint16_t value) noexcept { return put(lr_put_ushort, value); }
+  GrowingWriter& put_long(std::int32_t value) noexcept { return put(lr_put_long, value); }
+  GrowingWriter& put_ulong(std::uint32_t value) noexcept { return put(lr_put_ulong, value); }
+  GrowingWriter& put_longlong(std::int64_t value) noexcept { return put(lr_put_longlong, value); }
+  GrowingWriter& put_ulonglong(std::uint64_t value) noexcept { return put(lr_put_ulonglong, value); }
+  /* The name of an enum, counted from 0. */
+  GrowingWriter& put_enumerator(std::uint32_t number) noexcept { return put_ulong(number); }
+  template <class Enum, std::enable_if_t<std::is_enum_v<Enum>, int> = 0>
+  GrowingWriter& put_enumerator(Enum name) noexcept {
+    return put_ulong(static_cast<std::uint32_t>(name));
+  }
+  /* How many elements of a sequence follow. */
+  GrowingWriter& put_count(std::size_t count) noexcept {
+    return count > detail::most ? failed(LR_E_LONG) : put_ulong(static_cast<std::uint32_t>(count));
+  }
+  GrowingWriter& put_string(std::string_view text) noexcept { return put_all(lr_put_string, text.data(), text.size()); }
+  GrowingWriter& put_octets(Octets data) noexcept { return put_all(lr_put_octets, data.data(), data.size()); }
+
+  /* Nothing, or the first error. */
+  Done done() const noexcept { return error_; }
+  Order order() const noexcept { return Order{place_.order}; }
+  /* What was written, as long as nothing more is. */
+  Octets octets() const noexcept { return {octets_.data(), static_cast<std::size_t>(place_.next)}; }
+  /* The same to keep, or the first error. It begins anew then. */
+  Result<std::vector<std::uint8_t>> take() noexcept {
+    if (const Done all = done(); !all) {
+      clear();
+      return all.error();
+    }
+    octets_.resize(static_cast<std::size_t>(place_.next));
+    clear();
+    return std::exchange(octets_, {});
+  }
+  /* Begins anew, over the room that it has. */
+  void clear() noexcept {
+    place_.next = 0;
+    error_ = Error(LR_OK);
+  }
+
+ private:
+  GrowingWriter& failed(std::int64_t error) noexcept {
+    if (done()) error_ = Error(error);
+    return *this;
+  }
+
+  /* Makes room for so many octets, and what aligns them, if nothing failed before. */
+  bool grow(std::size_t size) noexcept {
+    if (!done()) return false;
+    const std::size_t wanted = static_cast<std::size_t>(place_.next) + 8 + size;
+    if (wanted <= octets_.size() || detail::resize(octets_, wanted + octets_.size())) return true;
+    failed(LR_E_MEMORY);
+    return false;
+  }
+
+  template <class Put, class... Values>
+  GrowingWriter& put_within(std::size_t size, Put into_room, Values... values) noexcept {
+    if (!grow(size)) return *this;
+    const std::int64_t answer = into_room(octets_.data(), octets_.size(), &place_, values...);
+    return answer < 0 ? failed(answer) : *this;
+  }
+  template <class Put, class T>
+  GrowingWriter& put(Put into_room, T value) noexcept {
+    return put_within(sizeof value, into_room, value);
+  }
+  template <class Put, class T>
+  GrowingWriter& put_all(Put into_room, const T* data, std::size_t size) noexcept {
+    return size > detail::most ? failed(LR_E_LONG) : put_within(size, into_room, data, size);
+  }
+
+  std::vector<std::uint8_t> octets_;
+  lr_place place_;
+  Error error_{LR_OK};
 };
 
 /* ---- writing messages ---- */
@@ -687,9 +1110,9 @@ inline Count write_request(Room room, Head head, Wish wish, Octets key, Octets o
                                         context.data.size(), body.data(), body.size()));
 }
 
-inline Count write_reply(Room room, Head head, std::uint32_t status, Octets body) noexcept {
+inline Count write_reply(Room room, Head head, ReplyStatus status, Octets body) noexcept {
   return detail::count(lr_write_reply(room.data(), room.size(), head.version, static_cast<std::uint32_t>(head.order),
-                                      head.request_id, status, body.data(), body.size()));
+                                      head.request_id, static_cast<std::uint32_t>(status), body.data(), body.size()));
 }
 
 inline Count write_cancel(Room room, Head head) noexcept {
@@ -703,9 +1126,11 @@ inline Count write_locate_request(Room room, Head head, Octets key) noexcept {
                                                key.size()));
 }
 
-inline Count write_locate_reply(Room room, Head head, std::uint32_t status) noexcept {
+/* Without a body, so `unknown_object` or `object_here`. */
+inline Count write_locate_reply(Room room, Head head, LocateStatus status) noexcept {
   return detail::count(lr_write_locate_reply(room.data(), room.size(), head.version,
-                                             static_cast<std::uint32_t>(head.order), head.request_id, status));
+                                             static_cast<std::uint32_t>(head.order), head.request_id,
+                                             static_cast<std::uint32_t>(status)));
 }
 
 inline Count write_close(Room room) noexcept { return detail::count(lr_write_close(room.data(), room.size())); }
@@ -719,6 +1144,7 @@ inline Count write_ft(Room room, Order order, Octets client, std::int32_t retent
                                    client.size(), retention_id, expiration));
 }
 
+}  // namespace v0_1
 }  // namespace lemonrudder
 
 #endif

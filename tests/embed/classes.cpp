@@ -3,12 +3,30 @@
 #include <cstdio>
 #include <cstdlib>
 #include <lemonrudder.hpp>
+#include <new>
 #include <string>
 #include <type_traits>
 #include <utility>
 #include <vector>
+#if __has_include(<span>) && __cplusplus > 201703L
+#include <span>
+#endif
 
 namespace lr = lemonrudder;
+using namespace lr::literals;
+
+#ifdef __cpp_exceptions
+/* Whether `new` finds no memory. */
+static bool is_without_memory = false;
+
+[[gnu::noinline]] void* operator new(std::size_t size) {
+  void* const at = is_without_memory ? nullptr : std::malloc(size);
+  if (at == nullptr) throw std::bad_alloc();
+  return at;
+}
+[[gnu::noinline]] void operator delete(void* at) noexcept { std::free(at); }
+[[gnu::noinline]] void operator delete(void* at, std::size_t) noexcept { std::free(at); }
+#endif
 
 namespace {
 
@@ -30,14 +48,56 @@ void check(bool is_right, const char* text, int line) {
 static_assert(!std::is_copy_constructible_v<lr::Server> && !std::is_copy_assignable_v<lr::Server>);
 static_assert(std::is_nothrow_move_constructible_v<lr::Server> && std::is_nothrow_move_assignable_v<lr::Server>);
 static_assert(!std::is_convertible_v<lr::Result<bool>, bool> && !std::is_constructible_v<bool, lr::Result<bool>>);
+
+using Vector = std::vector<std::uint8_t>;
+using Four = std::uint8_t[4];
+
+/* What a reader may be made of: what is there as long as it may be, and nothing that is gone before it reads. */
 template <class Octets>
 constexpr bool is_read = std::is_constructible_v<lr::Reader, Octets, lr::Order>;
-static_assert(!is_read<std::vector<std::uint8_t>> && !is_read<const std::vector<std::uint8_t>>);
-static_assert(!is_read<std::string> && !is_read<const std::string> && !is_read<std::array<std::uint8_t, 4>>);
-static_assert(is_read<std::vector<std::uint8_t>&> && is_read<const std::vector<std::uint8_t>&>);
+static_assert(!is_read<Vector> && !is_read<const Vector> && !is_read<std::vector<char>>);
+static_assert(!is_read<std::string> && !is_read<const std::string>);
+static_assert(!is_read<std::array<std::uint8_t, 4>> && !is_read<const std::array<const char, 4>>);
+static_assert(!is_read<Four> && !is_read<const Four> && !is_read<const char[4]>);
+static_assert(is_read<Vector&> && is_read<const Vector&> && is_read<std::vector<std::byte>&>);
 static_assert(is_read<std::string&> && is_read<const std::string&> && is_read<std::array<std::uint8_t, 4>&>);
-static_assert(is_read<const char*> && is_read<std::string_view> && is_read<lr::Octets>);
+static_assert(is_read<Four&> && is_read<const Four&> && is_read<const char (&)[4]>);
+static_assert(is_read<const char*> && is_read<std::string_view> && is_read<lr::Octets> && is_read<const lr::Octets>);
 static_assert(std::is_copy_constructible_v<lr::Reader> && std::is_move_constructible_v<lr::Reader>);
+
+/* What a writer may be made of: the same, where it may be written. */
+template <class Room>
+constexpr bool is_written = std::is_constructible_v<lr::Writer, Room>;
+static_assert(!is_written<Vector> && !is_written<std::string> && !is_written<std::array<std::uint8_t, 4>>);
+static_assert(!is_written<const Vector&> && !is_written<const Four&> && !is_written<Four> && !is_written<lr::Octets>);
+static_assert(is_written<Vector&> && is_written<std::string&> && is_written<std::vector<std::byte>&>);
+static_assert(is_written<Four&> && is_written<char (&)[4]> && is_written<std::array<char, 4>&>);
+static_assert(is_written<lr::Room> && is_written<lr::Room&> && is_written<const lr::Room&>);
+static_assert(!std::is_copy_constructible_v<lr::GrowingWriter> && std::is_nothrow_move_assignable_v<lr::GrowingWriter>);
+
+/* What octets are made of. */
+template <class Range>
+constexpr bool is_lent = std::is_convertible_v<Range, lr::Octets>;
+static_assert(is_lent<Vector> && is_lent<std::string> && is_lent<std::array<char, 4>> && is_lent<lr::Room>);
+static_assert(is_lent<std::vector<signed char>> && is_lent<const std::byte (&)[4]> && is_lent<const char*>);
+static_assert(!is_lent<std::vector<int>> && !is_lent<std::vector<bool>> && !is_lent<std::wstring> && !is_lent<int>);
+static_assert(!is_lent<const int (&)[4]> && !is_lent<const int*> && !is_lent<const std::uint8_t*>);
+#ifdef __cpp_char8_t
+static_assert(is_lent<std::u8string> && is_lent<std::u8string_view> && !is_lent<const char8_t (&)[4]>);
+#endif
+#ifdef __cpp_lib_span
+static_assert(is_read<std::span<const std::byte>> && is_read<std::span<std::uint8_t>> && !is_read<std::span<int>>);
+static_assert(is_written<std::span<std::byte>> && is_written<const std::span<char>&>);
+static_assert(!is_written<std::span<const std::byte>> && is_lent<std::span<const std::uint8_t, 4>>);
+#endif
+
+/* Names of one kind are not taken for names of another, nor numbers for names. */
+template <class... Given>
+constexpr bool is_system = std::is_invocable_v<decltype(&lr::Server::system), lr::Server&, Given...>;
+static_assert(is_system<lr::SystemException, std::uint32_t, lr::Completed>);
+static_assert(!is_system<lr::SystemException, lr::Completed, std::uint32_t>);
+static_assert(!is_system<lr::ReplyStatus, std::uint32_t, lr::Completed>);
+static_assert(!is_system<std::uint32_t, std::uint32_t, std::uint32_t>);
 
 /* A server of the object `c` with add(long) -> long, which raises Wrong { string }, and of `raw`. */
 lr::Result<lr::Server> open_server() {
@@ -105,6 +165,9 @@ void a_call_acts_once() {
     if (asked && *asked) {
       asked_times++;
       CHECK((*asked)->connection == connection && (*asked)->has_client == 1);
+      CHECK((*asked)->wished() == lr::Wish::full && (*asked)->byte_order() == lr::Order::big);
+      const auto id = server->part(lr::Part::client);
+      CHECK(id && lr::Octets(*id).text() == "A");
       const auto body = server->part(lr::Part::body);
       CHECK(body && *body == (std::vector<std::uint8_t>{0, 0, 0, 5}));
       CHECK(server->answer(lr::Order::big, "").error() == LR_E_OUTCOME);
@@ -117,11 +180,12 @@ void a_call_acts_once() {
   }
   CHECK(asked_times == 1);
   const auto completion = client->completed();
-  CHECK(completion && *completion && (*completion)->call == 1 && (*completion)->how == LR_ENDED_RETURNED);
+  CHECK(completion && *completion && (*completion)->call == 1 && (*completion)->ended() == lr::Ended::returned);
   const auto body = client->body();
   CHECK(body && *body == (std::vector<std::uint8_t>{0, 0, 0, 6}));
   const auto none = client->completed();
   CHECK(none && !*none);
+  CHECK((*completion)->byte_order() == lr::Order::big);
   const auto is_cancelled = client->cancel(1);
   CHECK(is_cancelled.ok() && !*is_cancelled);
 }
@@ -178,9 +242,10 @@ void requests_are_answered() {
   CHECK(out.put_string("why"));
   CHECK(server->raise("IDL:C/Wrong:1.0", lr::Order::big, out.octets()) && status() == LR_USER_EXCEPTION);
   ask("c", "any", "abc");
-  CHECK(server->system(LR_UNKNOWN, 7, LR_COMPLETED_MAYBE) && status() == LR_SYSTEM_EXCEPTION);
+  CHECK(server->system(lr::SystemException::unknown, 7, lr::Completed::maybe) && status() == LR_SYSTEM_EXCEPTION);
   ask("raw", "any", "abc");
-  CHECK(server->answer_raw(LR_LOCATION_FORWARD, lr::Order::big, "abc") && status() == LR_LOCATION_FORWARD);
+  CHECK(server->answer_raw(lr::ReplyStatus::location_forward, lr::Order::big, "abc") &&
+        status() == LR_LOCATION_FORWARD);
   ask("c", "_non_existent", {});
   const auto is_identified = server->identify();
   CHECK(is_identified.ok() && *is_identified && status() == LR_NO_EXCEPTION);
@@ -203,16 +268,42 @@ void messages_are_read() {
   CHECK(taken && *taken == *size);
   const auto message = assembler->message();
   CHECK(message && *message && (*message)->request_id == 7 && (*message)->retention_id == 3);
+  CHECK((*message)->message_type() == lr::MessageType::request && (*message)->wished() == lr::Wish::full);
+  CHECK((*message)->byte_order() == lr::Order::little);
   const auto operation = assembler->part(lr::Part::operation);
   CHECK(operation && lr::Octets(*operation).text() == "add");
   const auto found = assembler->context(0);
   CHECK(found && found->id == LR_FT_REQUEST && found->data.size() == 24);
   CHECK(assembler->context(1).error() == LR_E_NONE);
   const auto fault = assembler->fault();
-  CHECK(fault && *fault == 0);
-  CHECK(lr::write_reply(room, {}, LR_NO_EXCEPTION, {}) && lr::write_cancel(room, {}) && lr::write_close(room));
-  CHECK(lr::write_locate_request(room, {}, "c") && lr::write_locate_reply(room, {}, 1) && lr::write_error(room));
+  CHECK(fault && *fault == lr::Fault::none);
+  CHECK(lr::write_reply(room, {}, lr::ReplyStatus::no_exception, {}) && lr::write_cancel(room, {}) &&
+        lr::write_close(room));
+  CHECK(lr::write_locate_request(room, {}, "c") && lr::write_locate_reply(room, {}, lr::LocateStatus::object_here) &&
+        lr::write_error(room));
   CHECK(lr::write_error({}).error() == LR_E_ROOM);
+}
+
+/* The numbers of messages have names. */
+void messages_have_names() {
+  std::array<std::uint8_t, 64> room;
+  auto assembler = lr::Assembler::open(limits);
+  if (!assembler) return CHECK(false);
+  const auto read = [&](lr::Count size) {
+    CHECK(size && assembler->feed(lr::Octets(room).first(size.value_or(0))));
+    return assembler->message().value_or({}).value_or(lr::Message{});
+  };
+  const auto reply = read(lr::write_reply(room, {}, lr::ReplyStatus::user_exception, "12345678"));
+  CHECK(reply.message_type() == lr::MessageType::reply && reply.byte_order() == lr::Order::big);
+  CHECK(reply.reply_status() == lr::ReplyStatus::user_exception);
+  const auto body = assembler->part(lr::Part::body);
+  CHECK(body && lr::Octets(*body).text() == "12345678");
+  const auto located = read(lr::write_locate_reply(room, {}, lr::LocateStatus::object_here));
+  CHECK(located.message_type() == lr::MessageType::locate_reply);
+  CHECK(located.locate_status() == lr::LocateStatus::object_here);
+  CHECK(assembler->feed("no message at all").error() == LR_E_STREAM);
+  const auto fault = assembler->fault();
+  CHECK(fault && *fault == lr::Fault::magic);
 }
 
 /* A reference whose text is longer than the room that is tried first. */
@@ -255,6 +346,192 @@ void values_are_read() {
   CHECK(full.put_octet(1).error() == LR_E_ROOM);
 }
 
+/* Octets are lent from ranges of any octets, bytes or characters. */
+void octets_are_lent() {
+  const std::string string("a\0b", 3);
+  const std::array<char, 3> array{'a', 0, 'b'};
+  const std::vector<std::byte> bytes{std::byte{'a'}, std::byte{0}, std::byte{'b'}};
+  const std::byte three[] = {std::byte{'a'}, std::byte{0}, std::byte{'b'}};
+  const std::uint8_t numbers[] = {'a', 0, 'b'};
+  const char text[] = "a\0b";
+  for (const lr::Octets octets :
+       {lr::Octets(string), lr::Octets(array), lr::Octets(bytes), lr::Octets(three), lr::Octets(numbers), "a\0b"_o,
+        lr::Octets(std::string_view(string)), lr::Octets(three, 3), lr::Octets(text, 3)})
+    CHECK(octets.size() == 3 && octets.text() == string);
+  CHECK(lr::Octets("a\0b").text() == "a" && lr::Octets(text).text() == "a" && lr::Octets("").empty());
+  CHECK(""_o.empty() && lr::Octets(nullptr, 0).empty());
+  char room[10] = "ab";
+  CHECK(lr::Octets(room).size() == 2 && lr::Room(room).size() == 10 && lr::Room(nullptr, 0).size() == 0);
+  std::string out(4, ' ');
+  std::vector<std::byte> other(2);
+  CHECK(lr::Writer(out).put_long(0x61626364) && out == "abcd");
+  CHECK(lr::Writer(lr::Room(other)).put_short(3) && other[1] == std::byte{3});
+#ifdef __cpp_lib_span
+  const std::span<const std::byte> span(bytes);
+  CHECK(lr::Octets(span).text() == string && lr::Reader(span).get_octet().value_or(0) == 'a');
+#endif
+}
+
+/* What is made of a Result, and which of two values it has. */
+void results_are_chained() {
+  using Number = lr::Result<int>;
+  const Number good = 7;
+  const Number bad = lr::Error(LR_E_IDLE);
+  const auto half = [](int n) { return n % 2 == 0 ? Number(n / 2) : lr::Error(LR_E_RANGE); };
+  const auto twice = [](int n) { return 2.0 * n; };
+  CHECK(good.value_or(1) == 7 && bad.value_or(1) == 1 && Number(bad).value_or({}) == 0);
+  CHECK(good.and_then(half).error() == LR_E_RANGE && bad.and_then(half).error() == LR_E_IDLE);
+  CHECK(Number(8).and_then(half).value_or(0) == 4);
+  CHECK(good.transform(twice).value_or(0) == 14.0 && bad.transform(twice).error() == LR_E_IDLE);
+  int seen = 0;
+  const lr::Done done = good.transform([&](int n) { seen = n; });
+  CHECK(done && seen == 7 && !bad.transform([&](int n) { seen = n + 1; }) && seen == 7);
+  CHECK(done.and_then([&] { return good; }).value_or(0) == 7 && *done.transform([] { return 3; }) == 3);
+  const lr::Done idle = lr::Error(LR_E_IDLE);
+  CHECK(idle.and_then([&] { return good; }).error() == LR_E_IDLE && !idle.transform([] { return 3; }));
+  auto opened = lr::Assembler::open(limits).and_then([](lr::Assembler made) -> lr::Result<lr::Assembler> {
+    if (const auto fed = made.feed("GI"); !fed) return fed.error();
+    return made;
+  });
+  CHECK(opened && opened->is_open());
+  const auto is_open = std::move(opened).transform([](lr::Assembler made) { return made.is_open(); });
+  CHECK(is_open.ok() && *is_open);
+#ifdef __cpp_lib_expected
+  const std::expected<int, lr::Error> some = good;
+  const std::expected<int, lr::Error> none = bad;
+  const std::expected<void, lr::Error> nothing = done;
+  const std::expected<lr::Ior, lr::Error> moved = lr::Ior::parse("IOR:");
+  CHECK(*some == 7 && none.error() == LR_E_IDLE && nothing && moved.error() == LR_E_REFERENCE);
+#endif
+}
+
+/* What has no known size is asked for once where it is short, and twice where it is long. */
+void parts_are_asked_for_once() {
+  for (const std::size_t size : {0u, 1u, 64u, 65u, 1000u}) {
+    int asked = 0;
+    const auto copy = [&](std::uint8_t* room, std::size_t most) {
+      asked++;
+      for (std::size_t index = 0; index < most && index < size; index++) room[index] = 7;
+      return static_cast<std::int64_t>(size);
+    };
+    const Vector sevens(size, 7);
+    const auto copied = lr::detail::copied(copy);
+    CHECK(copied && *copied == sevens && asked == (size <= 64 ? 1 : 2));
+    asked = 0;
+    const auto known = lr::detail::copied(copy, size);
+    CHECK(known && *known == sevens && asked == 1);
+  }
+}
+
+enum class Colour { red, green, blue };
+
+/* Writes a value of each type, into room or into octets that grow. */
+template <class Out>
+void write_all(Out& out, const std::string& text) {
+  static_cast<void>(out.put_octet(1));
+  static_cast<void>(out.put_char('A'));
+  static_cast<void>(out.put_boolean(true));
+  static_cast<void>(out.put_short(-2));
+  static_cast<void>(out.put_octet(9));
+  static_cast<void>(out.put_ushort(3));
+  static_cast<void>(out.put_long(-4));
+  static_cast<void>(out.put_ulong(5));
+  static_cast<void>(out.put_longlong(-6));
+  static_cast<void>(out.put_octet(8));
+  static_cast<void>(out.put_ulonglong(7));
+  static_cast<void>(out.put_string(text));
+  static_cast<void>(out.put_octets(text));
+  static_cast<void>(out.put_enumerator(Colour::blue));
+  static_cast<void>(out.put_enumerator(1));
+  static_cast<void>(out.put_count(2));
+}
+
+/* What is written into octets that grow is what is written into room. */
+void octets_grow() {
+  for (const auto order : {lr::Order::big, lr::Order::little}) {
+    for (std::size_t size = 0; size < 300; size++) {
+      const std::string text(size, 't');
+      std::array<std::uint8_t, 4096> room;
+      lr::Writer into_room(room, order);
+      lr::GrowingWriter out(order);
+      for (int times = 0; times < 3; times++) {
+        write_all(into_room, text);
+        write_all(out, text);
+      }
+      CHECK(out.done() && out.order() == order);
+      CHECK(out.octets().text() == into_room.octets().text());
+    }
+  }
+  lr::GrowingWriter out;
+  CHECK(out.octets().empty());
+  CHECK(out.put_string("ann").put_longlong(5).put_enumerator(Colour::green).done());
+  lr::Reader in(out.octets());
+  CHECK(in.get_string().value_or("") == "ann" && in.get_longlong().value_or(0) == 5);
+  CHECK(in.get_enumerator(1).error() == LR_E_VALUE && in.get_enumerator(2).value_or(0) == 1 && in.rest().empty());
+  lr::GrowingWriter other = std::move(out);
+  CHECK(out.octets().empty() && other.octets().size() == 20);
+  out.put_octet(1);
+  out = std::move(other);
+  CHECK(other.octets().empty() && out.octets().size() == 20);
+  const auto taken = out.take();
+  CHECK(taken && taken->size() == 20 && out.octets().empty());
+  CHECK(out.put_octet(7).done() && out.octets().size() == 1 && *out.octets().begin() == 7);
+}
+
+/* The first error of a writer whose octets grow is kept, and what was written before it. */
+void first_errors_are_kept() {
+  const std::uint8_t octet = 0;
+  lr::GrowingWriter out;
+  CHECK(out.put_octet(1).put_string("a\0b"_o.text()).put_octet(2).done().error() == LR_E_TEXT);
+  CHECK(out.put_count(std::size_t{1} << 32).done().error() == LR_E_TEXT && out.octets().size() == 1);
+  CHECK(out.take().error() == LR_E_TEXT && out.done() && out.octets().empty());
+  CHECK(out.put_count(std::size_t{1} << 32).put_octet(1).done().error() == LR_E_LONG && out.octets().empty());
+  out.clear();
+  CHECK(out.put_octets({&octet, std::size_t{1} << 32}).done().error() == LR_E_LONG && out.octets().empty());
+  CHECK(lr::GrowingWriter(static_cast<lr::Order>(2)).put_short(1).done().error() == LR_E_RANGE);
+}
+
+#ifdef __cpp_exceptions
+/* Whether `new` is the one above. (Under valgrind it is another.) */
+bool can_want_memory() {
+  is_without_memory = true;
+  void* at = nullptr;
+  try {
+    at = ::operator new(1);
+  } catch (const std::bad_alloc&) {
+  }
+  is_without_memory = false;
+  ::operator delete(at);
+  return at == nullptr;
+}
+
+/* Where there is no memory an error is answered, and what was written stays. */
+void want_of_memory_is_answered() {
+  const std::array<std::uint8_t, 4096> many{};
+  lr::GrowingWriter out;
+  CHECK(out.put_octet(1).done());
+  is_without_memory = true;
+  const auto error = out.put_octets(many).put_octet(2).done().error();
+  const auto copied = lr::detail::copied([](std::uint8_t*, std::size_t) { return std::int64_t{5}; });
+  is_without_memory = false;
+  CHECK(error == LR_E_MEMORY && out.octets().size() == 1 && copied.error() == LR_E_MEMORY);
+  out.clear();
+  CHECK(out.put_octets(many).done() && out.octets().size() == 4100);
+}
+#endif
+
+/* A sequence that says more elements than octets are left is refused, and the reader stands where it stood. */
+void counts_are_bounded() {
+  std::array<std::uint8_t, 6> room;
+  lr::Writer out(room);
+  CHECK(out.put_count(2) && out.put_octet(1) && out.put_octet(2) && out.put_count(0).error() == LR_E_ROOM);
+  CHECK(out.put_count(std::size_t{1} << 32).error() == LR_E_LONG);
+  lr::Reader in(room);
+  CHECK(in.get_count().value_or(9) == 2 && in.rest().size() == 2);
+  lr::Reader less(lr::Octets(room).first(5));
+  CHECK(less.get_count().error() == LR_E_SHORT && less.get_ulong().value_or(0) == 2);
+}
+
 void moments_are_counted() {
   using std::chrono::microseconds;
   using std::chrono::system_clock;
@@ -271,8 +548,18 @@ int main() {
   a_body_is_made_once();
   requests_are_answered();
   messages_are_read();
+  messages_have_names();
   references_are_printed();
   values_are_read();
+  octets_are_lent();
+  results_are_chained();
+  parts_are_asked_for_once();
+  octets_grow();
+  first_errors_are_kept();
+#ifdef __cpp_exceptions
+  if (can_want_memory()) want_of_memory_is_answered();
+#endif
+  counts_are_bounded();
   moments_are_counted();
   std::printf("%ld passed, %ld failed\n", passed, failed);
   return failed != 0;
