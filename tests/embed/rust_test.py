@@ -1,35 +1,143 @@
-"""Runs the tests of the crate for Rust, its examples among them.
+"""Runs the tests of the crates for Rust, their examples among them.
 
-The crate is built in a folder of its own, and no warning is let pass. Each test of the crate and of its documents is a
-part.
+They are built in a folder of their own, and no warning is let pass. Each test of the crates and of their documents is a
+part. The bank over tokio is built over the crates that Debian packages, and tested as the banks in C and C++ are.
 """
+import glob
+import json
 import os
 import re
+import shutil
 import subprocess
 import tempfile
 import unittest
 
 from tests import programs
+from tests.embedding import BANKS, of_functions
 
 CRATE = os.path.join(programs.ROOT, "bindings", "rust")
-WORDS = ["cargo", "test", "--offline", "--locked", "--no-fail-fast"]
+REGISTRY = "/usr/share/cargo/registry"
+# the crates of crates.io are those of that folder
+OF_REGISTRY = ["--config", 'source.crates-io.replace-with = "debian"',
+               "--config", f"source.debian.directory = {json.dumps(REGISTRY)}"]
+LIBRARIES = ("liblemonrudder.a", "liblemonrudder.so")
 
 
+def folder_of(tests):
+    """A folder for what a class of tests builds."""
+    folder = tempfile.TemporaryDirectory()
+    tests.addClassCleanup(folder.cleanup)
+    return folder.name
+
+
+def cargo(target, lib, *words, cwd=CRATE, **environment):
+    """Runs cargo over the libraries of a folder, and answers its status and what it printed."""
+    found = dict(os.environ, LEMONRUDDER_LIB_DIR=lib, CARGO_TARGET_DIR=target, RUSTFLAGS="-D warnings",
+                 RUSTDOCFLAGS="-D warnings", **environment)
+    ran = subprocess.run(["cargo", *words], cwd=cwd, env=found, stdin=subprocess.DEVNULL, stdout=subprocess.PIPE,
+                         stderr=subprocess.STDOUT, text=True, check=False)
+    return ran.returncode, ran.stdout
+
+
+@programs.needs("cargo")
 class Crate(unittest.TestCase):
-    """The crate over the library for C."""
+    """The crates over the library for C."""
 
-    @programs.needs("cargo")
-    def test_crate(self):
-        """All tests that `cargo test` runs."""
-        lib = os.path.join(programs.library(), "lib")
-        with tempfile.TemporaryDirectory() as folder:
-            found = dict(os.environ, LEMONRUDDER_LIB_DIR=lib, CARGO_TARGET_DIR=folder, RUSTFLAGS="-D warnings",
-                         RUSTDOCFLAGS="-D warnings")
-            ran = subprocess.run(WORDS, cwd=CRATE, env=found, stdin=subprocess.DEVNULL, stdout=subprocess.PIPE,
-                                 stderr=subprocess.STDOUT, text=True, check=False)
-        tests = re.findall(r"^test (.+) \.\.\. (\w+)", ran.stdout, re.M)
+    @classmethod
+    def setUpClass(cls):
+        cls.lib = os.path.join(programs.library(), "lib")
+        cls.target = folder_of(cls)
+
+    def succeeds(self, command, *words, **environment):
+        """Runs a command of cargo that is to succeed, and answers what it printed."""
+        status, said = cargo(self.target, self.lib, command, "--offline", "--locked", *words, **environment)
+        self.assertEqual(status, 0, said)
+        return said
+
+    def passes(self, *words, **environment):
+        """Runs tests that are to pass."""
+        words = ["test", "--offline", "--locked", "--workspace", "--no-fail-fast", *words]
+        status, said = cargo(self.target, self.lib, *words, **environment)
+        tests = re.findall(r"^test (.+) \.\.\. (\w+)", said, re.M)
         for name, ended in tests:
             with self.subTest(name):
-                self.assertEqual(ended, "ok", ran.stdout)
-        self.assertEqual(ran.returncode, 0, ran.stdout)
-        self.assertTrue(tests, ran.stdout)
+                self.assertEqual(ended, "ok", said)
+        self.assertEqual(status, 0, said)
+        self.assertTrue(tests, said)
+
+    def test_crate(self):
+        """All tests that `cargo test` runs."""
+        self.passes()
+
+    def test_without_std(self):
+        """The tests that want no std, where the crate has none."""
+        self.passes("--no-default-features", "--lib", "--tests")
+
+    def test_shared(self):
+        """With LEMONRUDDER_STATIC=0 the shared library is linked, and else the archive."""
+        program = os.path.join(self.target, "debug", "examples", "first")
+        for static, elsewhere in (("0", 127), ("1", 0)):
+            self.succeeds("build", "--example", "first", LEMONRUDDER_STATIC=static)
+            for folder, status in ((self.lib, 0), (self.target, elsewhere)):
+                with self.subTest(static=static, folder=folder):
+                    ran = subprocess.run([program], env={"LD_LIBRARY_PATH": folder}, capture_output=True, check=False)
+                    self.assertEqual(ran.returncode, status, ran)
+
+    def test_versions(self):
+        """A library of another series is refused, and one that does not say its version is warned of."""
+        with tempfile.TemporaryDirectory() as folder:
+            for name in LIBRARIES:
+                shutil.copy(os.path.join(self.lib, name), folder)
+            os.mkdir(os.path.join(folder, "pkgconfig"))
+            package = os.path.join(folder, "pkgconfig", "lemonrudder.pc")
+            for text, status, wanted in (("", 0, "does not say which version"), ("Version: 0.0.9\n", 101, "of version 0.0.9"),
+                                         ("Version: 99.1.0\n", 101, "of version 99.1.0")):
+                with open(package, "w", encoding="ascii") as file:
+                    file.write(text)
+                with self.subTest(text):
+                    ended, said = cargo(self.target, folder, "check", "--offline", "--locked")
+                    self.assertEqual(ended, status, said)
+                    self.assertIn(wanted, said)
+
+    def test_documents(self):
+        """The documents of the crates are built."""
+        self.succeeds("doc", "--workspace", "--no-deps")
+
+    @programs.needs("cargo-clippy")
+    def test_lints(self):
+        """Clippy has nothing to say."""
+        self.succeeds("clippy", "--workspace", "--all-targets", "--", "-D", "warnings")
+
+    @programs.needs("rustfmt")
+    def test_format(self):
+        """The sources are in the form of rustfmt."""
+        self.assertEqual(cargo(self.target, self.lib, "fmt", "--all", "--check"), (0, ""))
+
+
+@programs.needs("cargo")
+@of_functions(BANKS)
+class BankTokio(unittest.TestCase):
+    """The bank over tokio."""
+
+    @classmethod
+    def setUpClass(cls):
+        lib = os.path.join(programs.library(), "lib")
+        if not glob.glob(os.path.join(REGISTRY, "tokio-1.*")):
+            raise unittest.SkipTest(programs.NEEDS + "librust-tokio-dev")
+        folder = folder_of(cls)
+        package = os.path.join(folder, "package")
+        lock = shutil.ignore_patterns("Cargo.lock", "target")
+        shutil.copytree(os.path.join(CRATE, "examples", "tokio"), package, ignore=lock)
+        manifest = os.path.join(package, "Cargo.toml")
+        with open(manifest, encoding="utf-8") as file:
+            text = file.read().replace('path = "../.."', f"path = {json.dumps(CRATE)}")
+        with open(manifest, "w", encoding="utf-8") as file:
+            file.write(text)
+        status, said = cargo(folder, lib, *OF_REGISTRY, "build", "--offline", cwd=package)
+        if status != 0:
+            raise AssertionError(said)
+        cls.subject = os.path.join(folder, "debug", "tokio-bank")
+
+
+if __name__ == "__main__":
+    unittest.main()

@@ -1,8 +1,10 @@
 //! What a call answers where it fails.
 
 use crate::sys;
-use std::ffi::CStr;
-use std::fmt;
+use alloc::vec;
+use alloc::vec::Vec;
+use core::ffi::CStr;
+use core::fmt;
 
 macro_rules! errors {
     ($($(#[$doc:meta])* $name:ident = $code:literal,)*) => {
@@ -101,7 +103,7 @@ impl fmt::Display for Error {
     }
 }
 
-impl std::error::Error for Error {}
+impl core::error::Error for Error {}
 
 /// What a function of the library answered: a count, or an error.
 pub(crate) fn count(answer: i64) -> Result<usize, Error> {
@@ -111,6 +113,11 @@ pub(crate) fn count(answer: i64) -> Result<usize, Error> {
 /// What a function of the library answered whose count says nothing.
 pub(crate) fn done(answer: i64) -> Result<(), Error> {
     count(answer).map(|_| ())
+}
+
+/// A size that the library said: of what fits into memory.
+pub(crate) fn size(said: u64) -> Result<usize, Error> {
+    usize::try_from(said).map_err(|_| Error::Memory)
 }
 
 /// The count of a function whose one error is that its slot is empty, which none is here.
@@ -156,6 +163,7 @@ pub(crate) fn written(
 #[cfg(test)]
 mod tests {
     use super::*;
+    use std::string::ToString;
 
     #[test]
     fn each_code_has_its_error() {
@@ -168,6 +176,7 @@ mod tests {
         assert_eq!(count(7), Ok(7));
         assert_eq!(done(7), Ok(()));
         assert_eq!(done(-7), Err(Error::Idle));
+        assert_eq!(size(7), Ok(7));
     }
 
     #[test]

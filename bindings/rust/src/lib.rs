@@ -11,8 +11,16 @@
 //! may be given to another thread, but not be used by two at once.
 //!
 //! The functions of the library are proved; this crate over them is tested.
+//!
+//! The crate is without `std`, and wants an allocator. Its feature `std`, which is on by default,
+//! adds what asks the system: [`Moment::now`] and [`Settings::default`].
 
+#![no_std]
 #![deny(missing_docs)]
+
+extern crate alloc;
+#[cfg(any(feature = "std", test))]
+extern crate std;
 
 mod assembler;
 mod catalogue;
@@ -23,16 +31,25 @@ mod ior;
 mod limits;
 mod moment;
 mod numbers;
+#[cfg(feature = "std")]
+mod seeds;
 mod server;
-mod sys;
 mod types;
 pub mod write;
 
-pub use assembler::{Assembler, Message};
+/// The functions of the library.
+mod sys {
+    pub use lemonrudder_sys::*;
+
+    #[cfg(test)]
+    mod header;
+}
+
+pub use assembler::{Assembler, Contexts, Message};
 pub use catalogue::{Catalogue, Signature};
 pub use client::{Call, Client, Completion, SystemException};
 pub use error::Error;
-pub use ior::{Address, Ior, Profile};
+pub use ior::{Address, Components, Ior, Profile, Profiles};
 pub use limits::Limits;
 pub use moment::Moment;
 pub use numbers::{
@@ -41,9 +58,11 @@ pub use numbers::{
 pub use server::{FtRequest, Request, Server, Settings};
 pub use types::Type;
 
-use std::ffi::c_void;
+use alloc::vec::Vec;
+use core::ffi::c_void;
 
 /// The version of the library: major, minor and patch.
+#[must_use]
 pub fn version() -> (u32, u32, u32) {
     let version = sys::lr_version();
     (version >> 16, version >> 8 & 0xff, version & 0xff)
