@@ -21,6 +21,7 @@ REGISTRY = "/usr/share/cargo/registry"
 OF_REGISTRY = ["--config", 'source.crates-io.replace-with = "debian"',
                "--config", f"source.debian.directory = {json.dumps(REGISTRY)}"]
 LIBRARIES = ("liblemonrudder.a", "liblemonrudder.so")
+SECONDS = 60
 
 
 def folder_of(tests):
@@ -37,6 +38,23 @@ def cargo(target, lib, *words, cwd=CRATE, **environment):
     ran = subprocess.run(["cargo", *words], cwd=cwd, env=found, stdin=subprocess.DEVNULL, stdout=subprocess.PIPE,
                          stderr=subprocess.STDOUT, text=True, check=False)
     return ran.returncode, ran.stdout
+
+
+def package(example, target, lib, *words):
+    """Builds an example that is a package of its own, and answers the program."""
+    folder = os.path.join(target, "packages", example)
+    # (a copy, since cargo writes beside the manifest which crates it took)
+    made = shutil.ignore_patterns("Cargo.lock", "target")
+    shutil.copytree(os.path.join(CRATE, "examples", example), folder, ignore=made)
+    manifest = os.path.join(folder, "Cargo.toml")
+    with open(manifest, encoding="utf-8") as file:
+        text = file.read().replace('path = "../.."', f"path = {json.dumps(CRATE)}")
+    with open(manifest, "w", encoding="utf-8") as file:
+        file.write(text)
+    status, said = cargo(target, lib, *words, "build", "--offline", cwd=folder)
+    if status != 0:
+        raise AssertionError(said)
+    return os.path.join(target, "debug", re.search(r'^name = "(.*)"$', text, re.M)[1])
 
 
 @programs.needs("cargo")
@@ -73,6 +91,11 @@ class Crate(unittest.TestCase):
         """The tests that want no std, where the crate has none."""
         self.passes("--no-default-features", "--lib", "--tests")
 
+    def test_bare(self):
+        """A program without std, which brings its heap, calls and serves."""
+        program = package("bare", self.target, self.lib)
+        self.assertEqual(subprocess.run([program], check=False, timeout=SECONDS).returncode, 0)
+
     def test_shared(self):
         """With LEMONRUDDER_STATIC=0 the shared library is linked, and else the archive."""
         program = os.path.join(self.target, "debug", "examples", "first")
@@ -90,7 +113,8 @@ class Crate(unittest.TestCase):
                 shutil.copy(os.path.join(self.lib, name), folder)
             os.mkdir(os.path.join(folder, "pkgconfig"))
             package = os.path.join(folder, "pkgconfig", "lemonrudder.pc")
-            for text, status, wanted in (("", 0, "does not say which version"), ("Version: 0.0.9\n", 101, "of version 0.0.9"),
+            for text, status, wanted in (("", 0, "does not say which version"),
+                                         ("Version: 0.0.9\n", 101, "of version 0.0.9"),
                                          ("Version: 99.1.0\n", 101, "of version 99.1.0")):
                 with open(package, "w", encoding="ascii") as file:
                     file.write(text)
@@ -124,19 +148,7 @@ class BankTokio(unittest.TestCase):
         lib = os.path.join(programs.library(), "lib")
         if not glob.glob(os.path.join(REGISTRY, "tokio-1.*")):
             raise unittest.SkipTest(programs.NEEDS + "librust-tokio-dev")
-        folder = folder_of(cls)
-        package = os.path.join(folder, "package")
-        lock = shutil.ignore_patterns("Cargo.lock", "target")
-        shutil.copytree(os.path.join(CRATE, "examples", "tokio"), package, ignore=lock)
-        manifest = os.path.join(package, "Cargo.toml")
-        with open(manifest, encoding="utf-8") as file:
-            text = file.read().replace('path = "../.."', f"path = {json.dumps(CRATE)}")
-        with open(manifest, "w", encoding="utf-8") as file:
-            file.write(text)
-        status, said = cargo(folder, lib, *OF_REGISTRY, "build", "--offline", cwd=package)
-        if status != 0:
-            raise AssertionError(said)
-        cls.subject = os.path.join(folder, "debug", "tokio-bank")
+        cls.subject = package("tokio", folder_of(cls), lib, *OF_REGISTRY)
 
 
 if __name__ == "__main__":

@@ -13,7 +13,8 @@
 //! The functions of the library are proved; this crate over them is tested.
 //!
 //! The crate is without `std`, and wants an allocator. Its feature `std`, which is on by default,
-//! adds what asks the system: [`Moment::now`] and [`Settings::default`].
+//! adds what asks the system: [`Moment::now`] and [`Settings::default`]. `examples/bare` is a
+//! program without it.
 
 #![no_std]
 #![deny(missing_docs)]
