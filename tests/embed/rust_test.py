@@ -135,7 +135,10 @@ class Crate(unittest.TestCase):
     @programs.needs("rustfmt")
     def test_format(self):
         """The sources are in the form of rustfmt."""
-        self.assertEqual(cargo(self.target, self.lib, "fmt", "--all", "--check"), (0, ""))
+        for folder in (CRATE, *glob.glob(os.path.join(CRATE, "examples", "*", ""))):
+            with self.subTest(folder):
+                self.assertEqual(cargo(self.target, self.lib, "fmt", "--check", cwd=folder), (0, ""))
+        self.assertEqual(cargo(self.target, self.lib, "fmt", "--package", "lemonrudder-sys", "--check"), (0, ""))
 
 
 @programs.needs("cargo")
