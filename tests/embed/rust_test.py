@@ -12,6 +12,7 @@ import subprocess
 import tempfile
 import unittest
 
+from scripts import library
 from tests import programs
 from tests.embedding import BANKS, of_functions
 
@@ -20,7 +21,6 @@ REGISTRY = "/usr/share/cargo/registry"
 # the crates of crates.io are those of that folder
 OF_REGISTRY = ["--config", 'source.crates-io.replace-with = "debian"',
                "--config", f"source.debian.directory = {json.dumps(REGISTRY)}"]
-LIBRARIES = ("liblemonrudder.a", "liblemonrudder.so")
 SECONDS = 60
 
 
@@ -107,21 +107,20 @@ class Crate(unittest.TestCase):
                     self.assertEqual(ran.returncode, status, ran)
 
     def test_versions(self):
-        """A library of another series is refused, and one that does not say its version is warned of."""
+        """The build ends where the library is of another series; it says where it can't tell."""
+        major, minor, patch = map(int, library.VERSION.split("."))
         with tempfile.TemporaryDirectory() as folder:
-            for name in LIBRARIES:
-                shutil.copy(os.path.join(self.lib, name), folder)
-            os.mkdir(os.path.join(folder, "pkgconfig"))
-            package = os.path.join(folder, "pkgconfig", "lemonrudder.pc")
-            for text, status, wanted in (("", 0, "does not say which version"),
-                                         ("Version: 0.0.9\n", 101, "of version 0.0.9"),
-                                         ("Version: 99.1.0\n", 101, "of version 99.1.0")):
-                with open(package, "w", encoding="ascii") as file:
-                    file.write(text)
-                with self.subTest(text):
-                    ended, said = cargo(self.target, folder, "check", "--offline", "--locked")
+            lib = os.path.join(folder, "lib")
+            shutil.copytree(self.lib, lib, symlinks=True)
+            for version, status, text in ((f"Version: {major}.{minor}.{patch + 1}", 0, ""),
+                                          (f"Version: {major + 1}.{minor}.{patch}", 101, f"wants {library.VERSION}"),
+                                          ("", 0, "does not say which version")):
+                with open(os.path.join(lib, "pkgconfig", "lemonrudder.pc"), "w", encoding="ascii") as file:
+                    file.write(f"Name: lemonrudder\n{version}\n")
+                with self.subTest(version):
+                    ended, said = cargo(self.target, lib, "check", "--offline", "--locked")
                     self.assertEqual(ended, status, said)
-                    self.assertIn(wanted, said)
+                    self.assertIn(text, said)
 
     def test_documents(self):
         """The documents of the crates are built."""
