@@ -1,5 +1,5 @@
 /*
- * What stands in C in the library: the heap that the Rattle code calls, and the texts of errors.
+ * What stands in C in the library: the heap that the Rattle code calls, and the names and texts of errors.
  *
  * The Rattle code trusts these three functions of the heap (crate `libc` of its kit, src/heap.rt). They are called with
  * sizes below 2^63 and alignments that divide 16.
@@ -8,16 +8,24 @@
 #include <stdlib.h>
 
 /* What the header declares is exported, and nothing else, where this file is compiled with -fvisibility=hidden. */
-#pragma GCC visibility push(default)
+#define LR_API __attribute__((visibility("default")))
 #include "lemonrudder.h"
-#pragma GCC visibility pop
 
 static void *(*allocate_octets)(size_t) = malloc;
 static void *(*reallocate_octets)(void *, size_t) = realloc;
 static void (*release_octets)(void *) = free;
 
+/*
+ * Whether memory was taken. Threads that find it unset may all set it, so it is read and written atomically; C99 has no
+ * words for that, and gcc and clang have these. It orders nothing else: it tells a program that sets the heap too late.
+ */
+static bool is_taken;
+
+static bool was_taken(void) { return __atomic_load_n(&is_taken, __ATOMIC_RELAXED); }
+
 int64_t lr_set_heap(void *(*allocate)(size_t), void *(*reallocate)(void *, size_t), void (*release)(void *)) {
   if (allocate == NULL || reallocate == NULL || release == NULL) return LR_E_RANGE;
+  if (was_taken()) return LR_E_OPEN;
   allocate_octets = allocate;
   reallocate_octets = reallocate;
   release_octets = release;
@@ -36,6 +44,7 @@ void rattle_dealloc(void *at);
 
 static struct tried tried(void *at) {
   static unsigned char nowhere;
+  if (at != NULL && !was_taken()) __atomic_store_n(&is_taken, true, __ATOMIC_RELAXED);
   return (struct tried){at != NULL, at != NULL ? at : &nowhere};
 }
 
@@ -53,36 +62,47 @@ struct tried rattle_realloc(void *at, size_t kept, size_t size, size_t alignment
 
 void rattle_dealloc(void *at) { release_octets(at); }
 
-const char *lr_strerror(int64_t error) {
-  static const char *const texts[] = {
-      [-LR_OK] = "no error",
-      [-LR_E_EMPTY] = "the slot is empty, or holds an object of another kind",
-      [-LR_E_OPEN] = "the slot holds an object already",
-      [-LR_E_MEMORY] = "an allocation failed, and nothing has changed",
-      [-LR_E_RANGE] = "a number is none of those that are allowed",
-      [-LR_E_CONNECTION] = "there is no such connection, or the number of a new one is not greater than each before",
-      [-LR_E_ASKING] = "a request waits for its outcome",
-      [-LR_E_IDLE] = "no request waits",
-      [-LR_E_DUE] = "octets are due that were not taken",
-      [-LR_E_OUTCOME] = "no outcome of the operation, or one that can't be sent",
-      [-LR_E_ROOM] = "the room is too small",
-      [-LR_E_SHORT] = "octets are missing at the end",
-      [-LR_E_VALUE] = "the octets are no value of the type",
-      [-LR_E_TYPES] = "the codes spell no valid types",
-      [-LR_E_TEXT] = "a NUL where none may be, or a name of a length that is not allowed",
-      [-LR_E_TAKEN] = "there is an object or operation of that name",
-      [-LR_E_OBJECT] = "there is no object of that key",
-      [-LR_E_RAW] = "every operation of the object is raw",
-      [-LR_E_REFERENCE] = "no stringified reference",
-      [-LR_E_STREAM] = "the stream has a fault, and is at its end",
-      [-LR_E_NONE] = "there is no such part",
-      [-LR_E_EXPIRED] = "the moment is past the expiration",
-      [-LR_E_CALLS] = "as many calls are pending as a client keeps, or it has given all its numbers",
-      [-LR_E_LONG] = "the message would be longer than its size can say",
-      [-LR_E_LOST] = "an allocation failed, and the connection is gone",
-      [-LR_E_PLACE] = "the body would stand at a place that is not divisible by 8",
-  };
-  if (error >= 0) return texts[0];
-  if (error < -(int64_t)(sizeof texts / sizeof *texts - 1)) return "an unknown error";
-  return texts[-error];
+/* The errors: what follows LR_E_ in the name of each, and its text. */
+#define ERRORS(E)                                                                                              \
+  E(EMPTY, "the slot is empty, or holds an object of another kind")                                            \
+  E(OPEN, "the slot holds an object already")                                                                  \
+  E(MEMORY, "an allocation failed, and nothing has changed")                                                   \
+  E(RANGE, "a number is none of those that are allowed")                                                       \
+  E(CONNECTION, "there is no such connection, or the number of a new one is not greater than each before")     \
+  E(ASKING, "a request waits for its outcome")                                                                 \
+  E(IDLE, "no request waits")                                                                                  \
+  E(DUE, "octets are due that were not taken")                                                                 \
+  E(OUTCOME, "no outcome of the operation, or one that can't be sent")                                         \
+  E(ROOM, "the room is too small")                                                                             \
+  E(SHORT, "octets are missing at the end")                                                                    \
+  E(VALUE, "the octets are no value of the type")                                                              \
+  E(TYPES, "the codes spell no valid types")                                                                   \
+  E(TEXT, "a NUL where none may be, or a name of a length that is not allowed")                                \
+  E(TAKEN, "there is an object or operation of that name")                                                     \
+  E(OBJECT, "there is no object of that key")                                                                  \
+  E(RAW, "every operation of the object is raw")                                                               \
+  E(REFERENCE, "no stringified reference")                                                                     \
+  E(STREAM, "the stream has a fault, and is at its end")                                                       \
+  E(NONE, "there is no such part")                                                                             \
+  E(EXPIRED, "the moment is past the expiration")                                                              \
+  E(CALLS, "as many calls are pending as a client keeps, or it has given all its numbers")                     \
+  E(LONG, "the message would be longer than its size can say")                                                 \
+  E(LOST, "an allocation failed, and the connection is gone")                                                  \
+  E(PLACE, "the body would stand at a place that is not divisible by 8")
+
+struct error {
+  const char *name, *text;
+};
+
+static const struct error *error_of(int64_t number) {
+#define ERROR(name, text) [-LR_E_##name] = {"LR_E_" #name, text},
+  static const struct error all[] = {[-LR_OK] = {"LR_OK", "no error"}, ERRORS(ERROR)};
+  static const struct error unknown = {"LR_E_UNKNOWN", "an unknown error"};
+  if (number >= 0) return &all[-LR_OK];
+  if (number <= -(int64_t)(sizeof all / sizeof *all) || all[-number].name == NULL) return &unknown;
+  return &all[-number];
 }
+
+const char *lr_error_name(int64_t error) { return error_of(error)->name; }
+
+const char *lr_strerror(int64_t error) { return error_of(error)->text; }

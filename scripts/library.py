@@ -1,7 +1,13 @@
-"""Makes the library for C of the proved crate: an archive, a shared library, the headers and a file for pkg-config."""
+"""Makes the library for C of the proved crate: an archive, a shared library, headers, files for pkg-config and CMake.
+
+The rule of versions.  What was built with one version of the library may run with another one of the same series that
+is not older. A series is the versions of one major number; before 1.0, those of one minor number. So 0.1.3 stands in
+for 0.1.2, as neither 0.1.1 nor 0.2.0 does, and 1.3.0 stands in for 1.2.5.
+"""
 import os
 import shutil
 import subprocess
+import tempfile
 
 from scripts.crates import ROOT
 from scripts.kit import are_of_run, load_kit
@@ -9,10 +15,40 @@ from scripts.kit import are_of_run, load_kit
 LIBRARY = "lemonrudder"
 EMBED = os.path.join(ROOT, "embed")
 ARCHIVE = os.path.join(ROOT, "crates", LIBRARY, "out", f"lib{LIBRARY}.a")
-# the version of the interface, and the number that changes where a program would have to be built anew
+TOOLS = ("cc", "ar", "ld", "objcopy")
+# what pkg-config and CMake read: where it is put below lib/, and what it is made of, in embed/
+PACKAGES = {
+    f"pkgconfig/{LIBRARY}.pc": f"{LIBRARY}.pc.in",
+    f"cmake/{LIBRARY}/{LIBRARY}-config.cmake": f"{LIBRARY}-config.cmake.in",
+    f"cmake/{LIBRARY}/{LIBRARY}-config-version.cmake": f"{LIBRARY}-config-version.cmake.in",
+}
+
+
+def series(version):
+    """The series of a version: its major number, before 1.0 with the minor one."""
+    major, minor, _ = version.split(".")
+    return f"{major}.{minor}" if major == "0" else major
+
+
+def serves(version, built):
+    """The rule of versions: whether a library of a version serves what was built with another."""
+    found, least = ([int(number) for number in each.split(".")] for each in (version, built))
+    return series(version) == series(built) and found >= least
+
+
+def soname(version):
+    """The name by which a program finds the shared library that it was linked with."""
+    return f"lib{LIBRARY}.so.{series(version)}"
+
+
+def node(version):
+    """The first node of the symbols of a series. That of 0.1 is named otherwise."""
+    return "LEMONRUDDER_0" if series(version) == "0.1" else f"LEMONRUDDER_{series(version)}".replace(".", "_")
+
+
+# the version of the interface
 VERSION = "0.1.0"
-SONAME = f"lib{LIBRARY}.so.0"
-TOOLS = ("cc", "ar")
+SONAME = soname(VERSION)
 
 
 def run(*words):
@@ -35,30 +71,54 @@ def build_over_gate(since):
     return ran.returncode == 0
 
 
-def install(prefix):
-    """Puts all of it below a folder, and answers the paths of what a program needs."""
-    prefix = os.path.abspath(prefix)
-    lib, include = os.path.join(prefix, "lib"), os.path.join(prefix, "include")
-    for folder in (os.path.join(lib, "pkgconfig"), include):
-        os.makedirs(folder, exist_ok=True)
-    support = os.path.join(lib, "support.o")
-    run("cc", "-std=c99", "-O2", "-fPIC", "-fvisibility=hidden", "-Wall", "-Wextra", f"-I{EMBED}/include",
-        "-c", f"{EMBED}/support.c", "-o", support)
-    archive, shared = os.path.join(lib, f"lib{LIBRARY}.a"), os.path.join(lib, f"lib{LIBRARY}.so.{VERSION}")
-    shutil.copyfile(ARCHIVE, archive)
-    run("ar", "rcs", archive, support)
-    os.remove(support)
-    run("cc", "-shared", "-Wl,--whole-archive", archive, "-Wl,--no-whole-archive", "-Wl,-z,text", "-Wl,--gc-sections",
-        f"-Wl,-soname,{SONAME}", f"-Wl,--version-script={EMBED}/{LIBRARY}.map", "-o", shared)
+def make_archive(archive, folder):
+    """Makes the archive of one object. Its global names are the functions of the header, so that nothing else of it
+    can clash with what is linked beside it."""
+    support, whole, made = (os.path.join(folder, name) for name in ("support.o", "whole.o", f"{LIBRARY}.o"))
+    run("cc", "-std=c99", "-O2", "-fPIC", "-ffunction-sections", "-fdata-sections", "-fvisibility=hidden", "-Wall",
+        "-Wextra", f"-I{EMBED}/include", "-c", f"{EMBED}/support.c", "-o", support)
+    run("ld", "-r", "--whole-archive", ARCHIVE, "--no-whole-archive", support, "-o", whole)
+    run("objcopy", "--wildcard", "--keep-global-symbol=lr_*", whole, made)
+    if os.path.lexists(archive):
+        os.remove(archive)
+    run("ar", "rcs", archive, made)
+
+
+def make_shared(shared, archive):
+    """Makes the shared library of the archive, and the links that lead to it: it is bound when it is loaded."""
+    run("cc", "-shared", "-Wl,--whole-archive", archive, "-Wl,--no-whole-archive", "-Wl,-z,text", "-Wl,-z,now",
+        "-Wl,--gc-sections", f"-Wl,-soname,{SONAME}", f"-Wl,--version-script={EMBED}/{LIBRARY}.map", "-o", shared)
     for name in (SONAME, f"lib{LIBRARY}.so"):
-        path = os.path.join(lib, name)
+        path = os.path.join(os.path.dirname(shared), name)
         if os.path.lexists(path):
             os.remove(path)
         os.symlink(os.path.basename(shared), path)
+
+
+def package(source, version):
+    """What another program reads to find the library of a version. It names folders by its own: all may be moved."""
+    with open(os.path.join(EMBED, source), encoding="utf-8") as file:
+        text = file.read()
+    for mark, value in (("version", version), ("series", series(version)), ("soname", soname(version))):
+        text = text.replace(f"@{mark}@", value)
+    return text
+
+
+def install(prefix, destdir=""):
+    """Puts all of it below a folder, which is itself below another one where that is given: what is written is as if it
+    were not. Answers the paths of what a program needs."""
+    prefix = destdir + os.path.abspath(prefix)
+    lib, include = os.path.join(prefix, "lib"), os.path.join(prefix, "include")
+    for folder in (lib, include):
+        os.makedirs(folder, exist_ok=True)
+    archive, shared = os.path.join(lib, f"lib{LIBRARY}.a"), os.path.join(lib, f"lib{LIBRARY}.so.{VERSION}")
+    with tempfile.TemporaryDirectory() as folder:
+        make_archive(archive, folder)
+    make_shared(shared, archive)
     for header in os.listdir(os.path.join(EMBED, "include")):
         shutil.copyfile(os.path.join(EMBED, "include", header), os.path.join(include, header))
-    with open(os.path.join(EMBED, f"{LIBRARY}.pc.in"), encoding="utf-8") as file:
-        text = file.read().replace("@prefix@", prefix).replace("@version@", VERSION)
-    with open(os.path.join(lib, "pkgconfig", f"{LIBRARY}.pc"), "w", encoding="utf-8") as file:
-        file.write(text)
+    for name, source in PACKAGES.items():
+        os.makedirs(os.path.dirname(os.path.join(lib, name)), exist_ok=True)
+        with open(os.path.join(lib, name), "w", encoding="utf-8") as file:
+            file.write(package(source, VERSION))
     return archive, shared, include

@@ -9,6 +9,7 @@ from __future__ import annotations
 import atexit
 import contextlib
 import functools
+import itertools
 import os
 import random
 import re
@@ -22,6 +23,7 @@ import time
 import unittest
 from collections.abc import Callable, Iterator
 
+from scripts import library
 from tests import base, giop, programs
 from tests.cdr import BIG, LITTLE, Octets
 from tests.giop import (
@@ -36,6 +38,7 @@ EXAMPLES = os.path.join(ROOT, "examples")
 WARNINGS = ["-Wall", "-Wextra", "-Wpedantic", "-Wshadow", "-Werror"]
 C, CPP = ["-std=c99", *WARNINGS], ["-std=c++17", *WARNINGS]
 SANITIZED = ["-fsanitize=address,undefined", "-fno-sanitize-recover=all"]
+THREADS = ["-fsanitize=thread"]
 VALGRIND = ["valgrind", "-q", "--error-exitcode=9", "--leak-check=full"]
 # a program under valgrind may take so many seconds
 PATIENCE = 600
@@ -61,15 +64,24 @@ class Kit:
         self.include, self.lib = os.path.join(folder, "include"), os.path.join(folder, "lib")
         self.archive = os.path.join(self.lib, "liblemonrudder.a")
         self.work = work
-        self.is_sanitized = self.can_sanitize()
+        self.is_sanitized = self.can_sanitize(SANITIZED)
 
-    def can_sanitize(self) -> bool:
-        """Whether programs are compiled and run with the sanitizers."""
+    def header(self) -> str:
+        """The header for C, without comments."""
+        with open(os.path.join(self.include, "lemonrudder.h"), encoding="ascii") as file:
+            return re.sub(r"/\*.*?\*/", "", file.read(), flags=re.S)
+
+    def version(self) -> list[str]:
+        """The numbers of the version in the header."""
+        return re.findall(r"#define LR_VERSION_(?:MAJOR|MINOR|PATCH) (\d+)", self.header())
+
+    def can_sanitize(self, flags: list[str]) -> bool:
+        """Whether programs are compiled and run with sanitizers."""
         source = os.path.join(self.work, "nothing.c")
         with open(source, "w", encoding="ascii") as file:
             file.write("int main(void) { return 0; }\n")
         try:
-            run("cc", *SANITIZED, source, "-o", source + ".out")
+            run("cc", *flags, source, "-o", source + ".out")
             run(source + ".out")
         except Wrong:
             return False
@@ -118,6 +130,33 @@ def headers_stand_alone(kit: Kit) -> None:
             compile_text(kit, cpp_text, compiler, "c++17")
 
 
+def declarations_can_be_marked(kit: Kit) -> None:
+    """LR_API stands before each function that the library has, and may be an attribute; the number is one for #if."""
+    text = kit.header()
+    named = set(re.findall(r"\b(lr_\w+)\(", text)) - set(re.findall(r"static inline void (lr_\w+)\(", text))
+    marked = set(re.findall(r"^LR_API [^;(]*?\b(lr_\w+)\([^;{}]*\);", text, re.M))
+    if marked != named:
+        raise Wrong(f"not marked: {named - marked}")
+    begin = '#define LR_API __attribute__((visibility("hidden")))\n#include "lemonrudder.h"\n'
+    begin += "#if LR_VERSION_NUMBER != {} * 65536 + {} * 256 + {}\n#error\n#endif\n".format(*kit.version())
+    compile_text(kit, begin, "cc", "c99")
+    if shutil.which("g++"):
+        compile_text(kit, begin, "g++", "c++11")
+
+
+def slots_are_closed_by_kind(kit: Kit) -> None:
+    """Each kind of slot has a function that closes it, and takes no pointer to another kind."""
+    kinds = ["catalogue", "server", "client", "assembler", "ior"]
+    for closed, given in itertools.product(kinds, kinds):
+        text = f'#include "lemonrudder.h"\nvoid f(lr_{given} *);\nvoid f(lr_{given} *x) {{ lr_{closed}_close(x); }}\n'
+        try:
+            compile_text(kit, text, "cc", "c99")
+        except Wrong:
+            want(closed == given, False)
+        else:
+            want(closed == given, True)
+
+
 def programs_link(kit: Kit) -> None:
     """`cc main.c -llemonrudder` is all that a program needs, with either library."""
     source, program = os.path.join(EMBED, "main.c"), os.path.join(kit.work, "main")
@@ -128,63 +167,185 @@ def programs_link(kit: Kit) -> None:
             raise Wrong("the program that was linked printed something else")
 
 
+def two_archives_link(kit: Kit) -> None:
+    """Two archives whose functions have other names are linked into one program, and each has a heap of its own."""
+    archive, names = os.path.join(kit.work, "libother.a"), os.path.join(kit.work, "names")
+    with open(names, "w", encoding="ascii") as file:
+        file.writelines(f"{name} other_{name[3:]}\n" for name in defined_names(kit.archive) if name.startswith("lr_"))
+    run(programs.tool("objcopy"), f"--redefine-syms={names}", kit.archive, archive)
+    libraries = [kit.archive, archive]
+    for order in (libraries, libraries[::-1]):
+        ran_well([kit.compile("two", [os.path.join(EMBED, "two.c")], [f"-I{EMBED}"], order)])
+
+
+def moved(kit: Kit) -> str:
+    """A copy of all that is installed, in another folder."""
+    folder = os.path.realpath(tempfile.mkdtemp(dir=kit.work))
+    for name in ("lib", "include"):
+        shutil.copytree(os.path.join(os.path.dirname(kit.lib), name), os.path.join(folder, name), symlinks=True)
+    return folder
+
+
 def packages_are_found(kit: Kit) -> None:
-    """The words of pkg-config build the bank, as its first lines say."""
+    """The words of pkg-config build the bank, as its first lines say, wherever the library was moved to."""
     programs.tool("pkg-config")
-    search = {"PKG_CONFIG_PATH": os.path.join(kit.lib, "pkgconfig")}
+    folder = moved(kit)
+    search = {"PKG_CONFIG_PATH": os.path.join(folder, "lib", "pkgconfig")}
     words = run("pkg-config", "--cflags", "--libs", "lemonrudder", env=search).split()
+    named = [word[:2] + os.path.realpath(word[2:]) for word in words if not word.startswith("-l")]
+    want(named, [f"-I{folder}/include", f"-L{folder}/lib"])
     sources = [os.path.join(EXAMPLES, name) for name in ("bank.c", "loop.c")]
     run("cc", "-o", os.path.join(kit.work, "packaged"), *sources, *words)
     version = run("pkg-config", "--modversion", "lemonrudder", env=search).strip()
-    with open(os.path.join(kit.include, "lemonrudder.h"), encoding="ascii") as file:
-        numbers = re.findall(r"#define LR_VERSION_\w+ (\d+)", file.read())
-    if version != ".".join(numbers):
-        raise Wrong(f"the package is {version}, the header {numbers}")
+    if version != ".".join(kit.version()):
+        raise Wrong(f"the package is {version}, the header {kit.version()}")
+
+
+PROJECT = """
+cmake_minimum_required(VERSION 3.10)
+project(found C)
+find_package(lemonrudder {} REQUIRED)
+find_package(lemonrudder REQUIRED)
+add_executable(with_shared main.c)
+target_link_libraries(with_shared lemonrudder::lemonrudder)
+add_executable(with_archive main.c)
+target_link_libraries(with_archive lemonrudder::static)
+"""
+
+
+def packages_are_found_by_cmake(kit: Kit) -> None:
+    """find_package gives a target for each library, wherever they were moved to."""
+    programs.tool("make")
+    folder = moved(kit)
+    shutil.copyfile(os.path.join(EMBED, "main.c"), os.path.join(folder, "main.c"))
+    with open(os.path.join(folder, "CMakeLists.txt"), "w", encoding="ascii") as file:
+        file.write(PROJECT.format(".".join(kit.version())))
+    built = os.path.join(folder, "built")
+    run(programs.tool("cmake"), "-G", "Unix Makefiles", "-S", folder, "-B", built, f"-DCMAKE_PREFIX_PATH={folder}")
+    run("cmake", "--build", built)
+    for name, file, needed in (("with_shared", f"liblemonrudder.so.{library.VERSION}", [library.SONAME]),
+                               ("with_archive", "liblemonrudder.a", [])):
+        program = os.path.join(built, name)
+        want(run(program), "no error\n")
+        want(re.findall(r"NEEDED.*\[(liblemonrudder.*)\]", run("readelf", "-d", program)), needed)
+        with open(os.path.join(built, "CMakeFiles", f"{name}.dir", "link.txt"), encoding="utf-8") as linked:
+            want(re.findall(r"\S*/liblemonrudder\S*", linked.read()), [os.path.join(folder, "lib", file)])
+
+
+def cmake_takes_versions_by_the_rule(kit: Kit) -> None:
+    """find_package takes a version by the rule of scripts/library.py, and a range by what lies in it."""
+    some = [".".join(map(str, numbers)) for numbers in itertools.product((0, 1, 2), (0, 1, 2, 10), (0, 1, 10))]
+    source = os.path.join(kit.work, "versions.cmake")
+    for version in (library.VERSION, "0.1.1", "0.10.1", "1.1.1"):
+        with open(source + ".in", "w", encoding="ascii") as file:
+            file.write(library.package("lemonrudder-config-version.cmake.in", version))
+        with open(source, "w", encoding="ascii") as file:
+            for asked in some:
+                file.write(f'set(PACKAGE_FIND_VERSION {asked})\ninclude("{source}.in")\n'
+                           f'message("{asked} ${{PACKAGE_VERSION_COMPATIBLE}} ${{PACKAGE_VERSION_EXACT}}")\n')
+        said = run(programs.tool("cmake"), "-P", source).splitlines()
+        want(said, [f"{asked} {str(library.serves(version, asked)).upper()} {str(asked == version).upper()}"
+                    for asked in some])
+        ranges = [(*pair, end) for pair in itertools.combinations(some, 2) for end in ("INCLUDE", "EXCLUDE")]
+        with open(source, "w", encoding="ascii") as file:
+            for least, most, end in ranges:
+                file.write(f"set(PACKAGE_FIND_VERSION_RANGE {least}...{most})\nset(PACKAGE_FIND_VERSION_MIN {least})\n"
+                           f"set(PACKAGE_FIND_VERSION_MAX {most})\nset(PACKAGE_FIND_VERSION_RANGE_MAX {end})\n"
+                           f'include("{source}.in")\nmessage("${{PACKAGE_VERSION_COMPATIBLE}}")\n')
+        numbers = {text: [int(number) for number in text.split(".")] for text in (*some, version)}
+        want(run("cmake", "-P", source).split(),
+             [str(numbers[least] <= numbers[version] < numbers[most] or (version == most and end == "INCLUDE")).upper()
+              for least, most, end in ranges])
+
+
+def all_of(folder: str) -> list[str]:
+    """The paths of all files below a folder, from there."""
+    return sorted(os.path.relpath(os.path.join(at, name), folder) for at, _, names in os.walk(folder) for name in names)
+
+
+def packages_are_made_below_a_root(kit: Kit) -> None:
+    """With a root all is put below it, and nothing says where that was."""
+    if not os.path.exists(library.ARCHIVE):
+        raise programs.missing(f"there is no {os.path.relpath(library.ARCHIVE, ROOT)}")
+    for root in (os.path.join(kit.work, "some-root"), os.path.join(kit.work, "some-root-anew") + "/"):
+        library.install("/opt/some", root)
+        made = os.path.join(root, "opt", "some")
+        want(os.listdir(root), ["opt"])
+        want(all_of(made), sorted([
+            "include/lemonrudder.h", "include/lemonrudder.hpp", "lib/liblemonrudder.a", "lib/liblemonrudder.so",
+            f"lib/{library.SONAME}", f"lib/liblemonrudder.so.{library.VERSION}", "lib/pkgconfig/lemonrudder.pc",
+            *(f"lib/cmake/lemonrudder/lemonrudder-{name}.cmake" for name in ("config", "config-version"))]))
+        for name in all_of(made):
+            with open(os.path.join(made, name), "rb") as file:
+                if b"some-root" in file.read():
+                    raise Wrong(f"{name} says where it was made")
+        want(os.readlink(os.path.join(made, "lib", "liblemonrudder.so")), f"liblemonrudder.so.{library.VERSION}")
 
 
 def versions_are_one(kit: Kit) -> None:
     """The version stands in the header, and all others that say one say that."""
-    with open(os.path.join(kit.include, "lemonrudder.h"), encoding="ascii") as file:
-        numbers = re.findall(r"#define LR_VERSION_\w+ (\d+)", file.read())
-    version = ".".join(numbers)
+    version = ".".join(kit.version())
     places = [
         ("scripts/library.py", r'^VERSION = "(.*)"$', version),
         ("bindings/rust/Cargo.toml", r'^version = "(.*)"$', version),
         ("bindings/rust/Cargo.lock", r'^name = "lemonrudder"\nversion = "(.*)"$', version),
         ("bindings/rust/Cargo.lock", r'^name = "lemonrudder-sys"\nversion = "(.*)"$', version),
-        ("bindings/rust/Cargo.toml", r'^lemonrudder-sys = .* version = "(.*)" \}$', ".".join(numbers[:2])),
-        ("bindings/python/lemonrudder.py", r"^VERSION = \((\d+, \d+)\)$", ", ".join(numbers[:2])),
+        ("bindings/rust/Cargo.toml", r'^lemonrudder-sys = .* version = "(.*)" \}$', ".".join(kit.version()[:2])),
+        ("bindings/python/lemonrudder.py", r"^VERSION = \((\d+, \d+, \d+)\)$", ", ".join(kit.version())),
         ("crates/giop_tool/src/help.rt", r'^pub\(crate\) const VERSION: &str = "(.*)";$', version),
         ("docs/giop.1", r'^\.TH GIOP 1 "" "giop ([^"]*)"', version),
         ("CHANGELOG.md", r"^## (\d\S*)$", version),
-        # the number that changes where a program has to be built anew
-        ("scripts/library.py", r'^SONAME = f"lib\{LIBRARY\}\.so\.(\d+)"$', numbers[0]),
-        ("embed/lemonrudder.map", r"^LEMONRUDDER_(\d+) \{$", numbers[0]),
+        ("embed/lemonrudder.map", r"^(\w+) \{$", library.node(version)),
     ]
     for path, pattern, wanted in places:
         with open(os.path.join(ROOT, path), encoding="utf-8") as file:
             found = re.findall(pattern, file.read(), re.M)
         if found[:1] != [wanted]:
             raise Wrong(f"{path} says {found[:1]}, the header {wanted}")
+    want(library.soname("0.3.4"), "liblemonrudder.so.0.3")
+    want(library.soname("3.4.5"), "liblemonrudder.so.3")
+
+
+def defined_names(archive: str) -> set[str]:
+    """The global names that an archive defines."""
+    return set(re.findall(r"^[0-9a-f]+ [A-Z] (\w+)$", run("nm", "-g", "--defined-only", archive), re.M))
 
 
 def names_are_exported(kit: Kit) -> None:
-    """The shared library has the functions of the header and nothing else, and takes little of others."""
-    with open(os.path.join(kit.include, "lemonrudder.h"), encoding="ascii") as file:
-        text = re.sub(r"/\*.*?\*/", "", file.read(), flags=re.S)
+    """The map and both libraries have the functions of the header and no others; what they take of others is little."""
+    text = re.sub(r"static inline void lr_\w+\(.*?\}", "", kit.header())
     declared = set(re.findall(r"\b(lr_\w+)\(", text))
-    shared = os.path.join(kit.lib, "liblemonrudder.so")
-    lines = run("nm", "-D", "--with-symbol-versions", shared).splitlines()
-    symbols = [(line.split()[-2], line.split()[-1]) for line in lines]
-    given = {name.partition("@")[0] for kind, name in symbols if kind in "TDBRVWi"}
-    if given != declared:
-        raise Wrong(f"exported and not declared: {given - declared}; declared and not exported: {declared - given}")
-    versions = {name.rpartition("@")[2] for kind, name in symbols if kind == "T"}
-    if versions != {"LEMONRUDDER_0"}:
-        raise Wrong(f"the versions are {versions}")
-    taken = {name.partition("@")[0] for kind, name in symbols if kind == "U"}
+    with open(os.path.join(ROOT, "embed", "lemonrudder.map"), encoding="ascii") as file:
+        nodes = re.findall(r"^(\w+) \{(.*?)^\}", re.sub(r"/\*.*?\*/", "", file.read(), flags=re.S), re.M | re.S)
+    listed = {name: node for node, names in nodes for name in re.findall(r"^ +(lr_\w+);$", names, re.M)}
+    lines = run("nm", "-D", "--with-symbol-versions", os.path.join(kit.lib, "liblemonrudder.so")).splitlines()
+    symbols = [(line.split()[-2], *line.split()[-1].replace("@@", "@").split("@")) for line in lines]
+    given = {name: node for kind, name, *node in symbols if kind in "TDBRVWi"}
+    everywhere = {"the map": listed, "the shared library": given, "the archive": defined_names(kit.archive)}
+    for what, names in everywhere.items():
+        more, fewer = {*names} - declared, declared - {*names}
+        if more or fewer:
+            raise Wrong(f"{what} has {more}, which the header lacks, and lacks {fewer}")
+    want(given, {name: [node] for name, node in listed.items()})
+    taken = {name for kind, name, *_ in symbols if kind == "U"}
     if not taken <= TAKES:
         raise Wrong(f"it takes {taken - TAKES}")
+
+
+def shared_library_says_how_it_is_loaded(kit: Kit) -> None:
+    """It has the name of its series, and is bound when it is loaded."""
+    said = run("readelf", "-dW", os.path.join(kit.lib, "liblemonrudder.so"))
+    want(re.findall(r"\(SONAME\).*\[(.*)\]", said), [library.SONAME])
+    want(bool(re.search(r"\(FLAGS_1\).*\bNOW\b", said)), True)
+    want(os.path.exists(os.path.join(kit.lib, library.SONAME)), True)
+
+
+def heap_is_for_threads(kit: Kit) -> None:
+    """Threads that take their first memory at once do not race."""
+    if not kit.can_sanitize(THREADS):
+        raise unittest.SkipTest("this needs the sanitizer for threads")
+    support = os.path.join(ROOT, "embed", "support.c")
+    ran_well([kit.compile("threads", [os.path.join(EMBED, "threads.c"), support], [*THREADS, "-pthread"], [])])
 
 
 # ---- programs ----
@@ -772,7 +933,10 @@ GATEWAYS = [gateway_leads_to_itself, gateway_forwards_as_it_came, gateway_retrie
             gateway_says_maybe, gateway_gives_up_what_was_not_begun, gateway_comes_back,
             gateway_refuses_what_it_cannot, gateway_takes_long_replies, gateway_forwards_without_a_reply,
             gateway_forwards_one_at_a_time, gateway_wants_a_reference]
-LIBRARY = [headers_stand_alone, programs_link, names_are_exported, packages_are_found, versions_are_one]
+LIBRARY = [headers_stand_alone, declarations_can_be_marked, slots_are_closed_by_kind, programs_link, two_archives_link,
+           names_are_exported, shared_library_says_how_it_is_loaded, heap_is_for_threads, packages_are_found,
+           packages_are_found_by_cmake, cmake_takes_versions_by_the_rule, packages_are_made_below_a_root,
+           versions_are_one]
 
 
 @functools.lru_cache(maxsize=None)

@@ -10,7 +10,8 @@ What there is, from the octets up:
     Server, Client                   both ends over asyncio
 
 The shared library is looked for by the environment variable LEMONRUDDER_LIBRARY, a path; else beside this module; else
-by ctypes.util.find_library. Where it is not found, or has another version, the import fails by ImportError.
+by ctypes.util.find_library. Where it is not found, or its version is none for this module, the import fails by
+ImportError.
 
 Formats.  A format spells types, one after another, in the manner of the module `struct`; spaces count for nothing.
 
@@ -79,7 +80,8 @@ __all__ = [
 Octets = Union[bytes, bytearray, memoryview]
 Text = Union[str, bytes, bytearray, memoryview]
 
-VERSION = (0, 1)
+VERSION = (0, 1, 0)
+"""The version of the module. The library is of the same series and not older."""
 LIMIT = 1048576
 """How many octets a message may have where nothing else is said, its header among them: 4096 to 16777216 may be."""
 PARTIALS = 8
@@ -418,6 +420,15 @@ def _path() -> str:
     return found
 
 
+def _serves(version: Tuple[int, ...], built: Tuple[int, ...]) -> bool:
+    """Whether a library of a version serves what was built for another: one of the same series that is not newer.
+
+    A series is the versions of one major number; before 1.0, those of one minor number.
+    """
+    same = 2 if built[0] == 0 else 1
+    return version[:same] == built[:same] and version >= built
+
+
 def _loaded() -> ctypes.PyDLL:
     """The shared library, with the types of its functions. Its calls are short and keep the interpreter's lock."""
     path = _path()
@@ -431,13 +442,16 @@ def _loaded() -> ctypes.PyDLL:
             function.argtypes, function.restype = parameters, c_int64
         library.lr_version.argtypes, library.lr_version.restype = (), c_uint32
         library.lr_strerror.argtypes, library.lr_strerror.restype = (c_int64,), ctypes.c_char_p
+        library.lr_error_name.argtypes, library.lr_error_name.restype = (c_int64,), ctypes.c_char_p
         library.lr_moment.argtypes, library.lr_moment.restype = (c_uint64, c_uint32), c_uint64
         library.lr_close.argtypes, library.lr_close.restype = (_SLOT,), None
     except AttributeError as error:
         raise ImportError(f"{path} is no liblemonrudder: {error}") from error
-    major, minor = library.lr_version() >> 16, library.lr_version() >> 8 & 0xff
-    if (major, minor) != VERSION:
-        raise ImportError(f"{path} is liblemonrudder {major}.{minor}, not {VERSION[0]}.{VERSION[1]}")
+    number = library.lr_version()
+    version = (number >> 16, number >> 8 & 0xff, number & 0xff)
+    if not _serves(version, VERSION):
+        found, wanted = (".".join(map(str, each)) for each in (version, VERSION))
+        raise ImportError(f"{path} is liblemonrudder {found}, and none for {wanted}")
     return library
 
 
@@ -447,17 +461,17 @@ _library = _loaded()
 class LemonrudderError(Exception):
     """An error that the library answers.
 
-    number: a member of `Error`. text: what it means.
+    number: a member of `Error`, or a number. name: as LR_E_RANGE. text: what it means.
     """
 
     def __init__(self, number: int, text: Optional[str] = None) -> None:
         self.number = _named(Error, number)
-        self.text = text if text is not None else (_library.lr_strerror(number) or b"").decode("ascii", "replace")
+        self.name = _library.lr_error_name(number).decode("ascii")
+        self.text = text if text is not None else _library.lr_strerror(number).decode("ascii")
         super().__init__(self.number, self.text)
 
     def __str__(self) -> str:
-        name = f"LR_E_{self.number.name}" if isinstance(self.number, Error) else str(self.number)
-        return f"{self.text} ({name})"
+        return f"{self.text} ({self.number if self.name == 'LR_E_UNKNOWN' else self.name})"
 
 
 class StreamError(LemonrudderError):

@@ -35,13 +35,20 @@
 extern "C" {
 #endif
 
-/* The version of this header: major, minor and patch. */
+/* Stands before each function that the library has: empty, or what you define before, an attribute say. */
+#ifndef LR_API
+#define LR_API
+#endif
+
+/* The version of this header: major, minor and patch, and all three as one number, which #if can compare. */
 #define LR_VERSION_MAJOR 0
 #define LR_VERSION_MINOR 1
 #define LR_VERSION_PATCH 0
+#define LR_VERSION_NUMBER (LR_VERSION_MAJOR * 65536 + LR_VERSION_MINOR * 256 + LR_VERSION_PATCH)
 
-/* The version of the library that is linked: major * 65536 + minor * 256 + patch. */
-uint32_t lr_version(void);
+/* The version of the library that is linked, as LR_VERSION_NUMBER is. It serves this header where it is not less, and
+ * of the same series: it has the same major number, and before 1.0 the same minor number. */
+LR_API uint32_t lr_version(void);
 
 /* ---- slots ---- */
 
@@ -55,7 +62,14 @@ typedef struct { uint32_t kind; void *at; } lr_ior;       /* a reference to an o
 #define LR_INIT {0, NULL}
 
 /* Empties a slot of any kind. */
-void lr_close(void *slot);
+LR_API void lr_close(void *slot);
+
+/* The same, of one kind: a compiler refuses a pointer to anything else. */
+static inline void lr_catalogue_close(lr_catalogue *catalogue) { lr_close(catalogue); }
+static inline void lr_server_close(lr_server *server) { lr_close(server); }
+static inline void lr_client_close(lr_client *client) { lr_close(client); }
+static inline void lr_assembler_close(lr_assembler *assembler) { lr_close(assembler); }
+static inline void lr_ior_close(lr_ior *ior) { lr_close(ior); }
 
 /* ---- errors ---- */
 
@@ -88,8 +102,12 @@ enum {
   LR_E_PLACE = -25      /* the body would stand at a place that is not divisible by 8 */
 };
 
-/* The text of an error, with a NUL at its end. */
-const char *lr_strerror(int64_t error);
+/* The text of an error, with a NUL at its end; that of LR_OK, where the number is 0 or more. */
+LR_API const char *lr_strerror(int64_t error);
+
+/* The name of an error, with a NUL at its end: "LR_E_RANGE". "LR_OK", where the number is 0 or more; "LR_E_UNKNOWN",
+ * where this library has no such error. */
+LR_API const char *lr_error_name(int64_t error);
 
 /* ---- names of numbers ---- */
 
@@ -170,45 +188,45 @@ enum {
 };
 
 /* A moment, of seconds and nanoseconds since 1970-01-01 00:00 UTC. The greatest, where it lies beyond. */
-uint64_t lr_moment(uint64_t seconds, uint32_t nanoseconds);
+LR_API uint64_t lr_moment(uint64_t seconds, uint32_t nanoseconds);
 
 /* ---- which objects a server has ---- */
 
 /* Opens a catalogue without objects. LR_E_OPEN, LR_E_MEMORY. */
-int64_t lr_catalogue_open(lr_catalogue *catalogue);
+LR_API int64_t lr_catalogue_open(lr_catalogue *catalogue);
 
 /* Adds an object without operations. LR_E_EMPTY, LR_E_TAKEN, LR_E_MEMORY. */
-int64_t lr_catalogue_object(lr_catalogue *catalogue, const void *key, size_t key_size);
+LR_API int64_t lr_catalogue_object(lr_catalogue *catalogue, const void *key, size_t key_size);
 
 /* Adds an object whose every operation is raw. LR_E_EMPTY, LR_E_TAKEN, LR_E_MEMORY. */
-int64_t lr_catalogue_raw_object(lr_catalogue *catalogue, const void *key, size_t key_size);
+LR_API int64_t lr_catalogue_raw_object(lr_catalogue *catalogue, const void *key, size_t key_size);
 
 /* Declares an exception of the operation that lr_catalogue_operation adds next: its repository id, and the types of
  * its members. Operations that are raw, and repository ids, leave it for that one.
  * LR_E_EMPTY, LR_E_TYPES, LR_E_MEMORY. */
-int64_t lr_catalogue_exception(lr_catalogue *catalogue, const void *id, size_t id_size,
-                               const uint8_t *members, size_t members_size);
+LR_API int64_t lr_catalogue_exception(lr_catalogue *catalogue, const void *id, size_t id_size,
+                                      const uint8_t *members, size_t members_size);
 
 /* Adds an operation: the types of its arguments (the in and inout parameters in order), and of its results (the return
  * value, and then the inout and out parameters in order). It raises the exceptions that were declared since the last
  * one was added; where it is refused, for memory too, these are forgotten.
  * LR_E_EMPTY, LR_E_TYPES, LR_E_TEXT, LR_E_OBJECT, LR_E_RAW, LR_E_TAKEN, LR_E_MEMORY. */
-int64_t lr_catalogue_operation(lr_catalogue *catalogue, const void *key, size_t key_size,
-                               const void *name, size_t name_size,
-                               const uint8_t *arguments, size_t arguments_size,
-                               const uint8_t *results, size_t results_size);
+LR_API int64_t lr_catalogue_operation(lr_catalogue *catalogue, const void *key, size_t key_size,
+                                      const void *name, size_t name_size,
+                                      const uint8_t *arguments, size_t arguments_size,
+                                      const uint8_t *results, size_t results_size);
 
 /* Adds an operation that is raw: you read its arguments, and write the bodies of its replies.
  * LR_E_EMPTY, LR_E_TEXT, LR_E_OBJECT, LR_E_RAW, LR_E_TAKEN, LR_E_MEMORY. */
-int64_t lr_catalogue_raw_operation(lr_catalogue *catalogue, const void *key, size_t key_size,
-                                   const void *name, size_t name_size);
+LR_API int64_t lr_catalogue_raw_operation(lr_catalogue *catalogue, const void *key, size_t key_size,
+                                          const void *name, size_t name_size);
 
 /* Names the repository ids of an object, with a NUL after each: "IDL:Bank:1.0" has one, with the NUL that ends it.
  * The object has the operations _is_a and _non_existent then, as a checked narrow of an ORB asks for (CORBA 3.3 Part
  * 1, 8.3); lr_server_identify answers them. Unlike that of all other texts here, the size counts the NUL.
  * LR_E_EMPTY, LR_E_TEXT (the last octet is no NUL), LR_E_OBJECT, LR_E_RAW, LR_E_TAKEN, LR_E_MEMORY. */
-int64_t lr_catalogue_repository_ids(lr_catalogue *catalogue, const void *key, size_t key_size,
-                                    const void *ids, size_t ids_size);
+LR_API int64_t lr_catalogue_repository_ids(lr_catalogue *catalogue, const void *key, size_t key_size,
+                                           const void *ids, size_t ids_size);
 
 /* ---- a server of requests that may be sent again ---- */
 
@@ -228,30 +246,30 @@ int64_t lr_catalogue_repository_ids(lr_catalogue *catalogue, const void *key, si
  * 4096 to 16777216; on each connection at most so many messages may be partial at a time, 1 to 16. At most `capacity`
  * outcomes are kept for repeats, at most `share` of each client. The seeds are random numbers of yours, which no
  * client can guess. LR_E_OPEN, LR_E_EMPTY (the catalogue), LR_E_RANGE, LR_E_MEMORY; the catalogue is as it was then. */
-int64_t lr_server_open(lr_server *server, lr_catalogue *catalogue, uint32_t message_limit, uint32_t partials,
-                       uint32_t capacity, uint32_t share, uint64_t seed_low, uint64_t seed_high);
+LR_API int64_t lr_server_open(lr_server *server, lr_catalogue *catalogue, uint32_t message_limit, uint32_t partials,
+                              uint32_t capacity, uint32_t share, uint64_t seed_low, uint64_t seed_high);
 
 /* Opens a connection, whose number is greater than each before.
  * LR_E_EMPTY, LR_E_ASKING, LR_E_CONNECTION, LR_E_MEMORY. */
-int64_t lr_server_connect(lr_server *server, uint64_t connection);
+LR_API int64_t lr_server_connect(lr_server *server, uint64_t connection);
 
 /* Forgets a connection that is gone, if there is one, and the octets that are due on it. LR_E_EMPTY, LR_E_ASKING. */
-int64_t lr_server_lost(lr_server *server, uint64_t connection);
+LR_API int64_t lr_server_lost(lr_server *server, uint64_t connection);
 
 /* Says goodbye: CloseConnection is due (CORBA 3.3 Part 2, 9.4.7), unless the connection's stream has ended. What
  * comes on it afterwards has no meaning. LR_E_EMPTY, LR_E_ASKING, LR_E_DUE, LR_E_CONNECTION, LR_E_LOST. */
-int64_t lr_server_farewell(lr_server *server, uint64_t connection);
+LR_API int64_t lr_server_farewell(lr_server *server, uint64_t connection);
 
 /* 1 where the connection was never opened, is gone, has ended or was said goodbye to, so that its socket is to be
  * closed once what is due is sent; else 0. LR_E_EMPTY. */
-int64_t lr_server_is_closed(lr_server *server, uint64_t connection);
+LR_API int64_t lr_server_is_closed(lr_server *server, uint64_t connection);
 
 /* Takes octets of a connection that came at a moment, and answers how many it took: all of them, or those up to a
  * request that waits for its outcome. Feed the rest after it is answered, at the same moment.
  * Of a connection that has ended, or was said goodbye to, it takes all, which mean nothing.
  * LR_E_EMPTY, LR_E_ASKING, LR_E_DUE, LR_E_CONNECTION (nothing is taken, but the clock has moved to the moment), and
  * LR_E_LOST, where what was answered before is due. */
-int64_t lr_server_feed(lr_server *server, uint64_t connection, uint64_t moment, const void *octets, size_t size);
+LR_API int64_t lr_server_feed(lr_server *server, uint64_t connection, uint64_t moment, const void *octets, size_t size);
 
 /* A request that waits for its outcome. */
 typedef struct {
@@ -273,47 +291,47 @@ typedef struct {
 } lr_request;
 
 /* Says what waits: 1, or 0 where nothing does, and `request` is as it was. LR_E_EMPTY. */
-int64_t lr_server_asked(lr_server *server, lr_request *request);
+LR_API int64_t lr_server_asked(lr_server *server, lr_request *request);
 
 /* Copies a part of the request that waits, as much of it as the room has octets, and answers its size. The body of an
  * operation with types is its arguments, in big order and aligned from place 0; of a raw one the octets as they came.
  * LR_E_EMPTY, LR_E_IDLE, LR_E_NONE, LR_E_MEMORY. */
-int64_t lr_server_part(lr_server *server, uint32_t part, void *room, size_t size);
+LR_API int64_t lr_server_part(lr_server *server, uint32_t part, void *room, size_t size);
 
 /* Answers the request that waits by its results: octets of an order, aligned from place 0, and none left over. They
  * are kept as its outcome, where it carries FT_REQUEST. A request that wishes no reply is answered all the same.
  * LR_E_EMPTY, LR_E_IDLE, LR_E_RANGE, LR_E_OUTCOME, LR_E_MEMORY (it waits still), and LR_E_LOST: the outcome counts
  * and is kept, and its reply is lost. */
-int64_t lr_server_answer(lr_server *server, uint32_t order, const void *results, size_t size);
+LR_API int64_t lr_server_answer(lr_server *server, uint32_t order, const void *results, size_t size);
 
 /* Answers by an exception that the operation declares: its repository id, and its members as of lr_server_answer. It is
  * an outcome as results are: kept, and what each repeat gets.
  * Errors as of lr_server_answer. */
-int64_t lr_server_raise(lr_server *server, const void *id, size_t id_size, uint32_t order,
-                        const void *members, size_t size);
+LR_API int64_t lr_server_raise(lr_server *server, const void *id, size_t id_size, uint32_t order,
+                               const void *members, size_t size);
 
 /* Answers by a system exception, LR_MARSHAL to LR_TRANSIENT, with a minor code and LR_COMPLETED_... It is an outcome as
  * results are: kept until the request expires, and what each repeat gets; where it may be performed later, give up.
  * Errors as of lr_server_answer. */
-int64_t lr_server_system(lr_server *server, uint32_t name, uint32_t minor, uint32_t completed);
+LR_API int64_t lr_server_system(lr_server *server, uint32_t name, uint32_t minor, uint32_t completed);
 
 /* Answers a raw operation by the body of a Reply: its status, LR_NO_EXCEPTION to LR_LOCATION_FORWARD, its order, and
  * at most 1048576 octets, written for a place divisible by 8. Errors as of lr_server_answer. */
-int64_t lr_server_answer_raw(lr_server *server, uint32_t status, uint32_t order, const void *body, size_t size);
+LR_API int64_t lr_server_answer_raw(lr_server *server, uint32_t status, uint32_t order, const void *body, size_t size);
 
 /* Answers _is_a and _non_existent of an object that names its repository ids: 1 where that is what waits, and it is
  * answered; 0 where another request waits. Every object is a CORBA::Object. Errors as of lr_server_answer; LR_E_IDLE
  * where none waits. */
-int64_t lr_server_identify(lr_server *server);
+LR_API int64_t lr_server_identify(lr_server *server);
 
 /* Gives up the request that waits: you can't perform it now, and have done nothing. Nothing is kept, and its
  * connection is gone; it is asked again when it comes again. What was answered before it stays due.
  * LR_E_EMPTY, LR_E_IDLE. */
-int64_t lr_server_give_up(lr_server *server);
+LR_API int64_t lr_server_give_up(lr_server *server);
 
 /* Moves octets that are due into the room, as many as it has, and answers how many: 0 where none are left. They
  * belong to the connection of the last lr_server_feed or lr_server_farewell. LR_E_EMPTY. */
-int64_t lr_server_output(lr_server *server, void *room, size_t size);
+LR_API int64_t lr_server_output(lr_server *server, void *room, size_t size);
 
 /* ---- a client that sends its calls again ---- */
 
@@ -326,36 +344,36 @@ int64_t lr_server_output(lr_server *server, void *room, size_t size);
  * calls from 1, so an id is used once: a client that is opened with one that was used before, by a program that was
  * started again say, is given the outcomes of calls of before. Limits as of lr_server_open.
  * LR_E_OPEN, LR_E_RANGE, LR_E_TEXT, LR_E_MEMORY. */
-int64_t lr_client_open(lr_client *client, const void *id, size_t id_size, uint32_t version,
-                       uint32_t message_limit, uint32_t partials);
+LR_API int64_t lr_client_open(lr_client *client, const void *id, size_t id_size, uint32_t version,
+                              uint32_t message_limit, uint32_t partials);
 
 /* The client is connected anew: what is pending and not past its expiration is due. Octets that were due for the
  * connection before are dropped. LR_E_EMPTY, LR_E_LOST. */
-int64_t lr_client_connected(lr_client *client, uint64_t now);
+LR_API int64_t lr_client_connected(lr_client *client, uint64_t now);
 
 /* The connection is lost: what is pending stays so. LR_E_EMPTY. */
-int64_t lr_client_lost(lr_client *client);
+LR_API int64_t lr_client_lost(lr_client *client);
 
 /* 1 where it is connected, else 0. LR_E_EMPTY. */
-int64_t lr_client_is_connected(lr_client *client);
+LR_API int64_t lr_client_is_connected(lr_client *client);
 
 /* Calls an operation of an object, and answers the number of the call: 1, 2 and so on. `types` are those of the
  * arguments, which are octets of an order, aligned from place 0, and none left over. LR_E_EMPTY, LR_E_RANGE,
  * LR_E_TYPES, LR_E_TEXT, LR_E_SHORT, LR_E_VALUE, LR_E_EXPIRED, LR_E_CALLS, LR_E_LONG, LR_E_MEMORY. */
-int64_t lr_client_call(lr_client *client, uint64_t now, uint64_t expiration, const void *key, size_t key_size,
-                       const void *operation, size_t operation_size, const uint8_t *types, size_t types_size,
-                       uint32_t order, const void *arguments, size_t arguments_size);
+LR_API int64_t lr_client_call(lr_client *client, uint64_t now, uint64_t expiration, const void *key, size_t key_size,
+                              const void *operation, size_t operation_size, const uint8_t *types, size_t types_size,
+                              uint32_t order, const void *arguments, size_t arguments_size);
 
 /* Cancels a call: 1, and it completes as cancelled, or 0 where it is not pending. LR_E_EMPTY, LR_E_RANGE (no number
  * of 32 bits with a sign), LR_E_MEMORY. */
-int64_t lr_client_cancel(lr_client *client, int64_t call);
+LR_API int64_t lr_client_cancel(lr_client *client, int64_t call);
 
 /* A moment has come: calls whose expiration is before it complete as expired. LR_E_EMPTY. */
-int64_t lr_client_tick(lr_client *client, uint64_t now);
+LR_API int64_t lr_client_tick(lr_client *client, uint64_t now);
 
 /* Takes octets that came on the connection, and answers how many: all of them. After a fault of the stream, or where
  * the server has said goodbye, the client is not connected any more. LR_E_EMPTY, LR_E_LOST. */
-int64_t lr_client_feed(lr_client *client, const void *octets, size_t size);
+LR_API int64_t lr_client_feed(lr_client *client, const void *octets, size_t size);
 
 /* How a call ended. */
 enum {
@@ -379,27 +397,27 @@ typedef struct {
 
 /* Takes the next completion: 1, or 0 where there is none, and `completion` is as it was. Its body is lent by
  * lr_client_body until the next is taken. LR_E_EMPTY. */
-int64_t lr_client_completed(lr_client *client, lr_completion *completion);
+LR_API int64_t lr_client_completed(lr_client *client, lr_completion *completion);
 
 /* Copies the body of the completion taken last, as much of it as the room has octets, and answers its size. LR_E_EMPTY,
  * LR_E_NONE. */
-int64_t lr_client_body(lr_client *client, void *room, size_t size);
+LR_API int64_t lr_client_body(lr_client *client, void *room, size_t size);
 
 /* Moves octets that are due on the connection into the room, as many as it has, and answers how many. LR_E_EMPTY. */
-int64_t lr_client_output(lr_client *client, void *room, size_t size);
+LR_API int64_t lr_client_output(lr_client *client, void *room, size_t size);
 
 /* ---- the messages of a stream ---- */
 
 /* Opens an assembler of a stream of which nothing has come. Limits as of lr_server_open. LR_E_OPEN, LR_E_RANGE,
  * LR_E_MEMORY. */
-int64_t lr_assembler_open(lr_assembler *assembler, uint32_t message_limit, uint32_t partials);
+LR_API int64_t lr_assembler_open(lr_assembler *assembler, uint32_t message_limit, uint32_t partials);
 
 /* Takes octets up to and with the end of the next message, or all of them, and answers how many. Fragments are
  * joined. LR_E_EMPTY, LR_E_STREAM: the stream is at its end, and lr_assembler_fault says why. */
-int64_t lr_assembler_feed(lr_assembler *assembler, const void *octets, size_t size);
+LR_API int64_t lr_assembler_feed(lr_assembler *assembler, const void *octets, size_t size);
 
 /* The first fault of the stream: 0 where there is none, or LR_FAULT_... LR_E_EMPTY. */
-int64_t lr_assembler_fault(lr_assembler *assembler);
+LR_API int64_t lr_assembler_fault(lr_assembler *assembler);
 
 enum {
   LR_FAULT_MAGIC = 1,
@@ -452,14 +470,14 @@ typedef struct {
 
 /* The message that the last lr_assembler_feed completed: 1, or 0 where it completed none, and `message` is as it was.
  * LR_E_EMPTY. */
-int64_t lr_assembler_message(lr_assembler *assembler, lr_message *message);
+LR_API int64_t lr_assembler_message(lr_assembler *assembler, lr_message *message);
 
 /* Copies a part of that message, as much of it as the room has octets, and answers its size. LR_E_EMPTY, LR_E_NONE. */
-int64_t lr_assembler_part(lr_assembler *assembler, uint32_t part, void *room, size_t size);
+LR_API int64_t lr_assembler_part(lr_assembler *assembler, uint32_t part, void *room, size_t size);
 
 /* Copies the data of a service context of that message, counted from 0, as much of it as the room has octets, gives
  * its id, and answers its size. LR_E_EMPTY, LR_E_NONE. */
-int64_t lr_assembler_context(lr_assembler *assembler, uint32_t index, uint32_t *id, void *room, size_t size);
+LR_API int64_t lr_assembler_context(lr_assembler *assembler, uint32_t index, uint32_t *id, void *room, size_t size);
 
 /* ---- writing messages ---- */
 
@@ -471,52 +489,52 @@ int64_t lr_assembler_context(lr_assembler *assembler, uint32_t index, uint32_t *
 
 /* A Request to an object key, with at most one service context, where context_size is not 0 (its id is context_id).
  * The body is octets, written for a place divisible by 8; it is in the order of the message. */
-int64_t lr_write_request(void *room, size_t size, uint32_t version, uint32_t order, uint32_t request_id, uint32_t wish,
-                         const void *key, size_t key_size, const void *operation, size_t operation_size,
-                         uint32_t context_id, const void *context, size_t context_size,
-                         const void *body, size_t body_size);
+LR_API int64_t lr_write_request(void *room, size_t size, uint32_t version, uint32_t order, uint32_t request_id,
+                                uint32_t wish, const void *key, size_t key_size,
+                                const void *operation, size_t operation_size, uint32_t context_id,
+                                const void *context, size_t context_size, const void *body, size_t body_size);
 
 /* A Reply without service contexts. The body is octets, written for a place divisible by 8, in the order of the
  * message. */
-int64_t lr_write_reply(void *room, size_t size, uint32_t version, uint32_t order, uint32_t request_id, uint32_t status,
-                       const void *body, size_t body_size);
+LR_API int64_t lr_write_reply(void *room, size_t size, uint32_t version, uint32_t order, uint32_t request_id,
+                              uint32_t status, const void *body, size_t body_size);
 
-int64_t lr_write_cancel(void *room, size_t size, uint32_t version, uint32_t order, uint32_t request_id);
+LR_API int64_t lr_write_cancel(void *room, size_t size, uint32_t version, uint32_t order, uint32_t request_id);
 
-int64_t lr_write_locate_request(void *room, size_t size, uint32_t version, uint32_t order, uint32_t request_id,
-                                const void *key, size_t key_size);
+LR_API int64_t lr_write_locate_request(void *room, size_t size, uint32_t version, uint32_t order, uint32_t request_id,
+                                       const void *key, size_t key_size);
 
 /* Without a body, so LR_UNKNOWN_OBJECT or LR_OBJECT_HERE. */
-int64_t lr_write_locate_reply(void *room, size_t size, uint32_t version, uint32_t order, uint32_t request_id,
-                              uint32_t status);
+LR_API int64_t lr_write_locate_reply(void *room, size_t size, uint32_t version, uint32_t order, uint32_t request_id,
+                                     uint32_t status);
 
-int64_t lr_write_close(void *room, size_t size); /* CloseConnection */
+LR_API int64_t lr_write_close(void *room, size_t size); /* CloseConnection */
 
-int64_t lr_write_error(void *room, size_t size); /* MessageError */
+LR_API int64_t lr_write_error(void *room, size_t size); /* MessageError */
 
 /* The data of an FT_REQUEST context, whose id is LR_FT_REQUEST. The client id has no NUL. */
 #define LR_FT_REQUEST 13
-int64_t lr_write_ft(void *room, size_t size, uint32_t order, const void *client, size_t client_size,
-                    int32_t retention_id, uint64_t expiration);
+LR_API int64_t lr_write_ft(void *room, size_t size, uint32_t order, const void *client, size_t client_size,
+                           int32_t retention_id, uint64_t expiration);
 
 /* ---- references ---- */
 
 /* Reads a stringified reference, "IOR:" and hexadecimal digits. LR_E_OPEN, LR_E_REFERENCE, LR_E_MEMORY. */
-int64_t lr_ior_parse(lr_ior *ior, const void *text, size_t size);
+LR_API int64_t lr_ior_parse(lr_ior *ior, const void *text, size_t size);
 
 /* A reference of a type to an object at an address of IIOP 1.minor. LR_E_OPEN, LR_E_RANGE (minor is over 2),
  * LR_E_TEXT (a NUL in the id or the host), LR_E_MEMORY. */
-int64_t lr_ior_iiop(lr_ior *ior, const void *type_id, size_t type_id_size, uint32_t minor,
-                    const void *host, size_t host_size, uint16_t port, const void *key, size_t key_size);
+LR_API int64_t lr_ior_iiop(lr_ior *ior, const void *type_id, size_t type_id_size, uint32_t minor,
+                           const void *host, size_t host_size, uint16_t port, const void *key, size_t key_size);
 
 /* Writes its stringified form, and answers its size. It has no NUL at its end. LR_E_EMPTY, LR_E_ROOM, LR_E_MEMORY. */
-int64_t lr_ior_print(lr_ior *ior, void *room, size_t size);
+LR_API int64_t lr_ior_print(lr_ior *ior, void *room, size_t size);
 
 /* Copies the repository id of its type, as much of it as the room has octets, and answers its size. LR_E_EMPTY. */
-int64_t lr_ior_type_id(lr_ior *ior, void *room, size_t size);
+LR_API int64_t lr_ior_type_id(lr_ior *ior, void *room, size_t size);
 
 /* How many profiles it has. LR_E_EMPTY. */
-int64_t lr_ior_profiles(lr_ior *ior);
+LR_API int64_t lr_ior_profiles(lr_ior *ior);
 
 /* A profile. What only IIOP has is 0 where is_iiop is. */
 typedef struct {
@@ -532,17 +550,18 @@ typedef struct {
 } lr_profile;
 
 /* The profile of an index, counted from 0. LR_E_EMPTY, LR_E_NONE, LR_E_MEMORY. */
-int64_t lr_ior_profile(lr_ior *ior, uint32_t index, lr_profile *profile);
+LR_API int64_t lr_ior_profile(lr_ior *ior, uint32_t index, lr_profile *profile);
 
 enum { LR_IOR_DATA = 0, LR_IOR_HOST = 1, LR_IOR_KEY = 2 };
 
 /* Copies a part of a profile, as much of it as the room has octets, and answers its size. LR_E_EMPTY, LR_E_NONE,
  * LR_E_MEMORY. */
-int64_t lr_ior_part(lr_ior *ior, uint32_t index, uint32_t part, void *room, size_t size);
+LR_API int64_t lr_ior_part(lr_ior *ior, uint32_t index, uint32_t part, void *room, size_t size);
 
 /* Copies the data of a tagged component of a profile of IIOP, gives its tag, and answers its size. LR_E_EMPTY,
  * LR_E_NONE, LR_E_MEMORY. */
-int64_t lr_ior_component(lr_ior *ior, uint32_t index, uint32_t component, uint32_t *tag, void *room, size_t size);
+LR_API int64_t lr_ior_component(lr_ior *ior, uint32_t index, uint32_t component, uint32_t *tag,
+                                void *room, size_t size);
 
 /* ---- CDR (CORBA 3.3 Part 2, 9.3), without an allocation ---- */
 
@@ -562,43 +581,44 @@ typedef struct {
   uint32_t reserved;
 } lr_place;
 
-int64_t lr_get_octet(const void *octets, size_t size, lr_place *place, uint8_t *value);
-int64_t lr_get_char(const void *octets, size_t size, lr_place *place, uint8_t *value);
-int64_t lr_get_boolean(const void *octets, size_t size, lr_place *place, uint8_t *value); /* 0 or 1 */
-int64_t lr_get_short(const void *octets, size_t size, lr_place *place, int16_t *value);
-int64_t lr_get_ushort(const void *octets, size_t size, lr_place *place, uint16_t *value);
-int64_t lr_get_long(const void *octets, size_t size, lr_place *place, int32_t *value);
-int64_t lr_get_ulong(const void *octets, size_t size, lr_place *place, uint32_t *value);
-int64_t lr_get_longlong(const void *octets, size_t size, lr_place *place, int64_t *value);
-int64_t lr_get_ulonglong(const void *octets, size_t size, lr_place *place, uint64_t *value);
+LR_API int64_t lr_get_octet(const void *octets, size_t size, lr_place *place, uint8_t *value);
+LR_API int64_t lr_get_char(const void *octets, size_t size, lr_place *place, uint8_t *value);
+LR_API int64_t lr_get_boolean(const void *octets, size_t size, lr_place *place, uint8_t *value); /* 0 or 1 */
+LR_API int64_t lr_get_short(const void *octets, size_t size, lr_place *place, int16_t *value);
+LR_API int64_t lr_get_ushort(const void *octets, size_t size, lr_place *place, uint16_t *value);
+LR_API int64_t lr_get_long(const void *octets, size_t size, lr_place *place, int32_t *value);
+LR_API int64_t lr_get_ulong(const void *octets, size_t size, lr_place *place, uint32_t *value);
+LR_API int64_t lr_get_longlong(const void *octets, size_t size, lr_place *place, int64_t *value);
+LR_API int64_t lr_get_ulonglong(const void *octets, size_t size, lr_place *place, uint64_t *value);
 
 /* A string: the index of its first octet and its size, without the NUL. A sequence of octets: the same. */
-int64_t lr_get_string(const void *octets, size_t size, lr_place *place, uint64_t *start, uint64_t *length);
-int64_t lr_get_octets(const void *octets, size_t size, lr_place *place, uint64_t *start, uint64_t *length);
+LR_API int64_t lr_get_string(const void *octets, size_t size, lr_place *place, uint64_t *start, uint64_t *length);
+LR_API int64_t lr_get_octets(const void *octets, size_t size, lr_place *place, uint64_t *start, uint64_t *length);
 
 /* Enters an encapsulation, which is a sequence of octets: `inner` stands after its octet of the byte order. Its
  * octets are those from `start` on, `length` of them: inner counts from `start`. */
-int64_t lr_get_encapsulation(const void *octets, size_t size, lr_place *place, uint64_t *start, uint64_t *length,
-                             lr_place *inner);
+LR_API int64_t lr_get_encapsulation(const void *octets, size_t size, lr_place *place, uint64_t *start, uint64_t *length,
+                                    lr_place *inner);
 
-int64_t lr_put_octet(void *room, size_t size, lr_place *place, uint8_t value);
-int64_t lr_put_char(void *room, size_t size, lr_place *place, uint8_t value);
-int64_t lr_put_boolean(void *room, size_t size, lr_place *place, uint8_t value);
-int64_t lr_put_short(void *room, size_t size, lr_place *place, int16_t value);
-int64_t lr_put_ushort(void *room, size_t size, lr_place *place, uint16_t value);
-int64_t lr_put_long(void *room, size_t size, lr_place *place, int32_t value);
-int64_t lr_put_ulong(void *room, size_t size, lr_place *place, uint32_t value);
-int64_t lr_put_longlong(void *room, size_t size, lr_place *place, int64_t value);
-int64_t lr_put_ulonglong(void *room, size_t size, lr_place *place, uint64_t value);
-int64_t lr_put_string(void *room, size_t size, lr_place *place, const void *text, size_t length);
-int64_t lr_put_octets(void *room, size_t size, lr_place *place, const void *data, size_t length);
+LR_API int64_t lr_put_octet(void *room, size_t size, lr_place *place, uint8_t value);
+LR_API int64_t lr_put_char(void *room, size_t size, lr_place *place, uint8_t value);
+LR_API int64_t lr_put_boolean(void *room, size_t size, lr_place *place, uint8_t value);
+LR_API int64_t lr_put_short(void *room, size_t size, lr_place *place, int16_t value);
+LR_API int64_t lr_put_ushort(void *room, size_t size, lr_place *place, uint16_t value);
+LR_API int64_t lr_put_long(void *room, size_t size, lr_place *place, int32_t value);
+LR_API int64_t lr_put_ulong(void *room, size_t size, lr_place *place, uint32_t value);
+LR_API int64_t lr_put_longlong(void *room, size_t size, lr_place *place, int64_t value);
+LR_API int64_t lr_put_ulonglong(void *room, size_t size, lr_place *place, uint64_t value);
+LR_API int64_t lr_put_string(void *room, size_t size, lr_place *place, const void *text, size_t length);
+LR_API int64_t lr_put_octets(void *room, size_t size, lr_place *place, const void *data, size_t length);
 
 /* ---- memory ---- */
 
 /* All memory comes from malloc, realloc and free, unless you give others: allocate and reallocate answer NULL where
  * there is no memory. Call it before any other function, or not at all. Memory is aligned to 16. It is the one thing
- * that all slots share. LR_E_RANGE, where one of them is NULL: the heap is as it was. */
-int64_t lr_set_heap(void *(*allocate)(size_t), void *(*reallocate)(void *, size_t), void (*release)(void *));
+ * that all slots share. LR_E_RANGE, where one of them is NULL, and LR_E_OPEN, once memory was taken from the heap, also
+ * where all of it was given back: the heap is as it was. */
+LR_API int64_t lr_set_heap(void *(*allocate)(size_t), void *(*reallocate)(void *, size_t), void (*release)(void *));
 
 #ifdef __cplusplus
 }

@@ -90,6 +90,8 @@ class Error {
   constexpr explicit Error(std::int64_t number) noexcept : number_(number) {}
   constexpr std::int64_t number() const noexcept { return number_; }
   const char* text() const noexcept { return lr_strerror(number_); }
+  /* As "LR_E_RANGE". */
+  const char* name() const noexcept { return lr_error_name(number_); }
   friend constexpr bool operator==(Error one, std::int64_t number) noexcept { return one.number_ == number; }
   friend constexpr bool operator!=(Error one, std::int64_t number) noexcept { return one.number_ != number; }
 

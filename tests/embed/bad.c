@@ -932,16 +932,72 @@ static void errors_have_texts(void) {
   CHECK(strcmp(lr_strerror(-1000), lr_strerror(INT64_MIN)) == 0);
 }
 
-static void heaps_are_whole(void) {
+#define NAMED(error) CHECK(strcmp(lr_error_name(error), #error) == 0)
+
+static void errors_have_names(void) {
+  NAMED(LR_OK);
+  NAMED(LR_E_EMPTY);
+  NAMED(LR_E_RANGE);
+  NAMED(LR_E_NONE);
+  NAMED(LR_E_PLACE);
+  for (int64_t one = LR_E_PLACE; one < LR_OK; one++) {
+    CHECK(strncmp(lr_error_name(one), "LR_E_", 5) == 0 && strcmp(lr_error_name(one), "LR_E_UNKNOWN") != 0);
+    for (int64_t other = LR_E_PLACE; other < one; other++) CHECK(strcmp(lr_error_name(one), lr_error_name(other)) != 0);
+  }
+  CHECK(strcmp(lr_error_name(5), "LR_OK") == 0 && strcmp(lr_error_name(INT64_MAX), "LR_OK") == 0);
+  CHECK(strcmp(lr_error_name(-1000), "LR_E_UNKNOWN") == 0 && strcmp(lr_error_name(INT64_MIN), "LR_E_UNKNOWN") == 0);
+}
+
+static void *none_of(size_t size) {
+  (void)size;
+  return NULL;
+}
+
+/* A heap can be set until memory was taken of one; what only failed to be had was not taken. */
+static void heaps_are_set_first(void) {
+  lr_catalogue catalogue = LR_INIT;
   WANT(lr_set_heap(NULL, NULL, NULL), LR_E_RANGE);
   WANT(lr_set_heap(NULL, realloc, free), LR_E_RANGE);
   WANT(lr_set_heap(malloc, NULL, free), LR_E_RANGE);
   WANT(lr_set_heap(malloc, realloc, NULL), LR_E_RANGE);
+  WANT(lr_set_heap(none_of, realloc, free), LR_OK);
+  WANT(lr_catalogue_open(&catalogue), LR_E_MEMORY);
+  WANT(lr_set_heap(malloc, realloc, free), LR_OK);
+  WANT(lr_catalogue_open(&catalogue), LR_OK);
+  WANT(lr_set_heap(none_of, realloc, free), LR_E_OPEN);
+  WANT(lr_catalogue_object(&catalogue, "c", 1), LR_OK);
+  lr_catalogue_close(&catalogue);
+  WANT(lr_set_heap(malloc, realloc, free), LR_E_OPEN);
+  WANT(lr_set_heap(NULL, NULL, NULL), LR_E_RANGE);
+}
+
+/* Each kind by its own function, and once more. */
+static void slots_are_closed_by_kind(void) {
+  lr_catalogue catalogue = LR_INIT, other = LR_INIT;
+  lr_server server = LR_INIT;
+  lr_client client = LR_INIT;
+  lr_assembler assembler = LR_INIT;
+  lr_ior ior = LR_INIT;
+  WANT(lr_catalogue_open(&catalogue), LR_OK);
+  WANT(lr_catalogue_open(&other), LR_OK);
+  WANT(lr_server_open(&server, &other, LIMIT, PARTIALS, 1, 1, 1, 2), LR_OK);
+  WANT(lr_client_open(&client, "A", 1, 2, LIMIT, PARTIALS), LR_OK);
+  WANT(lr_assembler_open(&assembler, LIMIT, PARTIALS), LR_OK);
+  WANT(lr_ior_iiop(&ior, "IDL:C:1.0", 9, 2, "host", 4, 2809, "c", 1), LR_OK);
+  for (int times = 0; times < 2; times++) {
+    lr_catalogue_close(&catalogue);
+    lr_server_close(&server);
+    lr_client_close(&client);
+    lr_assembler_close(&assembler);
+    lr_ior_close(&ior);
+    CHECK(catalogue.kind == 0 && server.kind == 0 && client.kind == 0 && assembler.kind == 0 && ior.kind == 0);
+  }
 }
 
 int main(void) {
-  WANT(lr_version(), LR_VERSION_MAJOR * 65536 + LR_VERSION_MINOR * 256 + LR_VERSION_PATCH);
-  heaps_are_whole();
+  WANT(lr_version(), LR_VERSION_NUMBER);
+  heaps_are_set_first();
+  slots_are_closed_by_kind();
   slots_are_refused();
   servers_want_a_catalogue();
   limits_are_refused();
@@ -961,5 +1017,6 @@ int main(void) {
   references_are_refused();
   moments_are_counted();
   errors_have_texts();
+  errors_have_names();
   return check_end();
 }

@@ -250,6 +250,7 @@ void values_are_read() {
   const auto two = inner->get_ushort();
   CHECK(two && *two == 2 && inner->get_octet().error() == LR_E_SHORT);
   CHECK(in.get_boolean().error() == LR_E_SHORT && std::string_view(in.get_octet().error().text()).size() > 0);
+  CHECK(std::string_view(in.get_octet().error().name()) == "LR_E_SHORT");
   lr::Writer full(lr::Room{});
   CHECK(full.put_octet(1).error() == LR_E_ROOM);
 }

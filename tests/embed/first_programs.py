@@ -77,7 +77,7 @@ class FirstPrograms(unittest.TestCase):
     def test_python(self):
         """In Python."""
         found = dict(os.environ, PYTHONPATH=path("bindings/python"),
-                     LEMONRUDDER_LIBRARY=os.path.join(self.lib, "liblemonrudder.so.0"))
+                     LEMONRUDDER_LIBRARY=os.path.join(self.lib, "liblemonrudder.so"))
         self.prints([sys.executable, "-W", "error", path("examples/first.py")], env=found)
 
     @programs.needs("cargo")

@@ -460,5 +460,6 @@ int main(void) {
     printf("%s: %ld allocations\n", scripts[index].name, refused_at - 1);
   }
   CHECK(lost_feeds > 0 && lost_replies > 0);
+  WANT(lr_set_heap(allocate, reallocate, release), LR_E_OPEN);
   return check_end();
 }

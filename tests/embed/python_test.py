@@ -6,6 +6,7 @@ tests/engine.py. The library is that of LEMONRUDDER_LIBRARY, or the one that tes
 import asyncio
 import ctypes
 import gc
+import itertools
 import logging
 import os
 import random
@@ -18,6 +19,7 @@ import tempfile
 import time
 import unittest
 
+from scripts.library import VERSION, serves
 from tests import base, cases, giop, rows
 from tests import engine as model
 from tests import engine_model
@@ -25,7 +27,7 @@ from tests.cdr import Octets
 from tests.programs import ROOT, library
 
 if "LEMONRUDDER_LIBRARY" not in os.environ:
-    os.environ["LEMONRUDDER_LIBRARY"] = os.path.join(library(), "lib", "liblemonrudder.so.0")
+    os.environ["LEMONRUDDER_LIBRARY"] = os.path.join(library(), "lib", "liblemonrudder.so")
 sys.path.insert(0, os.path.join(ROOT, "bindings", "python"))
 
 import lemonrudder as lr  # noqa: E402
@@ -1620,7 +1622,7 @@ STRUCTS = {
 }
 # what the module has no use for
 UNUSED = ["LR_OK", "LR_PART_PAYLOAD"]
-OTHERS = ["lr_version", "lr_strerror", "lr_moment", "lr_close", "lr_set_heap"]
+OTHERS = ["lr_version", "lr_strerror", "lr_error_name", "lr_moment", "lr_close", "lr_set_heap"]
 
 
 class Header(Case):
@@ -1678,6 +1680,37 @@ class Library(Case):
         error = lr.LemonrudderError(-10)
         self.assertIs(error.number, Error.ROOM)
         self.assertIn("LR_E_ROOM", str(error))
+
+    def test_errors_have_names(self):
+        for number in Error:
+            self.assertEqual(lr.LemonrudderError(number).name, f"LR_E_{number.name}")
+        error = lr.LemonrudderError(-1000)
+        self.assertEqual((error.number, error.name), (-1000, "LR_E_UNKNOWN"))
+        self.assertIn("(-1000)", str(error))
+
+    def test_versions(self):
+        """The module takes the versions that scripts/library.py says."""
+        self.assertEqual(".".join(map(str, lr.VERSION)), VERSION)
+        some = [*itertools.product((0, 1, 2), (0, 1, 2), (0, 1, 10))]
+        for version, built in itertools.product(some, some):
+            texts = [".".join(map(str, each)) for each in (version, built)]
+            self.assertEqual(lr._serves(version, built), serves(*texts), texts)
+
+    def test_another_version(self):
+        """A library of another series is refused by its version."""
+        with tempfile.TemporaryDirectory() as folder:
+            module = os.path.join(ROOT, "bindings", "python", "lemonrudder.py")
+            with open(module, encoding="utf-8") as file:
+                text = file.read()
+            major, minor, patch = lr.VERSION
+            for version in ((major + 1, minor, patch), (major, minor + 1, patch), (major, minor, patch + 1)):
+                with open(os.path.join(folder, "lemonrudder.py"), "w", encoding="utf-8") as file:
+                    file.write(text.replace(f"\nVERSION = {lr.VERSION}", f"\nVERSION = {version}"))
+                run = subprocess.run([sys.executable, "-c", "import lemonrudder"], capture_output=True, text=True,
+                                     env={**os.environ, "PYTHONPATH": folder}, timeout=SECONDS)
+                wanted = ".".join(map(str, version))
+                self.assertIn(f"ImportError: {os.environ['LEMONRUDDER_LIBRARY']} is liblemonrudder {VERSION}, and none for "
+                              f"{wanted}\n", run.stderr)
 
     def test_moments(self):
         self.assertEqual(lr.moment_of(0), 122192928000000000)

@@ -3,7 +3,7 @@
 use crate::sys;
 use alloc::vec;
 use alloc::vec::Vec;
-use core::ffi::CStr;
+use core::ffi::{c_char, CStr};
 use core::fmt;
 
 macro_rules! errors {
@@ -94,12 +94,25 @@ errors! {
     Place = -25,
 }
 
+/// What the library says of a number by one of two functions: lr_strerror, lr_error_name.
+fn said(by: impl Fn(i64) -> *const c_char, code: i64) -> &'static str {
+    // SAFETY: both answer a text with a NUL at its end, which is there as long as the program.
+    let text = unsafe { CStr::from_ptr(by(code)) };
+    text.to_str().unwrap_or("an unknown error")
+}
+
+impl Error {
+    /// The name of the error in `lemonrudder.h`, as `LR_E_RANGE`: `LR_E_UNKNOWN` where the library
+    /// has none.
+    #[must_use]
+    pub fn name(self) -> &'static str {
+        said(|code| sys::lr_error_name(code), self.code())
+    }
+}
+
 impl fmt::Display for Error {
     fn fmt(&self, out: &mut fmt::Formatter<'_>) -> fmt::Result {
-        // SAFETY: the library answers a text with a NUL at its end, which is there as long as the
-        // program.
-        let text = unsafe { CStr::from_ptr(sys::lr_strerror(self.code())) };
-        out.write_str(&text.to_string_lossy())
+        out.write_str(said(|code| sys::lr_strerror(code), self.code()))
     }
 }
 

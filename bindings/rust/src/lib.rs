@@ -72,6 +72,10 @@ pub fn version() -> (u32, u32, u32) {
 /// Has all memory of the library come from these functions in place of `malloc`, `realloc` and
 /// `free`. Each of the first two gives memory aligned to 16, or NULL where there is none.
 ///
+/// # Errors
+///
+/// `Open`, where memory was taken before: the heap is as it was.
+///
 /// # Safety
 ///
 /// They do what the functions of C do that they stand for, and this is called before any other
@@ -80,10 +84,9 @@ pub unsafe fn set_heap(
     allocate: unsafe extern "C" fn(usize) -> *mut c_void,
     reallocate: unsafe extern "C" fn(*mut c_void, usize) -> *mut c_void,
     release: unsafe extern "C" fn(*mut c_void),
-) {
+) -> Result<(), Error> {
     // SAFETY: as the caller says.
-    let answer = unsafe { sys::lr_set_heap(Some(allocate), Some(reallocate), Some(release)) };
-    debug_assert_eq!(answer, 0, "none of them is NULL");
+    error::done(unsafe { sys::lr_set_heap(Some(allocate), Some(reallocate), Some(release)) })
 }
 
 /// All octets that calls move into their room, which answer how many: 0 where none are left.

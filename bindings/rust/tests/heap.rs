@@ -120,8 +120,11 @@ fn run(refused: i64) -> Result<bool, Error> {
 #[test]
 fn each_allocation_is_refused_once() -> Result<(), Error> {
     // SAFETY: the functions do what those of C do, and nothing was called before: this is the only test here.
-    unsafe { lemonrudder::set_heap(allocate, reallocate, release) };
+    unsafe { lemonrudder::set_heap(allocate, reallocate, release) }?;
     let refused = (1..).take_while(|refused| run(*refused).expect("it ends"));
     assert!(refused.count() > 20);
+    // SAFETY: as before; it is refused, since memory was taken.
+    let again = unsafe { lemonrudder::set_heap(allocate, reallocate, release) };
+    assert_eq!(again, Err(Error::Open));
     Ok(())
 }

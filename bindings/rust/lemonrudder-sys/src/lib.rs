@@ -141,6 +141,7 @@ unsafe extern "C" {
     pub safe fn lr_version() -> u32;
     pub safe fn lr_close(slot: &mut lr_slot);
     pub safe fn lr_strerror(error: i64) -> *const c_char;
+    pub safe fn lr_error_name(error: i64) -> *const c_char;
     pub safe fn lr_moment(seconds: u64, nanoseconds: u32) -> u64;
 
     pub safe fn lr_catalogue_open(catalogue: &mut lr_slot) -> i64;

@@ -118,7 +118,9 @@ fn each_number_has_the_name_of_the_header() {
         let error = Error::of(code);
         let name = if error == Error::NoPart { "NONE".to_string() } else { in_capitals(error) };
         let is_known = !matches!(error, Error::Unknown(_));
-        assert_eq!(numbers.remove(&format!("LR_E_{name}")), is_known.then_some(code), "{name}");
+        let name = format!("LR_E_{name}");
+        assert_eq!(error.name(), if is_known { &name } else { "LR_E_UNKNOWN" });
+        assert_eq!(numbers.remove(&name), is_known.then_some(code), "{name}");
     }
     let parts =
         [super::LR_PART_KEY, super::LR_PART_OPERATION, super::LR_PART_BODY, super::LR_PART_CLIENT];
