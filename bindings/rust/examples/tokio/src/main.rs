@@ -40,7 +40,7 @@ fn perform(accounts: &mut Accounts, request: &mut Request<'_>) -> Result<(), Err
     let Some(after) = balance.checked_add(amount).filter(|_| !name.is_empty()) else {
         return request.system(SystemName::BadParam, 0, Completed::No);
     };
-    let mut body = Writer::new(Order::NATIVE);
+    let mut body = Writer::new(Order::Big);
     if after < 0 {
         return request.raise(OVERDRAWN.0, body.longlong(balance)?);
     }
