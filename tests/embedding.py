@@ -289,6 +289,8 @@ def versions_are_one(kit: Kit) -> None:
         ("scripts/library.py", r'^VERSION = "(.*)"$', version),
         ("bindings/rust/Cargo.toml", r'^version = "(.*)"$', version),
         ("bindings/rust/Cargo.lock", r'^name = "lemonrudder"\nversion = "(.*)"$', version),
+        ("bindings/rust/Cargo.lock", r'^name = "lemonrudder-sys"\nversion = "(.*)"$', version),
+        ("bindings/rust/Cargo.toml", r'^lemonrudder-sys = .* version = "(.*)" \}$', ".".join(kit.version()[:2])),
         ("bindings/python/lemonrudder.py", r"^VERSION = \((\d+, \d+, \d+)\)$", ", ".join(kit.version())),
         ("crates/giop_tool/src/help.rt", r'^pub\(crate\) const VERSION: &str = "(.*)";$', version),
         ("docs/giop.1", r'^\.TH GIOP 1 "" "giop ([^"]*)"', version),

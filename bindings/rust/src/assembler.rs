@@ -1,12 +1,14 @@
 //! The messages of a stream.
 
 use crate::cdr::Reader;
-use crate::error::{copied, count, done, sure};
+use crate::error::{self, copied, count, done, sure};
 use crate::sys::{self, lr_message, lr_slot};
 use crate::{
     Error, Fault, FtRequest, Limits, LocateStatus, MessageType, Moment, Order, Status, Version,
     Wish,
 };
+use alloc::vec::Vec;
+use core::ops::Range;
 
 /// Takes the octets of a stream in pieces of any size, joins fragments, and lends each message that
 /// completes.
@@ -34,7 +36,11 @@ pub struct Assembler {
 }
 
 impl Assembler {
-    /// Opens an assembler of a stream of which nothing has come. Its errors: `Range`, `Memory`.
+    /// Opens an assembler of a stream of which nothing has come.
+    ///
+    /// # Errors
+    ///
+    /// `Range`, `Memory`.
     pub fn open(limits: Limits) -> Result<Assembler, Error> {
         let mut slot = lr_slot::empty();
         done(sys::lr_assembler_open(&mut slot, limits.message, limits.partials))?;
@@ -42,8 +48,11 @@ impl Assembler {
     }
 
     /// Takes octets up to and with the end of the next message, or all of them, and answers how
-    /// many. Its error: `Stream`, at the end of the stream, and [`fault`](Assembler::fault) says
-    /// why.
+    /// many.
+    ///
+    /// # Errors
+    ///
+    /// `Stream`, at the end of the stream, and [`fault`](Assembler::fault) says why.
     pub fn feed(&mut self, octets: &[u8]) -> Result<usize, Error> {
         // SAFETY: the octets are lent.
         count(unsafe {
@@ -58,6 +67,10 @@ impl Assembler {
     }
 
     /// The message that the last `feed` completed, if it completed one.
+    ///
+    /// # Errors
+    ///
+    /// `Range`, where it has a number that this version of the crate has no name for.
     pub fn message(&mut self) -> Result<Option<Message<'_>>, Error> {
         let mut said = lr_message::default();
         if count(sys::lr_assembler_message(&mut self.slot, &mut said))? == 0 {
@@ -80,7 +93,7 @@ impl Assembler {
     /// Copies a part of the message into its buffer.
     fn copy(&mut self, part: u32, size: u64) -> Result<(), Error> {
         let room = &mut self.parts[part as usize];
-        room.resize(size as usize, 0);
+        room.resize(error::size(size)?, 0);
         if room.is_empty() {
             return Ok(());
         }
@@ -103,69 +116,82 @@ pub struct Message<'a> {
 
 impl Message<'_> {
     /// Its type.
+    #[must_use]
     pub fn message_type(&self) -> MessageType {
         self.message_type
     }
 
     /// Its version.
+    #[must_use]
     pub fn version(&self) -> Version {
         self.version
     }
 
     /// The order of its numbers.
+    #[must_use]
     pub fn order(&self) -> Order {
         self.order
     }
 
     /// Its request id; 0 where a message of its type has none.
+    #[must_use]
     pub fn request_id(&self) -> u32 {
         self.said.request_id
     }
 
     /// Which reply a Request asks for.
+    #[must_use]
     pub fn wish(&self) -> Option<Wish> {
         let is_request = self.message_type == MessageType::Request;
         is_request.then(|| Wish::from_number(self.said.wish)).flatten()
     }
 
     /// The status of a Reply.
+    #[must_use]
     pub fn status(&self) -> Option<Status> {
         let is_reply = self.message_type == MessageType::Reply;
         is_reply.then(|| Status::from_number(self.said.status)).flatten()
     }
 
     /// The status of a LocateReply.
+    #[must_use]
     pub fn locate_status(&self) -> Option<LocateStatus> {
         let is_reply = self.message_type == MessageType::LocateReply;
         is_reply.then(|| LocateStatus::from_number(self.said.status)).flatten()
     }
 
     /// The object key of a Request or LocateRequest, where its target has one.
+    #[must_use]
     pub fn key(&self) -> Option<&[u8]> {
         (self.said.has_key != 0).then(|| self.part(sys::LR_PART_KEY))
     }
 
     /// The operation of a Request; empty of other messages.
+    #[must_use]
     pub fn operation(&self) -> &[u8] {
         self.part(sys::LR_PART_OPERATION)
     }
 
     /// The body of a Request, Reply or LocateReply; empty of other messages.
+    #[must_use]
     pub fn body(&self) -> &[u8] {
         self.part(sys::LR_PART_BODY)
     }
 
     /// Reads the body.
+    #[must_use]
     pub fn reader(&self) -> Reader<'_> {
         Reader::at(self.body(), self.order, self.said.body_at)
     }
 
     /// What a Fragment carries; empty of other messages.
+    #[must_use]
     pub fn payload(&self) -> &[u8] {
         self.part(sys::LR_PART_PAYLOAD)
     }
 
     /// What a Request says by FT_REQUEST, if it carries that.
+    #[must_use]
     pub fn ft_request(&self) -> Option<FtRequest<'_>> {
         (self.said.has_client != 0).then(|| FtRequest {
             client_id: self.part(sys::LR_PART_CLIENT),
@@ -174,20 +200,9 @@ impl Message<'_> {
         })
     }
 
-    /// The service contexts of a Request or Reply, in order: the id and the data of each.
-    pub fn contexts(&mut self) -> Result<Vec<(u32, Vec<u8>)>, Error> {
-        (0..self.said.contexts).map(|index| self.context(index)).collect()
-    }
-
-    /// A service context, counted from 0.
-    fn context(&mut self, index: u32) -> Result<(u32, Vec<u8>), Error> {
-        let mut id = 0;
-        let slot = &mut self.assembler.slot;
-        // SAFETY: the room is lent.
-        let data = copied(64, |room| unsafe {
-            sys::lr_assembler_context(slot, index, &mut id, room.as_mut_ptr().cast(), room.len())
-        })?;
-        Ok((id, data))
+    /// The service contexts of a Request or Reply, in order.
+    pub fn contexts(&mut self) -> Contexts<'_> {
+        Contexts { slot: &mut self.assembler.slot, left: 0..self.said.contexts }
     }
 
     /// The buffer of a part.
@@ -195,3 +210,31 @@ impl Message<'_> {
         &self.assembler.parts[part as usize]
     }
 }
+
+/// The service contexts of a message, in order: the id and the data of each, or `Memory`.
+#[derive(Debug)]
+pub struct Contexts<'m> {
+    slot: &'m mut lr_slot,
+    /// Those that come, counted from 0.
+    left: Range<u32>,
+}
+
+impl Iterator for Contexts<'_> {
+    type Item = Result<(u32, Vec<u8>), Error>;
+
+    fn next(&mut self) -> Option<Self::Item> {
+        let (index, mut id) = (self.left.next()?, 0);
+        let slot = &mut *self.slot;
+        // SAFETY: the room is lent.
+        let data = copied(64, |room| unsafe {
+            sys::lr_assembler_context(slot, index, &mut id, room.as_mut_ptr().cast(), room.len())
+        });
+        Some(data.map(|data| (id, data)))
+    }
+
+    fn size_hint(&self) -> (usize, Option<usize>) {
+        self.left.size_hint()
+    }
+}
+
+impl ExactSizeIterator for Contexts<'_> {}

@@ -4,6 +4,7 @@ use crate::error::done;
 use crate::sys::{self, lr_slot};
 use crate::types::codes_of;
 use crate::{Error, Type};
+use alloc::vec::Vec;
 
 /// The types of an operation.
 #[derive(Clone, Copy, Debug, Default)]
@@ -18,6 +19,7 @@ pub struct Signature<'a> {
 
 impl<'a> Signature<'a> {
     /// The types of an operation that raises no exceptions.
+    #[must_use]
     pub const fn new(arguments: &'a [Type<'a>], results: &'a [Type<'a>]) -> Signature<'a> {
         Signature { arguments, results, raises: &[] }
     }
@@ -48,21 +50,33 @@ pub struct Catalogue {
 }
 
 impl Catalogue {
-    /// A catalogue without objects. Its errors: `Memory`.
+    /// A catalogue without objects.
+    ///
+    /// # Errors
+    ///
+    /// `Memory`.
     pub fn open() -> Result<Catalogue, Error> {
         let mut slot = lr_slot::empty();
         done(sys::lr_catalogue_open(&mut slot))?;
         Ok(Catalogue { slot })
     }
 
-    /// Adds an object without operations, by its key. Its errors: `Taken`, `Memory`.
+    /// Adds an object without operations, by its key.
+    ///
+    /// # Errors
+    ///
+    /// `Taken`, `Memory`.
     pub fn object(&mut self, key: impl AsRef<[u8]>) -> Result<(), Error> {
         let key = key.as_ref();
         // SAFETY: the key is lent.
         done(unsafe { sys::lr_catalogue_object(&mut self.slot, key.as_ptr().cast(), key.len()) })
     }
 
-    /// Adds an object whose every operation is raw. Its errors: `Taken`, `Memory`.
+    /// Adds an object whose every operation is raw.
+    ///
+    /// # Errors
+    ///
+    /// `Taken`, `Memory`.
     pub fn raw_object(&mut self, key: impl AsRef<[u8]>) -> Result<(), Error> {
         let key = key.as_ref();
         // SAFETY: the key is lent.
@@ -71,8 +85,11 @@ impl Catalogue {
         })
     }
 
-    /// Adds an operation of an object. Its errors: `Types`, `Text`, `Object`, `Raw`, `Taken`,
-    /// `Memory`.
+    /// Adds an operation of an object.
+    ///
+    /// # Errors
+    ///
+    /// `Types`, `Text`, `Object`, `Raw`, `Taken`, `Memory`.
     pub fn operation(
         &mut self,
         key: impl AsRef<[u8]>,
@@ -131,7 +148,10 @@ impl Catalogue {
     }
 
     /// Adds an operation that is raw: you read its arguments, and write the bodies of its replies.
-    /// Its errors: `Text`, `Object`, `Raw`, `Taken`, `Memory`.
+    ///
+    /// # Errors
+    ///
+    /// `Text`, `Object`, `Raw`, `Taken`, `Memory`.
     pub fn raw_operation(
         &mut self,
         key: impl AsRef<[u8]>,
@@ -152,8 +172,11 @@ impl Catalogue {
 
     /// Names the repository ids of an object, as `IDL:Bank:1.0`. It has the operations `_is_a` and
     /// `_non_existent` then, as a checked narrow of an ORB asks for;
-    /// [`Server::identify`](crate::Server::identify) answers them. Its errors: `Text`, `Object`,
-    /// `Raw`, `Taken`, `Memory`.
+    /// [`Server::identify`](crate::Server::identify) answers them.
+    ///
+    /// # Errors
+    ///
+    /// `Text`, `Object`, `Raw`, `Taken`, `Memory`.
     pub fn repository_ids(&mut self, key: impl AsRef<[u8]>, ids: &[&str]) -> Result<(), Error> {
         let key = key.as_ref();
         if ids.iter().any(|id| id.contains('\0')) {

@@ -1,9 +1,15 @@
 //! CDR: values as octets (CORBA 3.3 Part 2, 9.3).
 
-use crate::error::done;
+use crate::error::{self, done};
 use crate::sys::{self, lr_place};
 use crate::{Error, Order};
-use std::ffi::c_void;
+use alloc::vec::Vec;
+use core::ffi::c_void;
+
+/// The index of the next octet.
+fn index(place: &lr_place) -> usize {
+    usize::try_from(place.next).unwrap_or(usize::MAX)
+}
 
 /// Reads values of octets, one after another. What is longer than a number is lent from the octets.
 /// Where a read fails, the place is as it was.
@@ -26,6 +32,10 @@ pub struct Reader<'a> {
 macro_rules! readers {
     ($($(#[$doc:meta])* $name:ident: $number:ty = $call:ident;)*) => {$(
         $(#[$doc])*
+        ///
+        /// # Errors
+        ///
+        /// `Short`, where octets are missing.
         pub fn $name(&mut self) -> Result<$number, Error> {
             let mut value = 0;
             let (octets, size) = (self.octets.as_ptr().cast(), self.octets.len());
@@ -38,11 +48,13 @@ macro_rules! readers {
 
 impl<'a> Reader<'a> {
     /// Reads octets of an order, aligned from place 0.
+    #[must_use]
     pub fn new(octets: &'a [u8], order: Order) -> Reader<'a> {
         Reader::at(octets, order, 0)
     }
 
     /// Reads octets of an order, the first of which stands at a place.
+    #[must_use]
     pub fn at(octets: &'a [u8], order: Order, place: u64) -> Reader<'a> {
         let place = lr_place { at: place, order: order.number(), ..lr_place::default() };
         Reader { octets, place }
@@ -68,6 +80,10 @@ impl<'a> Reader<'a> {
     }
 
     /// A `boolean`.
+    ///
+    /// # Errors
+    ///
+    /// `Short`, where octets are missing, and `Value`, where they are no value of the type.
     pub fn boolean(&mut self) -> Result<bool, Error> {
         let mut value = 0;
         let (octets, size) = (self.octets.as_ptr().cast(), self.octets.len());
@@ -77,6 +93,10 @@ impl<'a> Reader<'a> {
     }
 
     /// A `string`, without its NUL.
+    ///
+    /// # Errors
+    ///
+    /// `Short`, where octets are missing, and `Value`, where they are no value of the type.
     pub fn string(&mut self) -> Result<&'a [u8], Error> {
         let (mut start, mut length) = (0, 0);
         let (octets, size) = (self.octets.as_ptr().cast(), self.octets.len());
@@ -87,10 +107,14 @@ impl<'a> Reader<'a> {
         self.part(start, length)
     }
 
-    /// A `string` that is UTF-8; `Value` where it is not.
+    /// A `string` that is UTF-8.
+    ///
+    /// # Errors
+    ///
+    /// `Short`, where octets are missing, and `Value`, where they are no such string.
     pub fn text(&mut self) -> Result<&'a str, Error> {
         let before = self.place.clone();
-        let text = std::str::from_utf8(self.string()?);
+        let text = core::str::from_utf8(self.string()?);
         text.map_err(|_| {
             self.place = before;
             Error::Value
@@ -98,6 +122,10 @@ impl<'a> Reader<'a> {
     }
 
     /// A `sequence<octet>`.
+    ///
+    /// # Errors
+    ///
+    /// `Short`, where octets are missing.
     pub fn octets(&mut self) -> Result<&'a [u8], Error> {
         let (mut start, mut length) = (0, 0);
         let (octets, size) = (self.octets.as_ptr().cast(), self.octets.len());
@@ -109,6 +137,10 @@ impl<'a> Reader<'a> {
     }
 
     /// An encapsulation: a reader of what is in it, after its octet of the byte order.
+    ///
+    /// # Errors
+    ///
+    /// `Short`, where octets are missing, and `Value`, where it has no byte order.
     pub fn encapsulation(&mut self) -> Result<Reader<'a>, Error> {
         let (mut start, mut length, mut place) = (0, 0, lr_place::default());
         let (octets, size) = (self.octets.as_ptr().cast(), self.octets.len());
@@ -130,17 +162,19 @@ impl<'a> Reader<'a> {
 
     /// A part of the octets, which the library named.
     fn part(&self, start: u64, length: u64) -> Result<&'a [u8], Error> {
-        let (start, length) = (start as usize, length as usize);
+        let (start, length) = (error::size(start)?, error::size(length)?);
         let after = self.octets.get(start..).ok_or(Error::Short)?;
         after.get(..length).ok_or(Error::Short)
     }
 
     /// The octets that are left.
+    #[must_use]
     pub fn rest(&self) -> &'a [u8] {
-        self.octets.get(self.place.next as usize..).unwrap_or(&[])
+        self.octets.get(index(&self.place)..).unwrap_or(&[])
     }
 
     /// The order of the numbers.
+    #[must_use]
     pub fn order(&self) -> Order {
         Order::from_number(self.place.order).unwrap_or(Order::Big)
     }
@@ -167,6 +201,10 @@ pub struct Writer {
 macro_rules! writers {
     ($($(#[$doc:meta])* $name:ident: $number:ty = $call:ident;)*) => {$(
         $(#[$doc])*
+        ///
+        /// # Errors
+        ///
+        /// `Range`: more was written than a message can have.
         pub fn $name(&mut self, value: $number) -> Result<&mut Writer, Error> {
             // SAFETY: the room is lent.
             self.put(0, |room, size, place| unsafe { sys::$call(room, size, place, value) })
@@ -179,6 +217,7 @@ const MOST: usize = 16;
 
 impl Writer {
     /// Writes in an order.
+    #[must_use]
     pub const fn new(order: Order) -> Writer {
         let place = lr_place { at: 0, next: 0, order: order.number(), reserved: 0 };
         Writer { octets: Vec::new(), place }
@@ -186,14 +225,16 @@ impl Writer {
 
     /// Writes what is in an encapsulation, beginning with its octet of the byte order. It goes into
     /// another writer, or into a service context, by its octets: `outer.octets(inner.as_octets())`.
+    #[must_use]
     pub fn encapsulation(order: Order) -> Writer {
         let mut writer = Writer::new(order);
-        writer.octets.push(order.number() as u8);
+        writer.octets.push(u8::from(order == Order::Little));
         writer.place.next = 1;
         writer
     }
 
     /// What was written elsewhere in an order, aligned from place 0. More can be written after it.
+    #[must_use]
     pub fn of(order: Order, octets: Vec<u8>) -> Writer {
         let mut writer = Writer::new(order);
         writer.place.next = octets.len() as u64;
@@ -209,7 +250,7 @@ impl Writer {
     ) -> Result<&mut Writer, Error> {
         self.octets.resize(self.octets.len() + size + MOST, 0);
         let answer = call(self.octets.as_mut_ptr().cast(), self.octets.len(), &mut self.place);
-        self.octets.truncate(self.place.next as usize);
+        self.octets.truncate(index(&self.place));
         done(answer).map(|()| self)
     }
 
@@ -233,6 +274,10 @@ impl Writer {
     }
 
     /// A `boolean`.
+    ///
+    /// # Errors
+    ///
+    /// `Range`: more was written than a message can have.
     pub fn boolean(&mut self, value: bool) -> Result<&mut Writer, Error> {
         // SAFETY: the room is lent.
         self.put(0, |room, size, place| unsafe {
@@ -240,7 +285,11 @@ impl Writer {
         })
     }
 
-    /// A `string`, whose NUL is written after it. `Text`, where one is in it.
+    /// A `string`, whose NUL is written after it.
+    ///
+    /// # Errors
+    ///
+    /// `Text`, where a NUL is in it; `Long`, and `Range`: more is written than a message can have.
     pub fn string(&mut self, text: impl AsRef<[u8]>) -> Result<&mut Writer, Error> {
         let text = text.as_ref();
         // SAFETY: the room and the text are lent; they don't overlap.
@@ -250,6 +299,10 @@ impl Writer {
     }
 
     /// A `sequence<octet>`.
+    ///
+    /// # Errors
+    ///
+    /// `Long`, and `Range`: more is written than a message can have.
     pub fn octets(&mut self, octets: impl AsRef<[u8]>) -> Result<&mut Writer, Error> {
         let data = octets.as_ref();
         // SAFETY: the room and the octets are lent; they don't overlap.
@@ -259,16 +312,19 @@ impl Writer {
     }
 
     /// What was written.
+    #[must_use]
     pub fn as_octets(&self) -> &[u8] {
         &self.octets
     }
 
     /// What was written.
+    #[must_use]
     pub fn into_octets(self) -> Vec<u8> {
         self.octets
     }
 
     /// The order of the numbers.
+    #[must_use]
     pub fn order(&self) -> Order {
         Order::from_number(self.place.order).unwrap_or(Order::Big)
     }

@@ -1,10 +1,11 @@
 //! A client that sends its calls again.
 
 use crate::cdr::{Reader, Writer};
-use crate::error::{count, done, sure};
+use crate::error::{self, count, done, sure};
 use crate::sys::{self, lr_completion, lr_slot};
 use crate::types::codes_of;
 use crate::{Completed, Ended, Error, Ior, Limits, Moment, Order, Type, Version};
+use alloc::vec::Vec;
 
 /// A call of an operation.
 #[derive(Clone, Copy, Debug)]
@@ -53,7 +54,11 @@ pub struct Client {
 
 impl Client {
     /// Opens a client that is not connected. Its id, 1 to 256 octets without a NUL, names it to
-    /// each server. Its errors: `Range`, `Text`, `Memory`.
+    /// each server.
+    ///
+    /// # Errors
+    ///
+    /// `Range`, `Text`, `Memory`.
     pub fn open(id: impl AsRef<[u8]>, version: Version, limits: Limits) -> Result<Client, Error> {
         let (mut slot, id) = (lr_slot::empty(), id.as_ref());
         // SAFETY: the id is lent.
@@ -71,7 +76,11 @@ impl Client {
     }
 
     /// It is connected anew: what is pending and not past its expiration is due. Octets that were
-    /// due for the connection before are dropped. Its error: `Lost`.
+    /// due for the connection before are dropped.
+    ///
+    /// # Errors
+    ///
+    /// `Lost`.
     pub fn connected(&mut self, now: Moment) -> Result<(), Error> {
         done(sys::lr_client_connected(&mut self.slot, now.0))
     }
@@ -86,8 +95,11 @@ impl Client {
         sure(sys::lr_client_is_connected(&mut self.slot)) != 0
     }
 
-    /// Calls an operation of an object, and answers the number of the call: 1, 2 and so on. Its
-    /// errors: `Types`, `Text`, `Short`, `Value`, `Expired`, `Calls`, `Long`, `Memory`.
+    /// Calls an operation of an object, and answers the number of the call: 1, 2 and so on.
+    ///
+    /// # Errors
+    ///
+    /// `Types`, `Text`, `Short`, `Value`, `Expired`, `Calls`, `Long`, `Memory`.
     pub fn call(&mut self, now: Moment, call: &Call<'_>) -> Result<i32, Error> {
         let types = codes_of(call.types)?;
         let arguments = call.arguments.as_octets();
@@ -111,8 +123,11 @@ impl Client {
         i32::try_from(number).map_err(|_| Error::Range)
     }
 
-    /// Cancels a call: whether it was pending, and completes as cancelled. Its errors: `Range`,
-    /// `Memory`.
+    /// Cancels a call: whether it was pending, and completes as cancelled.
+    ///
+    /// # Errors
+    ///
+    /// `Range`, `Memory`.
     pub fn cancel(&mut self, call: i32) -> Result<bool, Error> {
         Ok(count(sys::lr_client_cancel(&mut self.slot, call.into()))? != 0)
     }
@@ -123,19 +138,27 @@ impl Client {
     }
 
     /// Takes octets that came on the connection. After a fault of the stream, or where the server
-    /// has said goodbye, it is not connected any more. Its error: `Lost`.
+    /// has said goodbye, it is not connected any more.
+    ///
+    /// # Errors
+    ///
+    /// `Lost`.
     pub fn feed(&mut self, octets: &[u8]) -> Result<(), Error> {
         // SAFETY: the octets are lent.
         done(unsafe { sys::lr_client_feed(&mut self.slot, octets.as_ptr().cast(), octets.len()) })
     }
 
     /// The next completion, if there is one. Its body is lent until the next is taken.
+    ///
+    /// # Errors
+    ///
+    /// `Range`, where it has a number that this version of the crate has no name for.
     pub fn completed(&mut self) -> Result<Option<Completion<'_>>, Error> {
         let mut said = lr_completion::default();
         if count(sys::lr_client_completed(&mut self.slot, &mut said))? == 0 {
             return Ok(None);
         }
-        self.body.resize(said.body_size as usize, 0);
+        self.body.resize(error::size(said.body_size)?, 0);
         if !self.body.is_empty() {
             let (room, size) = (self.body.as_mut_ptr().cast(), self.body.len());
             // SAFETY: the room is lent.
@@ -191,12 +214,17 @@ pub struct SystemException<'c> {
 
 impl<'c> Completion<'c> {
     /// Reads the body.
+    #[must_use]
     pub fn reader(&self) -> Reader<'c> {
         Reader::at(self.body, self.order, self.at)
     }
 
     /// The exception that it raised, if it raised one: its repository id, and a reader of its
     /// members.
+    ///
+    /// # Errors
+    ///
+    /// `Short` and `Value`, where the body doesn't read.
     pub fn raised(&self) -> Result<Option<(&'c [u8], Reader<'c>)>, Error> {
         if self.ended != Ended::Raised {
             return Ok(None);
@@ -207,6 +235,10 @@ impl<'c> Completion<'c> {
     }
 
     /// The reference that is to be asked in place of this one, if there is one.
+    ///
+    /// # Errors
+    ///
+    /// As of [`Ior::read`].
     pub fn forwarded(&self) -> Result<Option<Ior>, Error> {
         if self.ended != Ended::Forwarded {
             return Ok(None);
@@ -215,6 +247,10 @@ impl<'c> Completion<'c> {
     }
 
     /// The system exception by which it ended, if it ended by one.
+    ///
+    /// # Errors
+    ///
+    /// `Short` and `Value`, where the body doesn't read.
     pub fn system(&self) -> Result<Option<SystemException<'c>>, Error> {
         if self.ended != Ended::System {
             return Ok(None);

@@ -1,8 +1,10 @@
 //! What a call answers where it fails.
 
 use crate::sys;
-use std::ffi::{c_char, CStr};
-use std::fmt;
+use alloc::vec;
+use alloc::vec::Vec;
+use core::ffi::{c_char, CStr};
+use core::fmt;
 
 macro_rules! errors {
     ($($(#[$doc:meta])* $name:ident = $code:literal,)*) => {
@@ -102,6 +104,7 @@ fn said(by: impl Fn(i64) -> *const c_char, code: i64) -> &'static str {
 impl Error {
     /// The name of the error in `lemonrudder.h`, as `LR_E_RANGE`: `LR_E_UNKNOWN` where the library
     /// has none.
+    #[must_use]
     pub fn name(self) -> &'static str {
         said(|code| sys::lr_error_name(code), self.code())
     }
@@ -113,7 +116,7 @@ impl fmt::Display for Error {
     }
 }
 
-impl std::error::Error for Error {}
+impl core::error::Error for Error {}
 
 /// What a function of the library answered: a count, or an error.
 pub(crate) fn count(answer: i64) -> Result<usize, Error> {
@@ -123,6 +126,11 @@ pub(crate) fn count(answer: i64) -> Result<usize, Error> {
 /// What a function of the library answered whose count says nothing.
 pub(crate) fn done(answer: i64) -> Result<(), Error> {
     count(answer).map(|_| ())
+}
+
+/// A size that the library said: of what fits into memory.
+pub(crate) fn size(said: u64) -> Result<usize, Error> {
+    usize::try_from(said).map_err(|_| Error::Memory)
 }
 
 /// The count of a function whose one error is that its slot is empty, which none is here.
@@ -168,6 +176,7 @@ pub(crate) fn written(
 #[cfg(test)]
 mod tests {
     use super::*;
+    use std::string::ToString;
 
     #[test]
     fn each_code_has_its_error() {
@@ -180,6 +189,7 @@ mod tests {
         assert_eq!(count(7), Ok(7));
         assert_eq!(done(7), Ok(()));
         assert_eq!(done(-7), Err(Error::Idle));
+        assert_eq!(size(7), Ok(7));
     }
 
     #[test]

@@ -1,10 +1,14 @@
 //! References to objects.
 
 use crate::cdr::{Reader, Writer};
-use crate::error::{copied, done, sure, written};
+use crate::error::{self, copied, done, sure, written};
 use crate::sys::{self, lr_profile, lr_slot};
 use crate::{Error, Version};
-use std::str::FromStr;
+use alloc::format;
+use alloc::string::String;
+use alloc::vec::Vec;
+use core::ops::Range;
+use core::str::FromStr;
 
 /// A reference to an object.
 ///
@@ -48,7 +52,7 @@ pub struct Address {
     pub components: Vec<(u32, Vec<u8>)>,
 }
 
-/// Reads a stringified reference, `IOR:` and hexadecimal digits. Its errors: `Reference`, `Memory`.
+/// Reads a stringified reference, `IOR:` and hexadecimal digits; `Reference` where it is none.
 impl FromStr for Ior {
     type Err = Error;
 
@@ -61,7 +65,11 @@ impl FromStr for Ior {
 }
 
 impl Ior {
-    /// A reference of a type to an object at an address of IIOP. Its errors: `Text`, `Memory`.
+    /// A reference of a type to an object at an address of IIOP.
+    ///
+    /// # Errors
+    ///
+    /// `Text`, `Memory`.
     pub fn iiop(
         type_id: &str,
         version: Version,
@@ -87,8 +95,11 @@ impl Ior {
         Ok(Ior { slot })
     }
 
-    /// Reads a reference as a value of CDR, as the body of a reply that forwards has one. Its
-    /// errors: `Short`, `Value`, `Memory`; the place is as it was then.
+    /// Reads a reference as a value of CDR, as the body of a reply that forwards has one.
+    ///
+    /// # Errors
+    ///
+    /// `Short`, `Value`, `Memory`; the place is as it was then.
     pub fn read(reader: &mut Reader<'_>) -> Result<Ior, Error> {
         let mut next = reader.clone();
         // the stringified form is that of an encapsulation (CORBA 3.3 Part 2, 7.6.9)
@@ -108,20 +119,27 @@ impl Ior {
         Ok(ior)
     }
 
-    /// Writes it as a value of CDR, as the body of a reply that forwards has one. Its error:
+    /// Writes it as a value of CDR, as the body of a reply that forwards has one.
+    ///
+    /// # Errors
+    ///
     /// `Memory`; nothing was written then.
     pub fn write(&mut self, writer: &mut Writer) -> Result<(), Error> {
-        let (type_id, profiles) = (self.type_id()?, self.profiles()?);
         let mut next = writer.clone();
-        next.string(type_id)?.ulong(profiles.len() as u32)?;
-        for profile in profiles {
+        next.string(self.type_id()?)?.ulong(self.count())?;
+        for profile in self.profiles() {
+            let profile = profile?;
             next.ulong(profile.tag)?.octets(profile.data)?;
         }
         *writer = next;
         Ok(())
     }
 
-    /// Its stringified form. Its error: `Memory`.
+    /// Its stringified form.
+    ///
+    /// # Errors
+    ///
+    /// `Memory`.
     pub fn to_text(&mut self) -> Result<String, Error> {
         let slot = &mut self.slot;
         // SAFETY: the room is lent.
@@ -132,6 +150,10 @@ impl Ior {
     }
 
     /// The repository id of its type; empty of the nil reference.
+    ///
+    /// # Errors
+    ///
+    /// None that is known.
     pub fn type_id(&mut self) -> Result<Vec<u8>, Error> {
         let slot = &mut self.slot;
         // SAFETY: the room is lent.
@@ -140,16 +162,38 @@ impl Ior {
         })
     }
 
-    /// Its profiles; none of the nil reference. Its error: `Memory`.
-    pub fn profiles(&mut self) -> Result<Vec<Profile>, Error> {
-        let count = sure(sys::lr_ior_profiles(&mut self.slot));
-        (0..count as u32).map(|index| self.profile(index)).collect()
+    /// How many profiles it has.
+    fn count(&mut self) -> u32 {
+        u32::try_from(sure(sys::lr_ior_profiles(&mut self.slot))).unwrap_or(u32::MAX)
     }
 
-    /// What its first profile of IIOP says, if it has one. Its error: `Memory`.
+    /// Its profiles, in order; none of the nil reference.
+    pub fn profiles(&mut self) -> Profiles<'_> {
+        let left = 0..self.count();
+        Profiles { ior: self, left }
+    }
+
+    /// The tagged components of a profile of IIOP, which is counted from 0, in order; none of
+    /// another profile.
+    ///
+    /// # Errors
+    ///
+    /// `NoPart`, where there is no such profile, and `Memory`.
+    pub fn components(&mut self, profile: u32) -> Result<Components<'_>, Error> {
+        let mut said = lr_profile::default();
+        done(sys::lr_ior_profile(&mut self.slot, profile, &mut said))?;
+        Ok(Components { ior: self, profile, left: 0..said.components })
+    }
+
+    /// What its first profile of IIOP says, if it has one.
+    ///
+    /// # Errors
+    ///
+    /// `Memory`.
     pub fn address(&mut self) -> Result<Option<Address>, Error> {
-        let profiles = self.profiles()?;
-        Ok(profiles.into_iter().find_map(|profile| profile.address))
+        self.profiles()
+            .find_map(|profile| profile.map(|profile| profile.address).transpose())
+            .transpose()
     }
 
     /// The profile of an index.
@@ -166,9 +210,8 @@ impl Ior {
 
     /// What a profile of IIOP says.
     fn address_of(&mut self, index: u32, said: &lr_profile) -> Result<Address, Error> {
-        let components = (0..said.components).map(|each| self.component(index, each));
         Ok(Address {
-            components: components.collect::<Result<_, _>>()?,
+            components: self.components(index)?.collect::<Result<_, _>>()?,
             minor: said.minor,
             host: self.part(index, sys::LR_IOR_HOST, said.host_size)?,
             port: u16::try_from(said.port).map_err(|_| Error::Range)?,
@@ -180,7 +223,7 @@ impl Ior {
     fn part(&mut self, index: u32, part: u32, size: u64) -> Result<Vec<u8>, Error> {
         let slot = &mut self.slot;
         // SAFETY: the room is lent.
-        copied(size as usize, |room| unsafe {
+        copied(error::size(size)?, |room| unsafe {
             sys::lr_ior_part(slot, index, part, room.as_mut_ptr().cast(), room.len())
         })
     }
@@ -203,3 +246,48 @@ impl Ior {
         Ok((tag, data))
     }
 }
+
+/// The profiles of a reference, in order: each, or `Memory`.
+#[derive(Debug)]
+pub struct Profiles<'i> {
+    ior: &'i mut Ior,
+    /// Those that come, counted from 0.
+    left: Range<u32>,
+}
+
+impl Iterator for Profiles<'_> {
+    type Item = Result<Profile, Error>;
+
+    fn next(&mut self) -> Option<Self::Item> {
+        self.left.next().map(|index| self.ior.profile(index))
+    }
+
+    fn size_hint(&self) -> (usize, Option<usize>) {
+        self.left.size_hint()
+    }
+}
+
+impl ExactSizeIterator for Profiles<'_> {}
+
+/// The tagged components of a profile, in order: the tag and the data of each, or `Memory`.
+#[derive(Debug)]
+pub struct Components<'i> {
+    ior: &'i mut Ior,
+    profile: u32,
+    /// Those that come, counted from 0.
+    left: Range<u32>,
+}
+
+impl Iterator for Components<'_> {
+    type Item = Result<(u32, Vec<u8>), Error>;
+
+    fn next(&mut self) -> Option<Self::Item> {
+        self.left.next().map(|index| self.ior.component(self.profile, index))
+    }
+
+    fn size_hint(&self) -> (usize, Option<usize>) {
+        self.left.size_hint()
+    }
+}
+
+impl ExactSizeIterator for Components<'_> {}

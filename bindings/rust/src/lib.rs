@@ -7,12 +7,21 @@
 //! until they are answered. An [`Assembler`] makes messages of a stream, [`write`](mod@write)
 //! writes them, [`cdr`] reads and writes values, and [`Ior`] is a reference to an object.
 //!
-//! Nothing here opens a socket, reads a clock (but [`Moment::now`]) or starts a thread. An object
+//! Nothing here opens a socket, reads a clock (but `Moment::now`) or starts a thread. An object
 //! may be given to another thread, but not be used by two at once.
 //!
 //! The functions of the library are proved; this crate over them is tested.
+//!
+//! The crate is without `std`, and wants an allocator. Its feature `std`, which is on by default,
+//! adds what asks the system: `Moment::now` and `Settings::default`. `examples/bare` is a
+//! program without it.
 
+#![no_std]
 #![deny(missing_docs)]
+
+extern crate alloc;
+#[cfg(any(feature = "std", test))]
+extern crate std;
 
 mod assembler;
 mod catalogue;
@@ -23,18 +32,25 @@ mod ior;
 mod limits;
 mod moment;
 mod numbers;
+#[cfg(feature = "std")]
+mod seeds;
 mod server;
-mod sys;
 mod types;
-#[cfg(test)]
-mod versions;
 pub mod write;
 
-pub use assembler::{Assembler, Message};
+/// The functions of the library.
+mod sys {
+    pub use lemonrudder_sys::*;
+
+    #[cfg(test)]
+    mod header;
+}
+
+pub use assembler::{Assembler, Contexts, Message};
 pub use catalogue::{Catalogue, Signature};
 pub use client::{Call, Client, Completion, SystemException};
 pub use error::Error;
-pub use ior::{Address, Ior, Profile};
+pub use ior::{Address, Components, Ior, Profile, Profiles};
 pub use limits::Limits;
 pub use moment::Moment;
 pub use numbers::{
@@ -43,9 +59,11 @@ pub use numbers::{
 pub use server::{FtRequest, Request, Server, Settings};
 pub use types::Type;
 
-use std::ffi::c_void;
+use alloc::vec::Vec;
+use core::ffi::c_void;
 
 /// The version of the library: major, minor and patch.
+#[must_use]
 pub fn version() -> (u32, u32, u32) {
     let version = sys::lr_version();
     (version >> 16, version >> 8 & 0xff, version & 0xff)
@@ -54,7 +72,9 @@ pub fn version() -> (u32, u32, u32) {
 /// Has all memory of the library come from these functions in place of `malloc`, `realloc` and
 /// `free`. Each of the first two gives memory aligned to 16, or NULL where there is none.
 ///
-/// [`Error::Open`] where memory was taken before: the heap is as it was.
+/// # Errors
+///
+/// `Open`, where memory was taken before: the heap is as it was.
 ///
 /// # Safety
 ///

@@ -1,8 +1,10 @@
 //! Moments.
 
 use crate::sys;
-use std::ops::Add;
-use std::time::{Duration, SystemTime, UNIX_EPOCH};
+use core::ops::Add;
+use core::time::Duration;
+#[cfg(feature = "std")]
+use std::time::{SystemTime, UNIX_EPOCH};
 
 /// A moment: a count of 100 ns since 15 October 1582, 00:00 UTC, as the expiration of FT_REQUEST is
 /// one.
@@ -13,17 +15,25 @@ impl Moment {
     /// The last moment: what expires then never does.
     pub const LAST: Moment = Moment(u64::MAX);
 
+    /// The moment that is so long after the beginning of 1970, 00:00 UTC.
+    #[must_use]
+    pub fn after_1970(since: Duration) -> Moment {
+        Moment(sys::lr_moment(since.as_secs(), since.subsec_nanos()))
+    }
+
     /// The moment that the system's clock says.
+    #[cfg(feature = "std")]
+    #[must_use]
     pub fn now() -> Moment {
         SystemTime::now().into()
     }
 }
 
 /// A time before 1970 is taken as its beginning.
+#[cfg(feature = "std")]
 impl From<SystemTime> for Moment {
     fn from(time: SystemTime) -> Moment {
-        let since = time.duration_since(UNIX_EPOCH).unwrap_or(Duration::ZERO);
-        Moment(sys::lr_moment(since.as_secs(), since.subsec_nanos()))
+        Moment::after_1970(time.duration_since(UNIX_EPOCH).unwrap_or(Duration::ZERO))
     }
 }
 
@@ -47,9 +57,17 @@ mod tests {
 
     #[test]
     fn a_moment_counts_from_1582() {
-        assert_eq!(Moment::from(UNIX_EPOCH), Moment(122_192_928_000_000_000));
-        let later = UNIX_EPOCH + Duration::new(1, 250);
-        assert_eq!(Moment::from(later), Moment(122_192_928_010_000_002));
+        assert_eq!(Moment::after_1970(Duration::ZERO), Moment(122_192_928_000_000_000));
+        let later = Duration::new(1, 250);
+        assert_eq!(Moment::after_1970(later), Moment(122_192_928_010_000_002));
+        assert_eq!(Moment::after_1970(Duration::MAX), Moment::LAST);
+    }
+
+    #[test]
+    #[cfg(feature = "std")]
+    fn a_time_is_a_moment() {
+        let later = Duration::new(1, 250);
+        assert_eq!(Moment::from(UNIX_EPOCH + later), Moment::after_1970(later));
         assert_eq!(Moment::from(UNIX_EPOCH - Duration::from_secs(9)), Moment::from(UNIX_EPOCH));
         assert!(Moment::now() > Moment::from(UNIX_EPOCH));
     }

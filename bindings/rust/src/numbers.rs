@@ -1,7 +1,7 @@
 //! Numbers that have names.
 
 use crate::Error;
-use std::fmt;
+use core::fmt;
 
 macro_rules! numbers {
     ($($(#[$doc:meta])* $name:ident { $($(#[$each:meta])* $variant:ident = $number:literal,)* })*) => {$(
@@ -216,6 +216,7 @@ impl fmt::Display for Version {
 #[cfg(test)]
 mod tests {
     use super::*;
+    use std::string::ToString;
 
     #[test]
     fn numbers_and_names_agree() {

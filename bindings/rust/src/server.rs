@@ -1,13 +1,12 @@
 //! A server of requests that may be sent again.
 
 use crate::cdr::{Reader, Writer};
-use crate::error::{count, done, sure};
+use crate::error::{self, count, done, sure};
 use crate::sys::{self, lr_request, lr_slot};
 use crate::{
     Catalogue, Completed, Error, Limits, Moment, Order, Status, SystemName, Version, Wish,
 };
-use std::collections::hash_map::RandomState;
-use std::hash::BuildHasher;
+use alloc::vec::Vec;
 
 /// What a server is opened with.
 #[derive(Clone, Debug)]
@@ -22,17 +21,24 @@ pub struct Settings {
     pub seeds: [u64; 2],
 }
 
-/// The limits that are usual, 1024 outcomes, as many of each client, and seeds of the system's
-/// random numbers.
+impl Settings {
+    /// The limits that are usual, 1024 outcomes, as many of each client, and these seeds.
+    #[must_use]
+    pub fn new(seeds: [u64; 2]) -> Settings {
+        Settings { limits: Limits::default(), capacity: 1024, share: 1024, seeds }
+    }
+}
+
+/// [`Settings::new`] with random numbers of the system: of `getrandom` on Linux, and of
+/// `/dev/urandom` elsewhere, or where it fails.
+///
+/// # Panics
+///
+/// Where the system has none of them.
+#[cfg(feature = "std")]
 impl Default for Settings {
     fn default() -> Settings {
-        let random = RandomState::new();
-        Settings {
-            limits: Limits::default(),
-            capacity: 1024,
-            share: 1024,
-            seeds: [random.hash_one(0), random.hash_one(1)],
-        }
+        Settings::new(crate::seeds::random())
     }
 }
 
@@ -90,7 +96,11 @@ pub struct Server {
 }
 
 impl Server {
-    /// Opens a server of the objects of a catalogue. Its errors: `Range`, `Memory`.
+    /// Opens a server of the objects of a catalogue.
+    ///
+    /// # Errors
+    ///
+    /// `Range`, `Memory`.
     pub fn open(mut catalogue: Catalogue, settings: &Settings) -> Result<Server, Error> {
         let mut slot = lr_slot::empty();
         done(sys::lr_server_open(
@@ -106,20 +116,30 @@ impl Server {
         Ok(Server { slot, parts: Default::default() })
     }
 
-    /// Opens a connection, whose number is greater than each before. Its errors: `Asking`,
-    /// `Connection`, `Memory`.
+    /// Opens a connection, whose number is greater than each before.
+    ///
+    /// # Errors
+    ///
+    /// `Asking`, `Connection`, `Memory`.
     pub fn connect(&mut self, connection: u64) -> Result<(), Error> {
         done(sys::lr_server_connect(&mut self.slot, connection))
     }
 
-    /// Forgets a connection that is gone, if there is one, and the octets that are due on it. Its
-    /// error: `Asking`.
+    /// Forgets a connection that is gone, if there is one, and the octets that are due on it.
+    ///
+    /// # Errors
+    ///
+    /// `Asking`.
     pub fn lost(&mut self, connection: u64) -> Result<(), Error> {
         done(sys::lr_server_lost(&mut self.slot, connection))
     }
 
     /// Says goodbye: CloseConnection is due, unless the connection's stream has ended. What comes
-    /// on it afterwards has no meaning. Its errors: `Asking`, `Due`, `Connection`, `Lost`.
+    /// on it afterwards has no meaning.
+    ///
+    /// # Errors
+    ///
+    /// `Asking`, `Due`, `Connection`, `Lost`.
     pub fn farewell(&mut self, connection: u64) -> Result<(), Error> {
         done(sys::lr_server_farewell(&mut self.slot, connection))
     }
@@ -132,8 +152,12 @@ impl Server {
 
     /// Takes octets of a connection that came at a moment, and answers how many it took: all of
     /// them, or those up to a request that waits for its outcome. The rest is to be fed after it is
-    /// answered, at the same moment. Its errors: `Asking`, `Due`, `Connection` (the clock has
-    /// moved), and `Lost`, where what was answered before is due.
+    /// answered, at the same moment.
+    ///
+    /// # Errors
+    ///
+    /// `Asking`, `Due`, `Connection` (the clock has moved), and `Lost`, where what was answered
+    /// before is due.
     pub fn feed(&mut self, connection: u64, moment: Moment, octets: &[u8]) -> Result<usize, Error> {
         // SAFETY: the octets are lent.
         let answer = unsafe {
@@ -149,12 +173,20 @@ impl Server {
     }
 
     /// Answers `_is_a` and `_non_existent` of an object that names its repository ids: whether that
-    /// is what waits, and it is answered. Its errors: `Idle`, and those of [`Request::answer`].
+    /// is what waits, and it is answered.
+    ///
+    /// # Errors
+    ///
+    /// `Idle`, and those of [`Request::answer`].
     pub fn identify(&mut self) -> Result<bool, Error> {
         Ok(count(sys::lr_server_identify(&mut self.slot))? != 0)
     }
 
-    /// The request that waits for its outcome, if one does. Its error: `Memory`.
+    /// The request that waits for its outcome, if one does.
+    ///
+    /// # Errors
+    ///
+    /// `Memory`.
     pub fn asked(&mut self) -> Result<Option<Request<'_>>, Error> {
         let mut said = lr_request::default();
         if count(sys::lr_server_asked(&mut self.slot, &mut said))? == 0 {
@@ -178,7 +210,7 @@ impl Server {
     /// Copies a part of the request that waits into its buffer.
     fn copy(&mut self, part: u32, size: u64) -> Result<(), Error> {
         let room = &mut self.parts[part as usize];
-        room.resize(size as usize, 0);
+        room.resize(error::size(size)?, 0);
         // SAFETY: the room is lent.
         let answer = unsafe {
             sys::lr_server_part(&mut self.slot, part, room.as_mut_ptr().cast(), room.len())
@@ -193,8 +225,11 @@ impl Server {
     /// `Completed::Maybe`, since something may have been done that must not be done again.
     ///
     /// Where an error is answered, what came before it was answered, and the rest of the octets was
-    /// not fed: take what is due, and end the connection by [`lost`](Server::lost). Its errors:
-    /// those of `feed`, of [`Request::answer`] and of `perform`. A request waits still only where
+    /// not fed: take what is due, and end the connection by [`lost`](Server::lost).
+    ///
+    /// # Errors
+    ///
+    /// Those of `feed`, of [`Request::answer`] and of `perform`. A request waits still only where
     /// `INTERNAL` could not be answered (`Memory`): [`asked`](Server::asked) gives it.
     pub fn serve(
         &mut self,
@@ -283,52 +318,62 @@ pub struct Request<'s> {
 
 impl Request<'_> {
     /// The connection on which it came.
+    #[must_use]
     pub fn connection(&self) -> u64 {
         self.said.connection
     }
 
     /// The key of the object.
+    #[must_use]
     pub fn key(&self) -> &[u8] {
         &self.server.parts[sys::LR_PART_KEY as usize]
     }
 
     /// The name of the operation.
+    #[must_use]
     pub fn operation(&self) -> &[u8] {
         &self.server.parts[sys::LR_PART_OPERATION as usize]
     }
 
     /// The arguments as octets: where the operation has types, in big order and aligned from place
     /// 0; of a raw one as they came.
+    #[must_use]
     pub fn body(&self) -> &[u8] {
         &self.server.parts[sys::LR_PART_BODY as usize]
     }
 
     /// Reads the arguments.
+    #[must_use]
     pub fn reader(&self) -> Reader<'_> {
         Reader::at(self.body(), self.order, self.said.body_at)
     }
 
     /// Whether the operation is raw.
+    #[must_use]
     pub fn is_raw(&self) -> bool {
         self.said.is_raw != 0
     }
 
     /// Its request id.
+    #[must_use]
     pub fn request_id(&self) -> u32 {
         self.said.request_id
     }
 
     /// Its version.
+    #[must_use]
     pub fn version(&self) -> Version {
         self.version
     }
 
     /// Which reply it asks for.
+    #[must_use]
     pub fn wish(&self) -> Wish {
         self.wish
     }
 
     /// What it says by FT_REQUEST, if it carries that.
+    #[must_use]
     pub fn ft_request(&self) -> Option<FtRequest<'_>> {
         (self.said.has_client != 0).then(|| FtRequest {
             client_id: &self.server.parts[sys::LR_PART_CLIENT as usize],
@@ -337,8 +382,12 @@ impl Request<'_> {
         })
     }
 
-    /// Answers by results. Its errors: `Outcome`, `Memory` (it waits still), and `Lost`: the
-    /// outcome counts and is kept, and its reply is lost.
+    /// Answers by results.
+    ///
+    /// # Errors
+    ///
+    /// `Outcome`, `Memory` (it waits still), and `Lost`: the outcome counts and is kept, and its
+    /// reply is lost.
     pub fn answer(&mut self, results: &Writer) -> Result<(), Error> {
         let (order, octets) = (results.order().number(), results.as_octets());
         // SAFETY: the octets are lent.
@@ -353,7 +402,10 @@ impl Request<'_> {
     }
 
     /// Answers by an exception that the operation declares: its repository id, and its members.
-    /// Errors as of `answer`.
+    ///
+    /// # Errors
+    ///
+    /// As of `answer`.
     pub fn raise(&mut self, id: impl AsRef<[u8]>, members: &Writer) -> Result<(), Error> {
         let (id, order, octets) = (id.as_ref(), members.order().number(), members.as_octets());
         // SAFETY: the id and the octets are lent.
@@ -369,7 +421,11 @@ impl Request<'_> {
         })
     }
 
-    /// Answers by a system exception with a minor code. Errors as of `answer`.
+    /// Answers by a system exception with a minor code.
+    ///
+    /// # Errors
+    ///
+    /// As of `answer`.
     pub fn system(
         &mut self,
         name: SystemName,
@@ -381,7 +437,11 @@ impl Request<'_> {
     }
 
     /// Answers a raw operation by the body of a Reply, of at most 1048576 octets: its status is
-    /// `NoException` to `LocationForward`. Errors as of `answer`, and `Range`.
+    /// `NoException` to `LocationForward`.
+    ///
+    /// # Errors
+    ///
+    /// As of `answer`, and `Range`.
     pub fn answer_raw(&mut self, status: Status, body: &Writer) -> Result<(), Error> {
         let (status, order, octets) = (status.number(), body.order().number(), body.as_octets());
         // SAFETY: the octets are lent.

@@ -1,6 +1,7 @@
 //! Types of IDL.
 
 use crate::Error;
+use alloc::vec::Vec;
 
 /// A type of IDL. Strings and sequences have no bounds. What has no type here, as a union, can be
 /// had by raw operations.
@@ -92,6 +93,7 @@ pub(crate) fn codes_of(types: &[Type]) -> Result<Vec<u8>, Error> {
 #[cfg(test)]
 mod tests {
     use super::*;
+    use alloc::vec;
 
     #[test]
     fn parts_come_before_what_they_are_of() {

@@ -1,6 +1,6 @@
 //! Writing messages.
 //!
-//! Each function gives a whole message. Its errors: `Range`, `Text`, `Long`, `Memory`.
+//! Each function gives a whole message.
 //!
 //! A body is octets that were written for a place divisible by 8, as those of a
 //! [`Writer`](crate::cdr::Writer) are. In 1.2 it stands at such a place.
@@ -8,6 +8,7 @@
 use crate::error::written;
 use crate::sys;
 use crate::{Error, FtRequest, LocateStatus, Order, Status, Version, Wish};
+use alloc::vec::Vec;
 
 /// What a message takes at most beside the octets that are given.
 const MOST: usize = 128;
@@ -36,8 +37,12 @@ pub struct Request<'a> {
     pub body: &'a [u8],
 }
 
-/// A Request. Of 1.0 and 1.1 also the error `Place`: its body would stand at a place that is not
-/// divisible by 8.
+/// A Request.
+///
+/// # Errors
+///
+/// `Range`, `Text`, `Long`, `Memory`; and of 1.0 and 1.1 `Place`: its body would stand at a place
+/// that is not divisible by 8.
 pub fn request(request: &Request<'_>) -> Result<Vec<u8>, Error> {
     let Request { key, operation, body, .. } = *request;
     let (context_id, context) = request.context.unwrap_or_default();
@@ -66,6 +71,10 @@ pub fn request(request: &Request<'_>) -> Result<Vec<u8>, Error> {
 
 /// A Reply without service contexts. Its body is written for a place divisible by 8, in the order
 /// of the message.
+///
+/// # Errors
+///
+/// `Range`, `Long`, `Memory`.
 pub fn reply(
     version: Version,
     order: Order,
@@ -89,6 +98,10 @@ pub fn reply(
 }
 
 /// A CancelRequest.
+///
+/// # Errors
+///
+/// `Memory`.
 pub fn cancel_request(version: Version, order: Order, request_id: u32) -> Result<Vec<u8>, Error> {
     let (version, order) = (version.number(), order.number());
     // SAFETY: the room is lent.
@@ -98,6 +111,10 @@ pub fn cancel_request(version: Version, order: Order, request_id: u32) -> Result
 }
 
 /// A LocateRequest of an object key.
+///
+/// # Errors
+///
+/// `Long`, `Memory`.
 pub fn locate_request(
     version: Version,
     order: Order,
@@ -119,6 +136,10 @@ pub fn locate_request(
 }
 
 /// A LocateReply without a body.
+///
+/// # Errors
+///
+/// `Range`, where its status wants a body, and `Memory`.
 pub fn locate_reply(
     version: Version,
     order: Order,
@@ -139,18 +160,30 @@ pub fn locate_reply(
 }
 
 /// A CloseConnection.
+///
+/// # Errors
+///
+/// `Memory`.
 pub fn close_connection() -> Result<Vec<u8>, Error> {
     // SAFETY: the room is lent.
     written(MOST, |room| unsafe { sys::lr_write_close(room.as_mut_ptr().cast(), room.len()) })
 }
 
 /// A MessageError.
+///
+/// # Errors
+///
+/// `Memory`.
 pub fn message_error() -> Result<Vec<u8>, Error> {
     // SAFETY: the room is lent.
     written(MOST, |room| unsafe { sys::lr_write_error(room.as_mut_ptr().cast(), room.len()) })
 }
 
-/// The data of the service context [`FT_REQUEST`]. The client's id has no NUL.
+/// The data of the service context [`FT_REQUEST`].
+///
+/// # Errors
+///
+/// `Text`, where the client's id has a NUL; `Long`, `Memory`.
 pub fn ft_request(order: Order, said: &FtRequest<'_>) -> Result<Vec<u8>, Error> {
     let client = said.client_id;
     // SAFETY: the room and the id are lent; they don't overlap.

@@ -49,7 +49,7 @@ impl Caller {
         let (operation, types): (_, &Signature) = match random.below(4) {
             0 => ("balance", &BALANCE),
             _ => {
-                arguments.longlong(random.below(200) as i64 - 90)?;
+                arguments.longlong(i64::try_from(random.below(200)).expect("it is small") - 90)?;
                 ("deposit", &DEPOSIT)
             }
         };
@@ -191,7 +191,7 @@ impl World {
         }
         let mut calls = 0;
         for caller in &self.callers {
-            assert_eq!(caller.ended.len(), caller.calls as usize);
+            assert_eq!(i32::try_from(caller.ended.len()), Ok(caller.calls));
             for (number, outcome) in &caller.ended {
                 let key = (caller.name.clone().into_bytes(), *number);
                 assert_eq!(performed.get(&key), Some(outcome), "{key:?}");

@@ -46,9 +46,11 @@ fn a_request_is_written_and_read() -> Result<(), Error> {
     assert_eq!(message.ft_request(), Some(FT));
     assert_eq!((message.reader().long()?, message.body()), (7, &[0, 0, 0, 7][..]));
     assert_eq!(message.payload(), b"");
-    let contexts = message.contexts()?;
+    let mut contexts = message.contexts();
+    assert_eq!(contexts.len(), 1);
     // after the header and 40 octets of fields, which end by the context's length
-    assert_eq!(contexts, [(13, ADD[52..76].to_vec())]);
+    assert_eq!(contexts.next(), Some(Ok((13, ADD[52..76].to_vec()))));
+    assert_eq!(contexts.next(), None);
     Ok(())
 }
 
@@ -61,7 +63,7 @@ fn a_long_context_is_copied_whole() -> Result<(), Error> {
     let mut message = assembler.message()?.expect("it is whole");
     // it doesn't read as FT_REQUEST
     assert_eq!(message.ft_request(), None);
-    assert_eq!(message.contexts()?, [(13, context)]);
+    assert!(message.contexts().eq([Ok((13, context))]));
     Ok(())
 }
 
@@ -113,7 +115,7 @@ fn other_messages_are_written_and_read() -> Result<(), Error> {
             (&[][..], &[][..], &[][..])
         );
         assert_eq!((message.ft_request(), message.wish(), message.status()), (None, None, None));
-        assert_eq!(message.contexts()?, []);
+        assert_eq!(message.contexts().len(), 0);
         read.push((message.message_type(), message.request_id(), message.locate_status()));
     }
     let wanted = [

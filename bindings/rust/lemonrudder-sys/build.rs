@@ -1,6 +1,6 @@
-//! Finds liblemonrudder.a: in LEMONRUDDER_LIB_DIR; else where pkg-config says; else in the
-//! repository's `out/lib`. Where the library is of another version than the crate wants, the build
-//! ends.
+//! Finds the library in the folder `LEMONRUDDER_LIB_DIR`; else where pkg-config says; else in the
+//! repository's `out/lib`; and links the archive, or with `LEMONRUDDER_STATIC=0` the shared one.
+//! Where it is of another version than the crate wants, the build ends.
 
 use std::env;
 use std::fs;
@@ -10,7 +10,8 @@ use std::process::Command;
 #[path = "src/versions.rs"]
 mod versions;
 
-const ARCHIVE: &str = "liblemonrudder.a";
+/// What is linked: how the linker calls it, and its file.
+const KINDS: [(&str, &str); 2] = [("static", "liblemonrudder.a"), ("dylib", "liblemonrudder.so")];
 
 /// The folder that the environment names.
 fn named() -> Option<PathBuf> {
@@ -19,19 +20,21 @@ fn named() -> Option<PathBuf> {
 
 /// The folder that pkg-config knows.
 fn installed() -> Option<PathBuf> {
+    let program = env::var_os("PKG_CONFIG").unwrap_or("pkg-config".into());
     let words = ["--variable=libdir", "lemonrudder"];
-    let said = Command::new("pkg-config").args(words).output().ok()?;
+    let said = Command::new(program).args(words).output().ok()?;
     let folder = String::from_utf8(said.stdout).ok()?;
     (said.status.success() && !folder.trim().is_empty()).then(|| PathBuf::from(folder.trim()))
 }
 
 /// The folder into which the repository's `./build library` builds.
 fn built() -> Option<PathBuf> {
-    let root = Path::new(&env::var_os("CARGO_MANIFEST_DIR")?).join("../../out/lib");
-    root.join(ARCHIVE).is_file().then_some(root)
+    let folder = Path::new(&env::var_os("CARGO_MANIFEST_DIR")?).join("../../../out/lib");
+    folder.is_dir().then_some(folder)
 }
 
-/// Looks whether the library in a folder is one for this crate, by the file for pkg-config that is installed with it.
+/// Looks whether the library in a folder is one for this crate, by the file for pkg-config that is
+/// installed with it.
 fn check_version(folder: &Path) {
     let package = folder.join("pkgconfig/lemonrudder.pc");
     let wanted = env!("CARGO_PKG_VERSION");
@@ -49,16 +52,19 @@ fn check_version(folder: &Path) {
 }
 
 fn main() {
-    for name in ["LEMONRUDDER_LIB_DIR", "PKG_CONFIG_PATH", "PKG_CONFIG_LIBDIR"] {
+    let words = ["LEMONRUDDER_LIB_DIR", "LEMONRUDDER_STATIC", "PKG_CONFIG"];
+    for name in words.into_iter().chain(["PKG_CONFIG_PATH", "PKG_CONFIG_LIBDIR"]) {
         println!("cargo:rerun-if-env-changed={name}");
     }
+    let is_shared = env::var_os("LEMONRUDDER_STATIC").is_some_and(|value| value == "0");
+    let (kind, file) = KINDS[usize::from(is_shared)];
     let Some(folder) = named().or_else(installed).or_else(built) else {
-        panic!("{ARCHIVE} is not found: build it by ./build library, and name its folder in LEMONRUDDER_LIB_DIR");
+        panic!("{file} is not found: build it by ./build library, and name its folder in LEMONRUDDER_LIB_DIR");
     };
-    let archive = folder.join(ARCHIVE);
-    assert!(archive.is_file(), "there is no {}", archive.display());
+    let library = folder.join(file);
+    assert!(library.is_file(), "there is no {}", library.display());
     check_version(&folder);
-    println!("cargo:rerun-if-changed={}", archive.display());
+    println!("cargo:rerun-if-changed={}", library.display());
     println!("cargo:rustc-link-search=native={}", folder.display());
-    println!("cargo:rustc-link-lib=static=lemonrudder");
+    println!("cargo:rustc-link-lib={kind}=lemonrudder");
 }

@@ -2,15 +2,27 @@
 //!
 //! Those that take slots and numbers alone are safe: a slot is made empty here, is never copied,
 //! and is filled and emptied by the library alone; and who has a `&mut` of it is the only one that
-//! uses it. Those that take a pointer and a size are not.
+//! uses it. Those that take a pointer and a size are not. A slot of any kind is one type here; the
+//! library answers `LR_E_EMPTY` where it is given a slot of another kind.
+//!
+//! `build.rs` links the library, and ends the build where that is not of the version of this crate,
+//! or a later one of its series: of the same minor version, before 1.0. It reads
+//! `pkgconfig/lemonrudder.pc` beside the library for this.
 
+#![no_std]
 #![allow(non_camel_case_types)]
 
-use std::ffi::{c_char, c_void};
-use std::ptr;
+use core::ffi::{c_char, c_void};
+use core::ptr;
 
 #[cfg(test)]
-mod header;
+extern crate std;
+
+mod numbers;
+#[cfg(test)]
+mod versions;
+
+pub use numbers::*;
 
 /// A slot, in which an object lives. It is closed where it is dropped.
 #[repr(C)]
@@ -22,6 +34,7 @@ pub struct lr_slot {
 
 impl lr_slot {
     /// An empty slot.
+    #[must_use]
     pub const fn empty() -> lr_slot {
         lr_slot { kind: 0, at: ptr::null_mut() }
     }
@@ -123,7 +136,7 @@ pub const LR_IOR_DATA: u32 = 0;
 pub const LR_IOR_HOST: u32 = 1;
 pub const LR_IOR_KEY: u32 = 2;
 
-// SAFETY: the declarations are those of lemonrudder.h; the tests in `header.rs` compare them.
+// SAFETY: the declarations are those of lemonrudder.h; the tests in `tests/header.rs` compare them.
 unsafe extern "C" {
     pub safe fn lr_version() -> u32;
     pub safe fn lr_close(slot: &mut lr_slot);
