@@ -8,7 +8,10 @@ pub mod Marking
 pub mod Leaving
 pub mod Living
 pub mod Gapless
+pub mod Whole
+pub mod Unled
 pub mod Restarting
+pub mod Waiting
 pub mod Feeds
 pub mod Counts
 pub mod Models

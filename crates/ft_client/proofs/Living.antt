@@ -228,7 +228,7 @@ due-in_time now n p is =
 module _ (client_id : List ℕ) (version : Version) where
   module _ (calls : List (ℕ × Call)) (taken : List (ℕ × Ended)) where
     -- another link, and the same calls sent or not
-    alive-alike : (m : Client) (qs : List Pending) (l : Option Linked) → AreAlike m.pending qs → IsAlive client_id version calls taken m → IsAlive client_id version calls taken (record m { pending = qs; link = l })
+    pub alive-alike : (m : Client) (qs : List Pending) (l : Option Linked) → AreAlike m.pending qs → IsAlive client_id version calls taken m → IsAlive client_id version calls taken (record m { pending = qs; link = l })
     alive-alike m qs l same h = record {
       client = h.client;
       writes = h.writes;

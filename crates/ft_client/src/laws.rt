@@ -1,6 +1,6 @@
 //! Laws over the definitions: each is what a function with an empty body ensures.
 
-ghost use Rattle.ft_client.specs.Laws.{CallsCompleteOnce, LivesGoOn, NumbersHaveNoGaps, RequestsAreAsLong};
+ghost use Rattle.ft_client.specs.Laws.{CallsCompleteOnce, IdsAreLeft, LivesGoOn, NumbersHaveNoGaps, RequestsAreAsLong, WaitingIsNotResent};
 ghost use Rattle.ft_client.specs.Restarting.{RestartsAreLosses};
 
 /// Whatever happens to a client: each call is pending or was completed once, and each transmission of it carries its
@@ -24,8 +24,20 @@ pub fn requests_are_as_long()
     ensures { RequestsAreAsLong }
 {}
 
-/// A client that crashed once its completions were taken, and is started anew and takes up again what was pending, none of it
-/// past its expiration, is one that lost its connection.
+/// A link has given at most 2,147,483,648 ids more than the last number, which is a long: so an id is left for each call that is
+/// taken.
+pub fn ids_are_left()
+    ensures { IdsAreLeft }
+{}
+
+/// A call that was sent on the link, and waits there for its reply, is not among what is sent again on it.
+pub fn waiting_is_not_resent()
+    ensures { WaitingIsNotResent }
+{}
+
+/// Whatever happened to a client: where it crashed once its completions were taken, and is started anew and takes up again what
+/// was pending, none of it past its expiration, it is one that lost its connection. Where a call was led elsewhere, it is asked
+/// for under its own object key again.
 pub fn restarts_are_losses()
     ensures { RestartsAreLosses }
 {}

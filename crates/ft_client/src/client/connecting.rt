@@ -21,7 +21,8 @@ impl FtClient {
     /// expires and is cancelled as others are. A server that keeps what it answered knows the call by its number: one that
     /// performed it, and raised TRANSIENT, raises it for each try.
     pub fn keep_on_transient(&mut self, keeps: bool)
-        ensures { (m : Client) → FtStands self.old m → FtStands self.new (after (down m.limits) (Kept keeps) m) }
+        ensures stands { (m : Client) → FtStands self.old m → FtStands self.new (after (down m.limits) (Kept keeps) m) }
+        ensures link { self.new.link ≡ self.old.link }
     {
         self.keeps_transient = keeps;
     }

@@ -32,7 +32,8 @@ impl FtClient {
     /// Such a call is led elsewhere: `forwarded` gives the reference, and until `redirect` says under which object key it is
     /// asked for it is not sent, on no connection. It expires and is cancelled as others are.
     pub fn keep_on_forward(&mut self, keeps: bool)
-        ensures { (m : Client) → FtStands self.old m → FtStands self.new (after (down m.limits) (KeptForwards keeps) m) }
+        ensures stands { (m : Client) → FtStands self.old m → FtStands self.new (after (down m.limits) (KeptForwards keeps) m) }
+        ensures link { self.new.link ≡ self.old.link }
     {
         self.keeps_forwards = keeps;
     }

@@ -1,4 +1,4 @@
-use Rattle.std.proofs.Common.{◌≡◌, ◌<◌, ℤ, List, Some, None, true, false, not, w32, subst, refl, sym, ap, ◌∙◌}
+use Rattle.std.proofs.Common.{◌≡◌, ◌<◌, ℤ, List, Some, None, false, not, w32, subst, refl, sym, ap, ◌∙◌}
 use Rattle.std.specs.Int.{FitsUnsignedBits}
 use Rattle.std.specs.List.{position}
 use Rattle.std.specs.Ordering.{int_eq}
