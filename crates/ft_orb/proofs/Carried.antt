@@ -1,5 +1,5 @@
 -- What Replies with service contexts take, and what of them is as without.
-use Rattle.std.proofs.Common.{◌≡◌, ◌==◌, ◌∙◌, ◌||◌, ap, refl, sym, ℕ, ◌+◌, ◌*◌, ◌-◌, ◌%◌, ◌<◌, ◌≤◌, ◌^◌, Bool, true, false, arith, List, [], ◌∷◌, ◌++◌, length, length-append, drop, get_or, replicate, cond, subst, Option, Some, None, Result, Ok, Err, IfErr, OnOk}
+use Rattle.std.proofs.Common.{◌≡◌, ◌==◌, ◌∙◌, ◌||◌, ap, refl, sym, ℕ, ◌+◌, ◌*◌, ◌-◌, ◌%◌, ◌<◌, ◌≤◌, ◌^◌, Bool, true, false, arith, List, [], ◌∷◌, ◌++◌, length, length-append, drop, get_or, slice_index_or, replicate, cond, subst, Option, Some, None, Result, Ok, Err, IfErr, IfSome, OnOk}
 use Rattle.std.proofs.lemmas.List.{append-nil, drop_more, length-replicate}
 use Rattle.std.proofs.lemmas.Nat.{mod_below}
 use Rattle.std.specs.Option.{option_map}
@@ -25,7 +25,6 @@ use Rattle.giop_core.proofs.Sizes.{replies-size}
 use Rattle.ft_log.specs.Holding.{Holding, known}
 use Rattle.ft_log.specs.Kept.{KeptOutcome}
 use Rattle.ft_log.specs.Performed.{Performed, raised, raw, returned, system}
-use Rattle.ft_objects.specs.Replies.{body_of, order_of, status_of}
 use Rattle.ft_orb.specs.declared.answering.Asker.{Asker}
 use Rattle.ft_orb.specs.declared.desk.Step.{Step}
 use Rattle.ft_orb.specs.declared.desk.Step.TheVariants.{Answered, Quiet, Unanswered, Unhandled}
@@ -35,7 +34,7 @@ use Rattle.ft_orb.specs.declared.parked.Waiter.{Waiter}
 use Rattle.ft_orb.specs.declared.pausing.Ask.{Ask}
 use Rattle.ft_orb.specs.declared.pausing.Pending.{Pending}
 use Rattle.ft_orb.specs.declared.serving.Cut.{Cut}
-use Rattle.ft_orb.specs.Carrying.{AreShort, CanCarry, due_of, first_of, is_placed, octets_carrying, reply_carrying, reply_if, reply_with}
+use Rattle.ft_orb.specs.Carrying.{AreShort, CanCarry, FitsBehind, FitsTold, first_of, is_placed, next_of, octets_carrying, reply_carrying, reply_if, reply_with}
 use Rattle.ft_orb.specs.Parked.{IsClear, IsCleared, on_going}
 use Rattle.ft_orb.specs.Pause.{pending_of}
 use Rattle.ft_orb.specs.Private.{IsPut, counted_by}
@@ -229,26 +228,64 @@ none-placed : (p : Performed) (body : Rest) → body.place ≡ 24 → is_placed 
 none-placed (returned results) body at = refl
 none-placed (raised id members) body at = refl
 none-placed (system name minor completion) body at = refl
-none-placed (raw status order octets) body at = ap (λ (n : ℕ). length octets == 0 || n % 8 == 0) at ∙ or-true (length octets == 0)
+none-placed (raw status order octets) body at = ap (λ (n : ℕ). length body.octets == 0 || n % 8 == 0) at ∙ or-true (length body.octets == 0)
+
+none-whole : (p : Performed) (version : Version) (order : Order) (id status : ℕ) (body : Values) → FitsTold [] p (Some (Replied version order id status body))
+none-whole p version order id status body = (omega arith, none-placed p _ (ap (λ (rest : Rest). rest.place) (replies-size version order id status body).1))
+
+none-told : (p : Performed) (told : Option Telling) → FitsTold [] p told
+none-told p None = tt
+none-told p (Some (Replied version order id status body)) = none-whole p version order id status body
+none-told p (Some (Located version id status)) = tt
+none-told p (Some Failed) = tt
+none-told p (Some Closing) = tt
+
+pub fits-none : (asker : Asker) (p : Performed) → FitsBehind [] asker p
+fits-none asker p = none-told p (reply_told asker.wish asker.version asker.request_id p)
 
 pub carries-none : (asker : Option Asker) (outcome : Option Performed) → CanCarry [] asker outcome
-carries-none None outcome = (omega arith, tt)
-carries-none (Some asker) None = (omega arith, tt)
-carries-none (Some asker) (Some p) = (omega arith, none-placed p _ (ap (λ (body : Rest). body.place) (replies-size asker.version (order_of p) asker.request_id (status_of p) (body_of p)).1))
+carries-none None outcome = tt
+carries-none (Some asker) None = tt
+carries-none (Some asker) (Some p) = fits-none asker p
+
+-- who asks can be told so what there is
+pub carried-fits : (contexts : List (ℕ × List ℕ)) (asker : Option Asker) (outcome : Option Performed) (k : Asker) (p : Performed) → asker ≡ Some k → outcome ≡ Some p → CanCarry contexts asker outcome → FitsBehind contexts k p
+carried-fits contexts asker outcome k p who what can =
+    subst (λ (o : Option Performed). IfSome o (λ q. FitsBehind contexts k q)) what (subst (λ (a : Option Asker). IfSome a (λ j. IfSome outcome (λ q. FitsBehind contexts j q))) who can)
 
 -- A reply that is due.
 
 -- who waits first on a connection that goes on
-first-due : (goes : ℕ → Bool) (f : Waiter) (tail : List Waiter) → goes f.connection ≡ true → first_of (on_going goes (f ∷ tail)) ≡ Some f.asker
+first-due : (goes : ℕ → Bool) (f : Waiter) (tail : List Waiter) → goes f.connection ≡ true → first_of (on_going goes (f ∷ tail)) ≡ Some f
 first-due goes f tail up = ap (λ (b : Bool). first_of (cond b (f ∷ on_going goes tail) (on_going goes tail))) up
 
-pub due-first : (goes : ℕ → Bool) (at : Option Parked) (p q : Parked) (f : Waiter) (tail : List Waiter) → at ≡ Some p → IsCleared goes p q → q.waiters.items ≡ f ∷ tail → due_of goes at ≡ Some f.asker
-due-first goes at p q f tail was cleared items =
+pub next-first : (goes : ℕ → Bool) (at : Option Parked) (p q : Parked) (f : Waiter) (tail : List Waiter) → at ≡ Some p → IsCleared goes p q → q.waiters.items ≡ f ∷ tail → next_of goes at ≡ Some f
+next-first goes at p q f tail was cleared items =
     let up : goes f.connection ≡ true = subst (λ (l : List Waiter). IsClear goes l) items cleared.2 in
-    ap (due_of goes) was ∙ ap first_of (sym cleared.1) ∙ ap (λ (l : List Waiter). first_of (on_going goes l)) items ∙ first-due goes f tail up
+    ap (next_of goes) was ∙ ap first_of (sym cleared.1) ∙ ap (λ (l : List Waiter). first_of (on_going goes l)) items ∙ first-due goes f tail up
 
-pub due-none : (goes : ℕ → Bool) (at : Option Parked) (p q : Parked) → at ≡ Some p → IsCleared goes p q → q.waiters.items ≡ [] → due_of goes at ≡ None
-due-none goes at p q was cleared items = ap (due_of goes) was ∙ ap first_of (sym cleared.1) ∙ ap (λ (l : List Waiter). first_of (on_going goes l)) items
+pub due-first : (goes : ℕ → Bool) (at : Option Parked) (p q : Parked) (f : Waiter) (tail : List Waiter) → at ≡ Some p → IsCleared goes p q → q.waiters.items ≡ f ∷ tail → option_map (λ (w : Waiter). w.asker) (next_of goes at) ≡ Some f.asker
+due-first goes at p q f tail was cleared items = ap (option_map (λ (w : Waiter). w.asker)) (next-first goes at p q f tail was cleared items)
+
+pub next-none : (goes : ℕ → Bool) (at : Option Parked) (p q : Parked) → at ≡ Some p → IsCleared goes p q → q.waiters.items ≡ [] → next_of goes at ≡ None
+next-none goes at p q was cleared items = ap (next_of goes) was ∙ ap first_of (sym cleared.1) ∙ ap (λ (l : List Waiter). first_of (on_going goes l)) items
+
+pub due-none : (goes : ℕ → Bool) (at : Option Parked) (p q : Parked) → at ≡ Some p → IsCleared goes p q → q.waiters.items ≡ [] → option_map (λ (w : Waiter). w.asker) (next_of goes at) ≡ None
+due-none goes at p q was cleared items = ap (option_map (λ (w : Waiter). w.asker)) (next-none goes at p q was cleared items)
+
+-- .. who is at the front of those left
+pub next-here : (goes : ℕ → Bool) (at : Option Parked) (p q : Parked) (f : Waiter) → at ≡ Some p → IsCleared goes p q → 0 < length q.waiters.items → f ≡ slice_index_or q.waiters.items 0 f → next_of goes at ≡ Some f
+next-here goes at p q f was cleared some first = by q.waiters.items refl
+  where
+    by : (l : List Waiter) → q.waiters.items ≡ l → next_of goes at ≡ Some f
+    by [] items = absurd (let size = ap (λ (l : List Waiter). length l) items in omega (arith, size, some))
+    by (w ∷ tail) items =
+        let same : f ≡ w = first ∙ ap (λ (l : List Waiter). slice_index_or l 0 f) items in
+        next-first goes at p q w tail was cleared items ∙ ap (λ (x : Waiter). Some x) (sym same)
+
+-- who is told next stays so where those whose connections have ended are dropped
+pub next-same : (goes : ℕ → Bool) (old new : Option Parked) (p q : Parked) → old ≡ Some p → new ≡ Some q → IsCleared goes p q → next_of goes new ≡ next_of goes old
+next-same goes old new p q was is cleared = ap (next_of goes) is ∙ ap first_of cleared.1 ∙ sym (ap (next_of goes) was)
 
 -- the Reply that goes out to it
 pub due-reply : (contexts : List (ℕ × List ℕ)) (asker : Option Asker) (told : Option Performed) (k : Asker) (p : Performed) → asker ≡ Some k → told ≡ Some p → reply_if contexts asker told ≡ reply_with contexts k p
@@ -270,7 +307,7 @@ module _ (goes : ℕ → Bool) (all : List Waiter) (i : ℕ) (d : Waiter) (lt : 
   next-due : first_of (on_going goes (drop i all)) ≡ first_of (cond (goes (get_or all i d).connection) (get_or all i d ∷ on_going goes (drop (i + 1) all)) (on_going goes (drop (i + 1) all)))
   next-due = ap (λ (l : List Waiter). first_of (on_going goes l)) (drop_more all i d lt)
 
-  pub first_here : goes (get_or all i d).connection ≡ true → first_of (on_going goes (drop i all)) ≡ Some (get_or all i d).asker
+  pub first_here : goes (get_or all i d).connection ≡ true → first_of (on_going goes (drop i all)) ≡ Some (get_or all i d)
   first_here up = next-due ∙ ap (λ (b : Bool). first_of (cond b (get_or all i d ∷ on_going goes (drop (i + 1) all)) (on_going goes (drop (i + 1) all)))) up
 
   pub first_later : goes (get_or all i d).connection ≡ false → first_of (on_going goes (drop i all)) ≡ first_of (on_going goes (drop (i + 1) all))

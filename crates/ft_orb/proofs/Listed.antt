@@ -12,7 +12,8 @@ use Rattle.cdr_core.specs.declared.order.Order.TheVariants.{Big}
 use Rattle.cdr_core.proofs.Lengths.{number_length}
 use Rattle.giop_core.specs.Items.{item_at, list_value, tagged_value}
 use Rattle.giop_core.specs.Laws.{rest_after}
-use Rattle.giop_core.specs.Written.{reply_fields}
+use Rattle.giop_core.specs.Written.{octets_body, reply_fields}
+use Rattle.giop_core.proofs.OctetsBody.{body_length}
 use Rattle.giop_core.specs.declared.header.MessageKind.TheVariants.{Reply}
 use Rattle.giop_core.specs.declared.header.Version.{Version}
 use Rattle.giop_core.specs.declared.header.Version.TheVariants.{V10, V11, V12}
@@ -89,6 +90,10 @@ or-true false = refl
 by-place : (octets : List ℕ) (place end : ℕ) → place ≡ end + padding end 4 + 8 → (length octets == 0 || place % 8 == 0) ≡ (length octets == 0 || (end + padding end 4) % 8 == 0)
 by-place octets place end is = ap (λ (n : ℕ). length octets == 0 || n == 0) (let same : place % 8 ≡ (end + padding end 4) % 8 = omega (arith, is) in same)
 
+-- there are as many octets as come
+by-length : (order : Order) (octets : List ℕ) (at place : ℕ) → (length (octets_of_all order (octets_body octets) at) == 0 || place % 8 == 0) ≡ (length octets == 0 || place % 8 == 0)
+by-length order octets at place = ap (λ (n : ℕ). n == 0 || place % 8 == 0) (body_length order octets at)
+
 aligned : (place : ℕ) → (place + padding place 8) % 8 ≡ 0
 aligned place = omega arith
 
@@ -103,8 +108,8 @@ placed_is V12 id (raised name members) contexts end is = refl
 placed_is V10 id (system name minor completion) contexts end is = refl
 placed_is V11 id (system name minor completion) contexts end is = refl
 placed_is V12 id (system name minor completion) contexts end is = refl
-placed_is V10 id (raw status order octets) contexts end is = by-place octets _ end (place-behind order id (status_of (raw status order octets)) contexts end is)
-placed_is V11 id (raw status order octets) contexts end is = by-place octets _ end (place-behind order id (status_of (raw status order octets)) contexts end is)
+placed_is V10 id (raw status order octets) contexts end is = by-length order octets _ _ ∙ by-place octets _ end (place-behind order id (status_of (raw status order octets)) contexts end is)
+placed_is V11 id (raw status order octets) contexts end is = by-length order octets _ _ ∙ by-place octets _ end (place-behind order id (status_of (raw status order octets)) contexts end is)
 placed_is V12 id (raw status order octets) contexts end is =
     let place = 12 + length (octets_of_all order (values (reply_fields V12 id (status_of (raw status order octets)) contexts)) 12) in
-    ap (λ (n : ℕ). length octets == 0 || n == 0) (aligned place) ∙ or-true (length octets == 0)
+    by-length order octets (place + padding place 8) (place + padding place 8) ∙ ap (λ (n : ℕ). length octets == 0 || n == 0) (aligned place) ∙ or-true (length octets == 0)

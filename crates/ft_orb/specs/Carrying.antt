@@ -21,7 +21,6 @@ use Rattle.ft_orb.specs.Engines.{pending_in}
 use Rattle.ft_orb.specs.Parked.{going_in, on_going}
 use Rattle.ft_orb.specs.Parking.{parked_at}
 use Rattle.ft_orb.specs.Tellings.{Replied, Telling, octets_if, reply_told}
-use Rattle.ft_objects.specs.Replies.{body_of, order_of, status_of}
 
 -- GIOP 9.4.3: a Reply with service contexts
 abbrev pub reply_carrying : List (ℕ × List ℕ) → Version → Order → (id status : ℕ) → Values → List ℕ
@@ -54,32 +53,44 @@ contexts_limit = 1048576
 abbrev pub AreShort : List (ℕ × List ℕ) → Type 0
 AreShort contexts = length (octets_of Big (list_value contexts) 12) ≤ contexts_limit
 
--- CDR 9.3.1: octets that come as a body were written for a place divisible by 8. Where there are none, any place will do.
+-- CDR 9.3.1: octets that come as a body were written for a place divisible by 8. Where the body has none, any place will do.
 abbrev pub is_placed : Performed → Rest → Bool
-is_placed (raw status order octets) body = length octets == 0 || body.place % 8 == 0
+is_placed (raw status order octets) body = length body.octets == 0 || body.place % 8 == 0
 is_placed _ body = true
 
--- they can stand in the Reply that tells an outcome to who asks
-abbrev pub FitsBehind : List (ℕ × List ℕ) → Asker → Performed → Type 0
-FitsBehind contexts asker p = IsTrue (is_placed p (rest_after asker.version Reply (order_of p) (reply_fields asker.version asker.request_id (status_of p) contexts) (body_of p)))
+-- they can stand in the Reply that is told of an outcome; where none is told, any can
+abbrev pub FitsTold : List (ℕ × List ℕ) → Performed → Option Telling → Type 0
+FitsTold contexts p (Some (Replied version order id status body)) = AreShort contexts × IsTrue (is_placed p (rest_after version Reply order (reply_fields version id status contexts) body))
+FitsTold contexts p told = Unit {0}
 
--- .. where somebody asks, and there is an outcome; and they are short
+-- .. by the wish of who asks
+abbrev pub FitsBehind : List (ℕ × List ℕ) → Asker → Performed → Type 0
+FitsBehind contexts asker p = FitsTold contexts p (reply_told asker.wish asker.version asker.request_id p)
+
+-- .. where somebody asks, and there is an outcome
 abbrev pub CanCarry : List (ℕ × List ℕ) → Option Asker → Option Performed → Type 0
-CanCarry contexts asker outcome = AreShort contexts × IfSome asker (λ k. IfSome outcome (λ p. FitsBehind contexts k p))
+CanCarry contexts asker outcome = IfSome asker (λ k. IfSome outcome (λ p. FitsBehind contexts k p))
 
 -- who asks in what waits, if something does
 abbrev pub asker_in : {C : Type 0} → Engine C → Option Asker
 asker_in e = option_map (λ (p : Pending). p.waiting.asker) (pending_in e)
 
 -- the first of those who wait, if somebody does
-abbrev pub first_of : List Waiter → Option Asker
+abbrev pub first_of : List Waiter → Option Waiter
 first_of [] = None
-first_of (w ∷ later) = Some w.asker
+first_of (w ∷ later) = Some w
 
--- .. of those who wait for the outcome of what is parked so, on connections that go on
-abbrev pub due_of : (goes : ℕ → Bool) → Option Parked → Option Asker
-due_of goes None = None
-due_of goes (Some p) = first_of (on_going goes p.waiters.items)
+-- .. of those who wait for the outcome of what is parked so, on connections that go on: who is told it next
+abbrev pub next_of : (goes : ℕ → Bool) → Option Parked → Option Waiter
+next_of goes None = None
+next_of goes (Some p) = first_of (on_going goes p.waiters.items)
+
+abbrev pub next_in : {C : Type 0} → Engine C → ℕ → Option Waiter
+next_in e n = next_of (going_in e.links) (parked_at e n)
+
+-- the connection on which the next reply is due, and who asks there
+abbrev pub due_on : {C : Type 0} → Engine C → ℕ → Option ℕ
+due_on e n = option_map (λ (w : Waiter). w.connection) (next_in e n)
 
 abbrev pub due_in : {C : Type 0} → Engine C → ℕ → Option Asker
-due_in e n = due_of (going_in e.links) (parked_at e n)
+due_in e n = option_map (λ (w : Waiter). w.asker) (next_in e n)

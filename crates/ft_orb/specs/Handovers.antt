@@ -1,6 +1,7 @@
 -- What the owner of an engine performs, and what is handed in to the engine for it.
-use Rattle.std.specs.Prelude.{◌≡◌, ◌⊎◌, ℕ, ◌+◌, ◌<◌, ◌≤◌, List, [], ◌∷◌, ◌++◌, length, map, Option, Some, None}
+use Rattle.std.specs.Prelude.{◌≡◌, ◌⊎◌, ℕ, ◌+◌, ◌<◌, ◌≤◌, false, List, [], ◌∷◌, ◌++◌, length, map, Option, Some, None}
 use Rattle.std.specs.List.{AllByRecursion}
+use Rattle.giop_frames.specs.declared.limits.Limits.{Limits}
 use Rattle.ft_log.specs.Holding.{Holding, known}
 use Rattle.ft_log.specs.Performed.{Performed, system}
 use Rattle.ft_log.specs.View.{performed_in}
@@ -10,13 +11,13 @@ use Rattle.ft_log.specs.declared.system_exception.SystemName.TheVariants.{Intern
 use Rattle.ft_orb.specs.declared.engine.Engine.{Engine}
 use Rattle.ft_orb.specs.declared.parked.Waiter.{Waiter}
 use Rattle.ft_orb.specs.declared.wire.StreamEnd.{StreamEnd}
-use Rattle.ft_orb.specs.declared.wire.StreamEnd.TheVariants.{Memory}
+use Rattle.ft_orb.specs.declared.wire.StreamEnd.TheVariants.{LinkClosed, Memory, PeerEnded, ReadFault, ReadsUsed, WriteFault}
 use Rattle.ft_orb.specs.Answers.{Answer, calls_of}
 use Rattle.ft_orb.specs.History.{Changed, Close, Event, Lost, Opened, Piece, Withdrew, changes}
 use Rattle.ft_objects.specs.Catalogues.{Offer}
 use Rattle.ft_objects.specs.Interfaces.{IsOutcomeOf}
 use Rattle.ft_objects.specs.Replies.{IsRenderable}
-use Rattle.ft_orb.specs.Parking.{Settings, Stays, put_at, still}
+use Rattle.ft_orb.specs.Parking.{Settings, Stays, goes_on, put_at, still}
 use Rattle.ft_orb.specs.Requests.{Call, offer_in}
 use Rattle.ft_orb.specs.Wires.{Act, Gave, GaveNone, IfKnown, ReadFailed, Took, TookNone, WriteFailed}
 
@@ -63,17 +64,31 @@ abbrev pub known_from : (i : ℕ) → List Answer → (ℕ → Holding) → ℕ 
 known_from i [] held = held
 known_from i (a ∷ later) held = known_from (i + 1) later (put_at i (known a.outcome) held)
 
--- what may happen to connection c while it is served: it brings a piece, is closed, or is lost
-abbrev pub IsOn : ℕ → Event → Type 0
-IsOn c (Opened d) = ⊥
-IsOn c (Piece d moment octets) = d ≡ c
-IsOn c (Close d) = d ≡ c
-IsOn c (Lost d) = d ≡ c
-IsOn c (Withdrew i) = ⊥
-IsOn c Changed = ⊥
+-- an event is a piece that came on connection c
+abbrev pub IsPieceOf : ℕ → Event → Type 0
+IsPieceOf c (Opened d) = ⊥
+IsPieceOf c (Piece d moment octets) = d ≡ c
+IsPieceOf c (Close d) = ⊥
+IsPieceOf c (Lost d) = ⊥
+IsPieceOf c (Withdrew i) = ⊥
+IsPieceOf c Changed = ⊥
 
-abbrev pub AreOn : ℕ → List Event → Type 0
-AreOn c events = AllByRecursion (IsOn c) events
+abbrev pub ArePieces : ℕ → List Event → Type 0
+ArePieces c events = AllByRecursion (IsPieceOf c) events
+
+-- pieces came on connection c, and then this happened; the newest event is the first
+abbrev pub ArePiecesThen : ℕ → Event → List Event → Type 0
+ArePiecesThen c last events = (pieces : List Event) × (events ≡ last ∷ pieces) × ArePieces c pieces
+
+-- What happened to connection c after a past while it was served, by how that ended: pieces came on it, after which its stream had
+-- ended; or then it was closed, and the write of CloseConnection may have failed; or it was lost, since memory was wanting.
+abbrev pub AreOn : Limits → (past : List Event) → ℕ → StreamEnd → (events : List Event) → Type 0
+AreOn limits past c PeerEnded events = ArePieces c events
+AreOn limits past c LinkClosed events = ArePieces c events × (goes_on limits (events ++ past) c ≡ false)
+AreOn limits past c ReadsUsed events = ArePiecesThen c (Close c) events
+AreOn limits past c ReadFault events = ArePieces c events
+AreOn limits past c WriteFault events = ArePieces c events ⊎ ArePiecesThen c (Close c) events
+AreOn limits past c Memory events = ArePiecesThen c (Lost c) events
 
 -- the octets of the pieces among events, of which the newest is the first, in the order in which they came ..
 abbrev pub octets_in : List Event → List ℕ
@@ -105,12 +120,12 @@ AreFromWire end octets old new = IfKnown (λ before now. (acts : List Act) × (r
 
 -- Connection c was served to its end while requests are parked, by an owner who performed the calls of a log. These were taken, after
 -- those before, and of each is known what was handed in, which is an outcome of its operation as that is on offer; of the others as much
--- is known as before. What happened did so on this connection, whose pieces are what the wire gave, cut anywhere, and which was lost at
--- last; and who waits on one that goes on waits on.
+-- is known as before. What happened did so on this connection: its pieces, which are what the wire gave, cut anywhere, and then what the
+-- end says; and it was lost at last; and who waits on one that goes on waits on.
 pub record IsServedLate {C : Type 0} (offers : C → Offer) (s : Settings) (held : ℕ → Holding) (calls : List Call) (past : List Event) (waiting : ℕ → List Waiter) (c : ℕ) (log : List Handover) (end : StreamEnd) (old new : Option (List Act)) (engine : Engine C) : Type 0 where
   pub handed : AreHandedIn (offer_in (s.terms (changes past))) log
   pub before : (i : ℕ) → i < length calls → known_from (length calls) (handed_in log) held i ≡ held i
   pub events : List Event
-  pub on : AreOn c events
+  pub on : AreOn s.limits past c end events
   pub given : AreFromWire end (octets_in events) old new
   pub stays : Stays offers s (known_from (length calls) (handed_in log) held) (calls ++ calls_of (handed_in log)) engine (Lost c ∷ events ++ past) (still s.limits (Lost c ∷ events ++ past) waiting)

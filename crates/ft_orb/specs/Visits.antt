@@ -8,7 +8,7 @@ use Rattle.ft_orb.specs.declared.wire.StreamEnd.{StreamEnd}
 use Rattle.ft_orb.specs.declared.wire.StreamEnd.TheVariants.{Memory}
 use Rattle.ft_objects.specs.Catalogues.{Offer}
 use Rattle.ft_orb.specs.Engines.{Awaited, Ends, Rests}
-use Rattle.ft_orb.specs.Handovers.{IsHandedIn}
+use Rattle.ft_orb.specs.Handovers.{AreOn, ArePieces, IsHandedIn, octets_in}
 use Rattle.ft_orb.specs.History.{Event, Piece, completed}
 use Rattle.ft_orb.specs.Owners.{Owner}
 use Rattle.ft_orb.specs.Requests.{Call}
@@ -20,15 +20,15 @@ abbrev pub HandsIn : Offer → Option Awaited → (gave handed : Performed) → 
 HandsIn offer None gave handed = ⊥
 HandsIn offer (Some w) gave handed = IsHandedIn offer w.call gave handed
 
--- so many octets of a piece were served, or, where it ended in between, a front of them
-abbrev pub ServesPart : List ℕ → Result ℕ StreamEnd → List ℕ → Type 0
-ServesPart piece (Ok n) octets = octets ≡ take n piece
-ServesPart piece (Err e) octets = (rest : List ℕ) × (piece ≡ octets ++ rest) × ((e ≡ Memory → ⊥) → rest ≡ [])
+-- so many octets of a piece of connection c were served after a past, or, where it ended in between, a front of them
+abbrev pub ServesPart : ℕ → List ℕ → Result ℕ StreamEnd → Limits → (past events : List Event) → Type 0
+ServesPart c piece (Ok n) limits past events = ArePieces c events × (octets_in events ≡ take n piece)
+ServesPart c piece (Err e) limits past events = AreOn limits past c e events × (rest : List ℕ) × (piece ≡ octets_in events ++ rest) × ((e ≡ Memory → ⊥) → rest ≡ [])
 
 -- .. of a piece that a request ended
-abbrev pub ServesAsked : List ℕ → Result (Unit {0}) StreamEnd → List ℕ → Type 0
-ServesAsked piece (Ok x) octets = octets ≡ piece
-ServesAsked piece (Err e) octets = (rest : List ℕ) × (piece ≡ octets ++ rest) × (e ≡ Memory)
+abbrev pub ServesAsked : ℕ → List ℕ → Result (Unit {0}) StreamEnd → Limits → (past events : List Event) → Type 0
+ServesAsked c piece (Ok x) limits past events = ArePieces c events × (octets_in events ≡ piece)
+ServesAsked c piece (Err e) limits past events = AreOn limits past c e events × (rest : List ℕ) × (piece ≡ octets_in events ++ rest) × (e ≡ Memory)
 
 module _ (limits : Limits) (past : List Event) (c moment : ℕ) (piece : List ℕ) where
   -- how many arrivals so many of its octets complete

@@ -1,6 +1,6 @@
 //! A connection served over a wire by an engine, whose owner performs.
 
-ghost use Rattle.std.specs.Prelude.{◌≡◌, ◌<◌, ◌≤◌, ◌∷◌, ◌++◌, ℕ, false, true, List, IfOk, IsSome, None, Some, length};
+ghost use Rattle.std.specs.Prelude.{◌≡◌, ◌<◌, ◌≤◌, ◌∷◌, ◌++◌, ℕ, false, true, List, IfErr, IfOk, IsSome, None, Some, length};
 ghost use Rattle.ft_log.specs.Holding.{Holding};
 ghost use Rattle.ft_log.specs.View.{performed_in};
 ghost use Rattle.ft_orb.specs.Answers.{Agrees, calls_of};
@@ -13,9 +13,9 @@ ghost use Rattle.ft_orb.specs.Outputs.{Plays, is_going, is_gone, table_says};
 ghost use Rattle.ft_orb.specs.Owners.{Owner, made_of, meaning_of};
 ghost use Rattle.ft_orb.specs.Parking.{AreParked, AsksLate, Settings, Stays, others_under, parked_in, told_in};
 ghost use Rattle.ft_orb.specs.Requests.{Call};
-ghost use Rattle.ft_orb.specs.Sessions.{Attends, AttendsLate, IsAttended, IsEnded, calls_with};
+ghost use Rattle.ft_orb.specs.Sessions.{Attends, AttendsLate, IsAttended, IsCut, IsEnded, calls_with};
 ghost use Rattle.ft_orb.specs.Visits.{HandsIn, ServesAsked, ServesPart, TakesPart};
-ghost use Rattle.ft_orb.specs.Wires.{Act, AreNoted, AreReadInTime, AreSmall, ClockSays, HasEnded, Turn, WireSays, entries_of, events_in, past_with};
+ghost use Rattle.ft_orb.specs.Wires.{Act, AreNoted, AreReadInTime, AreSmall, ClockSays, DidSo, HasCause, HasEnded, Turn, WireSays, entries_of, events_in, past_with};
 ghost use Rattle.ft_orb.specs.declared.events.Note.{Note};
 ghost use Rattle.ft_orb.specs.declared.parked.Waiter.{Waiter};
 
@@ -54,7 +54,8 @@ fn attend_ask<C: Catalogue + Drop, O: Performer>(
     ensures parked { AreParked engine.old engine.new }
     ensures waiting { (w : Awaited) → waits_in engine.old ≡ Some w → (q : ℕ) → others_under engine.new w.connection q ≡ others_under engine.old w.connection q }
     ensures late { (log : List Handover) × OwnerSays log (O.answered owner.old) (O.answered owner.new) × ((s : Settings) (held : ℕ → Holding) (calls : List Call) (past : List history.Event) (waiting : ℕ → List Waiter) (moment : ℕ) (octets written : List ℕ) (w : Awaited)
-        → AsksLate C.offers s held calls engine.old past waiting moment octets written w → IsAttended (λ s held calls engine past waiting. Stays C.offers s held calls engine past waiting) w.connection (ServesAsked octets result) s held calls past waiting log engine.new) }
+        → AsksLate C.offers s held calls engine.old past waiting moment octets written w → IsAttended (λ s held calls engine past waiting. Stays C.offers s held calls engine past waiting) w.connection (ServesAsked w.connection octets result) s held calls past waiting log engine.new) }
+    ensures cut { IfErr result IsCut }
     ensures table { (log : List Handover) × OwnerSays log (O.answered owner.old) (O.answered owner.new) × ((o : Owner) (calls : List Call) (past : List history.Event) (moment : ℕ) (octets written : List ℕ) (w : Awaited) → Asks C.offers o calls engine.old past moment octets written w
         → is_gone (line past w.connection) ≡ false → Agrees o.answers calls (handed_in log) → AreHandedIn o.offer log × (note : Note) × IsEnded result note
         × Resumes C.offers o (calls_with calls log) past w.connection moment octets written note engine.new out.old.items out.new.items) }
@@ -91,7 +92,8 @@ fn attend_part<C: Catalogue + Drop, O: Performer>(
     ensures parked { AreParked engine.old engine.new }
     ensures waiting { (q : ℕ) → others_under engine.new connection q ≡ others_under engine.old connection q }
     ensures taken { IfOk result (λ n. (0 < n) × (n ≤ length piece.now)) }
-    ensures late { AttendsLate (λ s held calls engine past waiting. Stays C.offers s held calls engine past waiting) connection (ServesPart piece.now result) (O.answered owner.old) (O.answered owner.new) engine.old engine.new }
+    ensures late { AttendsLate (λ s held calls engine past waiting. Stays C.offers s held calls engine past waiting) connection (ServesPart connection piece.now result) (O.answered owner.old) (O.answered owner.new) engine.old engine.new }
+    ensures cut { IfErr result IsCut }
     ensures table { Attends (λ o. o) (O.answered owner.old) (O.answered owner.new) (λ o calls past. Rests C.offers o calls engine.old past × (is_gone (line past connection) ≡ false))
         (λ o calls past. TakesPart C.offers o calls past connection moment piece.now result engine.new out.old.items out.new.items) }
 {
@@ -184,9 +186,9 @@ impl<C: Catalogue + Drop, O: Performer> Host<O> for Engine<C> {
 /// What is parked in the engine stays (`parked`), and who waits for it on other connections waits on (`waiting`). While a
 /// request is parked that has a key and is not expired, the engine stands for no past in which each outcome is known
 /// (`Rests`): its log keeps a number in place of the outcome. So `table` and `now` say nothing then, nor once what is
-/// served has changed. What holds in every case is `late`: which calls were taken, and what is known of each, that what
-/// happened did so on this connection alone, whose pieces are what the wire gave, and that the engine goes on. That
-/// nothing was lost before its pieces it does not say.
+/// served has changed. What holds in every case is `cause` and `late`: that the end is what the wire did, and which calls
+/// were taken, and what is known of each; that what happened did so on this connection alone, first its pieces, which are
+/// what the wire gave, and then what the end says; and that the engine goes on. What was written they do not say.
 pub fn serve_engine<C: Catalogue + Drop, O: Performer, W: Wire, K: Clock>(
     alloc: Global,
     engine: &mut Engine<C>,
@@ -200,6 +202,8 @@ pub fn serve_engine<C: Catalogue + Drop, O: Performer, W: Wire, K: Clock>(
     ensures idle { waits_in engine.new ≡ None }
     ensures parked { AreParked engine.old engine.new }
     ensures waiting { (q : ℕ) → others_under engine.new connection q ≡ others_under engine.old connection q }
+    // the end is what the wire did
+    ensures cause { DidSo (HasCause max_reads result) (W.traffic wire.old) (W.traffic wire.new) }
     // whatever is parked, and however often what is served has changed
     ensures late { (log : List Handover) × OwnerSays log (O.answered owner.old) (O.answered owner.new) × ((s : Settings) (held : ℕ → Holding) (calls : List Call) (past : List history.Event) (waiting : ℕ → List Waiter) → Stays C.offers s held calls engine.old past waiting
         → IsServedLate C.offers s held calls past waiting connection log result (W.traffic wire.old) (W.traffic wire.new) engine.new) }

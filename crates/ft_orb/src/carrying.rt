@@ -1,16 +1,18 @@
 //! Which service contexts a Reply can carry.
 
-ghost use Rattle.std.specs.Prelude.{◌≡◌, ◌↔◌, ◌+◌, ◌<◌, ◌≤◌, IsTrue, MatchOption, length, map};
+ghost use Rattle.std.specs.Prelude.{◌≡◌, ◌↔◌, ◌+◌, ◌<◌, ◌≤◌, IsTrue, MatchOption, Some, length, map};
 ghost use Rattle.cdr_core.specs.Numbers.{padding};
 ghost use Rattle.cdr_core.specs.Writing.{octets_of};
 ghost use Rattle.cdr_core.specs.declared.order.Order.TheVariants.{Big};
 ghost use Rattle.giop_core.specs.Items.{item_at, list_value};
 ghost use Rattle.ft_log.specs.View.{performed_in};
-ghost use Rattle.ft_orb.specs.Carrying.{AreShort, FitsBehind, contexts_limit};
+ghost use Rattle.ft_objects.specs.Replies.{body_of, order_of, status_of};
+ghost use Rattle.ft_orb.specs.Carrying.{AreShort, FitsBehind, FitsTold, contexts_limit};
+ghost use Rattle.ft_orb.specs.Tellings.{Replied};
 
-use crate::answering::Asker;
+use crate::answering::{Asker, order_of_results};
 use ft_log::Outcome;
-use giop_core::Version;
+use giop_core::{ReplyWish, Version};
 
 /// The place where the fields of a Reply begin (GIOP 9.4.1).
 const FIELDS: u64 = 12;
@@ -44,17 +46,18 @@ fn end_of_contexts(contexts: &[(u32, &[u8])]) -> Option<u64>
 }
 
 /// Whether service contexts take at most 1,048,576 octets.
-pub(crate) fn are_short(contexts: &[(u32, &[u8])]) -> bool
+fn are_short(contexts: &[(u32, &[u8])]) -> bool
     ensures { IsTrue result ↔ AreShort (map item_at contexts.now) }
 {
     end_of_contexts(contexts).is_some()
 }
 
-/// Whether the Reply that tells who asks an outcome can carry these service contexts: they take at most 1,048,576 octets,
-/// and octets of a raw outcome stand behind them at a place divisible by 8, as in 1.2 they always do.
+/// Whether a Reply with its body can carry these service contexts: they take at most 1,048,576 octets, and octets of a raw
+/// outcome stand behind them at a place divisible by 8, as in 1.2 they always do.
 #[tactic(auto, using(crate::proofs::Listed::placed_is))]
-pub(crate) fn can_carry(contexts: &[(u32, &[u8])], asker: Asker, outcome: &Outcome) -> bool
-    ensures { IsTrue result ↔ (AreShort (map item_at contexts.now) × FitsBehind (map item_at contexts.now) asker (performed_in outcome.now)) }
+fn fits_whole(contexts: &[(u32, &[u8])], asker: Asker, outcome: &Outcome) -> bool
+    ensures { IsTrue result ↔ FitsTold (map item_at contexts.now) (performed_in outcome.now)
+        (Some (Replied asker.version (order_of (performed_in outcome.now)) asker.request_id (status_of (performed_in outcome.now)) (body_of (performed_in outcome.now)))) }
 {
     let Some(end) = end_of_contexts(contexts) else {
         return false;
@@ -64,5 +67,20 @@ pub(crate) fn can_carry(contexts: &[(u32, &[u8])], asker: Asker, outcome: &Outco
             body.is_empty() || aligned(end) % 8 == 0
         }
         _ => true,
+    }
+}
+
+/// Whether what tells who asks an outcome can carry these service contexts, as a Reply can that has its body (`fits_whole`), and
+/// any that are short one without its results. Where no Reply is wished for none goes out.
+pub(crate) fn can_carry(contexts: &[(u32, &[u8])], asker: Asker, outcome: &Outcome) -> bool
+    ensures { IsTrue result ↔ FitsBehind (map item_at contexts.now) asker (performed_in outcome.now) }
+{
+    match asker.wish {
+        ReplyWish::None => true,
+        ReplyWish::Full => fits_whole(contexts, asker, outcome),
+        ReplyWish::Empty => match order_of_results(outcome) {
+            Some(_) => are_short(contexts),
+            None => fits_whole(contexts, asker, outcome),
+        },
     }
 }

@@ -1,21 +1,21 @@
 //! A host of connections, and one of them as it is served over a wire.
 
-ghost use Rattle.std.specs.Prelude.{◌≡◌, ◌<◌, ◌≤◌, [], ◌∷◌, ◌++◌, ℕ, true, not, List, None, OnErr, OnOk, Option, Result, length};
+ghost use Rattle.std.specs.Prelude.{◌≡◌, ◌<◌, ◌≤◌, [], ◌∷◌, ◌++◌, ℕ, true, not, List, None, IfErr, OnErr, OnOk, Option, Result, length};
 ghost use Rattle.ft_log.specs.Holding.{Holding};
 ghost use Rattle.ft_log.specs.Performed.{Performed};
 ghost use Rattle.ft_log.specs.declared.system_exception.SystemName.{SystemName};
 ghost use Rattle.giop_link.specs.Linking.{close_connection};
 ghost use Rattle.ft_orb.specs.Answers.{Answer};
 ghost use Rattle.ft_orb.specs.Engines.{Awaited};
-ghost use Rattle.ft_orb.specs.Handovers.{AreFromWire};
+ghost use Rattle.ft_orb.specs.Handovers.{AreFromWire, AreOn, octets_in};
 ghost use Rattle.ft_orb.specs.History as history;
 ghost use Rattle.ft_orb.specs.History.{line};
 ghost use Rattle.ft_orb.specs.Outputs.{after, is_going};
 ghost use Rattle.ft_orb.specs.Owners.{Owner};
-ghost use Rattle.ft_orb.specs.Parking.{Settings};
+ghost use Rattle.ft_orb.specs.Parking.{Settings, goes_on};
 ghost use Rattle.ft_orb.specs.Requests.{Call};
-ghost use Rattle.ft_orb.specs.Sessions.{Attended, Attends, AttendsLate, EndsSo, GrowsBy, IsEnded, IsGivenUp, IsServed, IsVisited, LeavesLate, LosesLate, ServesRead, ServesOf, StayParked, StayWaiting, TookAll, TookFront};
-ghost use Rattle.ft_orb.specs.Wires.{Act, IsFarewell};
+ghost use Rattle.ft_orb.specs.Sessions.{AreSoFar, Attended, Attends, AttendsLate, EndsSo, GrowsBy, HasParted, HasRead, IsCut, IsEnded, IsGivenUp, IsServed, IsVisited, LeavesLate, LosesLate, PartsSo, ServesRead, ServesOf, StayParked, StayWaiting, TookAll, TookFront};
+ghost use Rattle.ft_orb.specs.Wires.{Act, DidSo, HasCause, IsFarewell};
 ghost use Rattle.ft_orb.specs.declared.events.Note.{Note};
 ghost use Rattle.ft_orb.specs.declared.parked.Waiter.{Waiter};
 
@@ -72,13 +72,15 @@ pub(crate) trait Host<O> {
         ensures idle { IsIdle self.new }
         ensures parked { StayParked parked_under told_under self.old self.new }
         ensures waiting { StayWaiting waiting_under connection self.old self.new }
-        ensures late { AttendsLate HoldsLate connection (ServesOf piece.now result) (answered owner.old) (answered owner.new) self.old self.new }
+        ensures late { AttendsLate HoldsLate connection (ServesOf connection piece.now result) (answered owner.old) (answered owner.new) self.old self.new }
+        ensures cut { IfErr result IsCut }
         ensures table { Attends as_owner (answered owner.old) (answered owner.new) (λ w calls past. Holds w calls self.old past × (is_going (as_owner w).limits (line past connection) ≡ true))
             (λ w calls past. (note : Note) × IsEnded result note × EndsSo (as_owner w) (says w) past (Holds w calls self.new) (history.Piece connection moment piece.now) note out.old.items out.new.items) };
 
     /// Whether nothing that comes on a connection counts any more.
     fn has_ended(&self, connection: u64) -> bool
-        ensures { (w : World) (calls : List Call) (past : List history.Event) → Holds w calls self.now past → result ≡ not (is_going (as_owner w).limits (line past connection)) };
+        ensures late { (s : Settings) (held : ℕ → Holding) (calls : List Call) (past : List history.Event) (waiting : ℕ → List Waiter) → HoldsLate s held calls self.now past waiting → result ≡ not (goes_on s.limits past connection) }
+        ensures table { (w : World) (calls : List Call) (past : List history.Event) → Holds w calls self.now past → result ≡ not (is_going (as_owner w).limits (line past connection)) };
 
     /// Appends CloseConnection, and closes the connection; or says how that ended.
     fn part(&mut self, connection: u64, out: &mut Vec<u8>) -> Result<(), StreamEnd>
@@ -86,7 +88,8 @@ pub(crate) trait Host<O> {
         ensures idle { IsIdle self.new }
         ensures parked { StayParked parked_under told_under self.old self.new }
         ensures waiting { StayWaiting waiting_under connection self.old self.new }
-        ensures late { Attended HoldsLate connection (λ octets. octets ≡ []) [] self.old self.new }
+        ensures late { Attended HoldsLate connection (PartsSo connection result) [] self.old self.new }
+        ensures cut { IfErr result IsCut }
         ensures table { (w : World) (calls : List Call) (past : List history.Event) → Holds w calls self.old past → is_going (as_owner w).limits (line past connection) ≡ true → (note : Note)
             × IsEnded result note
             × OnOk result (out.new.items ≡ out.old.items ++ close_connection)
@@ -139,7 +142,8 @@ fn serve_piece<O, H: Host<O>, W: Wire, C: Clock>(
     ensures idle { H.IsIdle host.new }
     ensures parked { StayParked H.parked_under H.told_under host.old host.new }
     ensures waiting { StayWaiting H.waiting_under connection host.old host.new }
-    ensures late { AttendsLate H.HoldsLate connection (λ octets. ServesRead result octets (W.traffic wire.old) (W.traffic wire.new)) (H.answered owner.old) (H.answered owner.new) host.old host.new }
+    ensures cause { DidSo (HasRead 1 result) (W.traffic wire.old) (W.traffic wire.new) }
+    ensures late { AttendsLate H.HoldsLate connection (λ limits past events. AreSoFar limits past connection result events × ServesRead result (octets_in events) (W.traffic wire.old) (W.traffic wire.new)) (H.answered owner.old) (H.answered owner.new) host.old host.new }
     ensures table { Attends H.as_owner (H.answered owner.old) (H.answered owner.new) (λ w calls past. H.Holds w calls host.old past × (is_going (H.as_owner w).limits (line past connection) ≡ true))
         (λ w calls past. IsVisited (H.as_owner w) (H.says w) past connection (W.traffic wire.old) (C.given clock.old) (H.Holds w calls host.new) (W.traffic wire.new) (C.given clock.new) 1 result) }
 {
@@ -178,7 +182,8 @@ fn serve_pieces<O, H: Host<O>, W: Wire, C: Clock>(
     ensures idle { H.IsIdle host.new }
     ensures parked { StayParked H.parked_under H.told_under host.old host.new }
     ensures waiting { StayWaiting H.waiting_under connection host.old host.new }
-    ensures late { AttendsLate H.HoldsLate connection (λ octets. ServesRead result octets (W.traffic wire.old) (W.traffic wire.new)) (H.answered owner.old) (H.answered owner.new) host.old host.new }
+    ensures cause { DidSo (HasRead max_reads result) (W.traffic wire.old) (W.traffic wire.new) }
+    ensures late { AttendsLate H.HoldsLate connection (λ limits past events. AreSoFar limits past connection result events × ServesRead result (octets_in events) (W.traffic wire.old) (W.traffic wire.new)) (H.answered owner.old) (H.answered owner.new) host.old host.new }
     ensures table { Attends H.as_owner (H.answered owner.old) (H.answered owner.new) (λ w calls past. H.Holds w calls host.old past × (is_going (H.as_owner w).limits (line past connection) ≡ true))
         (λ w calls past. IsVisited (H.as_owner w) (H.says w) past connection (W.traffic wire.old) (C.given clock.old) (H.Holds w calls host.new) (W.traffic wire.new) (C.given clock.new) max_reads result) }
 {
@@ -207,7 +212,8 @@ fn say_farewell<O, H: Host<O>, W: Wire>(
     ensures parked { StayParked H.parked_under H.told_under host.old host.new }
     ensures waiting { StayWaiting H.waiting_under connection host.old host.new }
     ensures wire { ServesRead None [] (W.traffic wire.old) (W.traffic wire.new) }
-    ensures late { Attended H.HoldsLate connection (λ octets. octets ≡ []) [] host.old host.new }
+    ensures cause { DidSo (HasParted result) (W.traffic wire.old) (W.traffic wire.new) }
+    ensures late { Attended H.HoldsLate connection (λ limits past events. AreOn limits past connection result events × (octets_in events ≡ [])) [] host.old host.new }
     ensures table { (w : H.World) (calls : List Call) (past : List history.Event) → H.Holds w calls host.old past → is_going (H.as_owner w).limits (line past connection) ≡ true → (acts : List Act) × (note : Note)
         × IsFarewell result acts × IsGivenUp result note × GrowsBy acts (W.traffic wire.old) (W.traffic wire.new)
         × H.Holds w calls host.new (after (H.as_owner w).limits past (history.Close connection) note) }
@@ -236,7 +242,8 @@ pub(crate) fn serve_host<O, H: Host<O>, W: Wire, C: Clock>(
     ensures idle { H.IsIdle host.new }
     ensures parked { StayParked H.parked_under H.told_under host.old host.new }
     ensures waiting { StayWaiting H.waiting_under connection host.old host.new }
-    ensures late { LeavesLate H.HoldsLate connection (λ octets. AreFromWire result octets (W.traffic wire.old) (W.traffic wire.new)) (H.answered owner.old) (H.answered owner.new) host.old host.new }
+    ensures cause { DidSo (HasCause max_reads result) (W.traffic wire.old) (W.traffic wire.new) }
+    ensures late { LeavesLate H.HoldsLate connection (λ limits past events. AreOn limits past connection result events × AreFromWire result (octets_in events) (W.traffic wire.old) (W.traffic wire.new)) (H.answered owner.old) (H.answered owner.new) host.old host.new }
     ensures table { Attends H.as_owner (H.answered owner.old) (H.answered owner.new) (λ w calls past. H.Holds w calls host.old past × (is_going (H.as_owner w).limits (line past connection) ≡ true))
         (λ w calls past. IsServed (H.as_owner w) (H.says w) past connection (W.traffic wire.old) (C.given clock.old) (H.Holds w calls host.new) (W.traffic wire.new) (C.given clock.new) max_reads result) }
 {

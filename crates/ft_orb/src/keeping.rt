@@ -7,7 +7,7 @@ ghost use Rattle.ft_log.specs.Kept.{unexpired};
 ghost use Rattle.ft_log.specs.Logged.{logged};
 ghost use Rattle.ft_log.specs.View.{performed_in};
 ghost use Rattle.ft_objects.specs.Replies.{IsRenderable};
-ghost use Rattle.ft_orb.specs.Carrying.{AreShort, reply_with};
+ghost use Rattle.ft_orb.specs.Carrying.{FitsBehind, reply_with};
 ghost use Rattle.ft_orb.specs.Parking.{not_now};
 ghost use Rattle.ft_orb.specs.Private.{IsPut};
 ghost use Rattle.ft_orb.specs.Tellings.{reply_by};
@@ -123,7 +123,7 @@ impl Keeper {
     ) -> Step
         requires ready { IsReady self.old.slot.retained (logged self.old.log).room }
         requires renderable { IsRenderable (performed_in outcome) }
-        requires short { AreShort (map item_at contexts.now) }
+        requires fits { FitsBehind (map item_at contexts.now) self.old.slot.asker (performed_in outcome) }
         ensures kept { (logged self.new.log).entries ≡ kept_with self.old.slot.retained (known (performed_in outcome)) (logged self.old.log).entries }
         ensures put { IsPut (reply_with (map item_at contexts.now) self.old.slot.asker (performed_in outcome)) result out.old.items out.new.items }
         ensures clock { self.new.clock ≡ self.old.clock }

@@ -119,7 +119,7 @@ impl<C: Catalogue + Drop> Engine<C> {
 
     /// Whether an outcome can answer the request of this number (`can_answer`), and the Reply can carry these service contexts:
     /// they take at most 1,048,576 octets, and the octets of a raw outcome stand behind them at a place divisible by 8,
-    /// which only a Reply of 1.0 or 1.1 can miss (CDR 9.3.1).
+    /// which only a Reply of 1.0 or 1.1 can miss (CDR 9.3.1). Where no Reply is wished for any contexts will do.
     pub fn can_answer_with(&self, number: u64, outcome: &Outcome, contexts: &[(u32, &[u8])]) -> bool
         ensures { IsTrue result ↔ (CanAnswer (C.offers self.now.offering.catalogue) (waits_in self.now) number (performed_in outcome.now) × CanCarry (map item_at contexts.now) (asker_in self.now) (Some (performed_in outcome.now))) }
     {

@@ -19,7 +19,7 @@ ghost use Rattle.ft_orb.specs.declared.error.ParkError.TheVariants.{Full, Share}
 ghost use Rattle.ft_orb.specs.declared.events.Note.TheVariants.{Done};
 
 use crate::asked::{Asked, lent};
-use crate::carrying::{are_short, can_carry};
+use crate::carrying::can_carry;
 use crate::counts::count;
 use crate::desk::Step;
 use crate::ending::{Ended, Ending};
@@ -36,7 +36,7 @@ use std::mem;
 
 impl<C: Catalogue + Drop> Engine<C> {
     ghost use Rattle.ft_orb.specs.Engines.{AreEndings, Awaited, EndsShort, IsOpen, asks_in, awaited_lent, counts_in, handled_in, waits_in};
-    ghost use Rattle.ft_orb.specs.Carrying.{CanCarry, due_in, reply_if, unless_failed};
+    ghost use Rattle.ft_orb.specs.Carrying.{CanCarry, due_in, due_on, next_in, reply_if, unless_failed};
     ghost use Rattle.ft_orb.specs.Decisions.{one_more};
     ghost use Rattle.ft_orb.specs.Parked.{own_waiters};
     ghost use Rattle.ft_orb.specs.Parking.{AreParked, AsksLate, CanSettle, IsDueLate, RepliesLate, ResumesLate, Settings, Stays, by_number, own_of, parked_at, parked_count, parked_in, parked_of, places_of, places_of_one, put_at, left_in, told_in, waits_on};
@@ -193,6 +193,9 @@ impl<C: Catalogue + Drop> Engine<C> {
         ensures left { IfSome result (λ c. IsSome (told_in self.new number) × (0 < left_in self.new number) × (left_in self.new number ≤ left_in self.old number)) }
         ensures early { told_in self.old number ≡ None → (result ≡ None) × AreParked self.old self.new }
         ensures done { IsSome (told_in self.old number) → result ≡ None → parked_in self.new number ≡ None }
+        // that of who is told next, who stays so
+        ensures next { IsSome (told_in self.old number) → result ≡ due_on self.old number }
+        ensures stays { IfSome result (λ c. next_in self.new number ≡ next_in self.old number) }
         ensures waits { waits_in self.new ≡ waits_in self.old }
         ensures asks { asks_in self.new ≡ asks_in self.old }
         ensures catalogue { self.new.offering ≡ self.old.offering }
@@ -221,10 +224,14 @@ impl<C: Catalogue + Drop> Engine<C> {
         None
     }
 
-    /// Appends the reply that is due for this number on the connection that `due` gives: whoever calls anything in between,
-    /// as `lost`, asks `due` again. Where an allocation fails the connection is lost.
+    /// Appends the reply that is due for this number: that to who is told next (`next_in`), on the connection that `due` gives
+    /// (`due_on`). Whoever calls anything in between, as `lost`, asks `due` again. Where an allocation fails the connection
+    /// is lost.
     pub fn reply(&mut self, number: u64, out: &mut Vec<u8>) -> Result<(), ServeError>
         requires idle { waits_in self.old ≡ None }
+        // what goes out is what who is told next is told ..
+        ensures sent { out.new.items ≡ out.old.items ++ unless_failed result (reply_if [] (due_in self.old number) (told_in self.old number)) }
+        // .. after which these wait
         ensures late { (s : Settings) (held : ℕ → Holding) (calls : List Call) (past : List history.Event) (waiting : ℕ → List Waiting) (outcome : Performed) (w : Waiting) (rest : List Waiting) → Stays C.offers s held calls self.old past waiting
             → told_in self.old number ≡ Some outcome → waiting number ≡ w ∷ rest → RepliesLate C.offers s held calls past waiting number outcome w rest result self.new out.old.items out.new.items }
         // .. and where none is due nothing is done
@@ -245,16 +252,16 @@ impl<C: Catalogue + Drop> Engine<C> {
 
     /// Whether the reply that is due for what is parked under this number can carry these service contexts: they take at most
     /// 1,048,576 octets, and the octets of a raw outcome stand behind them at a place divisible by 8, which only a Reply
-    /// of 1.0 or 1.1 can miss (CDR 9.3.1).
+    /// of 1.0 or 1.1 can miss (CDR 9.3.1). Where no reply goes out any contexts will do.
     pub fn can_reply_with(&self, number: u64, contexts: &[(u32, &[u8])]) -> bool
         ensures { IsTrue result ↔ CanCarry (map item_at contexts.now) (due_in self.now number) (told_in self.now number) }
     {
         let Some(parked) = self.parked.requests.get(&number) else {
-            return are_short(contexts);
+            return true;
         };
         match (parked.first_going(&self.links), &parked.outcome) {
-            (Some(asker), Some(outcome)) => can_carry(contexts, asker, outcome),
-            _ => are_short(contexts),
+            (Some(first), Some(outcome)) => can_carry(contexts, first.asker, outcome),
+            _ => true,
         }
     }
 

@@ -178,13 +178,13 @@ impl Parked {
 
     /// Who waits first on a connection that goes on, if somebody does.
     #[tactic(auto, using(crate::proofs::Carried::first_here, crate::proofs::Carried::first_later))]
-    pub(crate) fn first_going(&self, links: &BTreeMap<u64, ServerLink>) -> Option<Asker>
+    pub(crate) fn first_going(&self, links: &BTreeMap<u64, ServerLink>) -> Option<Waiter>
         ensures { result ≡ first_of (on_going (going_in links.now) self.now.waiters.items) }
     {
         for i in 0..self.waiters.len() {
             let waiter = self.waiters[i];
             if is_going(links, waiter.connection) {
-                return Some(waiter.asker);
+                return Some(waiter);
             }
         }
         None

@@ -1,17 +1,21 @@
-use Rattle.std.proofs.Common.{ℕ, Err, ap, refl, sym, subst, ◌++◌, drop, take, ◌∙◌}
+use Rattle.std.proofs.Common.{◌≡◌, ℕ, true, [], Ok, Err, inl, inr, ap, refl, sym, subst, ◌++◌, drop, take, ◌∙◌}
 use Rattle.std.proofs.Math.Seq.{take-length}
+use Rattle.std.proofs.lemmas.List.{append-nil}
 use Rattle.std.proofs.lemmas.Result.{err_from_is_err_and}
 use Rattle.ft_orb.specs.declared.engine.Fed.{Fed}
 use Rattle.ft_orb.specs.declared.wire.StreamEnd.{StreamEnd}
 use Rattle.ft_orb.specs.declared.error.ServeError.{ServeError}
-use Rattle.ft_orb.specs.declared.events.Note.TheVariants.{Done}
+use Rattle.ft_orb.specs.declared.events.Note.TheVariants.{Done, Refused}
+use Rattle.ft_orb.specs.Handovers.{AreOn, octets_in}
 use Rattle.ft_orb.specs.History.{Piece}
 use Rattle.ft_orb.specs.Laws.{is_memory}
 use Rattle.ft_orb.specs.Owners.{Owner}
 use Rattle.ft_orb.specs.Parking.{parked_in, told_in}
 use Rattle.ft_orb.specs.Standing.{note_of}
-use Rattle.ft_orb.specs.Sessions.{IsEnded, calls_with}
-use Rattle.ft_orb.proofs.Elsewhere.{all-of, asked-late, event-late, front-of, late-alone, repeat-late}
+use Rattle.ft_orb.specs.Sessions.{IsCut, IsEnded, calls_with}
+use Rattle.ft_orb.specs.Tellings.{nothing_yet}
+use Rattle.ft_orb.specs.Visits.{ServesAsked}
+use Rattle.ft_orb.proofs.Elsewhere.{asked-late, event-late, front-of, late-alone, off-piece, repeat-late, short-left}
 use Rattle.ft_orb.proofs.Handing.{attends-none, ended-memory, err-not-done, memory-ended, part-asked, part-left, part-whole, refused-there, stay-then}
 use Rattle.ft_orb.proofs.attending.attend_part.Goals as goal
 
@@ -97,7 +101,7 @@ returns-in_err-attend_ask-in-Ok-Asks-clause-late g c =
       said = asked.1;
       so = λ s held calls past waiting x.
           let st = (rw c.in-Ok-Asks.field-0-is at (c.in-Ok-Asks.ensures.late s held calls past waiting x)).asks in
-          asked-late g.C.Catalogue.offers s held calls past waiting c.args.connection st.3 st.4 asked.0 c.attend_ask.new.engine _ _ (λ octets h. (h.0 ++ drop c.in-Ok-Asks.taken c.args.piece.now, front-of c.in-Ok-Asks.taken c.args.piece.now octets h.0 h.1, λ apart. absurd (apart (p.2 ∙ h.2)))) (asked.2 s held calls past waiting c.args.moment (take c.in-Ok-Asks.taken c.args.piece.now) st.0 st.3 st.5);
+          asked-late g.C.Catalogue.offers s held calls past waiting c.args.connection st.3 st.4 asked.0 c.attend_ask.new.engine (λ d. ServesAsked d (take c.in-Ok-Asks.taken c.args.piece.now) (Err c.in_err-attend_ask-in-Ok-Asks.field-0.0)) _ (λ events h. (subst (λ (end : StreamEnd). AreOn s.limits past c.args.connection end events) (sym p.2) h.0, h.1 ++ drop c.in-Ok-Asks.taken c.args.piece.now, front-of c.in-Ok-Asks.taken c.args.piece.now (octets_in events) h.1 h.2, λ apart. absurd (apart (p.2 ∙ h.3)))) (asked.2 s held calls past waiting c.args.moment (take c.in-Ok-Asks.taken c.args.piece.now) st.0 st.3 st.5);
     })
 
 pub returns-in_ok-attend_ask-in-Ok-Asks-clause-late : goal.returns-in_ok-attend_ask-in-Ok-Asks-clause-late
@@ -108,25 +112,41 @@ returns-in_ok-attend_ask-in-Ok-Asks-clause-late g c =
       said = asked.1;
       so = λ s held calls past waiting x.
           let st = (rw c.in-Ok-Asks.field-0-is at (c.in-Ok-Asks.ensures.late s held calls past waiting x)).asks in
-          asked-late g.C.Catalogue.offers s held calls past waiting c.args.connection st.3 st.4 asked.0 c.attend_ask.new.engine _ _ (λ octets h. h) (asked.2 s held calls past waiting c.args.moment (take c.in-Ok-Asks.taken c.args.piece.now) st.0 st.3 st.5);
+          asked-late g.C.Catalogue.offers s held calls past waiting c.args.connection st.3 st.4 asked.0 c.attend_ask.new.engine (λ d. ServesAsked d (take c.in-Ok-Asks.taken c.args.piece.now) (Ok (tt {0}))) _ (λ events h. h) (asked.2 s held calls past waiting c.args.moment (take c.in-Ok-Asks.taken c.args.piece.now) st.0 st.3 st.5);
     }
 
 pub returns-in-Ok-Whole-clause-late : goal.returns-in-Ok-Whole-clause-late
 returns-in-Ok-Whole-clause-late g c =
     late-alone _ c.args.connection _ _ c.args.engine.now c.feed.new.self (λ s held calls past waiting x.
-    event-late g.C.Catalogue.offers s held calls past waiting c.args.connection _ (Piece c.args.connection c.args.moment c.args.piece.now) Done c.feed.new.self refl (λ octets rest is plain. all-of octets rest c.args.piece.now is (plain refl) ∙ sym (take-length c.args.piece.now)) (rw c.in-Ok-Whole.field-0-is at (c.in-Ok-Whole.ensures.late s held calls past waiting x)).stays)
+    event-late g.C.Catalogue.offers s held calls past waiting c.args.connection _ (Piece c.args.connection c.args.moment c.args.piece.now) Done c.feed.new.self refl ((refl, tt), sym (take-length c.args.piece.now)) (rw c.in-Ok-Whole.field-0-is at (c.in-Ok-Whole.ensures.late s held calls past waiting x)).stays)
 
 pub returns-in-Ok-Repeats-clause-late : goal.returns-in-Ok-Repeats-clause-late
 returns-in-Ok-Repeats-clause-late g c =
     late-alone _ c.args.connection _ _ c.args.engine.now c.feed.new.self (λ s held calls past waiting x.
-    repeat-late g.C.Catalogue.offers s held calls past waiting c.args.connection _ c.args.moment c.args.piece.now c.in-Ok-Repeats.taken c.feed.new.self c.args.out.now.items c.feed.new.out.items (rw c.in-Ok-Repeats.field-0-is at (c.in-Ok-Repeats.ensures.late s held calls past waiting x)) refl)
+    repeat-late g.C.Catalogue.offers s held calls past waiting c.args.connection _ c.args.moment c.args.piece.now c.in-Ok-Repeats.taken c.feed.new.self c.args.out.now.items c.feed.new.out.items (rw c.in-Ok-Repeats.field-0-is at (c.in-Ok-Repeats.ensures.late s held calls past waiting x)) ((refl, tt), refl))
 
 pub returns-in-Err-NoConnection-clause-late : goal.returns-in-Err-NoConnection-clause-late
 returns-in-Err-NoConnection-clause-late g c =
     late-alone _ c.args.connection _ _ c.args.engine.now c.feed.new.self (λ s held calls past waiting x.
-    event-late g.C.Catalogue.offers s held calls past waiting c.args.connection _ (Piece c.args.connection c.args.moment c.args.piece.now) (note_of {A = Fed} (Err c.in-Err-NoConnection.field-0)) c.feed.new.self refl (λ octets rest is plain. (rest, is, λ apart. plain (ap (λ (e : ServeError). is_memory (note_of {A = Fed} (Err e))) c.in-Err-NoConnection.field-0-is))) (c.in-Err-NoConnection.ensures.late s held calls past waiting x).stays)
+    let ends = rw c.in-Err-NoConnection.field-0-is at (c.in-Err-NoConnection.ensures.late s held calls past waiting x) in
+    let off = off-piece s.limits past c.args.connection c.args.moment c.args.piece.now (ends.ends nothing_yet).writes.1 in
+    event-late g.C.Catalogue.offers s held calls past waiting c.args.connection _ (Piece c.args.connection c.args.moment c.args.piece.now) Refused c.feed.new.self refl (((refl, tt), off), [], sym (append-nil c.args.piece.now), λ apart. refl) ends.stays)
 
 pub returns-in-Err-Memory-clause-late : goal.returns-in-Err-Memory-clause-late
 returns-in-Err-Memory-clause-late g c =
     late-alone _ c.args.connection _ _ c.args.engine.now c.feed.new.self (λ s held calls past waiting x.
-    event-late g.C.Catalogue.offers s held calls past waiting c.args.connection _ (Piece c.args.connection c.args.moment c.args.piece.now) (note_of {A = Fed} (Err c.in-Err-Memory.field-0)) c.feed.new.self refl (λ octets rest is plain. (rest, is, λ apart. absurd (apart refl))) (c.in-Err-Memory.ensures.late s held calls past waiting x).stays)
+    let note = note_of {A = Fed} (Err c.in-Err-Memory.field-0) in
+    let short : is_memory note ≡ true = ap (λ (e : ServeError). is_memory (note_of {A = Fed} (Err e))) c.in-Err-Memory.field-0-is in
+    let cut = short-left s.limits c.args.connection past c.args.moment c.args.piece.now note short in
+    event-late g.C.Catalogue.offers s held calls past waiting c.args.connection _ (Piece c.args.connection c.args.moment c.args.piece.now) note c.feed.new.self refl (cut.0, cut.1, cut.2, λ apart. absurd (apart refl)) (c.in-Err-Memory.ensures.late s held calls past waiting x).stays)
+
+pub returns-in_err-attend_ask-in-Ok-Asks-clause-cut : goal.returns-in_err-attend_ask-in-Ok-Asks-clause-cut
+returns-in_err-attend_ask-in-Ok-Asks-clause-cut g c =
+    let p = err_from_is_err_and c.from_residual.result c.from_residual.ensures.1 in
+    rw p.1 (subst IsCut (sym p.2) c.in_err-attend_ask-in-Ok-Asks.ensures.cut)
+
+pub returns-in-Err-NoConnection-clause-cut : goal.returns-in-Err-NoConnection-clause-cut
+returns-in-Err-NoConnection-clause-cut g c = inl refl
+
+pub returns-in-Err-Memory-clause-cut : goal.returns-in-Err-Memory-clause-cut
+returns-in-Err-Memory-clause-cut g c = inr refl

@@ -33,5 +33,5 @@ returns-clause-late g c =
       x.said,
       λ s held calls past waiting h.
           let y = x.so s held calls past waiting h in
-          record { handed = y.handed; before = known-before (length calls) (handed_in x.log) held; events = y.events; on = y.on; given = y.served; stays = y.stay },
+          record { handed = y.handed; before = known-before (length calls) (handed_in x.log) held; events = y.events; on = y.served.0; given = y.served.1; stays = y.stay },
     )

@@ -1,7 +1,9 @@
-use Rattle.std.proofs.Common.{◌≡◌, List, ℕ, [], ◌++◌, ap, subst, ◌∙◌}
+use Rattle.std.proofs.Common.{◌≡◌, List, ℕ, [], ◌++◌, inr, ap, subst, ◌∙◌}
 use Rattle.giop_link.specs.Linking.{close_connection}
+use Rattle.ft_orb.specs.Handovers.{octets_in}
 use Rattle.ft_orb.specs.Sessions.{TookAll, TookFront}
-use Rattle.ft_orb.proofs.Elsewhere.{read-none, said-all, said-front}
+use Rattle.ft_orb.proofs.Causes.{parted-all, parted-cut, parted-front}
+use Rattle.ft_orb.proofs.Elsewhere.{attended-so, read-none, said-all, said-front}
 use Rattle.ft_orb.proofs.Streams.{grows-none, parted}
 use Rattle.ft_orb.proofs.hosting.say_farewell.Goals as goal
 
@@ -33,3 +35,23 @@ returns-in-Ok-clause-wire g c = said-all _ (g.W.Wire.traffic c.args.wire.now) (g
 
 pub returns-in-Err-write_all-clause-wire : goal.returns-in-Err-write_all-clause-wire
 returns-in-Err-write_all-clause-wire g c = said-front _ (g.W.Wire.traffic c.args.wire.now) (g.W.Wire.traffic c.write_all.new.wire) c.in-Err-write_all.ensures.err
+
+pub returns-in-Err-clause-cause : goal.returns-in-Err-clause-cause
+returns-in-Err-clause-cause g c = parted-cut c.in-Err.end c.in-Err.ensures.cut (g.W.Wire.traffic c.args.wire.now)
+
+pub returns-in-Ok-clause-cause : goal.returns-in-Ok-clause-cause
+returns-in-Ok-clause-cause g c = parted-all _ (g.W.Wire.traffic c.args.wire.now) (g.W.Wire.traffic c.write_all.new.wire) c.in-Ok.ensures.ok
+
+pub returns-in-Err-write_all-clause-cause : goal.returns-in-Err-write_all-clause-cause
+returns-in-Err-write_all-clause-cause g c = parted-front _ (g.W.Wire.traffic c.args.wire.now) (g.W.Wire.traffic c.write_all.new.wire) c.in-Err-write_all.ensures.err
+
+pub returns-in-Err-clause-late : goal.returns-in-Err-clause-late
+returns-in-Err-clause-late g c = c.in-Err.ensures.late
+
+pub returns-in-Ok-clause-late : goal.returns-in-Ok-clause-late
+returns-in-Ok-clause-late g c =
+    attended-so g.H.Host.HoldsLate c.args.connection _ _ [] c.args.host.now c.part.new.self (λ limits past events x. (([], x, tt), ap octets_in x)) c.in_default.ensures.late
+
+pub returns-in-Err-write_all-clause-late : goal.returns-in-Err-write_all-clause-late
+returns-in-Err-write_all-clause-late g c =
+    attended-so g.H.Host.HoldsLate c.args.connection _ _ [] c.args.host.now c.part.new.self (λ limits past events x. (inr ([], x, tt), ap octets_in x)) c.in_default.ensures.late

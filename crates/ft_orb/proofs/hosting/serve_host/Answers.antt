@@ -1,9 +1,11 @@
-use Rattle.std.proofs.Common.{List, ℕ, [], ◌++◌, None, ap, sym, subst, ◌∙◌}
+use Rattle.std.proofs.Common.{List, ℕ, ◌++◌, None, ap, sym, subst, ◌∙◌}
+use Rattle.ft_orb.specs.Handovers.{octets_in}
 use Rattle.ft_orb.specs.History.{Close}
 use Rattle.ft_orb.specs.Outputs.{after}
 use Rattle.ft_orb.specs.Sessions.{LosesLate, ServesRead}
 use Rattle.ft_orb.specs.Wires.{past_with}
-use Rattle.ft_orb.proofs.Elsewhere.{late-alone, late-left, late-then, read-then, read-wire}
+use Rattle.ft_orb.proofs.Causes.{did-as, did-then, parted-cause, read-cause}
+use Rattle.ft_orb.proofs.Elsewhere.{late-alone, late-left, late-then, on-joined, read-wire, visited-then}
 use Rattle.ft_orb.proofs.Handing.{attends-so}
 use Rattle.ft_orb.proofs.Streams.{served-all, served-early}
 use Rattle.ft_orb.proofs.hosting.serve_host.Goals as goal
@@ -62,7 +64,19 @@ returns-clause-late g c =
           rw (b.end-is, b.wire-is)
           (late-left stays c.args.connection _ _ _ c.args.host.now b.say_farewell-end.new.host c.forget.new.self
           (late-then stays c.args.connection _ _ _
-          (λ (x y : List ℕ) p q. read-wire b.say_farewell-end.result (x ++ y) _ _ (subst (λ (l : List ℕ). ServesRead None (x ++ l) (g.W.Wire.traffic c.args.wire.now) (g.W.Wire.traffic b.say_farewell-end.new.wire)) (sym q) (read-then None x [] _ _ _ p b.say_farewell-end.ensures.wire))) _ _ _ c.args.host.now c.serve_pieces.new.host b.say_farewell-end.new.host b.in-None.ensures.late
+          (λ limits past x y p q. (
+            on-joined limits past c.args.connection b.say_farewell-end.result x y p.0 q.0,
+            read-wire b.say_farewell-end.result (octets_in (y ++ x)) _ _ (visited-then None x y _ _ _ p.1 (subst (λ (l : List ℕ). ServesRead None l (g.W.Wire.traffic c.serve_pieces.new.wire) (g.W.Wire.traffic b.say_farewell-end.new.wire)) (sym q.1) b.say_farewell-end.ensures.wire)),
+          )) _ _ _ c.args.host.now c.serve_pieces.new.host b.say_farewell-end.new.host b.in-None.ensures.late
           (late-alone stays c.args.connection _ _ c.serve_pieces.new.host b.say_farewell-end.new.host b.say_farewell-end.ensures.late))
           (subst lost b.host-is c.forget.ensures.late))
+    ]
+
+pub returns-clause-cause : goal.returns-clause-cause
+returns-clause-cause g c =
+    elim c.match-serve_pieces.branch [
+      | in-Some b ↦ rw (b.end-is, b.wire-is) (did-as _ _ (λ acts x. read-cause c.args.max_reads b.in-Some.end acts x) _ _ b.in-Some.ensures.cause)
+      | in-None b ↦
+          rw (b.end-is, b.wire-is)
+          (did-then _ _ _ (λ xs ys x y. parted-cause c.args.max_reads b.say_farewell-end.result xs ys x y) _ _ _ b.in-None.ensures.cause b.say_farewell-end.ensures.cause)
     ]

@@ -1,14 +1,15 @@
-use Rattle.std.proofs.Common.{◌≤◌, List, ℕ, Err, Ok, drop, length, inl, inr, refl, sym, subst, ◌∙◌, arith}
+use Rattle.std.proofs.Common.{◌≤◌, List, ℕ, Err, Ok, ◌++◌, ap, drop, length, inl, inr, refl, sym, subst, ◌∙◌, arith}
 use Rattle.std.proofs.lemmas.List.{take_all}
 use Rattle.std.proofs.lemmas.Result.{err_from_is_err_and}
 use Rattle.ft_orb.specs.declared.events.Note.TheVariants.{Done}
 use Rattle.ft_orb.specs.declared.wire.StreamEnd.{StreamEnd}
+use Rattle.ft_orb.specs.Handovers.{AreOn, octets_in}
 use Rattle.ft_orb.specs.History.{Piece}
 use Rattle.ft_orb.specs.Owners.{Owner}
 use Rattle.ft_orb.specs.Parking.{parked_in, told_in}
-use Rattle.ft_orb.specs.Sessions.{IsEnded}
+use Rattle.ft_orb.specs.Sessions.{IsCut, IsEnded}
 use Rattle.ft_orb.specs.Visits.{TakesPart}
-use Rattle.ft_orb.proofs.Elsewhere.{late-none, late-so, late-then, part-joined, rest-joined}
+use Rattle.ft_orb.proofs.Elsewhere.{late-none, late-so, late-then, octets-joined, on-joined, part-joined, pieces-joined, rest-joined}
 use Rattle.ft_orb.proofs.Handing.{all-taken, attends-none, attends-so, attends-then, ends-so, part-ended, part-taken, stay-then}
 use Rattle.ft_orb.proofs.attending.EngineHost.feed_whole.Goals as goal
 
@@ -18,7 +19,7 @@ loop-taken-init g c = record {
   idle = c.requires.idle;
   parked = λ q. (refl, refl);
   waiting = λ q. refl;
-  late = late-none _ c.args.connection _ refl _ c.args.self.now;
+  late = late-none _ c.args.connection _ (λ limits past. (tt, refl)) _ c.args.self.now;
   goes = attends-none (λ (o : Owner). o) _ (λ o calls past x. (inl (refl, x.0, refl), inr (λ m less. absurd (omega (arith, less)))));
 }
 
@@ -31,7 +32,7 @@ loop-taken-preserved g c =
       idle = c.in_ok-taken.ensures.idle;
       parked = stay-then parked_in told_in c.args.self.now c.loop-taken.self c.attend_part.new.engine c.loop-taken.invariant.parked c.in_ok-taken.ensures.parked;
       waiting = λ q. c.in_ok-taken.ensures.waiting q ∙ c.loop-taken.invariant.waiting q;
-      late = late-then _ c.args.connection _ _ _ (λ a b x y. part-joined c.loop-taken.taken c.in_ok-taken.field-0 c.args.piece.now c.split_at.result.1.now a b c.split_at.ensures.back x y) _ _ _ c.args.self.now c.loop-taken.self c.attend_part.new.engine c.loop-taken.invariant.late c.in_ok-taken.ensures.late;
+      late = late-then _ c.args.connection _ _ _ (λ limits past a b x y. (pieces-joined c.args.connection a b x.0 y.0, octets-joined b a ∙ part-joined c.loop-taken.taken c.in_ok-taken.field-0 c.args.piece.now c.split_at.result.1.now (octets_in a) (octets_in b) c.split_at.ensures.back x.1 y.1)) _ _ _ c.args.self.now c.loop-taken.self c.attend_part.new.engine c.loop-taken.invariant.late c.in_ok-taken.ensures.late;
       goes =
           attends-then (λ (o : Owner). o) c.loop-taken.invariant.goes c.in_ok-taken.ensures.table (λ o calls then past at x.
           let p = part-taken g.C.Catalogue.offers o c.streams_are_heard.ensures.grows c.streams_are_heard.ensures.stays c.streams_are_heard.ensures.silent past c.args.connection c.args.moment then c.args.piece.now c.loop-taken.taken
@@ -73,8 +74,18 @@ pub returns-in_err-taken-clause-late : goal.returns-in_err-taken-clause-late
 returns-in_err-taken-clause-late g c =
     let r = err_from_is_err_and c.from_residual.result c.from_residual.ensures.1 in
     rw r.1
-    (late-then _ c.args.connection _ _ _ (λ a b x y. (y.0, rest-joined c.loop-taken.taken c.args.piece.now c.split_at.result.1.now a b y.0 c.split_at.ensures.back x y.1, λ apart. y.2 (λ same. apart (r.2 ∙ same)))) _ _ _ c.args.self.now c.loop-taken.self c.attend_part.new.engine c.loop-taken.invariant.late c.in_err-taken.ensures.late)
+    (late-then _ c.args.connection _ _ _ (λ limits past a b x y. (
+      subst (λ (end : StreamEnd). AreOn limits past c.args.connection end (b ++ a)) (sym r.2) (on-joined limits past c.args.connection c.in_err-taken.field-0.0 a b x.0 y.0),
+      y.1,
+      rest-joined c.loop-taken.taken c.args.piece.now c.split_at.result.1.now (octets_in a) (octets_in b) y.1 c.split_at.ensures.back x.1 y.2 ∙ ap (λ (l : List ℕ). l ++ y.1) (sym (octets-joined b a)),
+      λ apart. y.3 (λ same. apart (r.2 ∙ same)),
+    )) _ _ _ c.args.self.now c.loop-taken.self c.attend_part.new.engine c.loop-taken.invariant.late c.in_err-taken.ensures.late)
 
 pub returns-clause-late : goal.returns-clause-late
 returns-clause-late g c =
-    late-so _ c.args.connection _ _ (λ octets x. x ∙ take_all c.loop-taken.taken c.args.piece.now c.loop-taken-test.false) _ _ c.args.self.now c.loop-taken.self c.loop-taken.invariant.late
+    late-so _ c.args.connection _ _ _ _ c.args.self.now c.loop-taken.self (λ s held calls past events those stay x. (x.0, x.1 ∙ take_all c.loop-taken.taken c.args.piece.now c.loop-taken-test.false)) c.loop-taken.invariant.late
+
+pub returns-in_err-taken-clause-cut : goal.returns-in_err-taken-clause-cut
+returns-in_err-taken-clause-cut g c =
+    let r = err_from_is_err_and c.from_residual.result c.from_residual.ensures.1 in
+    rw r.1 (subst IsCut (sym r.2) c.in_err-taken.ensures.cut)

@@ -1,5 +1,6 @@
 use Rattle.std.proofs.Common.{◌≡◌, ◌⊎◌, ◌-◌, ◌≤◌, true, ℕ, None, length, take}
 use Rattle.ft_orb.specs.Engines.{Rests, waits_in}
+use Rattle.ft_orb.specs.Handovers.{ArePieces, octets_in}
 use Rattle.ft_orb.specs.History.{line}
 use Rattle.ft_orb.specs.Outputs.{is_going}
 use Rattle.ft_orb.specs.Owners.{Owner}
@@ -15,7 +16,7 @@ invariant-loop-taken g l = record {
   idle : waits_in l.self ≡ None;
   parked : AreParked l.fn.self l.self;
   waiting : (q : ℕ) → others_under l.self l.connection q ≡ others_under l.fn.self l.connection q;
-  late : AttendsLate (λ s held calls engine past waiting. Stays g.C.Catalogue.offers s held calls engine past waiting) l.connection (λ octets. octets ≡ take l.taken l.piece) (g.O.Performer.answered l.fn.owner) (g.O.Performer.answered l.owner) l.fn.self l.self;
+  late : AttendsLate (λ s held calls engine past waiting. Stays g.C.Catalogue.offers s held calls engine past waiting) l.connection (λ limits past events. ArePieces l.connection events × (octets_in events ≡ take l.taken l.piece)) (g.O.Performer.answered l.fn.owner) (g.O.Performer.answered l.owner) l.fn.self l.self;
   goes : Attends (λ (o : Owner). o) (g.O.Performer.answered l.fn.owner) (g.O.Performer.answered l.owner) (λ o calls past. Rests g.C.Catalogue.offers o calls l.fn.self past × (is_going o.limits (line past l.connection) ≡ true))
       (λ o calls past. IsTakenTo g.C.Catalogue.offers o calls past l.connection l.moment l.piece l.taken l.self l.fn.out.items l.out.items × ((l.taken ≡ length l.piece) ⊎ IsShortest o.limits past l.connection l.moment l.piece l.taken));
 }

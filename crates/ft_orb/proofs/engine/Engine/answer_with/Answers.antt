@@ -17,7 +17,7 @@ use Rattle.ft_orb.proofs.engine.Engine.answer_with.Goals as goal
 use Rattle.ft_log.specs.Holding.{known}
 use Rattle.giop_core.specs.Items.{item_at}
 use Rattle.ft_orb.specs.Carrying.{asker_in, reply_if}
-use Rattle.ft_orb.proofs.Carried.{asks-so, cut-plain, finished-plain, put-counted, put-cut}
+use Rattle.ft_orb.proofs.Carried.{asks-so, carried-fits, cut-plain, finished-plain, put-counted, put-cut}
 use Rattle.ft_orb.specs.Owners.{owning}
 use Rattle.ft_orb.proofs.Books.{owning-folded}
 
@@ -81,3 +81,7 @@ returns-in-Ok-clause-sent g c =
 pub returns-in-Err-clause-sent : goal.returns-in-Err-clause-sent
 returns-in-Err-clause-sent g c =
     put-cut _ c.finish-step.result c.args.out.now.items c.finish-step.new.out.items c.in-Some.ask.place.handled c.in-Err.cut c.counted.result c.finish-step.ensures.put c.counted.ensures c.in-Err.is
+
+pub finish-step-requires-clause-fits : goal.finish-step-requires-clause-fits
+finish-step-requires-clause-fits g c =
+    carried-fits (map item_at c.args.contexts.now) (asker_in c.args.self.now) (Some (performed_in c.args.outcome)) c.args.self.now.keeper.slot.asker (performed_in c.args.outcome) (asks-so c.args.self.now.keeper.slot _ c.in-Some.ask (sym c.take.ensures.value ∙ c.in-Some.is)) refl c.requires.carries

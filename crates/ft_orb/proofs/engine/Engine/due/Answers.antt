@@ -13,6 +13,9 @@ use Rattle.ft_orb.specs.Parking.{left_of, parked_at, told_of}
 use Rattle.ft_log.specs.declared.outcome.Outcome.{Outcome}
 use Rattle.std.specs.Option.{option_map}
 use Rattle.ft_orb.specs.Waits.{filled_with}
+use Rattle.ft_orb.specs.Parked.{going_in}
+use Rattle.ft_orb.specs.declared.parked.Waiter.{Waiter}
+use Rattle.ft_orb.proofs.Carried.{next-here, next-none, next-same}
 use Rattle.ft_orb.proofs.Countings.{counted-written, few-written}
 use Rattle.ft_orb.proofs.Owning.{still-idle}
 use Rattle.ft_orb.proofs.Settling.{due-late, nobody-is, none-left, not-at, settled-due, settled-late, some-of, told-is}
@@ -115,3 +118,30 @@ returns-clause-early g c none =
 
 pub returns-clause-done : goal.returns-clause-done
 returns-clause-done g c told none = ap (λ (o : Option Parked). option_map (λ (x : Parked). awaited_of x.pending) o) c.take.ensures.gone
+
+pub returns-in-Some-clause-next : goal.returns-in-Some-clause-next
+returns-in-Some-clause-next g c told =
+    let n = c.args.number in
+    let p = c.in_ok-parked.parked.now in
+    let q = c.clear.new.self in
+    let was : parked_at c.args.self.now n ≡ Some p = grind (arith, common_steps) in
+    let some : 0 < length q.waiters.items = (let long = c.in-Some.ensures.variant in grind (arith, common_steps)) in
+    ap (option_map (λ (w : Waiter). w.connection)) (sym (next-here (going_in c.args.self.now.links) (parked_at c.args.self.now n) p q c.in-Some.first.now was c.clear.ensures some c.in-Some.ensures.lookup))
+
+pub returns-in-Some-clause-stays : goal.returns-in-Some-clause-stays
+returns-in-Some-clause-stays g c =
+    let n = c.args.number in
+    let p = c.in_ok-parked.parked.now in
+    let q = c.clear.new.self in
+    let was : parked_at c.args.self.now n ≡ Some p = grind (arith, common_steps) in
+    let is : get nat_cmp (c.get_mut.follows.lender q) n ≡ Some q = grind (arith, common_steps) in
+    next-same (going_in c.args.self.now.links) (parked_at c.args.self.now n) (get nat_cmp (c.get_mut.follows.lender q) n) p q was is c.clear.ensures
+
+pub returns-clause-next : goal.returns-clause-next
+returns-clause-next g c told =
+    let n = c.args.number in
+    let p = c.in_ok-parked.parked.now in
+    let q = c.clear.new.self in
+    let was : parked_at c.args.self.now n ≡ Some p = grind (arith, common_steps) in
+    let empty : q.waiters.items ≡ [] = none-left q.waiters.items (let short = c.in_default.not-Some in grind (arith, common_steps)) in
+    ap (option_map (λ (w : Waiter). w.connection)) (sym (next-none (going_in c.args.self.now.links) (parked_at c.args.self.now n) p q was c.clear.ensures empty))

@@ -12,7 +12,7 @@ use Rattle.ft_orb.specs.Parked.{going_in}
 use Rattle.std.proofs.lemmas.List.{append-nil}
 use Rattle.giop_core.specs.Items.{item_at}
 use Rattle.ft_orb.specs.Carrying.{due_in, reply_if}
-use Rattle.ft_orb.proofs.Carried.{bare, due-first, due-none, due-reply, some-plain, unsent-nobody}
+use Rattle.ft_orb.proofs.Carried.{bare, carried-fits, due-first, due-none, due-reply, some-plain, unsent-nobody}
 use Rattle.ft_orb.specs.Tellings.{nothing_yet, reply_by}
 use Rattle.ft_orb.proofs.Countings.{counted-written, few-written}
 use Rattle.ft_orb.proofs.Settling.{cleared-late, first-by, nobody-is, none-left, not-at, replied-late, told-is, unreplied-late}
@@ -180,3 +180,13 @@ returns-in_default-pop_front-clause-sent g c =
     let was : parked_at c.args.self.now n ≡ Some p = grind (arith, common_steps) in
     let empty : q.waiters.items ≡ [] = none-left q.waiters.items (let short = c.in_default-pop_front.not-Some in grind (arith, common_steps)) in
     unsent-nobody (map item_at c.args.contexts.now) (due_in c.args.self.now n) (told_in c.args.self.now n) c.args.out.now.items (due-none (going_in c.args.self.now.links) (parked_at c.args.self.now n) p q was c.clear.ensures empty)
+
+pub answer_with-requires-clause-fits : goal.answer_with-requires-clause-fits
+answer_with-requires-clause-fits g c =
+    let n = c.args.number in
+    let p = c.in-Some.parked.now in
+    let q = c.clear.new.self in
+    let was : parked_at c.args.self.now n ≡ Some p = grind (arith, common_steps) in
+    let due : due_in c.args.self.now n ≡ Some c.in-Some-pop_front.first.asker = due-first (going_in c.args.self.now.links) (parked_at c.args.self.now n) p q c.in-Some-pop_front.first _ was c.clear.ensures c.in-Some-pop_front.ensures.items in
+    let told = told-is c.args.self.now n p _ was (sym c.clear.ensures.0.1 ∙ c.in-Some-outcome.is) in
+    carried-fits (map item_at c.args.contexts.now) (due_in c.args.self.now n) (told_in c.args.self.now n) c.in-Some-pop_front.first.asker (performed_in c.in-Some-outcome.outcome) due told c.requires.carries

@@ -1,4 +1,4 @@
-use Rattle.std.proofs.Common.{refl}
+use Rattle.std.proofs.Common.{inl, inr, refl}
 use Rattle.ft_orb.specs.declared.events.Note.TheVariants.{Done, Memory}
 use Rattle.ft_orb.specs.History.{line}
 use Rattle.ft_orb.specs.Runs.{owner_by}
@@ -26,3 +26,9 @@ returns-in-Err-NoConnection-clause-late g c = late-alone _ c.args.connection _ _
 
 pub returns-in-Err-Memory-clause-late : goal.returns-in-Err-Memory-clause-late
 returns-in-Err-Memory-clause-late g c = late-alone _ c.args.connection _ _ c.args.self.now c.feed.new.self (λ s held calls past waiting x. absurd x)
+
+pub returns-in-Err-NoConnection-clause-cut : goal.returns-in-Err-NoConnection-clause-cut
+returns-in-Err-NoConnection-clause-cut g c = inl refl
+
+pub returns-in-Err-Memory-clause-cut : goal.returns-in-Err-Memory-clause-cut
+returns-in-Err-Memory-clause-cut g c = inr refl

@@ -1,4 +1,4 @@
-use Rattle.std.proofs.Common.{List, ℕ, ◌++◌, is_err, ap, ◌∙◌}
+use Rattle.std.proofs.Common.{List, ℕ, ◌++◌, is_err, inr, ap, refl, ◌∙◌}
 use Rattle.ft_orb.specs.Outputs.{table_says}
 use Rattle.ft_orb.specs.Standing.{note_of}
 use Rattle.ft_orb.proofs.Streams.{closed-by, given-up}
@@ -20,3 +20,6 @@ returns-in-Ok-clause-late g c s held calls past waiting x = absurd x
 
 pub returns-in-Err-clause-late : goal.returns-in-Err-clause-late
 returns-in-Err-clause-late g c s held calls past waiting x = absurd x
+
+pub returns-in-Err-clause-cut : goal.returns-in-Err-clause-cut
+returns-in-Err-clause-cut g c = inr refl
