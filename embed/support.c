@@ -81,6 +81,7 @@ const char *lr_strerror(int64_t error) {
       [-LR_E_LONG] = "the message would be longer than its size can say",
       [-LR_E_LOST] = "an allocation failed, and the connection is gone",
       [-LR_E_PLACE] = "the body would stand at a place that is not divisible by 8",
+      [-LR_E_TICKET] = "no request of that ticket waits",
   };
   if (error >= 0) return texts[0];
   if (error < -(int64_t)(sizeof texts / sizeof *texts - 1)) return "an unknown error";
