@@ -88,7 +88,8 @@ void rattle_dealloc(void *at) { release_octets(at); }
   E(CALLS, "as many calls are pending as a client keeps, or it has given all its numbers")                     \
   E(LONG, "the message would be longer than its size can say")                                                 \
   E(LOST, "an allocation failed, and the connection is gone")                                                  \
-  E(PLACE, "the body would stand at a place that is not divisible by 8")
+  E(PLACE, "the body would stand at a place that is not divisible by 8")                                       \
+  E(TICKET, "no request of that ticket waits")
 
 struct error {
   const char *name, *text;

@@ -39,21 +39,21 @@ static struct account *account_of(const unsigned char *name, size_t size) {
 
 /* Changes a balance by an amount, and answers by the new one. Money moves only where the answer counts: at any other
  * error nothing is done. */
-static void change(lr_server *server, struct account *account, int64_t amount) {
+static void change(lr_server *server, uint64_t ticket, struct account *account, int64_t amount) {
   unsigned char result[8];
   lr_place out = {0, 0, LR_BIG, 0};
   if (account == NULL || (amount > 0 && account->balance > INT64_MAX - amount)) {
-    lr_server_system(server, LR_BAD_PARAM, 0, LR_COMPLETED_NO);
+    lr_server_system(server, ticket, LR_BAD_PARAM, 0, LR_COMPLETED_NO);
     return;
   }
   bool is_overdrawn = account->balance + amount < 0;
   int64_t balance = is_overdrawn ? account->balance : account->balance + amount;
   lr_put_longlong(result, sizeof result, &out, balance);
   if (is_overdrawn) {
-    lr_server_raise(server, OVERDRAWN, SIZE(OVERDRAWN), LR_BIG, result, sizeof result);
+    lr_server_raise(server, ticket, OVERDRAWN, SIZE(OVERDRAWN), LR_BIG, result, sizeof result);
     return;
   }
-  int64_t answered = lr_server_answer(server, LR_BIG, result, sizeof result);
+  int64_t answered = lr_server_answer(server, ticket, LR_BIG, result, sizeof result);
   if (answered == LR_OK || answered == LR_E_LOST) account->balance = balance;
 }
 
@@ -64,12 +64,12 @@ static void perform(lr_server *server, const lr_request *asked) {
   lr_place in = {0, 0, LR_BIG, 0};
   uint64_t start = 0, length = 0;
   int64_t amount = 0;
-  if (lr_server_identify(server) != 0) return;
+  if (lr_server_identify(server, asked->ticket) != 0) return;
   if (lr_server_part(server, LR_PART_OPERATION, operation, sizeof operation) < 0) return;
   if (asked->body_size > sizeof body || lr_server_part(server, LR_PART_BODY, body, sizeof body) < 0) return;
   lr_get_string(body, asked->body_size, &in, &start, &length);
   if (operation[0] == 'd') lr_get_longlong(body, asked->body_size, &in, &amount);
-  change(server, account_of(body + start, length), amount);
+  change(server, asked->ticket, account_of(body + start, length), amount);
 }
 
 /* Opens a server with the bank as its one object. */

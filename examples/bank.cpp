@@ -47,8 +47,8 @@ class Bank {
   }
 
   /* Answers the request that waits. Money moves only where the answer counts, so at any other error nothing is done. */
-  lr::Done perform(lr::Server& server) {
-    const auto identified = server.identify();
+  lr::Done perform(lr::Server& server, std::uint64_t ticket) {
+    const auto identified = server.identify(ticket);
     if (!identified.ok()) return identified.error();
     if (*identified) return {};
     const auto operation = server.part(lr::Part::operation);
@@ -61,17 +61,18 @@ class Bank {
       const auto read = in.get_longlong();
       amount = read ? *read : 0;
     }
-    if (!account || account->empty()) return server.system(lr::SystemException::bad_param, 0, lr::Completed::no);
+    if (!account || account->empty())
+      return server.system(ticket, lr::SystemException::bad_param, 0, lr::Completed::no);
     const auto found = accounts_.find(*account);
     const std::int64_t before = found == accounts_.end() ? 0 : found->second;
     if (amount > 0 && before > std::numeric_limits<std::int64_t>::max() - amount)
-      return server.system(lr::SystemException::bad_param, 0, lr::Completed::no);
+      return server.system(ticket, lr::SystemException::bad_param, 0, lr::Completed::no);
     const std::int64_t after = before + amount;
     std::array<std::uint8_t, 8> room;
     lr::Writer out(room);
     if (auto written = out.put_longlong(after < 0 ? before : after); !written) return written;
-    if (after < 0) return server.raise(overdrawn, lr::Order::big, out.octets());
-    auto answered = server.answer(lr::Order::big, out.octets());
+    if (after < 0) return server.raise(ticket, overdrawn, lr::Order::big, out.octets());
+    auto answered = server.answer(ticket, lr::Order::big, out.octets());
     if (amount != 0 && (answered || answered.error() == LR_E_LOST)) accounts_[std::string(*account)] = after;
     return answered;
   }
@@ -101,6 +102,8 @@ int main(int count, char** words) {
   std::printf("%s\n", reference->c_str());
   std::fflush(stdout);
   Bank bank;
-  loop::Loop(*std::move(server), [&](lr::Server& of) { return bank.perform(of); }).serve(listener, stop);
+  loop::Loop(*std::move(server), [&](lr::Server& of, const lr_request& asked) {
+    return bank.perform(of, asked.ticket);
+  }).serve(listener, stop);
   return 0;
 }

@@ -14,14 +14,14 @@ static int64_t sure(int64_t answer) {
 }
 
 /* Performs long long add(in long n), and answers it. */
-static void perform(lr_server *server, int64_t *total) {
+static void perform(lr_server *server, uint64_t ticket, int64_t *total) {
   uint8_t body[8];
   int32_t n;
   lr_place in = {.order = LR_BIG}, out = {.order = LR_BIG};
   int64_t size = sure(lr_server_part(server, LR_PART_BODY, body, sizeof body));
   sure(lr_get_long(body, (size_t)size, &in, &n));
   sure(lr_put_longlong(body, sizeof body, &out, *total + n));
-  sure(lr_server_answer(server, LR_BIG, body, out.next));
+  sure(lr_server_answer(server, ticket, LR_BIG, body, out.next));
   *total += n;
 }
 
@@ -46,7 +46,7 @@ int main(void) {
     int64_t size = sure(lr_client_output(&client, octets, sizeof octets));
     for (int64_t at = 0; at < size;) {
       at += sure(lr_server_feed(&server, connection, now, octets + at, (size_t)(size - at)));
-      if (sure(lr_server_asked(&server, &request))) perform(&server, &total);
+      if (sure(lr_server_asked(&server, &request))) perform(&server, request.ticket, &total);
     }
     size = sure(lr_server_output(&server, octets, sizeof octets));
     if (connection == 1) {

@@ -34,13 +34,14 @@ int main() {
     lr::Octets left(room, sure(client.output(room)));
     while (!left.empty()) {
       left = left.from(sure(server.feed(connection, now, left)));
-      if (!sure(server.asked())) continue;
+      const auto asked = sure(server.asked());
+      if (!asked) continue;
       const auto body = sure(server.part(lr::Part::body));
       const auto after = total + sure(lr::Reader(body).get_long());
       std::uint8_t results[8];
       lr::Writer out(results);
       sure(out.put_longlong(after));
-      sure(server.answer(lr::Order::big, out.octets()));
+      sure(server.answer(asked->ticket, lr::Order::big, out.octets()));
       total = after;
     }
     const auto size = sure(server.output(room));

@@ -76,12 +76,12 @@ static bool collect(struct peer *peer) {
 static bool feed(struct peer *peer) {
   struct timespec time = time_by(CLOCK_REALTIME);
   uint64_t moment = lr_moment((uint64_t)time.tv_sec, (uint32_t)time.tv_nsec);
-  lr_request asked;
+  lr_request asked = {0};
   while (peer->fed < peer->got && peer->size < DUE) {
     size_t left = peer->got - peer->fed;
     int64_t taken = lr_server_feed(served, peer->connection, moment, peer->came + peer->fed, left < STEP ? left : STEP);
     if (lr_server_asked(served, &asked) == 1) performs(served, &asked);
-    lr_server_give_up(served); /* (if it waits still) */
+    lr_server_give_up(served, asked.ticket); /* (if it waits still) */
     if (!collect(peer)) return false;
     peer->fed = taken < 0 ? peer->got : peer->fed + (size_t)taken; /* (where it is gone, what was answered is sent) */
   }

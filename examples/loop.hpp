@@ -119,7 +119,7 @@ struct Peer {
 class Loop {
  public:
   /* Answers the request that waits. One that it could not answer is given up, so of that it must have done nothing. */
-  using Perform = std::function<lr::Done(lr::Server&)>;
+  using Perform = std::function<lr::Done(lr::Server&, const lr_request&)>;
 
   Loop(lr::Server server, Perform perform) : server_(std::move(server)), perform_(std::move(perform)) {}
 
@@ -160,7 +160,7 @@ class Loop {
     while (peer.has_unfed() && peer.due.size() < most_due) {
       const auto taken = server_.feed(peer.connection, moment, lr::Octets(peer.came).from(peer.fed).first(step));
       const auto asked = server_.asked();
-      if (asked && *asked && !perform_(server_)) static_cast<void>(server_.give_up());
+      if (asked && *asked && !perform_(server_, **asked)) static_cast<void>(server_.give_up((*asked)->ticket));
       collect(peer);
       // (where the connection is gone, what was answered is sent)
       peer.fed = taken ? peer.fed + *taken : peer.came.size();

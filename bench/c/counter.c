@@ -26,16 +26,16 @@ static void perform(lr_server *server, const lr_request *asked) {
   lr_place in = {0, 0, LR_BIG, 0}, out = {0, 0, LR_BIG, 0};
   int32_t n = 0;
   int64_t sum;
-  if (lr_server_identify(server) != 0) return;
+  if (lr_server_identify(server, asked->ticket) != 0) return;
   if (lr_server_part(server, LR_PART_OPERATION, operation, sizeof operation) < 0) return;
   if (lr_server_part(server, LR_PART_BODY, body, sizeof body) < 0) return;
   if (operation[0] == 'a') lr_get_long(body, asked->body_size, &in, &n);
   if (__builtin_add_overflow(total, n, &sum)) {
-    lr_server_raise(server, OVERFLOWS, SIZE(OVERFLOWS), LR_BIG, NULL, 0);
+    lr_server_raise(server, asked->ticket, OVERFLOWS, SIZE(OVERFLOWS), LR_BIG, NULL, 0);
     return;
   }
   lr_put_longlong(result, sizeof result, &out, sum);
-  int64_t answered = lr_server_answer(server, LR_BIG, result, sizeof result);
+  int64_t answered = lr_server_answer(server, asked->ticket, LR_BIG, result, sizeof result);
   if (answered == LR_OK || answered == LR_E_LOST) total = sum;
 }
 

@@ -4,8 +4,8 @@
  *     engine CALLS COUNT PIECE [add|repeat|locate|rising|scattered [ENTRIES]]
  *
  * The words after CALLS, the messages and what is printed are those of `benches engine` (crates/benches/src/server.rt).
- * CALLS is which functions are called: `few`, what a server can't do without; `asked`, lr_server_asked too; or `loop`,
- * all that examples/bank.c and its loop call.
+ * CALLS is which functions are called: `few` or `asked`, what a server can't do without; or `loop`, all that
+ * examples/bank.c and its loop call.
  */
 #include <lemonrudder.h>
 #include <stdbool.h>
@@ -49,7 +49,7 @@ static int64_t sure(int64_t answer) {
 }
 
 /* Performs `add` or `get`, whose name has come. */
-static void perform(const char *operation) {
+static void perform(uint64_t ticket, const char *operation) {
   unsigned char body[16], result[8];
   lr_place in = {0, 0, LR_BIG, 0}, out = {0, 0, LR_BIG, 0};
   int32_t n = 0;
@@ -57,7 +57,7 @@ static void perform(const char *operation) {
   if (operation[0] == 'a') sure(lr_get_long(body, (size_t)size, &in, &n));
   total += n;
   sure(lr_put_longlong(result, sizeof result, &out, total));
-  sure(lr_server_answer(&server, LR_BIG, result, sizeof result));
+  sure(lr_server_answer(&server, ticket, LR_BIG, result, sizeof result));
 }
 
 /* Moves what is due to the answers. */
@@ -72,13 +72,10 @@ static int64_t collect(void) {
 static void attend(void) {
   char operation[8];
   lr_request asked;
-  if (calls != FEW && sure(lr_server_asked(&server, &asked)) == 0) return;
-  if (calls == LOOP && sure(lr_server_identify(&server)) != 0) return;
-  int64_t size = lr_server_part(&server, LR_PART_OPERATION, operation, sizeof operation);
-  if (size != LR_E_IDLE) {
-    sure(size);
-    perform(operation);
-  }
+  if (sure(lr_server_asked(&server, &asked)) == 0) return;
+  if (calls == LOOP && sure(lr_server_identify(&server, asked.ticket)) != 0) return;
+  sure(lr_server_part(&server, LR_PART_OPERATION, operation, sizeof operation));
+  perform(asked.ticket, operation);
 }
 
 /* Takes a piece on connection 1 at a moment, and its answers. */
@@ -90,7 +87,7 @@ static void take(uint64_t moment, const unsigned char *piece, size_t size) {
     piece += taken;
     size -= (size_t)taken;
     if (calls != LOOP) continue;
-    if (lr_server_give_up(&server) != LR_E_IDLE) sure(LR_E_ASKING);
+    if (lr_server_give_up(&server, 0) != LR_E_IDLE) sure(LR_E_ASKING); /* (nothing waits) */
     while (collect() > 0) continue;
   }
   if (calls != LOOP) collect();

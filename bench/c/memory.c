@@ -102,14 +102,15 @@ static size_t request(unsigned char *room, const char *operation, const char *cl
 /* Takes octets of a connection to their end, answers what is asked by so many octets, and drops what is due. */
 static void take(uint64_t connection, uint64_t now, const unsigned char *octets, size_t size, size_t result) {
   unsigned char room[ROOM] = {0};
-  lr_request asked;
+  lr_request asked = {0};
   while (size > 0) {
     int64_t taken = sure(lr_server_feed(&server, connection, now, octets, size));
     octets += taken;
     size -= (size_t)taken;
     bool is_asking = sure(lr_server_asked(&server, &asked)) == 1;
-    if (is_asking && asked.is_raw) sure(lr_server_answer_raw(&server, LR_NO_EXCEPTION, LR_BIG, room, result));
-    if (is_asking && !asked.is_raw) sure(lr_server_answer(&server, LR_BIG, room, result));
+    uint64_t ticket = asked.ticket;
+    if (is_asking && asked.is_raw) sure(lr_server_answer_raw(&server, ticket, LR_NO_EXCEPTION, LR_BIG, room, result));
+    if (is_asking && !asked.is_raw) sure(lr_server_answer(&server, ticket, LR_BIG, room, result));
     while (sure(lr_server_output(&server, room, sizeof room)) > 0) continue;
   }
 }

@@ -72,9 +72,10 @@ __all__ = [
     "BIG", "LITTLE", "FT_REQUEST", "LIMIT", "PARTIALS", "Asked", "Assembler", "Body", "Catalogue", "Client",
     "Completed", "Engine", "Error", "Expired", "Fault", "ForwardRequest", "FtRequest", "GiveUp", "Ior",
     "LemonrudderError", "LocateStatus", "Message", "MessageType", "NeedsAddressing", "Order", "Profile", "RawReply",
-    "Reader", "ReplyStatus", "Server", "Signature", "StreamError", "SystemException", "SystemName", "UserException",
-    "Wish", "Writer", "messages", "moment_of", "now", "pack", "type_codes", "unpack", "write_cancel", "write_close",
-    "write_error", "write_ft", "write_locate_reply", "write_locate_request", "write_reply", "write_request",
+    "Reader", "Refuse", "ReplyStatus", "Server", "Signature", "StreamError", "SystemException", "SystemName",
+    "UserException", "Wish", "Writer", "messages", "moment_of", "now", "pack", "type_codes", "unpack", "write_cancel",
+    "write_close", "write_error", "write_ft", "write_locate_reply", "write_locate_request", "write_reply",
+    "write_request",
 ]
 
 Octets = Union[bytes, bytearray, memoryview]
@@ -218,6 +219,7 @@ class Error(enum.IntEnum):
     LONG = -23
     LOST = -24
     PLACE = -25
+    TICKET = -26
 
 
 class _Part(enum.IntEnum):
@@ -277,10 +279,10 @@ class _Slot(ctypes.Structure):
 
 class _Request(ctypes.Structure):
     _fields_ = [
-        ("connection", c_uint64), ("key_size", c_uint64), ("operation_size", c_uint64), ("body_size", c_uint64),
-        ("body_at", c_uint64), ("body_order", c_uint32), ("is_raw", c_uint32), ("request_id", c_uint32),
-        ("version", c_uint32), ("wish", c_uint32), ("has_client", c_uint32), ("retention_id", c_int32),
-        ("reserved", c_uint32), ("client_size", c_uint64), ("expiration", c_uint64),
+        ("ticket", c_uint64), ("connection", c_uint64), ("key_size", c_uint64), ("operation_size", c_uint64),
+        ("body_size", c_uint64), ("body_at", c_uint64), ("body_order", c_uint32), ("is_raw", c_uint32),
+        ("request_id", c_uint32), ("version", c_uint32), ("wish", c_uint32), ("has_client", c_uint32),
+        ("retention_id", c_int32), ("reserved", c_uint32), ("client_size", c_uint64), ("expiration", c_uint64),
     ]
 
 
@@ -351,12 +353,14 @@ _FUNCTIONS: Dict[str, Tuple[Any, ...]] = {
     "lr_server_feed": (_SLOT, _U64, _U64, *_LENT),
     "lr_server_asked": (_SLOT, ctypes.POINTER(_Request)),
     "lr_server_part": (_SLOT, _U32, *_LENT),
-    "lr_server_answer": (_SLOT, _U32, *_LENT),
-    "lr_server_raise": (_SLOT, *_LENT, _U32, *_LENT),
-    "lr_server_system": (_SLOT, _U32, _U32, _U32),
-    "lr_server_answer_raw": (_SLOT, _U32, _U32, *_LENT),
-    "lr_server_identify": (_SLOT,),
-    "lr_server_give_up": (_SLOT,),
+    "lr_server_answer": (_SLOT, _U64, _U32, *_LENT),
+    "lr_server_raise": (_SLOT, _U64, *_LENT, _U32, *_LENT),
+    "lr_server_system": (_SLOT, _U64, _U32, _U32, _U32),
+    "lr_server_answer_raw": (_SLOT, _U64, _U32, _U32, *_LENT),
+    "lr_server_identify": (_SLOT, _U64),
+    "lr_server_give_up": (_SLOT, _U64),
+    "lr_server_refuse": (_SLOT, _U64, _U32, _U32),
+    "lr_server_goodbye": (_SLOT, _U64),
     "lr_server_output": (_SLOT, *_LENT),
     "lr_client_open": (_SLOT, *_LENT, _U32, _U32, _U32),
     "lr_client_connected": (_SLOT, _U64),
@@ -1239,6 +1243,18 @@ class GiveUp(Exception):
     answer, and it is asked again when the request is sent again."""
 
 
+class Refuse(Exception):
+    """Raised by a servant that refuses a request for now and has done nothing: the answer is a system exception with
+    COMPLETED_NO, nothing is kept, and it is asked again when the request is sent again. The connection stays.
+
+    name: a name of SystemName; a server answers any other as TRANSIENT. minor: its minor code.
+    """
+
+    def __init__(self, name: str = "TRANSIENT", minor: int = 0) -> None:
+        self.name, self.minor = name, minor
+        super().__init__(self.name, self.minor)
+
+
 class Signature(NamedTuple):
     """The types of an operation, as formats.
 
@@ -1434,7 +1450,7 @@ class Engine(_Held):
 
     def answer_octets(self, octets: Octets, order: int = BIG) -> None:
         """Answers by results as octets, aligned from place 0. Errors as of answer."""
-        _call(_library.lr_server_answer, self._slot, order, *_lent(octets))
+        _call(_library.lr_server_answer, self._slot, self._ticket(), order, *_lent(octets))
 
     def raise_user(self, id: str, *members: Any) -> None:
         """Answers by an exception that the operation declares: its repository id, and its members.
@@ -1444,7 +1460,8 @@ class Engine(_Held):
         raises = self._waiting().raises
         if id not in raises:
             raise LemonrudderError(Error.OUTCOME, f"the operation does not raise {id}")
-        _call(_library.lr_server_raise, self._slot, *_lent(id), BIG, *_lent(pack(raises[id], *members)))
+        octets = pack(raises[id], *members)
+        _call(_library.lr_server_raise, self._slot, self._ticket(), *_lent(id), BIG, *_lent(octets))
 
     def raise_system(self, name: Union[str, int], minor: int = 0, completed: int = Completed.NO) -> None:
         """Answers by a system exception, a `SystemName` or its name.
@@ -1452,22 +1469,39 @@ class Engine(_Held):
         Errors as of answer; KeyError: there is no such name.
         """
         number = SystemName[name] if isinstance(name, str) else name
-        _call(_library.lr_server_system, self._slot, number, minor, completed)
+        _call(_library.lr_server_system, self._slot, self._ticket(), number, minor, completed)
 
     def answer_raw(self, octets: Octets, order: int = BIG, status: int = ReplyStatus.NO_EXCEPTION) -> None:
         """Answers a raw operation by the body of a Reply: at most 1048576 octets, which are written for a place
         divisible by 8, and its status, NO_EXCEPTION to LOCATION_FORWARD. Errors as of answer."""
-        _call(_library.lr_server_answer_raw, self._slot, status, order, *_lent(octets))
+        _call(_library.lr_server_answer_raw, self._slot, self._ticket(), status, order, *_lent(octets))
 
     def identify(self) -> bool:
         """Answers _is_a and _non_existent of an object that names its repository ids. Returns whether that is what
         waited. Errors as of answer."""
-        return _call(_library.lr_server_identify, self._slot) == 1
+        return _call(_library.lr_server_identify, self._slot, self._ticket()) == 1
 
     def give_up(self) -> None:
         """Gives up the request that waits: you can't perform it now, and have done nothing. Nothing is kept, and its
         connection is gone; it is asked again when it comes again. Raises LemonrudderError (IDLE)."""
-        _call(_library.lr_server_give_up, self._slot)
+        _call(_library.lr_server_give_up, self._slot, self._ticket())
+
+    def refuse(self, name: Union[str, int], minor: int = 0) -> None:
+        """Refuses the request that waits, for now, by a system exception with COMPLETED_NO, a `SystemName` or its name:
+        you have done nothing. Nothing is kept, and it is asked again when it comes again. Its connection stays.
+
+        Raises LemonrudderError (IDLE; LOST: it is given up, for want of memory); KeyError: there is no such name.
+        """
+        number = SystemName[name] if isinstance(name, str) else name
+        _call(_library.lr_server_refuse, self._slot, self._ticket(), number, minor)
+
+    def goodbye(self) -> None:
+        """Gives up the request that waits, and says goodbye first: CloseConnection is due, by which its client knows
+        that nothing was done. An ORB connects again at once and sends it again: for draining and restarts alone.
+
+        Raises LemonrudderError (IDLE; MEMORY: it waits still).
+        """
+        _call(_library.lr_server_goodbye, self._slot, self._ticket())
 
     def output(self) -> bytes:
         """Takes the octets that are due, all of them; they belong to the connection of the last call."""
@@ -1482,6 +1516,12 @@ class Engine(_Held):
         """A part, which has about so many octets. (A body is made of its values each time that it is asked for.)"""
         room = self._room if size <= len(self._room) else ctypes.create_string_buffer(size)
         return _copied(room, _library.lr_server_part, self._slot, part)
+
+    def _ticket(self) -> int:
+        """The ticket of the request that waits; 0, which no request has, where none does."""
+        request = _Request()
+        _call(_library.lr_server_asked, self._slot, request)
+        return request.ticket
 
     def _waiting(self) -> Signature:
         """The types of the operation that waits."""
@@ -1518,9 +1558,9 @@ class Server:
         await server.serve_forever()
 
     A function is called with the values of the arguments, and returns the results: None where there are none, the value
-    where there is one, else a tuple. It may raise UserException, SystemException or GiveUp. Any other Python exception
-    is logged and answered as UNKNOWN, COMPLETED_MAYBE, an exception that the operation does not declare among them;
-    results that are not of its types as INTERNAL, COMPLETED_MAYBE. Either is the outcome of the request, and its
+    where there is one, else a tuple. It may raise UserException, SystemException, GiveUp or Refuse. Any other Python
+    exception is logged and answered as UNKNOWN, COMPLETED_MAYBE, an exception that the operation does not declare among
+    them; results that are not of its types as INTERNAL, COMPLETED_MAYBE. Either is the outcome of the request, and its
     repeats get it again.
 
     Functions are plain, not `async`. One request waits at a time, so that requests act in the order in which they came,
@@ -1672,6 +1712,9 @@ class Server:
         except GiveUp:
             connection.flush()
             engine.give_up()
+        except Refuse as refused:
+            name = refused.name if refused.name in SystemName.__members__ else "TRANSIENT"
+            self._hand_in("UNKNOWN", engine.refuse, name, refused.minor)
         except UserException as raised:
             self._hand_in("UNKNOWN", engine.raise_user, raised.id, *raised.values)
         except SystemException as raised:

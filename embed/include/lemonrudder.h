@@ -99,7 +99,8 @@ enum {
   LR_E_CALLS = -22,     /* as many calls are pending as a client keeps, or it has given all its numbers */
   LR_E_LONG = -23,      /* the message would be longer than its size can say */
   LR_E_LOST = -24,      /* an allocation failed, and the connection is gone */
-  LR_E_PLACE = -25      /* the body would stand at a place that is not divisible by 8 */
+  LR_E_PLACE = -25,     /* the body would stand at a place that is not divisible by 8 */
+  LR_E_TICKET = -26     /* no request of that ticket waits */
 };
 
 /* The text of an error, with a NUL at its end; that of LR_OK, where the number is 0 or more. */
@@ -238,8 +239,11 @@ LR_API int64_t lr_catalogue_repository_ids(lr_catalogue *catalogue, const void *
  * nothing of that name, arguments not valid, no room. Else it comes to you.
  *
  * One request waits at a time. While it does, lr_server_feed, lr_server_connect, lr_server_lost and
- * lr_server_farewell answer LR_E_ASKING. What is due belongs to one connection; until it is taken, lr_server_feed and
- * lr_server_farewell of another answer LR_E_DUE.
+ * lr_server_farewell answer LR_E_ASKING. Each call that answers it, or gives it up, takes its ticket, which a server
+ * gives to no other request: so an outcome that comes late is not taken for that of another. Such a call answers the
+ * first of these that holds: LR_E_EMPTY, LR_E_RANGE, LR_E_IDLE (no request waits), LR_E_TICKET (another one does), and
+ * then what else its comment names; but for LR_E_LOST it waits still, and nothing has changed. What is due belongs to
+ * one connection; until it is taken, lr_server_feed and lr_server_farewell of another answer LR_E_DUE.
  */
 
 /* Opens a server of the objects of a catalogue, which is empty afterwards. A message has at most message_limit octets,
@@ -273,6 +277,7 @@ LR_API int64_t lr_server_feed(lr_server *server, uint64_t connection, uint64_t m
 
 /* A request that waits for its outcome. */
 typedef struct {
+  uint64_t ticket;         /* of this request alone, and never 0 */
   uint64_t connection;
   uint64_t key_size;       /* of LR_PART_KEY */
   uint64_t operation_size; /* of LR_PART_OPERATION */
@@ -298,36 +303,49 @@ LR_API int64_t lr_server_asked(lr_server *server, lr_request *request);
  * LR_E_EMPTY, LR_E_IDLE, LR_E_NONE, LR_E_MEMORY. */
 LR_API int64_t lr_server_part(lr_server *server, uint32_t part, void *room, size_t size);
 
-/* Answers the request that waits by its results: octets of an order, aligned from place 0, and none left over. They
- * are kept as its outcome, where it carries FT_REQUEST. A request that wishes no reply is answered all the same.
- * LR_E_EMPTY, LR_E_IDLE, LR_E_RANGE, LR_E_OUTCOME, LR_E_MEMORY (it waits still), and LR_E_LOST: the outcome counts
- * and is kept, and its reply is lost. */
-LR_API int64_t lr_server_answer(lr_server *server, uint32_t order, const void *results, size_t size);
+/* Answers the request of a ticket, which waits, by its results: octets of an order, aligned from place 0, and none left
+ * over. They are kept as its outcome, where it carries FT_REQUEST. A request that wishes no reply is answered all the
+ * same. LR_E_EMPTY, LR_E_RANGE, LR_E_IDLE, LR_E_TICKET, LR_E_OUTCOME, LR_E_MEMORY (it waits still), and LR_E_LOST: the
+ * outcome counts and is kept, and its reply is lost. */
+LR_API int64_t lr_server_answer(lr_server *server, uint64_t ticket, uint32_t order, const void *results, size_t size);
 
 /* Answers by an exception that the operation declares: its repository id, and its members as of lr_server_answer. It is
  * an outcome as results are: kept, and what each repeat gets.
  * Errors as of lr_server_answer. */
-LR_API int64_t lr_server_raise(lr_server *server, const void *id, size_t id_size, uint32_t order,
+LR_API int64_t lr_server_raise(lr_server *server, uint64_t ticket, const void *id, size_t id_size, uint32_t order,
                                const void *members, size_t size);
 
 /* Answers by a system exception, LR_MARSHAL to LR_TRANSIENT, with a minor code and LR_COMPLETED_... It is an outcome as
- * results are: kept until the request expires, and what each repeat gets; where it may be performed later, give up.
+ * results are: kept until the request expires, and what each repeat gets; where it may be performed later, refuse.
  * Errors as of lr_server_answer. */
-LR_API int64_t lr_server_system(lr_server *server, uint32_t name, uint32_t minor, uint32_t completed);
+LR_API int64_t lr_server_system(lr_server *server, uint64_t ticket, uint32_t name, uint32_t minor, uint32_t completed);
 
 /* Answers a raw operation by the body of a Reply: its status, LR_NO_EXCEPTION to LR_LOCATION_FORWARD, its order, and
  * at most 1048576 octets, written for a place divisible by 8. Errors as of lr_server_answer. */
-LR_API int64_t lr_server_answer_raw(lr_server *server, uint32_t status, uint32_t order, const void *body, size_t size);
+LR_API int64_t lr_server_answer_raw(lr_server *server, uint64_t ticket, uint32_t status, uint32_t order,
+                                    const void *body, size_t size);
 
 /* Answers _is_a and _non_existent of an object that names its repository ids: 1 where that is what waits, and it is
- * answered; 0 where another request waits. Every object is a CORBA::Object. Errors as of lr_server_answer; LR_E_IDLE
- * where none waits. */
-LR_API int64_t lr_server_identify(lr_server *server);
+ * answered; 0 where it is another operation. Every object is a CORBA::Object. Errors as of lr_server_answer, but for
+ * LR_E_RANGE. */
+LR_API int64_t lr_server_identify(lr_server *server, uint64_t ticket);
 
-/* Gives up the request that waits: you can't perform it now, and have done nothing. Nothing is kept, and its
- * connection is gone; it is asked again when it comes again. What was answered before it stays due.
- * LR_E_EMPTY, LR_E_IDLE. */
-LR_API int64_t lr_server_give_up(lr_server *server);
+/* Gives up the request of a ticket, which waits: you can't perform it now, and have done nothing. Nothing is kept, and
+ * its connection is gone; it is asked again when it comes again. What was answered before it stays due.
+ * LR_E_EMPTY, LR_E_IDLE, LR_E_TICKET. */
+LR_API int64_t lr_server_give_up(lr_server *server, uint64_t ticket);
+
+/* Refuses the request of a ticket, which waits, for now: you have done nothing. A system exception, LR_MARSHAL to
+ * LR_TRANSIENT, with a minor code and LR_COMPLETED_NO is due, where it wishes a reply; nothing is kept, and it is asked
+ * again when it comes again. Its connection stays. LR_E_EMPTY, LR_E_RANGE, LR_E_IDLE, LR_E_TICKET, and LR_E_LOST: for
+ * want of memory it is given up, and its connection is gone. */
+LR_API int64_t lr_server_refuse(lr_server *server, uint64_t ticket, uint32_t name, uint32_t minor);
+
+/* Gives up the request of a ticket, as lr_server_give_up does, and says goodbye first: CloseConnection is due (CORBA
+ * 3.3 Part 2, 9.4.7), by which its client knows that nothing was done. An ORB connects again at once, and sends it
+ * again: so this is for draining and restarts alone, and while you are short of something you refuse.
+ * LR_E_EMPTY, LR_E_IDLE, LR_E_TICKET, LR_E_MEMORY (it waits still). */
+LR_API int64_t lr_server_goodbye(lr_server *server, uint64_t ticket);
 
 /* Moves octets that are due into the room, as many as it has, and answers how many: 0 where none are left. They
  * belong to the connection of the last lr_server_feed or lr_server_farewell. LR_E_EMPTY. */

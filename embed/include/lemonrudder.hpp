@@ -652,26 +652,34 @@ class Server : public Slot<lr_server> {
     return detail::copied(copy, part == Part::body ? request.body_size : detail::small_room);
   }
 
-  Done answer(Order order, Octets results) noexcept {
-    return detail::done(lr_server_answer(slot(), static_cast<std::uint32_t>(order), results.data(), results.size()));
+  /* Each call that answers takes the ticket of the request that waits. */
+  Done answer(std::uint64_t ticket, Order order, Octets results) noexcept {
+    return detail::done(
+        lr_server_answer(slot(), ticket, static_cast<std::uint32_t>(order), results.data(), results.size()));
   }
-  Done raise(Octets id, Order order, Octets members) noexcept {
-    return detail::done(lr_server_raise(slot(), id.data(), id.size(), static_cast<std::uint32_t>(order), members.data(),
-                                        members.size()));
+  Done raise(std::uint64_t ticket, Octets id, Order order, Octets members) noexcept {
+    return detail::done(lr_server_raise(slot(), ticket, id.data(), id.size(), static_cast<std::uint32_t>(order),
+                                        members.data(), members.size()));
   }
   /* Answers by a system exception. */
-  Done system(SystemException name, std::uint32_t minor, Completed completed) noexcept {
-    return detail::done(
-        lr_server_system(slot(), static_cast<std::uint32_t>(name), minor, static_cast<std::uint32_t>(completed)));
+  Done system(std::uint64_t ticket, SystemException name, std::uint32_t minor, Completed completed) noexcept {
+    return detail::done(lr_server_system(slot(), ticket, static_cast<std::uint32_t>(name), minor,
+                                         static_cast<std::uint32_t>(completed)));
   }
   /* Answers a raw operation by a status, `no_exception` to `location_forward`, and the body of a Reply. */
-  Done answer_raw(ReplyStatus status, Order order, Octets body) noexcept {
-    return detail::done(lr_server_answer_raw(slot(), static_cast<std::uint32_t>(status),
+  Done answer_raw(std::uint64_t ticket, ReplyStatus status, Order order, Octets body) noexcept {
+    return detail::done(lr_server_answer_raw(slot(), ticket, static_cast<std::uint32_t>(status),
                                              static_cast<std::uint32_t>(order), body.data(), body.size()));
   }
   /* Answers _is_a and _non_existent: true where that is what waits. */
-  Result<bool> identify() noexcept { return detail::truth(lr_server_identify(slot())); }
-  Done give_up() noexcept { return detail::done(lr_server_give_up(slot())); }
+  Result<bool> identify(std::uint64_t ticket) noexcept { return detail::truth(lr_server_identify(slot(), ticket)); }
+  Done give_up(std::uint64_t ticket) noexcept { return detail::done(lr_server_give_up(slot(), ticket)); }
+  /* Refuses it for now, by a system exception with Completed::no; nothing is kept, and its connection stays. */
+  Done refuse(std::uint64_t ticket, SystemException name, std::uint32_t minor) noexcept {
+    return detail::done(lr_server_refuse(slot(), ticket, static_cast<std::uint32_t>(name), minor));
+  }
+  /* Gives it up, and says goodbye first: for draining and restarts alone. */
+  Done goodbye(std::uint64_t ticket) noexcept { return detail::done(lr_server_goodbye(slot(), ticket)); }
 
   /* Moves octets that are due into the room, and answers how many. */
   Count output(Room room) noexcept { return detail::count(lr_server_output(slot(), room.data(), room.size())); }

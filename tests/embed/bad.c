@@ -57,11 +57,16 @@ static bool is_due(lr_server *server) {
   return equal(room, (size_t)lr_server_output(server, room, sizeof room), &wanted);
 }
 
+/* The ticket of the request that was asked last. */
+static uint64_t ticket = 1;
+
 /* Feeds the message, which is to be asked. */
 static void ask(lr_server *server, uint64_t connection) {
   lr_request request;
   WANT(lr_server_feed(server, connection, NOW, message.all, message.size), (int64_t)message.size);
   WANT(lr_server_asked(server, &request), 1);
+  CHECK(request.ticket != 0);
+  ticket = request.ticket;
 }
 
 /* A server answers a request on a new connection. */
@@ -77,7 +82,7 @@ static void server_works(lr_server *server, uint64_t connection) {
   CHECK(request.retention_id == 0 && request.client_size == 0 && request.expiration == 0);
   WANT(lr_server_part(server, LR_PART_BODY, room, sizeof room), 4);
   CHECK(memcmp(room, "\0\0\0\5", 4) == 0);
-  WANT(lr_server_answer(server, LR_BIG, "\0\0\0\6", 4), LR_OK);
+  WANT(lr_server_answer(server, ticket, LR_BIG, "\0\0\0\6", 4), LR_OK);
   make_reply(7, 6);
   CHECK(is_due(server));
 }
@@ -160,12 +165,14 @@ static lr_catalogue given;
   CALL(server_feed, SERVER, lr_server_feed(slot, 1, NOW, "G", 1))                                       \
   CALL(server_asked, SERVER, lr_server_asked(slot, &got_request))                                       \
   CALL(server_part, SERVER, lr_server_part(slot, LR_PART_KEY, room, sizeof room))                       \
-  CALL(server_answer, SERVER, lr_server_answer(slot, LR_BIG, "\0\0\0\1", 4))                            \
-  CALL(server_raise, SERVER, lr_server_raise(slot, "IDL:E:1.0", 9, LR_BIG, NULL, 0))                    \
-  CALL(server_system, SERVER, lr_server_system(slot, LR_UNKNOWN, 0, LR_COMPLETED_NO))                   \
-  CALL(server_answer_raw, SERVER, lr_server_answer_raw(slot, LR_NO_EXCEPTION, LR_BIG, NULL, 0))         \
-  CALL(server_identify, SERVER, lr_server_identify(slot))                                               \
-  CALL(server_give_up, SERVER, lr_server_give_up(slot))                                                 \
+  CALL(server_answer, SERVER, lr_server_answer(slot, ticket, LR_BIG, "\0\0\0\1", 4))                    \
+  CALL(server_raise, SERVER, lr_server_raise(slot, ticket, "IDL:E:1.0", 9, LR_BIG, NULL, 0))            \
+  CALL(server_system, SERVER, lr_server_system(slot, ticket, LR_UNKNOWN, 0, LR_COMPLETED_NO))           \
+  CALL(server_answer_raw, SERVER, lr_server_answer_raw(slot, ticket, LR_NO_EXCEPTION, LR_BIG, NULL, 0)) \
+  CALL(server_identify, SERVER, lr_server_identify(slot, ticket))                                       \
+  CALL(server_give_up, SERVER, lr_server_give_up(slot, ticket))                                         \
+  CALL(server_refuse, SERVER, lr_server_refuse(slot, ticket, LR_TRANSIENT, 0))                          \
+  CALL(server_goodbye, SERVER, lr_server_goodbye(slot, ticket))                                         \
   CALL(server_output, SERVER, lr_server_output(slot, room, sizeof room))                                \
   CALL(client_connected, CLIENT, lr_client_connected(slot, NOW))                                        \
   CALL(client_lost, CLIENT, lr_client_lost(slot))                                                       \
@@ -400,16 +407,16 @@ static void exceptions_are_of_the_next_operation(void) {
   WANT(lr_server_connect(&server, 1), LR_OK);
   make_request(1, "c", "after", NULL, 0, 5);
   ask(&server, 1);
-  WANT(lr_server_raise(&server, id, SIZE(id), LR_BIG, NULL, 0), LR_E_OUTCOME);
-  WANT(lr_server_answer(&server, LR_BIG, NULL, 0), LR_OK);
+  WANT(lr_server_raise(&server, ticket, id, SIZE(id), LR_BIG, NULL, 0), LR_E_OUTCOME);
+  WANT(lr_server_answer(&server, ticket, LR_BIG, NULL, 0), LR_OK);
   make_request(2, "c", "quiet", NULL, 0, 5);
   ask(&server, 1);
-  WANT(lr_server_raise(&server, id, SIZE(id), LR_BIG, NULL, 0), LR_E_OUTCOME);
-  WANT(lr_server_answer(&server, LR_BIG, NULL, 0), LR_OK);
+  WANT(lr_server_raise(&server, ticket, id, SIZE(id), LR_BIG, NULL, 0), LR_E_OUTCOME);
+  WANT(lr_server_answer(&server, ticket, LR_BIG, NULL, 0), LR_OK);
   lr_server_output(&server, room, sizeof room);
   make_request(3, "c", "raises", NULL, 0, 5);
   ask(&server, 1);
-  WANT(lr_server_raise(&server, id, SIZE(id), LR_BIG, NULL, 0), LR_OK);
+  WANT(lr_server_raise(&server, ticket, id, SIZE(id), LR_BIG, NULL, 0), LR_OK);
   begin_reply(&wanted, 2, LR_BIG, 3, LR_USER_EXCEPTION);
   put_text(&wanted, id);
   end_message(&wanted);
@@ -428,12 +435,15 @@ static void idle_servers_refuse(lr_server *server) {
   CHECK(memcmp(&request, &before, sizeof request) == 0);
   for (uint32_t part = LR_PART_KEY; part <= LR_PART_CLIENT; part++)
     WANT(lr_server_part(server, part, room, sizeof room), LR_E_IDLE);
-  WANT(lr_server_answer(server, LR_BIG, "\0\0\0\1", 4), LR_E_IDLE);
-  WANT(lr_server_raise(server, OVERFLOW_ID, SIZE(OVERFLOW_ID), LR_BIG, "\0\0\0\1", 4), LR_E_IDLE);
-  WANT(lr_server_system(server, LR_UNKNOWN, 0, LR_COMPLETED_NO), LR_E_IDLE);
-  WANT(lr_server_answer_raw(server, LR_NO_EXCEPTION, LR_BIG, NULL, 0), LR_E_IDLE);
-  WANT(lr_server_identify(server), LR_E_IDLE);
-  WANT(lr_server_give_up(server), LR_E_IDLE);
+  WANT(lr_server_answer(server, ticket, LR_BIG, "\0\0\0\1", 4), LR_E_IDLE);
+  WANT(lr_server_raise(server, ticket, OVERFLOW_ID, SIZE(OVERFLOW_ID), LR_BIG, "\0\0\0\1", 4), LR_E_IDLE);
+  WANT(lr_server_system(server, ticket, LR_UNKNOWN, 0, LR_COMPLETED_NO), LR_E_IDLE);
+  WANT(lr_server_answer_raw(server, ticket, LR_NO_EXCEPTION, LR_BIG, NULL, 0), LR_E_IDLE);
+  WANT(lr_server_identify(server, ticket), LR_E_IDLE);
+  WANT(lr_server_give_up(server, ticket), LR_E_IDLE);
+  WANT(lr_server_refuse(server, ticket, LR_TRANSIENT, 0), LR_E_IDLE);
+  WANT(lr_server_refuse(server, ticket, LR_TRANSIENT + 1, 0), LR_E_RANGE);
+  WANT(lr_server_goodbye(server, ticket), LR_E_IDLE);
 }
 
 /* A request waits: nothing else is taken, and no outcome that is none. */
@@ -448,37 +458,137 @@ static void asking_servers_refuse(lr_server *server) {
   WANT(lr_server_part(server, LR_PART_PAYLOAD, room, sizeof room), LR_E_NONE);
   WANT(lr_server_part(server, 5, room, sizeof room), LR_E_NONE);
   WANT(lr_server_part(server, UINT32_MAX, room, sizeof room), LR_E_NONE);
-  WANT(lr_server_system(server, LR_TRANSIENT + 1, 0, LR_COMPLETED_NO), LR_E_RANGE);
-  WANT(lr_server_system(server, UINT32_MAX, 0, LR_COMPLETED_NO), LR_E_RANGE);
-  WANT(lr_server_system(server, LR_UNKNOWN, 0, 3), LR_E_RANGE);
-  WANT(lr_server_identify(server), 0);
+  WANT(lr_server_system(server, ticket, LR_TRANSIENT + 1, 0, LR_COMPLETED_NO), LR_E_RANGE);
+  WANT(lr_server_system(server, ticket, UINT32_MAX, 0, LR_COMPLETED_NO), LR_E_RANGE);
+  WANT(lr_server_system(server, ticket, LR_UNKNOWN, 0, 3), LR_E_RANGE);
+  WANT(lr_server_refuse(server, ticket, LR_TRANSIENT + 1, 0), LR_E_RANGE);
+  WANT(lr_server_refuse(server, ticket, UINT32_MAX, 0), LR_E_RANGE);
+  WANT(lr_server_identify(server, ticket), 0);
+}
+
+/* What each call answers that takes a ticket, where that of the request that waits is another one. A number that is none
+ * comes first, and what comes of an outcome last. */
+static void other_tickets_are_refused(lr_server *server, uint64_t other) {
+  WANT(lr_server_answer(server, other, 2, "\0\0\0\1", 4), LR_E_RANGE);
+  WANT(lr_server_answer(server, other, LR_BIG, "\0\0\0\1", 4), LR_E_TICKET);
+  WANT(lr_server_answer(server, other, LR_BIG, NULL, 0), LR_E_TICKET);
+  WANT(lr_server_raise(server, other, OVERFLOW_ID, SIZE(OVERFLOW_ID), 2, "\0\0\0\1", 4), LR_E_RANGE);
+  WANT(lr_server_raise(server, other, OVERFLOW_ID, SIZE(OVERFLOW_ID), LR_BIG, "\0\0\0\1", 4), LR_E_TICKET);
+  WANT(lr_server_raise(server, other, NULL, 0, LR_BIG, NULL, 0), LR_E_TICKET);
+  WANT(lr_server_system(server, other, LR_TRANSIENT + 1, 0, LR_COMPLETED_NO), LR_E_RANGE);
+  WANT(lr_server_system(server, other, LR_UNKNOWN, 0, LR_COMPLETED_NO), LR_E_TICKET);
+  WANT(lr_server_answer_raw(server, other, LR_NO_EXCEPTION, 2, NULL, 0), LR_E_RANGE);
+  WANT(lr_server_answer_raw(server, other, LR_NO_EXCEPTION, LR_BIG, NULL, 0), LR_E_TICKET);
+  WANT(lr_server_identify(server, other), LR_E_TICKET);
+  WANT(lr_server_give_up(server, other), LR_E_TICKET);
+  WANT(lr_server_refuse(server, other, LR_TRANSIENT + 1, 0), LR_E_RANGE);
+  WANT(lr_server_refuse(server, other, LR_TRANSIENT, 0), LR_E_TICKET);
+  WANT(lr_server_goodbye(server, other), LR_E_TICKET);
+}
+
+/* A request is answered by its own ticket, and by no other: what comes late for one that was given up is not taken. */
+static void tickets_are_of_one_request(void) {
+  lr_server server = LR_INIT;
+  open_server(&server);
+  for (uint64_t connection = 1, late = UINT64_MAX; connection <= 3; connection++, late = ticket) {
+    WANT(lr_server_connect(&server, connection), LR_OK);
+    make_request(7, "c", "add", "A", 3, 5);
+    ask(&server, connection);
+    CHECK(ticket != late);
+    other_tickets_are_refused(&server, late);
+    other_tickets_are_refused(&server, 0);
+    other_tickets_are_refused(&server, ticket + 1);
+    asking_servers_refuse(&server);
+    if (connection < 3) {
+      WANT(lr_server_give_up(&server, ticket), LR_OK);
+      WANT(lr_server_give_up(&server, ticket), LR_E_IDLE);
+      continue;
+    }
+    WANT(lr_server_answer(&server, ticket, LR_BIG, "\0\0\0\6", 4), LR_OK);
+    make_reply(7, 6);
+    CHECK(is_due(&server));
+  }
+  lr_close(&server);
+}
+
+/* A request is refused, and so is its repeat; then it is performed once. Its connection stays. */
+static void refused_requests_come_again(void) {
+  lr_server server = LR_INIT;
+  open_server(&server);
+  WANT(lr_server_connect(&server, 1), LR_OK);
+  make_request(7, "c", "add", "A", 3, 5);
+  for (uint64_t times = 1; times <= 2; times++) {
+    ask(&server, 1);
+    WANT(lr_server_refuse(&server, ticket, times == 1 ? LR_TRANSIENT : LR_NO_RESOURCES, 9), LR_OK);
+    WANT(lr_server_refuse(&server, ticket, LR_TRANSIENT, 9), LR_E_IDLE);
+    system_reply(&wanted, 2, 7, times == 1 ? "IDL:omg.org/CORBA/TRANSIENT:1.0" : "IDL:omg.org/CORBA/NO_RESOURCES:1.0",
+                 LR_COMPLETED_NO);
+    wanted.all[wanted.size - 5] = 9; /* (the minor code) */
+    CHECK(is_due(&server));
+    WANT(lr_server_is_closed(&server, 1), 0);
+  }
+  ask(&server, 1);
+  WANT(lr_server_answer(&server, ticket, LR_BIG, "\0\0\0\6", 4), LR_OK);
+  make_reply(7, 6);
+  CHECK(is_due(&server));
+  WANT(lr_server_feed(&server, 1, NOW, message.all, message.size), (int64_t)message.size);
+  CHECK(is_due(&server)); /* (now it is kept) */
+  idle_servers_refuse(&server);
+  server_works(&server, 2);
+  lr_close(&server);
+}
+
+/* Goodbye is said after what was answered before, and the connection is gone. */
+static void goodbye_comes_before_the_end(void) {
+  static const unsigned char goodbye[] = {'G', 'I', 'O', 'P', 1, 0, 0, 5, 0, 0, 0, 0};
+  lr_server server = LR_INIT;
+  open_server(&server);
+  WANT(lr_server_connect(&server, 1), LR_OK);
+  make_request(6, "c", "add", "A", 2, 5);
+  ask(&server, 1);
+  WANT(lr_server_answer(&server, ticket, LR_BIG, "\0\0\0\6", 4), LR_OK);
+  make_request(7, "c", "add", "A", 3, 5);
+  ask(&server, 1);
+  WANT(lr_server_goodbye(&server, ticket), LR_OK);
+  WANT(lr_server_goodbye(&server, ticket), LR_E_IDLE);
+  WANT(lr_server_is_closed(&server, 1), 1);
+  make_reply(6, 6);
+  put_octets(&wanted, goodbye, sizeof goodbye);
+  CHECK(is_due(&server));
+  WANT(lr_server_connect(&server, 2), LR_OK); /* nothing was kept, so it is asked again */
+  ask(&server, 2);
+  WANT(lr_server_answer(&server, ticket, LR_BIG, "\0\0\0\6", 4), LR_OK);
+  make_reply(7, 6);
+  CHECK(is_due(&server));
+  server_works(&server, 3);
+  lr_close(&server);
 }
 
 /* Outcomes of the operation add(long) -> long, raises Overflow { long }, that are none. */
 static void typed_outcomes_are_refused(lr_server *server) {
-  WANT(lr_server_answer(server, 2, "\0\0\0\1", 4), LR_E_RANGE);
-  WANT(lr_server_answer(server, UINT32_MAX, "\0\0\0\1", 4), LR_E_RANGE);
-  WANT(lr_server_answer(server, LR_BIG, "\0\0\0", 3), LR_E_OUTCOME);
-  WANT(lr_server_answer(server, LR_BIG, "\0\0\0\1\0", 5), LR_E_OUTCOME);
-  WANT(lr_server_answer(server, LR_BIG, NULL, 0), LR_E_OUTCOME);
-  WANT(lr_server_answer_raw(server, LR_NO_EXCEPTION, LR_BIG, "\0\0\0\1", 4), LR_E_OUTCOME);
-  WANT(lr_server_raise(server, "IDL:Other:1.0", 13, LR_BIG, "\0\0\0\1", 4), LR_E_OUTCOME);
-  WANT(lr_server_raise(server, NULL, 0, LR_BIG, "\0\0\0\1", 4), LR_E_OUTCOME);
-  WANT(lr_server_raise(server, OVERFLOW_ID, SIZE(OVERFLOW_ID), LR_BIG, "\0\0\0", 3), LR_E_OUTCOME);
-  WANT(lr_server_raise(server, OVERFLOW_ID, SIZE(OVERFLOW_ID), LR_BIG, NULL, 0), LR_E_OUTCOME);
-  WANT(lr_server_raise(server, OVERFLOW_ID, SIZE(OVERFLOW_ID), 2, "\0\0\0\1", 4), LR_E_RANGE);
+  WANT(lr_server_answer(server, ticket, 2, "\0\0\0\1", 4), LR_E_RANGE);
+  WANT(lr_server_answer(server, ticket, UINT32_MAX, "\0\0\0\1", 4), LR_E_RANGE);
+  WANT(lr_server_answer(server, ticket, LR_BIG, "\0\0\0", 3), LR_E_OUTCOME);
+  WANT(lr_server_answer(server, ticket, LR_BIG, "\0\0\0\1\0", 5), LR_E_OUTCOME);
+  WANT(lr_server_answer(server, ticket, LR_BIG, NULL, 0), LR_E_OUTCOME);
+  WANT(lr_server_answer_raw(server, ticket, LR_NO_EXCEPTION, LR_BIG, "\0\0\0\1", 4), LR_E_OUTCOME);
+  WANT(lr_server_raise(server, ticket, "IDL:Other:1.0", 13, LR_BIG, "\0\0\0\1", 4), LR_E_OUTCOME);
+  WANT(lr_server_raise(server, ticket, NULL, 0, LR_BIG, "\0\0\0\1", 4), LR_E_OUTCOME);
+  WANT(lr_server_raise(server, ticket, OVERFLOW_ID, SIZE(OVERFLOW_ID), LR_BIG, "\0\0\0", 3), LR_E_OUTCOME);
+  WANT(lr_server_raise(server, ticket, OVERFLOW_ID, SIZE(OVERFLOW_ID), LR_BIG, NULL, 0), LR_E_OUTCOME);
+  WANT(lr_server_raise(server, ticket, OVERFLOW_ID, SIZE(OVERFLOW_ID), 2, "\0\0\0\1", 4), LR_E_RANGE);
 }
 
 /* The same of a raw operation. */
 static void raw_outcomes_are_refused(lr_server *server) {
   static unsigned char body[1048577];
-  WANT(lr_server_answer(server, LR_BIG, "\0\0\0\1", 4), LR_E_OUTCOME);
-  WANT(lr_server_answer(server, LR_BIG, NULL, 0), LR_E_OUTCOME);
-  WANT(lr_server_raise(server, OVERFLOW_ID, SIZE(OVERFLOW_ID), LR_BIG, "\0\0\0\1", 4), LR_E_OUTCOME);
-  WANT(lr_server_answer_raw(server, LR_LOCATION_FORWARD + 1, LR_BIG, NULL, 0), LR_E_RANGE);
-  WANT(lr_server_answer_raw(server, UINT32_MAX, LR_BIG, NULL, 0), LR_E_RANGE);
-  WANT(lr_server_answer_raw(server, LR_NO_EXCEPTION, 2, NULL, 0), LR_E_RANGE);
-  WANT(lr_server_answer_raw(server, LR_NO_EXCEPTION, LR_BIG, body, sizeof body), LR_E_OUTCOME);
+  WANT(lr_server_answer(server, ticket, LR_BIG, "\0\0\0\1", 4), LR_E_OUTCOME);
+  WANT(lr_server_answer(server, ticket, LR_BIG, NULL, 0), LR_E_OUTCOME);
+  WANT(lr_server_raise(server, ticket, OVERFLOW_ID, SIZE(OVERFLOW_ID), LR_BIG, "\0\0\0\1", 4), LR_E_OUTCOME);
+  WANT(lr_server_answer_raw(server, ticket, LR_LOCATION_FORWARD + 1, LR_BIG, NULL, 0), LR_E_RANGE);
+  WANT(lr_server_answer_raw(server, ticket, UINT32_MAX, LR_BIG, NULL, 0), LR_E_RANGE);
+  WANT(lr_server_answer_raw(server, ticket, LR_NO_EXCEPTION, 2, NULL, 0), LR_E_RANGE);
+  WANT(lr_server_answer_raw(server, ticket, LR_NO_EXCEPTION, LR_BIG, body, sizeof body), LR_E_OUTCOME);
 }
 
 static void servers_refuse(void) {
@@ -491,13 +601,13 @@ static void servers_refuse(void) {
   ask(&server, 1);
   asking_servers_refuse(&server);
   typed_outcomes_are_refused(&server);
-  WANT(lr_server_answer(&server, LR_LITTLE, "\6\0\0\0", 4), LR_OK);
+  WANT(lr_server_answer(&server, ticket, LR_LITTLE, "\6\0\0\0", 4), LR_OK);
   make_reply(1, 6);
   CHECK(is_due(&server));
   idle_servers_refuse(&server);
   make_request(2, "c", "add", NULL, 0, 5);
   ask(&server, 1);
-  WANT(lr_server_raise(&server, OVERFLOW_ID, SIZE(OVERFLOW_ID), LR_LITTLE, "\6\0\0\0", 4), LR_OK);
+  WANT(lr_server_raise(&server, ticket, OVERFLOW_ID, SIZE(OVERFLOW_ID), LR_LITTLE, "\6\0\0\0", 4), LR_OK);
   begin_reply(&wanted, 2, LR_BIG, 2, LR_USER_EXCEPTION);
   put_text(&wanted, OVERFLOW_ID);
   put_number(&wanted, 6, 4);
@@ -505,20 +615,20 @@ static void servers_refuse(void) {
   CHECK(is_due(&server));
   make_request(3, "c", "is", NULL, 0, 5);
   ask(&server, 1);
-  WANT(lr_server_answer(&server, LR_BIG, "\2", 1), LR_E_OUTCOME); /* no boolean */
-  WANT(lr_server_system(&server, LR_TRANSIENT, 0, LR_COMPLETED_MAYBE), LR_OK);
+  WANT(lr_server_answer(&server, ticket, LR_BIG, "\2", 1), LR_E_OUTCOME); /* no boolean */
+  WANT(lr_server_system(&server, ticket, LR_TRANSIENT, 0, LR_COMPLETED_MAYBE), LR_OK);
   system_reply(&wanted, 2, 3, "IDL:omg.org/CORBA/TRANSIENT:1.0", LR_COMPLETED_MAYBE);
   CHECK(is_due(&server));
   make_request(4, "one", "do", NULL, 0, 5);
   ask(&server, 1);
   asking_servers_refuse(&server);
   raw_outcomes_are_refused(&server);
-  WANT(lr_server_answer_raw(&server, LR_LOCATION_FORWARD, LR_LITTLE, body, sizeof body), LR_OK);
+  WANT(lr_server_answer_raw(&server, ticket, LR_LOCATION_FORWARD, LR_LITTLE, body, sizeof body), LR_OK);
   CHECK(lr_server_output(&server, room, sizeof room) == 24 + (int64_t)sizeof body && room[6] == LR_LITTLE);
   make_request(5, "raw", "anything", NULL, 0, 5);
   ask(&server, 1);
   raw_outcomes_are_refused(&server);
-  WANT(lr_server_answer_raw(&server, LR_NO_EXCEPTION, LR_BIG, NULL, 0), LR_OK);
+  WANT(lr_server_answer_raw(&server, ticket, LR_NO_EXCEPTION, LR_BIG, NULL, 0), LR_OK);
   begin_reply(&wanted, 2, LR_BIG, 5, LR_NO_EXCEPTION);
   end_message(&wanted);
   CHECK(is_due(&server));
@@ -551,12 +661,12 @@ static void raw_requests_are_as_they_came(void) {
   CHECK(memcmp(room, "any", 3) == 0);
   WANT(lr_server_part(&server, LR_PART_CLIENT, room, sizeof room), 6);
   CHECK(memcmp(room, "client", 6) == 0);
-  WANT(lr_server_give_up(&server), LR_OK);
+  WANT(lr_server_give_up(&server, ticket), LR_OK);
   WANT(lr_server_is_closed(&server, 3), 1);
   WANT(lr_server_output(&server, room, sizeof room), 0);
   WANT(lr_server_connect(&server, 4), LR_OK); /* it was given up, so it is asked again */
   ask(&server, 4);
-  WANT(lr_server_answer_raw(&server, LR_NO_EXCEPTION, LR_BIG, "\1", 1), LR_OK);
+  WANT(lr_server_answer_raw(&server, ticket, LR_NO_EXCEPTION, LR_BIG, "\1", 1), LR_OK);
   begin_reply(&wanted, 2, LR_BIG, 9, LR_NO_EXCEPTION); /* an empty reply was wished for */
   end_message(&wanted);
   CHECK(is_due(&server));
@@ -626,8 +736,8 @@ static void objects_are_identified(void) {
     if (asked[index].id != NULL) put_text(&message, asked[index].id);
     end_message(&message);
     ask(&server, 1);
-    WANT(lr_server_identify(&server), 1);
-    WANT(lr_server_identify(&server), LR_E_IDLE);
+    WANT(lr_server_identify(&server, ticket), 1);
+    WANT(lr_server_identify(&server, ticket), LR_E_IDLE);
     begin_reply(&wanted, 2, LR_BIG, index, LR_NO_EXCEPTION);
     put_number(&wanted, asked[index].answer, 1);
     end_message(&wanted);
@@ -1005,6 +1115,9 @@ int main(void) {
   catalogues_refuse();
   exceptions_are_of_the_next_operation();
   servers_refuse();
+  tickets_are_of_one_request();
+  refused_requests_come_again();
+  goodbye_comes_before_the_end();
   raw_requests_are_as_they_came();
   connections_are_refused();
   objects_are_identified();

@@ -170,8 +170,8 @@ void a_call_acts_once() {
       CHECK(id && lr::Octets(*id).text() == "A");
       const auto body = server->part(lr::Part::body);
       CHECK(body && *body == (std::vector<std::uint8_t>{0, 0, 0, 5}));
-      CHECK(server->answer(lr::Order::big, "").error() == LR_E_OUTCOME);
-      CHECK(server->answer(lr::Order::big, lr::Octets("\0\0\0\6", 4)));
+      CHECK(server->answer((*asked)->ticket, lr::Order::big, "").error() == LR_E_OUTCOME);
+      CHECK(server->answer((*asked)->ticket, lr::Order::big, lr::Octets("\0\0\0\6", 4)));
     }
     const auto down = due_of(*server);
     if (connection == 2) CHECK(client->feed(down));
@@ -224,35 +224,45 @@ void requests_are_answered() {
   auto server = open_server();
   if (!server || !server->connect(1)) return CHECK(false);
   std::array<std::uint8_t, 256> room;
+  std::uint64_t ticket = 0;
   const auto ask = [&](const char* key, const char* operation, lr::Octets body) {
     const auto size = lr::write_request(room, {}, lr::Wish::full, key, operation, body);
     CHECK(size && server->feed(1, now, lr::Octets(room).first(*size)));
     const auto asked = server->asked();
     CHECK(asked && *asked);
+    ticket = asked && *asked ? (*asked)->ticket : 0;
   };
   const auto status = [&] {
     const auto due = due_of(*server);
     return due.size() < 24 ? -1 : static_cast<int>(due[19]);
   };
   ask("c", "none", {});
-  CHECK(server->answer(lr::Order::big, {}) && status() == LR_NO_EXCEPTION);
+  CHECK(server->answer(ticket, lr::Order::big, {}) && status() == LR_NO_EXCEPTION);
   ask("c", "add", lr::Octets("\0\0\0\5", 4));
   std::array<std::uint8_t, 16> members;
   lr::Writer out(members);
   CHECK(out.put_string("why"));
-  CHECK(server->raise("IDL:C/Wrong:1.0", lr::Order::big, out.octets()) && status() == LR_USER_EXCEPTION);
+  CHECK(server->raise(ticket, "IDL:C/Wrong:1.0", lr::Order::big, out.octets()) && status() == LR_USER_EXCEPTION);
   ask("c", "any", "abc");
-  CHECK(server->system(lr::SystemException::unknown, 7, lr::Completed::maybe) && status() == LR_SYSTEM_EXCEPTION);
+  CHECK(server->system(ticket + 1, lr::SystemException::unknown, 7, lr::Completed::maybe).error() == LR_E_TICKET);
+  CHECK(server->system(ticket, lr::SystemException::unknown, 7, lr::Completed::maybe) &&
+        status() == LR_SYSTEM_EXCEPTION);
   ask("raw", "any", "abc");
-  CHECK(server->answer_raw(lr::ReplyStatus::location_forward, lr::Order::big, "abc") &&
+  CHECK(server->answer_raw(ticket, lr::ReplyStatus::location_forward, lr::Order::big, "abc") &&
         status() == LR_LOCATION_FORWARD);
   ask("c", "_non_existent", {});
-  const auto is_identified = server->identify();
+  const auto is_identified = server->identify(ticket);
   CHECK(is_identified.ok() && *is_identified && status() == LR_NO_EXCEPTION);
-  CHECK(server->identify().error() == LR_E_IDLE);
-  CHECK(server->farewell(1) && due_of(*server).size() == 12 && server->is_closed(1));
+  CHECK(server->identify(ticket).error() == LR_E_IDLE);
+  ask("raw", "any", "abc");
+  CHECK(server->refuse(ticket, lr::SystemException::transient, 0) && status() == LR_SYSTEM_EXCEPTION);
+  CHECK(!server->is_closed(1));
+  ask("raw", "any", "abc");
+  CHECK(server->goodbye(ticket) && due_of(*server).size() == 12 && server->is_closed(1));
   CHECK(server->connect(2));
-  CHECK(server->give_up().error() == LR_E_IDLE);
+  CHECK(server->farewell(2) && due_of(*server).size() == 12 && server->is_closed(2));
+  CHECK(server->connect(3));
+  CHECK(server->give_up(ticket).error() == LR_E_IDLE);
 }
 
 void messages_are_read() {

@@ -64,7 +64,7 @@ static const uint8_t one_long[] = {LR_LONG};
 /* ---- a server ---- */
 
 static lr_server server;
-static uint64_t connection;
+static uint64_t connection, ticket; /* (the ticket of the request that was asked last) */
 
 /* How often octets were lost that came, and how often the reply to an outcome that counts. */
 static long lost_feeds, lost_replies;
@@ -76,16 +76,16 @@ struct exchange {
   int asked;
 };
 
-static int64_t returns(void) { return lr_server_answer(&server, LR_BIG, "\0\0\0\6", 4); }
+static int64_t returns(void) { return lr_server_answer(&server, ticket, LR_BIG, "\0\0\0\6", 4); }
 
-static int64_t raises(void) { return lr_server_raise(&server, RAISED, SIZE(RAISED), LR_BIG, "\0\0\0\7", 4); }
+static int64_t raises(void) { return lr_server_raise(&server, ticket, RAISED, SIZE(RAISED), LR_BIG, "\0\0\0\7", 4); }
 
-static int64_t fails(void) { return lr_server_system(&server, LR_UNKNOWN, 0, LR_COMPLETED_MAYBE); }
+static int64_t fails(void) { return lr_server_system(&server, ticket, LR_UNKNOWN, 0, LR_COMPLETED_MAYBE); }
 
-static int64_t writes(void) { return lr_server_answer_raw(&server, LR_NO_EXCEPTION, LR_BIG, "\1\2\3", 3); }
+static int64_t writes(void) { return lr_server_answer_raw(&server, ticket, LR_NO_EXCEPTION, LR_BIG, "\1\2\3", 3); }
 
 static int64_t identifies(void) {
-  int64_t answer = lr_server_identify(&server);
+  int64_t answer = lr_server_identify(&server, ticket);
   return answer == 1 ? LR_OK : answer;
 }
 
@@ -120,6 +120,7 @@ static bool perform(struct exchange *exchange) {
   unsigned char part[64];
   lr_request asked;
   WANT(lr_server_asked(&server, &asked), 1);
+  ticket = asked.ticket;
   for (uint32_t index = LR_PART_KEY; index <= LR_PART_CLIENT; index++) {
     int64_t sizes[] = {(int64_t)asked.key_size, (int64_t)asked.operation_size, (int64_t)asked.body_size,
                        (int64_t)asked.client_size};
@@ -203,8 +204,10 @@ static void cut(struct octets *request) {
   *request = first;
 }
 
-/* A request that is given up is asked again, and then counts. */
-static void is_given_up(struct exchange *exchange) {
+static const unsigned char goodbye[] = {'G', 'I', 'O', 'P', 1, 0, 0, 5, 0, 0, 0, 0};
+
+/* Feeds the request, which is asked. */
+static void ask(struct exchange *exchange) {
   lr_request asked;
   int64_t taken = LR_E_LOST;
   for (int tries = 0; taken == LR_E_LOST && tries < 2; tries++) {
@@ -216,14 +219,46 @@ static void is_given_up(struct exchange *exchange) {
   }
   WANT(taken, (int64_t)exchange->request.size);
   WANT(lr_server_asked(&server, &asked), 1);
-  WANT(lr_server_give_up(&server), LR_OK);
+  ticket = asked.ticket;
+}
+
+/* A request that is given up is asked again, and then counts. */
+static void is_given_up(struct exchange *exchange) {
+  ask(exchange);
+  WANT(lr_server_give_up(&server, ticket), LR_OK);
+  reconnect();
+  acts_once(exchange);
+}
+
+/* So is one that is refused, by a request id. Without memory for the refusal it is given up. */
+static void is_turned_down(struct exchange *exchange, uint32_t id) {
+  struct octets refusal;
+  ask(exchange);
+  int64_t answer = lr_server_refuse(&server, ticket, LR_TRANSIENT, 0);
+  if (answer == LR_E_LOST) {
+    CHECK(tell());
+    reconnect();
+  } else {
+    WANT(answer, LR_OK);
+    system_reply(&refusal, 2, id, "IDL:omg.org/CORBA/TRANSIENT:1.0", LR_COMPLETED_NO);
+    int64_t size = lr_server_output(&server, room, sizeof room);
+    CHECK(size >= 0 && equal(room, (size_t)size, &refusal));
+  }
+  acts_once(exchange);
+}
+
+/* .. and one that is given up with goodbye. */
+static void is_sent_away(struct exchange *exchange) {
+  ask(exchange);
+  AGAIN(lr_server_goodbye(&server, ticket), LR_OK);
+  WANT(lr_server_output(&server, room, sizeof room), sizeof goodbye);
+  CHECK(memcmp(room, goodbye, sizeof goodbye) == 0);
   reconnect();
   acts_once(exchange);
 }
 
 /* An answer and a goodbye are due on one connection. */
 static void says_goodbye(void) {
-  static const unsigned char goodbye[] = {'G', 'I', 'O', 'P', 1, 0, 0, 5, 0, 0, 0, 0};
   int64_t answer = lr_server_farewell(&server, connection);
   if (answer == LR_E_LOST) {
     CHECK(tell());
@@ -257,6 +292,10 @@ static void serves(void) {
   acts_once(&exchange);
   make_exchange(&exchange, 7, "c", "add", "A", returns);
   is_given_up(&exchange);
+  make_exchange(&exchange, 8, "c", "add", "A", returns);
+  is_turned_down(&exchange, 8);
+  make_exchange(&exchange, 9, "c", "add", "A", returns);
+  is_sent_away(&exchange);
   says_goodbye();
   lr_close(&server);
 }

@@ -13,8 +13,7 @@ static const unsigned char zeros[LONG];
 static unsigned char result[4 + LONG];
 
 static void perform(lr_server *server, const lr_request *asked) {
-  (void)asked;
-  lr_server_answer(server, LR_BIG, result, sizeof result);
+  lr_server_answer(server, asked->ticket, LR_BIG, result, sizeof result);
 }
 
 int main(int count, char **words) {

@@ -25,8 +25,8 @@ int main(int count, char** words) {
   if (!server || !text || !out.put_octets(std::vector<std::uint8_t>(1000000))) return 1;
   std::printf("%s\n", text->c_str());
   std::fflush(stdout);
-  loop::Loop(*std::move(server), [&](lr::Server& of) {
-    return of.answer(lr::Order::big, out.octets());
+  loop::Loop(*std::move(server), [&](lr::Server& of, const lr_request& asked) {
+    return of.answer(asked.ticket, lr::Order::big, out.octets());
   }).serve(listener, stop);
   return 0;
 }

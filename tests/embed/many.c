@@ -108,7 +108,7 @@ static void perform(const struct connection *at) {
   asked_of[request]++;
   outcome_of[request] = ++total;
   WANT(lr_put_longlong(result, sizeof result, &out, total), LR_OK);
-  WANT(lr_server_answer(&server, LR_LITTLE, result, sizeof result), LR_OK);
+  WANT(lr_server_answer(&server, asked.ticket, LR_LITTLE, result, sizeof result), LR_OK);
 }
 
 /* Whether the reply to a transmission is all that is due. */

@@ -728,7 +728,10 @@ class Engines(Case):
         self.fails(Error.IDLE, engine.answer_octets, bytes(8))
         self.fails(Error.IDLE, engine.raise_system, "UNKNOWN")
         self.fails(Error.IDLE, engine.give_up)
+        self.fails(Error.IDLE, engine.refuse, "TRANSIENT")
+        self.fails(Error.IDLE, engine.goodbye)
         engine.feed(1, asked_for(1, "get"), LONG_AGO)
+        self.fails(Error.RANGE, engine.refuse, len(lr.SystemName))
         for call, arguments in ((engine.feed, (1, b"", LONG_AGO)), (engine.connect, (2,)), (engine.lost, (1,)),
                                 (engine.farewell, (1,))):
             self.fails(Error.ASKING, call, *arguments)
@@ -811,6 +814,29 @@ class Engines(Case):
         self.assertEqual(engine.asked().operation, "get")
         engine.answer(5)
         self.assertEqual(self.reply(engine).body.unpack("q"), (5,))
+
+    def test_refused(self):
+        engine, octets = self.engine(), asked_for(1, "get", retention=1)
+        for name, minor in (("TRANSIENT", 0), ("NO_RESOURCES", 0xffffffff)):
+            engine.feed(1, octets, LONG_AGO)
+            engine.refuse(name, minor)
+            reply = self.reply(engine)
+            self.assertIs(reply.status, lr.ReplyStatus.SYSTEM_EXCEPTION)
+            self.assertEqual(reply.body.unpack("sLL"), (f"IDL:omg.org/CORBA/{name}:1.0", minor, lr.Completed.NO))
+            self.assertFalse(engine.is_closed(1))
+        engine.feed(1, octets, LONG_AGO)
+        engine.answer(5)
+        self.assertEqual(self.reply(engine).body.unpack("q"), (5,))
+
+    def test_goodbye(self):
+        engine, octets = self.engine(), asked_for(1, "get", retention=1)
+        engine.feed(1, octets, LONG_AGO)
+        engine.goodbye()
+        self.assertEqual(self.reply(engine).type, lr.MessageType.CLOSE_CONNECTION)
+        self.assertTrue(engine.is_closed(1))
+        engine.connect(2)
+        engine.feed(2, octets, LONG_AGO)
+        self.assertEqual(engine.asked().operation, "get")
 
     def test_farewell(self):
         engine = self.engine()
@@ -1197,6 +1223,29 @@ class Ends(Case):
             async with server, client:
                 self.assertEqual(await client.call("k", "op", "l", [5], "l"), 5)
                 self.assertEqual(asked, [5] * 4)
+        self.run_async(main())
+
+    def test_refused_and_asked_again(self):
+        async def main():
+            asked = []
+
+            def function(number):
+                asked.append(number)
+                if len(asked) == 1:
+                    raise lr.Refuse("NO_RESOURCES", 7)
+                if len(asked) == 2:
+                    raise lr.Refuse("unheard of")
+                return number
+
+            server, client = await self.pair({"op": ("l", "l", function)})
+            async with server, client:
+                for name, minor in (("NO_RESOURCES", 7), ("TRANSIENT", 0)):
+                    with self.assertRaises(lr.SystemException) as caught:
+                        await client.call("k", "op", "l", [5], "l")
+                    raised = caught.exception
+                    self.assertEqual((raised.name, raised.minor, raised.completed), (name, minor, lr.Completed.NO))
+                self.assertEqual(server.connections, 1)
+                self.assertEqual(await client.call("k", "op", "l", [5], "l"), 5)
         self.run_async(main())
 
     def test_many_calls_at_once(self):

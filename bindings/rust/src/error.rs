@@ -92,6 +92,8 @@ errors! {
     Lost = -24,
     /// The body would stand at a place that is not divisible by 8.
     Place = -25,
+    /// No request of that ticket waits.
+    Ticket = -26,
 }
 
 /// What the library says of a number by one of two functions: lr_strerror, lr_error_name.
@@ -180,7 +182,7 @@ mod tests {
 
     #[test]
     fn each_code_has_its_error() {
-        for code in -25..=-1 {
+        for code in -26..=-1 {
             let error = Error::of(code);
             assert!(!matches!(error, Error::Unknown(_)));
             assert_eq!(error.code(), code);
@@ -194,7 +196,7 @@ mod tests {
 
     #[test]
     fn an_error_has_the_text_of_the_library() {
-        for code in -25..=-1 {
+        for code in -26..=-1 {
             assert!(!Error::of(code).to_string().is_empty());
         }
         assert_ne!(Error::Memory.to_string(), Error::Lost.to_string());

@@ -43,7 +43,7 @@ impl Default for Settings {
 }
 
 /// A server of requests that may be sent again: each distinct request is answered once, and its
-/// repeats get that outcome. It is asked again only where it was given up.
+/// repeats get that outcome. It is asked again only where it was given up or refused.
 ///
 /// Octets that come on connections go in by [`serve`](Server::serve), which has each request
 /// performed; and what is due goes out by [`output`](Server::output) after each call. `serve` is a
@@ -179,7 +179,8 @@ impl Server {
     ///
     /// `Idle`, and those of [`Request::answer`].
     pub fn identify(&mut self) -> Result<bool, Error> {
-        Ok(count(sys::lr_server_identify(&mut self.slot))? != 0)
+        let ticket = self.ticket();
+        Ok(count(sys::lr_server_identify(&mut self.slot, ticket))? != 0)
     }
 
     /// The request that waits for its outcome, if one does.
@@ -207,6 +208,13 @@ impl Server {
         }))
     }
 
+    /// The ticket of the request that waits; 0, which no request has, where none does.
+    fn ticket(&mut self) -> u64 {
+        let mut said = lr_request::default();
+        sure(sys::lr_server_asked(&mut self.slot, &mut said));
+        said.ticket
+    }
+
     /// Copies a part of the request that waits into its buffer.
     fn copy(&mut self, part: u32, size: u64) -> Result<(), Error> {
         let room = &mut self.parts[part as usize];
@@ -221,7 +229,7 @@ impl Server {
     /// Feeds octets of a connection that came at a moment, to their end, and has each request
     /// performed that waits in them. What is due is to be taken afterwards.
     ///
-    /// A request that `perform` does not answer or give up is answered by `INTERNAL`,
+    /// A request that `perform` does not answer, refuse or give up is answered by `INTERNAL`,
     /// `Completed::Maybe`, since something may have been done that must not be done again.
     ///
     /// Where an error is answered, what came before it was answered, and the rest of the octets was
@@ -269,7 +277,8 @@ impl Server {
             }
         };
         let (internal, maybe) = (SystemName::Internal.number(), Completed::Maybe.number());
-        match done(sys::lr_server_system(&mut self.slot, internal, 0, maybe)) {
+        let ticket = self.ticket();
+        match done(sys::lr_server_system(&mut self.slot, ticket, internal, 0, maybe)) {
             Ok(()) | Err(Error::Idle) => performed,
             Err(error) => Err(error),
         }
@@ -278,7 +287,8 @@ impl Server {
     /// Gives up the request that waits, if one does: you can't perform it now, and have done
     /// nothing. Nothing is kept, and its connection is gone; it is asked again when it comes again.
     pub fn give_up(&mut self) {
-        sure(sys::lr_server_give_up(&mut self.slot));
+        let ticket = self.ticket();
+        sure(sys::lr_server_give_up(&mut self.slot, ticket));
     }
 
     /// Moves octets that are due into the room, as many as it has, and answers how many: 0 where
@@ -394,6 +404,7 @@ impl Request<'_> {
         done(unsafe {
             sys::lr_server_answer(
                 &mut self.server.slot,
+                self.said.ticket,
                 order,
                 octets.as_ptr().cast(),
                 octets.len(),
@@ -412,6 +423,7 @@ impl Request<'_> {
         done(unsafe {
             sys::lr_server_raise(
                 &mut self.server.slot,
+                self.said.ticket,
                 id.as_ptr().cast(),
                 id.len(),
                 order,
@@ -433,7 +445,7 @@ impl Request<'_> {
         completed: Completed,
     ) -> Result<(), Error> {
         let (name, completed) = (name.number(), completed.number());
-        done(sys::lr_server_system(&mut self.server.slot, name, minor, completed))
+        done(sys::lr_server_system(&mut self.server.slot, self.said.ticket, name, minor, completed))
     }
 
     /// Answers a raw operation by the body of a Reply, of at most 1048576 octets: its status is
@@ -448,6 +460,7 @@ impl Request<'_> {
         done(unsafe {
             sys::lr_server_answer_raw(
                 &mut self.server.slot,
+                self.said.ticket,
                 status,
                 order,
                 octets.as_ptr().cast(),
@@ -460,5 +473,27 @@ impl Request<'_> {
     /// connection is gone; it is asked again when it comes again.
     pub fn give_up(&mut self) {
         self.server.give_up();
+    }
+
+    /// Refuses it for now by a system exception with a minor code and `Completed::No`: you have
+    /// done nothing. Nothing is kept, and it is asked again when it comes again. Its connection
+    /// stays.
+    ///
+    /// # Errors
+    ///
+    /// `Idle`, and `Lost`: for want of memory it is given up.
+    pub fn refuse(&mut self, name: SystemName, minor: u32) -> Result<(), Error> {
+        done(sys::lr_server_refuse(&mut self.server.slot, self.said.ticket, name.number(), minor))
+    }
+
+    /// Gives it up, and says goodbye first: CloseConnection is due, by which its client knows that
+    /// nothing was done. An ORB connects again at once, and sends it again: so this is for draining
+    /// and restarts alone.
+    ///
+    /// # Errors
+    ///
+    /// `Idle`, and `Memory` (it waits still).
+    pub fn goodbye(&mut self) -> Result<(), Error> {
+        done(sys::lr_server_goodbye(&mut self.server.slot, self.said.ticket))
     }
 }

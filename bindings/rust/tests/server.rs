@@ -163,6 +163,36 @@ fn what_is_left_unanswered_is_answered_by_internal() -> Result<(), Error> {
 }
 
 #[test]
+fn a_request_that_is_refused_is_asked_again() -> Result<(), Error> {
+    let mut server = connected()?;
+    for (name, minor) in [(SystemName::Transient, 7), (SystemName::NoResources, 0)] {
+        server.feed(1, NOW, &deposit(1, 5)?)?;
+        server.asked()?.unwrap().refuse(name, minor)?;
+        let id = id_of(if minor == 7 { "TRANSIENT" } else { "NO_RESOURCES" });
+        assert_eq!(exception_of(&server.take_output())?, (id, minor, 1));
+        assert!(!server.is_closed(1));
+    }
+    let mut bank = Bank::default();
+    server.serve(1, NOW, &deposit(1, 5)?, |request| bank.perform(request))?;
+    assert_eq!(bank.performed.len(), 1);
+    Ok(())
+}
+
+#[test]
+fn goodbye_is_said_before_the_end() -> Result<(), Error> {
+    let mut server = connected()?;
+    server.feed(1, NOW, &deposit(1, 5)?)?;
+    server.asked()?.unwrap().goodbye()?;
+    assert!(server.is_closed(1));
+    assert_eq!(server.take_output()[..8], *b"GIOP\x01\0\0\x05");
+    server.connect(2)?;
+    let mut bank = Bank::default();
+    server.serve(2, NOW, &deposit(1, 5)?, |request| bank.perform(request))?;
+    assert_eq!(bank.performed.len(), 1);
+    Ok(())
+}
+
+#[test]
 fn a_request_that_is_given_up_is_asked_again() -> Result<(), Error> {
     let mut server = connected()?;
     server.feed(1, NOW, &deposit(1, 5)?)?;

@@ -14,6 +14,7 @@ mod Invoking
 mod Lending
 mod Machine
 mod Owing
+mod OwingLate
 mod Putting
 mod Raising
 mod Reading

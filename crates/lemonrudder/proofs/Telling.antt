@@ -48,8 +48,10 @@ no-client field.Absent never = refl
 no-client field.Bad never = refl
 no-client (field.Present c r e) never = absurd (never c r e refl)
 
--- a head with the connection and the sizes of what waits
-pub base-is : (n : RequestHead) (c k o k' o' : ℕ) → n ≡ no_request → k ≡ k' → o ≡ o' → record n { connection = c; key_size = k; operation_size = o } ≡ record no_request { connection = c; key_size = k'; operation_size = o' }
-base-is n c k o k' o' none key name =
-    ap (λ (x : RequestHead). record x { connection = c; key_size = k; operation_size = o }) none
-    ∙ (ap (λ (x : ℕ). record no_request { connection = c; key_size = x; operation_size = o }) key ∙ ap (λ (x : ℕ). record no_request { connection = c; key_size = k'; operation_size = x }) name)
+-- a head with the ticket, the connection and the sizes of what waits
+pub base-is : (n : RequestHead) (t c k o t' k' o' : ℕ) → n ≡ no_request → t ≡ t' → k ≡ k' → o ≡ o'
+    → record n { ticket = t; connection = c; key_size = k; operation_size = o } ≡ record no_request { ticket = t'; connection = c; key_size = k'; operation_size = o' }
+base-is n t c k o t' k' o' none ticket key name =
+    ap (λ (x : RequestHead). record x { ticket = t; connection = c; key_size = k; operation_size = o }) none
+    ∙ (ap (λ (x : ℕ). record no_request { ticket = x; connection = c; key_size = k; operation_size = o }) ticket
+    ∙ (ap (λ (x : ℕ). record no_request { ticket = t'; connection = c; key_size = x; operation_size = o }) key ∙ ap (λ (x : ℕ). record no_request { ticket = t'; connection = c; key_size = k'; operation_size = x }) name))

@@ -10,6 +10,7 @@ use Rattle.lemonrudder.specs.Naming.{minor_number, wish_number}
 -- a head that says nothing
 abbrev pub no_request : RequestHead
 no_request = record {
+  ticket = 0;
   connection = 0;
   key_size = 0;
   operation_size = 0;

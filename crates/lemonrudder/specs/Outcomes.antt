@@ -1,5 +1,5 @@
 -- What a call does that answers the request that waits.
-use Rattle.std.specs.Prelude.{◌≡◌, ◌⊎◌, ℕ, Bool, false, not, bytes_eq, codes, if◌then◌else◌, List, [], ◌∷◌, ◌++◌, IsSome, Option, Some, None, option_map, Result, Ok, Err}
+use Rattle.std.specs.Prelude.{◌≡◌, ◌⊎◌, ℕ, Bool, false, not, bytes_eq, codes, if◌then◌else◌, List, [], ◌∷◌, ◌++◌, Option, Some, None, option_map, Result, Ok, Err}
 use Rattle.std.proofs.Common.{Bor, Vec, Global}
 use Rattle.cdr_core.specs.declared.order.Order.{Order}
 use Rattle.cdr_core.specs.declared.types.Ty.{Ty}
@@ -24,9 +24,10 @@ use Rattle.lemonrudder.specs.declared.refusal.Refusal.{Refusal}
 use Rattle.lemonrudder.specs.declared.refusal.Refusal.TheVariants as refusal
 use Rattle.lemonrudder.specs.declared.serving.Serving.{Serving}
 use Rattle.lemonrudder.specs.Dues.{IsPlaced, owed}
+use Rattle.lemonrudder.specs.Late.{AnswersLate}
 use Rattle.lemonrudder.specs.Naming.{completion_named, order_named, raw_status_named, system_name_named}
 use Rattle.lemonrudder.specs.Refusals.{refusal_of_serving}
-use Rattle.lemonrudder.specs.Serves.{IsIdle, IsRefused, KeepsCatalogue, done_of}
+use Rattle.lemonrudder.specs.Serves.{ByTicket, IsIdle, IsRefused, KeepsCatalogue, KeepsTickets, done_of}
 
 -- the outcome of the call that waits is kept, if it is to be, and the answer is due after what was
 abbrev pub Answers : Performed → Serving → Serving → Result (Unit {0}) ServeError → Type 0
@@ -36,16 +37,11 @@ Answers outcome s t o = (owner : Owner) (calls : List Call) (past : List Event) 
     × ResumesOnce offer_of owner (calls ++ w.call ∷ []) past w.connection moment octets written (note_of o) (owed s.due) (owed t.due)
     × ResumesNow owner (calls ++ w.call ∷ []) past w.connection moment octets written (note_of o) (owed s.due) (owed t.due)
 
--- an outcome can answer what waits
-abbrev pub CanBe : Performed → Serving → Type 0
-CanBe outcome s = (number : ℕ) × CanAnswer (offer_of s.engine.offering.catalogue) (waits_in s.engine) number outcome
-
--- an outcome is handed in, and the number n is answered: not where nothing waits, nor where it can't be that of the operation
-abbrev pub HandsIn : ℕ → Performed → Serving → Serving → Result ℕ Refusal → Type 0
-HandsIn n outcome s t r =
-    (IsIdle s → IsRefused refusal.Idle s t r)
-    × (IsSome (waits_in s.engine) → ¬ (CanBe outcome s) → IsRefused refusal.Outcome s t r)
-    × (CanBe outcome s → (o : Result (Unit {0}) ServeError) × (r ≡ done_of n refusal_of_serving o) × IsIdle t × (t.due_on ≡ s.due_on) × KeepsCatalogue s t × Answers outcome s t o)
+-- an outcome of the request of a number is handed in, and n is answered: not where it can't be that of the operation
+abbrev pub HandsIn : (number n : ℕ) → Performed → Serving → Serving → Result ℕ Refusal → Type 0
+HandsIn number n outcome s t r = let Can = CanAnswer (offer_of s.engine.offering.catalogue) (waits_in s.engine) number outcome in
+    (¬ Can → IsRefused refusal.Outcome s t r)
+    × (Can → (o : Result (Unit {0}) ServeError) × (r ≡ done_of n refusal_of_serving o) × IsIdle t × (t.due_on ≡ s.due_on) × KeepsCatalogue s t × KeepsTickets s t × Answers outcome s t o × AnswersLate outcome s t o)
 
 -- memory is short, and nothing has changed; or this
 abbrev pub UnlessShort : Serving → Serving → Result ℕ Refusal → Type 0 → Type 0
@@ -55,11 +51,6 @@ UnlessShort s t r Does = IsRefused refusal.Memory s t r ⊎ Does
 abbrev pub ByName : {A : Type 0} → Option A → Serving → Serving → Result ℕ Refusal → (A → Type 0) → Type 0
 ByName None s t r Does = IsRefused refusal.Range s t r
 ByName (Some x) s t r Does = Does x
-
--- a call is refused where nothing waits, and else does this by what waits
-abbrev pub ByAwaited : Option Awaited → Serving → Serving → Result ℕ Refusal → (Awaited → Type 0) → Type 0
-ByAwaited None s t r Does = IsRefused refusal.Idle s t r
-ByAwaited (Some w) s t r Does = Does w
 
 -- what the operation of a call is
 abbrev pub interface_at : Serving → Awaited → Interface
@@ -82,31 +73,27 @@ member_types id _ = None
 
 -- an outcome is handed in whose values are these octets, all of them, from place 0; where there are no types, or the octets are
 -- no values of them, that is no outcome
-abbrev pub HandsInValues : Option Forms → Order → List ℕ → (Values → Performed) → Serving → Serving → Result ℕ Refusal → Type 0
-HandsInValues None order octets outcome s t r = IsRefused refusal.Outcome s t r
-HandsInValues (Some types) order octets outcome s t r =
-    ((vs : Values) → SpellsMembers types order vs 0 octets → UnlessShort s t r (HandsIn 0 (outcome vs) s t r))
+abbrev pub HandsInValues : ℕ → Option Forms → Order → List ℕ → (Values → Performed) → Serving → Serving → Result ℕ Refusal → Type 0
+HandsInValues number None order octets outcome s t r = IsRefused refusal.Outcome s t r
+HandsInValues number (Some types) order octets outcome s t r =
+    ((vs : Values) → SpellsMembers types order vs 0 octets → UnlessShort s t r (HandsIn number 0 (outcome vs) s t r))
     × (((vs : Values) → ¬ (SpellsMembers types order vs 0 octets)) → UnlessShort s t r (IsRefused refusal.Outcome s t r))
 
--- an outcome is handed in whose values are these octets, by the types that the operation of what waits has for it
-abbrev pub HandsInFound : (Interface → Option Forms) → Order → List ℕ → (Values → Performed) → Serving → Serving → Result ℕ Refusal → Type 0
-HandsInFound types order octets outcome s t r = ByAwaited (waits_in s.engine) s t r (λ w. HandsInValues (types (interface_at s w)) order octets outcome s t r)
-
 -- results of the operation
-abbrev pub OnAnswer : ℕ → List ℕ → Serving → Serving → Result ℕ Refusal → Type 0
-OnAnswer order octets s t r = ByName (order_named order) s t r (λ o. HandsInFound result_types o octets returned s t r)
+abbrev pub OnAnswer : (ticket order : ℕ) → List ℕ → Serving → Serving → Result ℕ Refusal → Type 0
+OnAnswer ticket order octets s t r = ByName (order_named order) s t r (λ o. ByTicket ticket s t r (λ w. HandsInValues w.number (result_types (interface_at s w)) o octets returned s t r))
 
 -- an exception that the operation declares
-abbrev pub OnRaise : List ℕ → ℕ → List ℕ → Serving → Serving → Result ℕ Refusal → Type 0
-OnRaise id order octets s t r = ByName (order_named order) s t r (λ o. HandsInFound (member_types id) o octets (raised id) s t r)
+abbrev pub OnRaise : ℕ → List ℕ → ℕ → List ℕ → Serving → Serving → Result ℕ Refusal → Type 0
+OnRaise ticket id order octets s t r = ByName (order_named order) s t r (λ o. ByTicket ticket s t r (λ w. HandsInValues w.number (member_types id (interface_at s w)) o octets (raised id) s t r))
 
 -- a system exception
-abbrev pub OnSystem : (name minor completed : ℕ) → Serving → Serving → Result ℕ Refusal → Type 0
-OnSystem name minor completed s t r = ByName (system_name_named name) s t r (λ n. ByName (completion_named completed) s t r (λ c. HandsIn 0 (system n minor c) s t r))
+abbrev pub OnSystem : (ticket name minor completed : ℕ) → Serving → Serving → Result ℕ Refusal → Type 0
+OnSystem ticket name minor completed s t r = ByName (system_name_named name) s t r (λ n. ByName (completion_named completed) s t r (λ c. ByTicket ticket s t r (λ w. HandsIn w.number 0 (system n minor c) s t r)))
 
 -- the body of a reply, as octets
-abbrev pub OnAnswerRaw : (status order : ℕ) → List ℕ → Serving → Serving → Result ℕ Refusal → Type 0
-OnAnswerRaw status order body s t r = ByName (raw_status_named status) s t r (λ n. ByName (order_named order) s t r (λ o. UnlessShort s t r (HandsIn 0 (raw n o body) s t r)))
+abbrev pub OnAnswerRaw : (ticket status order : ℕ) → List ℕ → Serving → Serving → Result ℕ Refusal → Type 0
+OnAnswerRaw ticket status order body s t r = ByName (raw_status_named status) s t r (λ n. ByName (order_named order) s t r (λ o. ByTicket ticket s t r (λ w. UnlessShort s t r (HandsIn w.number 0 (raw n o body) s t r))))
 
 -- CORBA 3.3 Part 1, 8.3: what an object that names these repository ids answers, if that is what is asked
 abbrev pub identity_by : Option (List (List ℕ)) → Call → Option Bool
@@ -116,12 +103,12 @@ abbrev pub identity_at : Serving → Awaited → Option Bool
 identity_at s w = identity_by (ids_of s.engine.offering.catalogue w.call.object_key) w.call
 
 -- the answer to `_is_a` or `_non_existent`; where the request is neither, nothing changes
-abbrev pub Identifies : Option Bool → Serving → Serving → Result ℕ Refusal → Type 0
-Identifies None s t r = (r ≡ Ok 0) × (t ≡ s)
-Identifies (Some truth) s t r = UnlessShort s t r (HandsIn 1 (returned (values (value.boolean truth ∷ []))) s t r)
+abbrev pub Identifies : ℕ → Option Bool → Serving → Serving → Result ℕ Refusal → Type 0
+Identifies number None s t r = (r ≡ Ok 0) × (t ≡ s)
+Identifies number (Some truth) s t r = UnlessShort s t r (HandsIn number 1 (returned (values (value.boolean truth ∷ []))) s t r)
 
-abbrev pub OnIdentify : Serving → Serving → Result ℕ Refusal → Type 0
-OnIdentify s t r = ByAwaited (waits_in s.engine) s t r (λ w. Identifies (identity_at s w) s t r)
+abbrev pub OnIdentify : ℕ → Serving → Serving → Result ℕ Refusal → Type 0
+OnIdentify ticket s t r = ByTicket ticket s t r (λ w. Identifies w.number (identity_at s w) s t r)
 
 -- Words of private functions.
 
@@ -141,9 +128,3 @@ AreRead None order octets (Ok v) = ⊥
 AreRead None order octets (Err e) = e ≡ refusal.Outcome
 AreRead (Some types) order octets (Ok v) = SpellsMembers types order (values_of v.items) 0 octets × ((vs : Values) → SpellsMembers types order vs 0 octets → values_of v.items ≡ vs)
 AreRead (Some types) order octets (Err e) = (e ≡ refusal.Memory) ⊎ ((e ≡ refusal.Outcome) × ((vs : Values) → ¬ (SpellsMembers types order vs 0 octets)))
-
--- what reading octets as values gave, by the types that the operation of what waits has for them
-abbrev pub AreFound : (Awaited → Option Forms) → Order → List ℕ → Option Awaited → Result (Vec Val Global) Refusal → Type 0
-AreFound types order octets None (Ok v) = ⊥
-AreFound types order octets None (Err e) = e ≡ refusal.Idle
-AreFound types order octets (Some w) r = AreRead (types w) order octets r

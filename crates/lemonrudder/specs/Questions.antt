@@ -9,11 +9,14 @@ use Rattle.giop_core.specs.Ft as ft
 use Rattle.giop_core.specs.Ft.{Ft, ft_in}
 use Rattle.giop_link.specs.Hearing.{Question}
 use Rattle.ft_objects.specs.Accessors.{boolean_of, octets_in, read_at, ulong_of}
+use Rattle.ft_log.specs.Holding.{Holding}
+use Rattle.ft_orb.specs.declared.parked.Waiter.{Waiter}
 use Rattle.ft_orb.specs.Engines.{Asks, Awaited, waits_in}
 use Rattle.ft_objects.specs.Filling.{offer_of}
 use Rattle.ft_orb.specs.History.{Event}
 use Rattle.ft_objects.specs.Interfaces.{Interface, raw_operation}
 use Rattle.ft_orb.specs.Owners.{Owner}
+use Rattle.ft_orb.specs.Parking.{AsksLate, Settings}
 use Rattle.ft_orb.specs.Requests.{Call}
 use Rattle.lemonrudder.specs.declared.refusal.Refusal.{Refusal}
 use Rattle.lemonrudder.specs.declared.refusal.Refusal.TheVariants as refusal
@@ -23,6 +26,7 @@ use Rattle.lemonrudder.specs.Asking.{no_request, with_question}
 use Rattle.lemonrudder.specs.Outcomes.{interface_at}
 use Rattle.lemonrudder.specs.Refusals.{filled}
 use Rattle.lemonrudder.specs.Serves.{IsIdle}
+use Rattle.lemonrudder.specs.Tickets.{ticket_of}
 
 -- a head with what it says of the body: of a raw operation the octets as they came, their order and their place, and else how many
 -- octets the arguments are in big order from place 0
@@ -37,13 +41,15 @@ with_body _ arguments h = let n = length (octets_of_all Big arguments 0) in reco
 
 -- the head of a request that waits, whose operation is this and which says this
 abbrev pub head_of : Interface → Awaited → Question → RequestHead
-head_of i w q = with_body i w.call.arguments (with_question q.version q.id q.wish q.contexts (record no_request { connection = w.connection; key_size = length w.call.object_key; operation_size = length w.call.operation }))
+head_of i w q = with_body i w.call.arguments (with_question q.version q.id q.wish q.contexts (record no_request { ticket = ticket_of w.number; connection = w.connection; key_size = length w.call.object_key; operation_size = length w.call.operation }))
 
 -- the head of what waits is reported, and 1; where nothing waits 0, and the caller's head is as it was
 abbrev pub OnAsked : (head new : RequestHead) → Serving → Serving → Result ℕ Refusal → Type 0
 OnAsked head new s t r = (t ≡ s) × (IsIdle s → (r ≡ Ok 0) × (new ≡ head))
     × ((owner : Owner) (calls : List Call) (past : List Event) (moment : ℕ) (octets written : List ℕ) (w : Awaited) → (a : Asks offer_of owner calls s.engine past moment octets written w)
     → (r ≡ Ok 1) × (new ≡ head_of (interface_at s w) w a.question))
+    × ((x : Settings) (held : ℕ → Holding) (calls : List Call) (past : List Event) (waiting : ℕ → List Waiter) (moment : ℕ) (octets written : List ℕ) (w : Awaited) → (a : AsksLate offer_of x held calls s.engine past waiting moment octets written w)
+    → (r ≡ Ok 1) × (new ≡ head_of (interface_at s w) w a.asks.question))
 
 -- octets are copied to the front of a room, as many as it has, and how many they are is returned
 abbrev pub Tells : List ℕ → (room new : List ℕ) → Result ℕ Refusal → Type 0
@@ -71,8 +77,10 @@ client_in _ = None
 
 -- the client id of the request that waits is reported, if it carries one
 abbrev pub TellsClient : (room new : List ℕ) → Serving → Result ℕ Refusal → Type 0
-TellsClient room new s r = (owner : Owner) (calls : List Call) (past : List Event) (moment : ℕ) (octets written : List ℕ) (w : Awaited) → (a : Asks offer_of owner calls s.engine past moment octets written w)
-    → TellsIfSome (client_in (ft_in a.question.contexts)) room new r
+TellsClient room new s r = ((owner : Owner) (calls : List Call) (past : List Event) (moment : ℕ) (octets written : List ℕ) (w : Awaited) → (a : Asks offer_of owner calls s.engine past moment octets written w)
+    → TellsIfSome (client_in (ft_in a.question.contexts)) room new r)
+    × ((x : Settings) (held : ℕ → Holding) (calls : List Call) (past : List Event) (waiting : ℕ → List Waiter) (moment : ℕ) (octets written : List ℕ) (w : Awaited) → (a : AsksLate offer_of x held calls s.engine past waiting moment octets written w)
+    → TellsIfSome (client_in (ft_in a.asks.question.contexts)) room new r)
 
 -- a part of the request that waits is reported: its object key, its operation, its body or its client id
 abbrev pub OnPart : ℕ → (room new : List ℕ) → Serving → Serving → Result ℕ Refusal → Type 0

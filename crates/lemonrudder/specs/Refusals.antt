@@ -47,6 +47,7 @@ error_number refusal.Calls = negsuc 21
 error_number refusal.Long = negsuc 22
 error_number refusal.Lost = negsuc 23
 error_number refusal.Place = negsuc 24
+error_number refusal.Ticket = negsuc 25
 
 -- a count as a signed number of 64 bits: the greatest, where it is more
 abbrev pub signed_of : ℕ → ℤ

@@ -6,7 +6,7 @@ use Rattle.ft_orb.specs.declared.engine.Fed.TheVariants as fed
 use Rattle.ft_orb.specs.declared.error.ConnectError.{ConnectError}
 use Rattle.ft_orb.specs.declared.error.ServeError.{ServeError}
 use Rattle.ft_orb.specs.declared.events.Note.TheVariants.{Memory}
-use Rattle.ft_orb.specs.Engines.{Asks, Awaited, Feeds, FeedsOnce, IsFit, IsLeftAt, IsThen, Resumes, ResumesOnce, Rests, waits_in}
+use Rattle.ft_orb.specs.Engines.{Asks, Awaited, Feeds, FeedsOnce, IsFit, IsLeftAt, IsNumbered, IsThen, Resumes, ResumesOnce, Rests, asks_in, waits_in}
 use Rattle.ft_orb.specs.EnginesNow.{FeedsNow, ResumesNow}
 use Rattle.ft_objects.specs.Filling.{offer_of}
 use Rattle.ft_orb.specs.History.{Close, Event, Lost, Opened, Piece, completed, line}
@@ -20,7 +20,9 @@ use Rattle.lemonrudder.specs.declared.refusal.Refusal.{Refusal}
 use Rattle.lemonrudder.specs.declared.refusal.Refusal.TheVariants as refusal
 use Rattle.lemonrudder.specs.declared.serving.Serving.{Serving}
 use Rattle.lemonrudder.specs.Dues.{IsPlaced, owed}
+use Rattle.lemonrudder.specs.Late.{ClosesLate, ForgetsLate, IsClosedLate, LosesLate, OpensLate, TakesLate}
 use Rattle.lemonrudder.specs.Refusals.{filled, refusal_of_connecting, refusal_of_serving}
+use Rattle.lemonrudder.specs.Tickets.{waiting_by}
 
 -- a call is refused, and nothing has changed
 abbrev pub IsRefused : Refusal → Serving → Serving → Result ℕ Refusal → Type 0
@@ -50,6 +52,18 @@ KeepsDue s t = (t.due ≡ s.due) × (t.due_on ≡ s.due_on)
 abbrev pub KeepsCatalogue : Serving → Serving → Type 0
 KeepsCatalogue s t = t.engine.offering ≡ s.engine.offering
 
+-- .. nor does it number a request: no ticket is given twice
+abbrev pub KeepsTickets : Serving → Serving → Type 0
+KeepsTickets s t = asks_in t.engine ≡ asks_in s.engine
+
+-- a call by a ticket is refused where nothing waits, and where another request does, and else does this by what waits
+abbrev pub ByWaiting : Result Awaited Refusal → Serving → Serving → Result ℕ Refusal → (Awaited → Type 0) → Type 0
+ByWaiting (Err e) s t r Does = IsRefused e s t r
+ByWaiting (Ok w) s t r Does = Does w
+
+abbrev pub ByTicket : ℕ → Serving → Serving → Result ℕ Refusal → (Awaited → Type 0) → Type 0
+ByTicket ticket s t r Does = ByWaiting (waiting_by ticket (waits_in s.engine)) s t r Does
+
 -- what a call answers: a number where it was done, or why it was not
 abbrev pub done_of : {A E : Type 0} → ℕ → (E → Refusal) → Result A E → Result ℕ Refusal
 done_of n why (Ok x) = Ok n
@@ -57,8 +71,9 @@ done_of n why (Err e) = Err (why e)
 
 -- a connection is opened: not while a request waits
 abbrev pub OnConnect : ℕ → Serving → Serving → Result ℕ Refusal → Type 0
-OnConnect c s t r = WhereIdle s t r ((o : Result (Unit {0}) ConnectError) × (r ≡ done_of 0 refusal_of_connecting o) × IsIdle t × KeepsDue s t × KeepsCatalogue s t
-    × ((owner : Owner) (calls : List Call) (past : List Event) → Rests offer_of owner calls s.engine past → IsThen offer_of owner calls past (Opened c) (note_of_opening o) t.engine []))
+OnConnect c s t r = WhereIdle s t r ((o : Result (Unit {0}) ConnectError) × (r ≡ done_of 0 refusal_of_connecting o) × IsIdle t × KeepsDue s t × KeepsCatalogue s t × KeepsTickets s t
+    × ((owner : Owner) (calls : List Call) (past : List Event) → Rests offer_of owner calls s.engine past → IsThen offer_of owner calls past (Opened c) (note_of_opening o) t.engine [])
+    × OpensLate c s t o)
 
 -- what was due on a connection is dropped, and what is due on another stays
 abbrev pub DropsDue : ℕ → Serving → Serving → Type 0
@@ -66,8 +81,9 @@ DropsDue c s t = (t.due_on ≡ s.due_on) × (s.due_on ≡ c → (owed t.due ≡ 
 
 -- a connection is lost: not while a request waits
 abbrev pub OnLost : ℕ → Serving → Serving → Result ℕ Refusal → Type 0
-OnLost c s t r = WhereIdle s t r ((r ≡ Ok 0) × IsIdle t × DropsDue c s t × KeepsCatalogue s t
-    × ((owner : Owner) (calls : List Call) (past : List Event) → Rests offer_of owner calls s.engine past → Rests offer_of owner calls t.engine (Lost c ∷ past)))
+OnLost c s t r = WhereIdle s t r ((r ≡ Ok 0) × IsIdle t × DropsDue c s t × KeepsCatalogue s t × KeepsTickets s t
+    × ((owner : Owner) (calls : List Call) (past : List Event) → Rests offer_of owner calls s.engine past → Rests offer_of owner calls t.engine (Lost c ∷ past))
+    × LosesLate c s t)
 
 -- the engine closes a connection, and what it writes is due after what was
 abbrev pub Closes : ℕ → Serving → Serving → Result (Unit {0}) ServeError → Type 0
@@ -76,7 +92,7 @@ Closes c s t o = (owner : Owner) (calls : List Call) (past : List Event) → Res
 
 -- goodbye is said on a connection: not while a request waits, nor while octets are due on another connection
 abbrev pub OnFarewell : ℕ → Serving → Serving → Result ℕ Refusal → Type 0
-OnFarewell c s t r = WhereFree c s t r ((o : Result (Unit {0}) ServeError) × (r ≡ done_of 0 refusal_of_serving o) × IsIdle t × KeepsCatalogue s t × Closes c s t o)
+OnFarewell c s t r = WhereFree c s t r ((o : Result (Unit {0}) ServeError) × (r ≡ done_of 0 refusal_of_serving o) × IsIdle t × KeepsCatalogue s t × KeepsTickets s t × Closes c s t o × ClosesLate c s t o)
 
 -- it is reported whether what comes on a connection has no meaning
 abbrev pub OnIsClosed : ℕ → Serving → Serving → Result ℕ Refusal → Type 0
@@ -84,6 +100,7 @@ OnIsClosed c s t r = (t ≡ s) × (closed : Bool) × (r ≡ Ok (from_bool closed
     × ((owner : Owner) (calls : List Call) (past : List Event) → Rests offer_of owner calls s.engine past → closed ≡ not (is_going owner.limits (line past c)))
     × ((owner : Owner) (calls : List Call) (past : List Event) (moment : ℕ) (octets written : List ℕ) (w : Awaited) → Asks offer_of owner calls s.engine past moment octets written w
     → closed ≡ not (is_going owner.limits (line (Piece w.connection moment octets ∷ past) c)))
+    × IsClosedLate c closed s
 
 -- how many octets are taken, of so many
 abbrev pub taken_of : ℕ → Result Fed ServeError → Result ℕ Refusal
@@ -95,7 +112,7 @@ taken_of size (Err e) = Err (refusal_of_serving e)
 -- the engine takes octets, and what it writes is due after what was
 abbrev pub Takes : (c moment : ℕ) → List ℕ → Serving → Serving → Result Fed ServeError → Type 0
 Takes c moment octets s t f =
-    IsLeftAt c (length octets) f (waits_in t.engine) × IsFit (offer_of t.engine.offering.catalogue) (waits_in t.engine)
+    IsLeftAt c (length octets) f (waits_in t.engine) × IsNumbered (asks_in s.engine) (asks_in t.engine) f (waits_in t.engine) × IsFit (offer_of t.engine.offering.catalogue) (waits_in t.engine)
     × ((owner : Owner) (calls : List Call) (past : List Event) → Rests offer_of owner calls s.engine past → IsPlaced s.due
     → IsPlaced t.due × Feeds offer_of owner calls past c moment octets f t.engine (owed s.due) (owed t.due)
     × FeedsOnce offer_of owner calls past c moment octets f (waits_in t.engine) (owed s.due) (owed t.due)
@@ -103,21 +120,23 @@ Takes c moment octets s t f =
 
 -- octets of a connection are fed: not while a request waits, nor while octets are due on another connection
 abbrev pub OnFeed : (c moment : ℕ) → List ℕ → Serving → Serving → Result ℕ Refusal → Type 0
-OnFeed c moment octets s t r = WhereFree c s t r ((f : Result Fed ServeError) × (r ≡ taken_of (length octets) f) × KeepsCatalogue s t × Takes c moment octets s t f)
+OnFeed c moment octets s t r = WhereFree c s t r ((f : Result Fed ServeError) × (r ≡ taken_of (length octets) f) × KeepsCatalogue s t × Takes c moment octets s t f × TakesLate c moment octets s t f)
+
+-- n requests and locates of its piece were answered before the request that waits
+abbrev pub AreBefore : ℕ → Serving → Type 0
+AreBefore n s = (owner : Owner) (calls : List Call) (past : List Event) (moment : ℕ) (octets written : List ℕ) (w : Awaited) → Asks offer_of owner calls s.engine past moment octets written w
+    → n + 1 ≡ length (completed owner.limits past (Piece w.connection moment octets))
 
 -- the request that waits does not count, and its connection is lost
-abbrev pub Forgets : Serving → Serving → Type 0
-Forgets s t = (n : ℕ) × ((owner : Owner) (calls : List Call) (past : List Event) (moment : ℕ) (octets written : List ℕ) (w : Awaited) → Asks offer_of owner calls s.engine past moment octets written w
-    → (n + 1 ≡ length (completed owner.limits past (Piece w.connection moment octets)))
-    × Resumes offer_of owner calls past w.connection moment octets written (Memory n n) t.engine [] []
+abbrev pub Forgets : ℕ → Serving → Serving → Type 0
+Forgets n s t = (owner : Owner) (calls : List Call) (past : List Event) (moment : ℕ) (octets written : List ℕ) (w : Awaited) → Asks offer_of owner calls s.engine past moment octets written w
+    → Resumes offer_of owner calls past w.connection moment octets written (Memory n n) t.engine [] []
     × ResumesOnce offer_of owner calls past w.connection moment octets written (Memory n n) [] []
-    × ResumesNow owner calls past w.connection moment octets written (Memory n n) [] [])
+    × ResumesNow owner calls past w.connection moment octets written (Memory n n) [] []
 
--- a request is given up, if one waits
-abbrev pub OnGiveUp : Serving → Serving → Result ℕ Refusal → Type 0
-OnGiveUp s t r =
-    (IsIdle s → IsRefused refusal.Idle s t r)
-    × (IsSome (waits_in s.engine) → (r ≡ Ok 0) × IsIdle t × KeepsDue s t × KeepsCatalogue s t × Forgets s t)
+-- the request of a ticket is given up
+abbrev pub OnGiveUp : ℕ → Serving → Serving → Result ℕ Refusal → Type 0
+OnGiveUp ticket s t r = ByTicket ticket s t r (λ w. (r ≡ Ok 0) × IsIdle t × KeepsDue s t × KeepsCatalogue s t × KeepsTickets s t × (n : ℕ) × AreBefore n s × Forgets n s t × ForgetsLate n s t)
 
 -- octets that are due are copied to the front of a room, as many as it has, and are due no longer
 abbrev pub OnOutput : (room new : List ℕ) → Serving → Serving → Result ℕ Refusal → Type 0

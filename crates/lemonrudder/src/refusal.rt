@@ -65,6 +65,8 @@ pub enum Refusal {
     Lost,
     /// The body would stand at a place that is not divisible by 8.
     Place,
+    /// No request of that ticket waits.
+    Ticket,
 }
 
 impl Refusal {
@@ -98,6 +100,7 @@ impl Refusal {
             Refusal::Long => -23,
             Refusal::Lost => -24,
             Refusal::Place => -25,
+            Refusal::Ticket => -26,
         }
     }
 }

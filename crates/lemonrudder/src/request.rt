@@ -3,6 +3,7 @@
 ghost use Rattle.std.specs.Prelude.{◌≡◌};
 ghost use Rattle.giop_core.specs.Items.{contexts_left};
 ghost use Rattle.lemonrudder.specs.Asking.{with_question};
+ghost use Rattle.lemonrudder.specs.Tickets.{ticket_of};
 
 use crate::named::{minor_of, number_of_wish};
 use crate::refusal::count_of;
@@ -12,6 +13,7 @@ use giop_core::{FtField, Request, Version, ft_request};
 #[repr(C)]
 #[derive(Clone, Copy, Debug, Drop)]
 pub struct RequestHead {
+    pub ticket: u64,
     pub connection: u64,
     pub key_size: u64,
     pub operation_size: u64,
@@ -37,6 +39,7 @@ impl RequestHead {
         ensures { result ≡ no_request }
     {
         RequestHead {
+            ticket: 0,
             connection: 0,
             key_size: 0,
             operation_size: 0,
@@ -54,6 +57,13 @@ impl RequestHead {
             expiration: 0,
         }
     }
+}
+
+/// The ticket of the request of a number.
+pub fn ticket_of(number: u64) -> u64
+    ensures { result ≡ ticket_of number }
+{
+    number.saturating_add(1)
 }
 
 /// Says the version, the id, the wish and the FT_REQUEST of a request.

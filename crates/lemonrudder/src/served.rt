@@ -2,6 +2,7 @@
 
 ghost use Rattle.std.specs.Prelude.{◌≡◌, Some};
 ghost use Rattle.lemonrudder.specs.Answers.{OnServer};
+ghost use Rattle.lemonrudder.specs.Declining.{OnGoodbye, OnRefuse};
 ghost use Rattle.lemonrudder.specs.Outcomes.{OnAnswer, OnAnswerRaw, OnIdentify, OnRaise, OnSystem};
 ghost use Rattle.lemonrudder.specs.Questions.{OnAsked, OnPart};
 ghost use Rattle.lemonrudder.specs.Serves.{HasNoServer, OnConnect, OnFarewell, OnFeed, OnGiveUp, OnIsClosed, OnLost, OnOutput};
@@ -83,63 +84,83 @@ pub fn part(object: &Object, part: u32, room: &mut [u8]) -> i64
 }
 
 /// Answers by results.
-pub fn answer(object: &mut Object, order: u32, results: &[u8]) -> i64
-    ensures { OnServer (OnAnswer order results.now) (Some object.old) (Some object.new) result }
+pub fn answer(object: &mut Object, ticket: u64, order: u32, results: &[u8]) -> i64
+    ensures { OnServer (OnAnswer ticket order results.now) (Some object.old) (Some object.new) result }
 {
     let Object::Server(server) = object else {
         return Refusal::Empty.number();
     };
-    number_of(server.answer(order, results))
+    number_of(server.answer(ticket, order, results))
 }
 
 /// Answers by an exception that the operation declares.
-pub fn raise(object: &mut Object, id: &[u8], order: u32, members: &[u8]) -> i64
-    ensures { OnServer (OnRaise id.now order members.now) (Some object.old) (Some object.new) result }
+pub fn raise(object: &mut Object, ticket: u64, id: &[u8], order: u32, members: &[u8]) -> i64
+    ensures { OnServer (OnRaise ticket id.now order members.now) (Some object.old) (Some object.new) result }
 {
     let Object::Server(server) = object else {
         return Refusal::Empty.number();
     };
-    number_of(server.raise(id, order, members))
+    number_of(server.raise(ticket, id, order, members))
 }
 
 /// Answers by a system exception.
-pub fn system(object: &mut Object, name: u32, minor: u32, completed: u32) -> i64
-    ensures { OnServer (OnSystem name minor completed) (Some object.old) (Some object.new) result }
+pub fn system(object: &mut Object, ticket: u64, name: u32, minor: u32, completed: u32) -> i64
+    ensures { OnServer (OnSystem ticket name minor completed) (Some object.old) (Some object.new) result }
 {
     let Object::Server(server) = object else {
         return Refusal::Empty.number();
     };
-    number_of(server.system(name, minor, completed))
+    number_of(server.system(ticket, name, minor, completed))
 }
 
 /// Answers a raw operation.
-pub fn answer_raw(object: &mut Object, status: u32, order: u32, body: &[u8]) -> i64
-    ensures { OnServer (OnAnswerRaw status order body.now) (Some object.old) (Some object.new) result }
+pub fn answer_raw(object: &mut Object, ticket: u64, status: u32, order: u32, body: &[u8]) -> i64
+    ensures { OnServer (OnAnswerRaw ticket status order body.now) (Some object.old) (Some object.new) result }
 {
     let Object::Server(server) = object else {
         return Refusal::Empty.number();
     };
-    number_of(server.answer_raw(status, order, body))
+    number_of(server.answer_raw(ticket, status, order, body))
 }
 
 /// Answers `_is_a` and `_non_existent`.
-pub fn identify(object: &mut Object) -> i64
-    ensures { OnServer OnIdentify (Some object.old) (Some object.new) result }
+pub fn identify(object: &mut Object, ticket: u64) -> i64
+    ensures { OnServer (OnIdentify ticket) (Some object.old) (Some object.new) result }
 {
     let Object::Server(server) = object else {
         return Refusal::Empty.number();
     };
-    number_of(server.identify())
+    number_of(server.identify(ticket))
 }
 
 /// Gives up the request that waits.
-pub fn give_up(object: &mut Object) -> i64
-    ensures { OnServer OnGiveUp (Some object.old) (Some object.new) result }
+pub fn give_up(object: &mut Object, ticket: u64) -> i64
+    ensures { OnServer (OnGiveUp ticket) (Some object.old) (Some object.new) result }
 {
     let Object::Server(server) = object else {
         return Refusal::Empty.number();
     };
-    number_of(server.give_up())
+    number_of(server.give_up(ticket))
+}
+
+/// Refuses the request that waits, for now.
+pub fn refuse(object: &mut Object, ticket: u64, name: u32, minor: u32) -> i64
+    ensures { OnServer (OnRefuse ticket name minor) (Some object.old) (Some object.new) result }
+{
+    let Object::Server(server) = object else {
+        return Refusal::Empty.number();
+    };
+    number_of(server.refuse(ticket, name, minor))
+}
+
+/// Gives up the request that waits, and says goodbye first.
+pub fn goodbye(object: &mut Object, ticket: u64) -> i64
+    ensures { OnServer (OnGoodbye ticket) (Some object.old) (Some object.new) result }
+{
+    let Object::Server(server) = object else {
+        return Refusal::Empty.number();
+    };
+    number_of(server.goodbye(ticket))
 }
 
 /// Moves octets that are due into a room.

@@ -3,6 +3,7 @@
 ghost use Rattle.std.specs.Prelude.{◌≡◌, ◌↔◌, IsTrue};
 ghost use Rattle.ft_orb.specs.Parking.{parked_count};
 
+mod declining;
 mod outcomes;
 mod questions;
 mod taken;
@@ -132,13 +133,10 @@ impl Serving {
     }
 
     /// Gives up the request that waits.
-    pub fn give_up(&mut self) -> Result<u64, Refusal>
-        ensures { OnGiveUp self.old self.new result }
+    pub fn give_up(&mut self, ticket: u64) -> Result<u64, Refusal>
+        ensures { OnGiveUp ticket self.old self.new result }
     {
-        let Some(asked) = self.engine.asked() else {
-            return Err(Refusal::Idle);
-        };
-        let number = asked.number;
+        let number = self.asked_by(ticket)?.number;
         self.engine.give_up(number);
         Ok(0)
     }

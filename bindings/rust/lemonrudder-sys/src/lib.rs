@@ -53,6 +53,7 @@ unsafe impl Send for lr_slot {}
 #[repr(C)]
 #[derive(Debug, Default)]
 pub struct lr_request {
+    pub ticket: u64,
     pub connection: u64,
     pub key_size: u64,
     pub operation_size: u64,
@@ -210,12 +211,14 @@ unsafe extern "C" {
     pub fn lr_server_part(server: &mut lr_slot, part: u32, room: *mut c_void, size: usize) -> i64;
     pub fn lr_server_answer(
         server: &mut lr_slot,
+        ticket: u64,
         order: u32,
         results: *const c_void,
         size: usize,
     ) -> i64;
     pub fn lr_server_raise(
         server: &mut lr_slot,
+        ticket: u64,
         id: *const c_void,
         id_size: usize,
         order: u32,
@@ -224,19 +227,23 @@ unsafe extern "C" {
     ) -> i64;
     pub safe fn lr_server_system(
         server: &mut lr_slot,
+        ticket: u64,
         name: u32,
         minor: u32,
         completed: u32,
     ) -> i64;
     pub fn lr_server_answer_raw(
         server: &mut lr_slot,
+        ticket: u64,
         status: u32,
         order: u32,
         body: *const c_void,
         size: usize,
     ) -> i64;
-    pub safe fn lr_server_identify(server: &mut lr_slot) -> i64;
-    pub safe fn lr_server_give_up(server: &mut lr_slot) -> i64;
+    pub safe fn lr_server_identify(server: &mut lr_slot, ticket: u64) -> i64;
+    pub safe fn lr_server_give_up(server: &mut lr_slot, ticket: u64) -> i64;
+    pub safe fn lr_server_refuse(server: &mut lr_slot, ticket: u64, name: u32, minor: u32) -> i64;
+    pub safe fn lr_server_goodbye(server: &mut lr_slot, ticket: u64) -> i64;
     pub fn lr_server_output(server: &mut lr_slot, room: *mut c_void, size: usize) -> i64;
 
     pub fn lr_client_open(

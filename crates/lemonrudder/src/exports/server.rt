@@ -2,6 +2,7 @@
 
 ghost use Rattle.std.specs.Prelude.{◌≡◌};
 ghost use Rattle.lemonrudder.specs.Answers.{OnServer};
+ghost use Rattle.lemonrudder.specs.Declining.{OnGoodbye, OnRefuse};
 ghost use Rattle.lemonrudder.specs.Hosting.{Hosts, Leaves, OpensServer};
 ghost use Rattle.lemonrudder.specs.Outcomes.{OnAnswer, OnAnswerRaw, OnIdentify, OnRaise, OnSystem};
 ghost use Rattle.lemonrudder.specs.Questions.{OnAsked, OnPart};
@@ -189,15 +190,16 @@ pub extern "C" fn lr_server_part(alloc: Global, slot: &mut Slot, part: u32, room
 pub extern "C" fn lr_server_answer(
     alloc: Global,
     slot: &mut Slot,
+    ticket: u64,
     order: u32,
     results: &[u8],
 ) -> i64
-    ensures { OnServer (OnAnswer order results.now) (held_in slot.old) (held_in slot.new) result }
+    ensures { OnServer (OnAnswer ticket order results.now) (held_in slot.old) (held_in slot.new) result }
 {
     let Some(mut object) = slot.take(alloc) else {
         return Refusal::Empty.number();
     };
-    let answer = served::answer(&mut object, order, results);
+    let answer = served::answer(&mut object, ticket, order, results);
     slot.put(object);
     answer
 }
@@ -207,16 +209,17 @@ pub extern "C" fn lr_server_answer(
 pub extern "C" fn lr_server_raise(
     alloc: Global,
     slot: &mut Slot,
+    ticket: u64,
     id: &[u8],
     order: u32,
     members: &[u8],
 ) -> i64
-    ensures { OnServer (OnRaise id.now order members.now) (held_in slot.old) (held_in slot.new) result }
+    ensures { OnServer (OnRaise ticket id.now order members.now) (held_in slot.old) (held_in slot.new) result }
 {
     let Some(mut object) = slot.take(alloc) else {
         return Refusal::Empty.number();
     };
-    let answer = served::raise(&mut object, id, order, members);
+    let answer = served::raise(&mut object, ticket, id, order, members);
     slot.put(object);
     answer
 }
@@ -226,16 +229,17 @@ pub extern "C" fn lr_server_raise(
 pub extern "C" fn lr_server_system(
     alloc: Global,
     slot: &mut Slot,
+    ticket: u64,
     name: u32,
     minor: u32,
     completed: u32,
 ) -> i64
-    ensures { OnServer (OnSystem name minor completed) (held_in slot.old) (held_in slot.new) result }
+    ensures { OnServer (OnSystem ticket name minor completed) (held_in slot.old) (held_in slot.new) result }
 {
     let Some(mut object) = slot.take(alloc) else {
         return Refusal::Empty.number();
     };
-    let answer = served::system(&mut object, name, minor, completed);
+    let answer = served::system(&mut object, ticket, name, minor, completed);
     slot.put(object);
     answer
 }
@@ -245,42 +249,75 @@ pub extern "C" fn lr_server_system(
 pub extern "C" fn lr_server_answer_raw(
     alloc: Global,
     slot: &mut Slot,
+    ticket: u64,
     status: u32,
     order: u32,
     body: &[u8],
 ) -> i64
-    ensures { OnServer (OnAnswerRaw status order body.now) (held_in slot.old) (held_in slot.new) result }
+    ensures { OnServer (OnAnswerRaw ticket status order body.now) (held_in slot.old) (held_in slot.new) result }
 {
     let Some(mut object) = slot.take(alloc) else {
         return Refusal::Empty.number();
     };
-    let answer = served::answer_raw(&mut object, status, order, body);
+    let answer = served::answer_raw(&mut object, ticket, status, order, body);
     slot.put(object);
     answer
 }
 
 /// Answers `_is_a` and `_non_existent`.
 #[unsafe(no_mangle)]
-pub extern "C" fn lr_server_identify(alloc: Global, slot: &mut Slot) -> i64
-    ensures { OnServer OnIdentify (held_in slot.old) (held_in slot.new) result }
+pub extern "C" fn lr_server_identify(alloc: Global, slot: &mut Slot, ticket: u64) -> i64
+    ensures { OnServer (OnIdentify ticket) (held_in slot.old) (held_in slot.new) result }
 {
     let Some(mut object) = slot.take(alloc) else {
         return Refusal::Empty.number();
     };
-    let answer = served::identify(&mut object);
+    let answer = served::identify(&mut object, ticket);
     slot.put(object);
     answer
 }
 
 /// Gives up the request that waits.
 #[unsafe(no_mangle)]
-pub extern "C" fn lr_server_give_up(alloc: Global, slot: &mut Slot) -> i64
-    ensures { OnServer OnGiveUp (held_in slot.old) (held_in slot.new) result }
+pub extern "C" fn lr_server_give_up(alloc: Global, slot: &mut Slot, ticket: u64) -> i64
+    ensures { OnServer (OnGiveUp ticket) (held_in slot.old) (held_in slot.new) result }
 {
     let Some(mut object) = slot.take(alloc) else {
         return Refusal::Empty.number();
     };
-    let answer = served::give_up(&mut object);
+    let answer = served::give_up(&mut object, ticket);
+    slot.put(object);
+    answer
+}
+
+/// Refuses the request that waits, for now.
+#[unsafe(no_mangle)]
+pub extern "C" fn lr_server_refuse(
+    alloc: Global,
+    slot: &mut Slot,
+    ticket: u64,
+    name: u32,
+    minor: u32,
+) -> i64
+    ensures { OnServer (OnRefuse ticket name minor) (held_in slot.old) (held_in slot.new) result }
+{
+    let Some(mut object) = slot.take(alloc) else {
+        return Refusal::Empty.number();
+    };
+    let answer = served::refuse(&mut object, ticket, name, minor);
+    slot.put(object);
+    answer
+}
+
+/// Gives up the request that waits, and says goodbye first.
+#[unsafe(no_mangle)]
+pub extern "C" fn lr_server_goodbye(alloc: Global, slot: &mut Slot, ticket: u64) -> i64
+    ensures { OnServer (OnGoodbye ticket) (held_in slot.old) (held_in slot.new) result }
+{
+    let Some(mut object) = slot.take(alloc) else {
+        return Refusal::Empty.number();
+    };
+    let answer = served::goodbye(&mut object, ticket);
     slot.put(object);
     answer
 }

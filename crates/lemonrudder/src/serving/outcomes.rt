@@ -4,7 +4,7 @@ ghost use Rattle.std.specs.Prelude.{◌≡◌, Some, map};
 ghost use Rattle.cdr_core.specs.Fitting.{AreValid};
 ghost use Rattle.cdr_core.specs.View.{forms_of};
 ghost use Rattle.ft_log.specs.View.{performed_in};
-ghost use Rattle.ft_orb.specs.Engines.{awaited_lent, waits_in};
+ghost use Rattle.ft_orb.specs.Engines.{awaited_lent};
 ghost use Rattle.ft_objects.specs.Interfaces.{raise_of};
 ghost use Rattle.lemonrudder.specs.Outcomes.{forms_in, members_in, outcome_read};
 
@@ -18,16 +18,12 @@ use ft_objects::{Catalogue, Lookup, string_at};
 use ft_orb::Asked;
 
 impl Serving {
-    ghost use Rattle.lemonrudder.specs.Outcomes.{AreFound, AreRead, HandsIn, OnAnswer, OnAnswerRaw, OnIdentify, OnRaise, OnSystem, identity_at, interface_at, member_types, result_types};
+    ghost use Rattle.lemonrudder.specs.Outcomes.{AreRead, HandsIn, OnAnswer, OnAnswerRaw, OnIdentify, OnRaise, OnSystem, identity_at, interface_at, member_types, result_types};
 
-    /// Hands in an outcome, and answers the count where it is taken.
-    fn hand_in(&mut self, outcome: Outcome, count: u64) -> Result<u64, Refusal>
-        ensures { HandsIn count (performed_in outcome) self.old self.new result }
+    /// Hands in the outcome of the request of a number, and answers the count where it is taken.
+    fn hand_in(&mut self, number: u64, outcome: Outcome, count: u64) -> Result<u64, Refusal>
+        ensures { HandsIn number count (performed_in outcome) self.old self.new result }
     {
-        let Some(asked) = self.engine.asked() else {
-            return Err(Refusal::Idle);
-        };
-        let number = asked.number;
         if !self.engine.can_answer(number, &outcome) {
             return Err(Refusal::Outcome);
         }
@@ -43,22 +39,26 @@ impl Serving {
     }
 
     /// The results of the operation that waits, of these octets.
-    fn results(&self, order: Order, octets: &[u8]) -> Result<Vec<Val>, Refusal>
-        ensures { AreFound (λ w. result_types (interface_at self.now w)) order octets.now (waits_in self.now.engine) result }
+    fn results(&self, asked: &Asked<'_>, order: Order, octets: &[u8]) -> Result<Vec<Val>, Refusal>
+        ensures { AreRead (result_types (interface_at self.now (awaited_lent asked.now))) order octets.now result }
     {
-        let asked = self.engine.asked().ok_or(Refusal::Idle)?;
-        let Lookup::Operation(signature) = self.lookup(&asked) else {
+        let Lookup::Operation(signature) = self.lookup(asked) else {
             return Err(Refusal::Outcome);
         };
         self.values(&signature.results, order, octets)
     }
 
     /// The members of an exception of the operation that waits, of these octets.
-    fn members(&self, id: &[u8], order: Order, octets: &[u8]) -> Result<Vec<Val>, Refusal>
-        ensures { AreFound (λ w. member_types id.now (interface_at self.now w)) order octets.now (waits_in self.now.engine) result }
+    fn members(
+        &self,
+        asked: &Asked<'_>,
+        id: &[u8],
+        order: Order,
+        octets: &[u8],
+    ) -> Result<Vec<Val>, Refusal>
+        ensures { AreRead (member_types id.now (interface_at self.now (awaited_lent asked.now))) order octets.now result }
     {
-        let asked = self.engine.asked().ok_or(Refusal::Idle)?;
-        let Lookup::Operation(signature) = self.lookup(&asked) else {
+        let Lookup::Operation(signature) = self.lookup(asked) else {
             return Err(Refusal::Outcome);
         };
         let types = types_of_exception(&signature.raises, id).ok_or(Refusal::Outcome)?;
@@ -66,41 +66,65 @@ impl Serving {
     }
 
     /// Answers by results.
-    pub fn answer(&mut self, order: u32, octets: &[u8]) -> Result<u64, Refusal>
-        ensures { OnAnswer order octets.now self.old self.new result }
+    pub fn answer(&mut self, ticket: u64, order: u32, octets: &[u8]) -> Result<u64, Refusal>
+        ensures { OnAnswer ticket order octets.now self.old self.new result }
     {
         let order = order_of(order)?;
-        let results = self.results(order, octets)?;
-        self.hand_in(Outcome::Returned(results), 0)
+        let asked = self.asked_by(ticket)?;
+        let number = asked.number;
+        let results = self.results(&asked, order, octets)?;
+        self.hand_in(number, Outcome::Returned(results), 0)
     }
 
     /// Answers by an exception that the operation declares.
-    pub fn raise(&mut self, id: &[u8], order: u32, octets: &[u8]) -> Result<u64, Refusal>
-        ensures { OnRaise id.now order octets.now self.old self.new result }
+    pub fn raise(
+        &mut self,
+        ticket: u64,
+        id: &[u8],
+        order: u32,
+        octets: &[u8],
+    ) -> Result<u64, Refusal>
+        ensures { OnRaise ticket id.now order octets.now self.old self.new result }
     {
         let order = order_of(order)?;
-        let members = self.members(id, order, octets)?;
+        let asked = self.asked_by(ticket)?;
+        let number = asked.number;
+        let members = self.members(&asked, id, order, octets)?;
         let id = Vec::from_slice(self.alloc, id)?;
-        self.hand_in(Outcome::Raised(id, members), 0)
+        self.hand_in(number, Outcome::Raised(id, members), 0)
     }
 
     /// Answers by a system exception.
-    pub fn system(&mut self, name: u32, minor: u32, completed: u32) -> Result<u64, Refusal>
-        ensures { OnSystem name minor completed self.old self.new result }
+    pub fn system(
+        &mut self,
+        ticket: u64,
+        name: u32,
+        minor: u32,
+        completed: u32,
+    ) -> Result<u64, Refusal>
+        ensures { OnSystem ticket name minor completed self.old self.new result }
     {
         let name = system_name_of(name)?;
         let completed = completion_of(completed)?;
-        self.hand_in(Outcome::System(name, minor, completed), 0)
+        let number = self.asked_by(ticket)?.number;
+        self.hand_in(number, Outcome::System(name, minor, completed), 0)
     }
 
     /// Answers a raw operation.
-    pub fn answer_raw(&mut self, status: u32, order: u32, body: &[u8]) -> Result<u64, Refusal>
-        ensures { OnAnswerRaw status order body.now self.old self.new result }
+    pub fn answer_raw(
+        &mut self,
+        ticket: u64,
+        status: u32,
+        order: u32,
+        body: &[u8],
+    ) -> Result<u64, Refusal>
+        ensures { OnAnswerRaw ticket status order body.now self.old self.new result }
     {
         let status = raw_status_of(status)?;
         let order = order_of(order)?;
+        let number = self.asked_by(ticket)?.number;
         let body = Vec::from_slice(self.alloc, body)?;
-        self.hand_in(Outcome::Raw(status, order, body), 0)
+        self.hand_in(number, Outcome::Raw(status, order, body), 0)
     }
 
     /// The answer to a request, where it asks an object that names its repository ids what it is.
@@ -122,15 +146,16 @@ impl Serving {
     }
 
     /// Answers `_is_a` and `_non_existent`.
-    pub fn identify(&mut self) -> Result<u64, Refusal>
-        ensures { OnIdentify self.old self.new result }
+    pub fn identify(&mut self, ticket: u64) -> Result<u64, Refusal>
+        ensures { OnIdentify ticket self.old self.new result }
     {
-        let asked = self.engine.asked().ok_or(Refusal::Idle)?;
+        let asked = self.asked_by(ticket)?;
+        let number = asked.number;
         let Some(truth) = self.identity(&asked) else {
             return Ok(0);
         };
         let results = vec![in self.alloc; Val::Boolean(truth)]?;
-        self.hand_in(Outcome::Returned(results), 1)
+        self.hand_in(number, Outcome::Returned(results), 1)
     }
 }
 

@@ -2,11 +2,11 @@
 
 ghost use Rattle.std.specs.Prelude.{◌≡◌};
 ghost use Rattle.cdr_core.specs.View.{values_of};
-ghost use Rattle.ft_orb.specs.Engines.{awaited_lent};
+ghost use Rattle.ft_orb.specs.Engines.{awaited_lent, waits_in};
 ghost use Rattle.ft_objects.specs.Interfaces.{interface_of};
 
 use crate::refusal::{Refusal, copied, count_of};
-use crate::request::{RequestHead, put_question};
+use crate::request::{RequestHead, put_question, ticket_of};
 use crate::serving::Serving;
 use cdr_core::{Order, end_of_list, write_list};
 use ft_objects::{Catalogue, Lookup, boolean_at, octets_at, ulong_at};
@@ -17,6 +17,20 @@ use giop_link::Inbound;
 impl Serving {
     ghost use Rattle.lemonrudder.specs.Outcomes.{interface_at};
     ghost use Rattle.lemonrudder.specs.Questions.{OnAsked, OnPart, TellsBody, TellsClient, is_raw, with_body};
+    ghost use Rattle.lemonrudder.specs.Tickets.{IsAskedBy};
+
+    /// The request that waits, where it has this ticket.
+    pub(super) fn asked_by(&self, ticket: u64) -> Result<Asked<'_>, Refusal>
+        ensures { IsAskedBy ticket (waits_in self.now.engine) result }
+    {
+        let Some(asked) = self.engine.asked() else {
+            return Err(Refusal::Idle);
+        };
+        if ticket_of(asked.number) != ticket {
+            return Err(Refusal::Ticket);
+        }
+        Ok(asked)
+    }
 
     /// What the operation is that waits.
     pub(super) fn lookup(&self, asked: &Asked<'_>) -> Lookup<'_>
@@ -62,6 +76,7 @@ impl Serving {
             return 0;
         };
         let mut found = RequestHead::none();
+        found.ticket = ticket_of(asked.number);
         found.connection = asked.connection;
         found.key_size = count_of(asked.object_key);
         found.operation_size = count_of(asked.operation);

@@ -4,4 +4,4 @@ use Rattle.lemonrudder.proofs.Servers.{on_server}
 use Rattle.lemonrudder.proofs.served.give_up.Goals as goal
 
 pub returns : goal.returns
-returns c = on_server OnGiveUp _ _ _ _ _ c.in-Server.is (search rules) c.give_up.ensures
+returns c = on_server (OnGiveUp c.args.ticket) _ _ _ _ _ c.in-Server.is (search rules) c.give_up.ensures

@@ -4,4 +4,4 @@ use Rattle.lemonrudder.proofs.Servers.{on_server}
 use Rattle.lemonrudder.proofs.served.raise.Goals as goal
 
 pub returns : goal.returns
-returns c = on_server (OnRaise c.args.id.now c.args.order c.args.members.now) _ _ _ _ _ c.in-Server.is (search rules) c.raise.ensures
+returns c = on_server (OnRaise c.args.ticket c.args.id.now c.args.order c.args.members.now) _ _ _ _ _ c.in-Server.is (search rules) c.raise.ensures

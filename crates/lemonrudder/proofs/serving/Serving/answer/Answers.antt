@@ -1,25 +1,46 @@
 use Rattle.std.proofs.Common.{◌∙◌, ap, Err, sym}
 use Rattle.std.proofs.lemmas.Result.{err_from_is_err_and}
 use Rattle.ft_log.specs.Performed.{returned}
-use Rattle.lemonrudder.specs.Outcomes.{HandsInFound, interface_at, result_types}
-use Rattle.lemonrudder.proofs.Handing.{found-err, found-ok, named, unnamed}
+use Rattle.ft_orb.specs.Engines.{awaited_lent, waits_in}
+use Rattle.lemonrudder.specs.Outcomes.{HandsInValues, interface_at, result_types}
+use Rattle.lemonrudder.specs.Serves.{ByTicket}
+use Rattle.lemonrudder.specs.Tickets.{waiting_by}
+use Rattle.lemonrudder.proofs.Handing.{by_ticket, named, no_ticket, read-err, read-ok, unnamed}
 use Rattle.lemonrudder.proofs.serving.Serving.answer.Goals as goal
 
 pub returns-in_err-order : goal.returns-in_err-order
 returns-in_err-order c =
     let p = err_from_is_err_and c.from_residual.result c.from_residual.ensures.1 in
     let s = c.args.self.now in
-    unnamed _ c.in_err-order.field-0.0 s c.from_residual.result (λ o. HandsInFound result_types o c.args.octets.now returned s s c.from_residual.result) (sym c.order_of.ensures ∙ c.in_err-order.was) (p.1 ∙ ap Err p.2)
+    let r = c.from_residual.result in
+    unnamed _ c.in_err-order.field-0.0 s r (λ o. ByTicket c.args.ticket s s r (λ w. HandsInValues w.number (result_types (interface_at s w)) o c.args.octets.now returned s s r)) (sym c.order_of.ensures ∙ c.in_err-order.was) (p.1 ∙ ap Err p.2)
+
+pub returns-in_err-asked : goal.returns-in_err-asked
+returns-in_err-asked c =
+    let p = err_from_is_err_and c.from_residual-in_err-asked.result c.from_residual-in_err-asked.ensures.1 in
+    let s = c.args.self.now in
+    let r = c.from_residual-in_err-asked.result in
+    named _ c.in_ok-order.order s s r (λ o. ByTicket c.args.ticket s s r (λ w. HandsInValues w.number (result_types (interface_at s w)) o c.args.octets.now returned s s r)) (sym c.order_of.ensures ∙ c.in_ok-order.was)
+    (no_ticket (waiting_by c.args.ticket (waits_in s.engine)) c.in_err-asked.field-0.0 s r (λ w. HandsInValues w.number (result_types (interface_at s w)) c.in_ok-order.order c.args.octets.now returned s s r) c.in_err-asked.ensures (p.1 ∙ ap Err p.2))
 
 pub returns-in_err-results : goal.returns-in_err-results
 returns-in_err-results c =
     let p = err_from_is_err_and c.from_residual-in_err-results.result c.from_residual-in_err-results.ensures.1 in
     let s = c.args.self.now in
-    rw (p.1, p.2) (named _ c.in_ok-order.order s s (Err c.in_err-results.field-0.0) (λ o. HandsInFound result_types o c.args.octets.now returned s s (Err c.in_err-results.field-0.0)) (sym c.order_of.ensures ∙ c.in_ok-order.was)
-    (found-err (λ w. result_types (interface_at s w)) c.in_ok-order.order c.args.octets.now returned s _ c.in_err-results.field-0.0 c.in_err-results.ensures))
+    let w = awaited_lent c.in_ok-asked.asked in
+    let e = c.in_err-results.field-0.0 in
+    let o = c.in_ok-order.order in
+    rw (p.1, p.2) (named _ o s s (Err e) (λ o. ByTicket c.args.ticket s s (Err e) (λ w. HandsInValues w.number (result_types (interface_at s w)) o c.args.octets.now returned s s (Err e))) (sym c.order_of.ensures ∙ c.in_ok-order.was)
+    (by_ticket (waiting_by c.args.ticket (waits_in s.engine)) w s s (Err e) (λ w. HandsInValues w.number (result_types (interface_at s w)) o c.args.octets.now returned s s (Err e)) c.in_ok-asked.ensures
+    (read-err w.number (result_types (interface_at s w)) o c.args.octets.now returned s e c.in_err-results.ensures)))
 
 pub returns : goal.returns
 returns c =
     let s = c.args.self.now in
-    named _ c.in_ok-order.order s c.hand_in.new.self c.hand_in.result (λ o. HandsInFound result_types o c.args.octets.now returned s c.hand_in.new.self c.hand_in.result) (sym c.order_of.ensures ∙ c.in_ok-order.was)
-    (found-ok (λ w. result_types (interface_at s w)) c.in_ok-order.order c.args.octets.now returned s c.hand_in.new.self c.hand_in.result _ c.in_ok-results.results c.in_ok-results.ensures c.hand_in.ensures)
+    let t = c.hand_in.new.self in
+    let r = c.hand_in.result in
+    let w = awaited_lent c.in_ok-asked.asked in
+    let o = c.in_ok-order.order in
+    named _ o s t r (λ o. ByTicket c.args.ticket s t r (λ w. HandsInValues w.number (result_types (interface_at s w)) o c.args.octets.now returned s t r)) (sym c.order_of.ensures ∙ c.in_ok-order.was)
+    (by_ticket (waiting_by c.args.ticket (waits_in s.engine)) w s t r (λ w. HandsInValues w.number (result_types (interface_at s w)) o c.args.octets.now returned s t r) c.in_ok-asked.ensures
+    (read-ok w.number (result_types (interface_at s w)) o c.args.octets.now returned s t r c.in_ok-results.results c.in_ok-results.ensures c.hand_in.ensures))

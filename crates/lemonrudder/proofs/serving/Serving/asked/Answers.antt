@@ -10,13 +10,19 @@ use Rattle.lemonrudder.proofs.Telling.{base-is, never-none, never-other, questio
 use Rattle.lemonrudder.proofs.serving.Serving.asked.Goals as goal
 
 pub returns-in_default-message : goal.returns-in_default-message
-returns-in_default-message c = (refl, λ idle. (refl, refl), λ owner calls past moment octets written w a. absurd (never-none c.message.result _ (c.message.ensures.asks owner calls past moment octets written w a) c.in_default-message.is))
+returns-in_default-message c = (
+  refl,
+  λ idle. (refl, refl),
+  λ owner calls past moment octets written w a. absurd (never-none c.message.result _ (c.message.ensures.asks owner calls past moment octets written w a) c.in_default-message.is),
+  λ x held calls past waiting moment octets written w a. absurd (never-none c.message.result _ (c.message.ensures.late x held calls past waiting moment octets written w a) c.in_default-message.is),
+)
 
 pub returns-in_default-inbound : goal.returns-in_default-inbound
 returns-in_default-inbound c = (
   refl,
   λ idle. (refl, refl),
   λ owner calls past moment octets written w a. absurd (never-other c.message.result c.in-Some-message.inbound a.question (c.message.ensures.asks owner calls past moment octets written w a) c.in-Some-message.is (λ v r e. c.in_default-inbound.not-Request v r e)),
+  λ x held calls past waiting moment octets written w a. absurd (never-other c.message.result c.in-Some-message.inbound a.asks.question (c.message.ensures.late x held calls past waiting moment octets written w a) c.in-Some-message.is (λ v r e. c.in_default-inbound.not-Request v r e)),
 )
 
 pub returns : goal.returns
@@ -26,12 +32,16 @@ returns c =
     let here = rw c.in-Some.is at c.asked.ensures in
     let v = c.in-Request.version in
     let r = c.in-Request.request in
-    let base = base-is c.none-found.result c.in-Some.asked.connection c.count_of.result c.count_of-2.result _ _ c.none-found.ensures c.count_of.ensures c.count_of-2.ensures in
+    let base = base-is c.none-found.result c.ticket_of.result c.in-Some.asked.connection c.count_of.result c.count_of-2.result _ _ _ c.none-found.ensures c.ticket_of.ensures c.count_of.ensures c.count_of-2.ensures in
     let told = c.put_body.ensures ∙ ap (with_body (interface_at s x) x.call.arguments) (c.put_question.ensures ∙ ap (with_question v r.request_id r.reply (contexts_left r.contexts)) base) in (
       refl,
       λ idle. absurd (none-some x (sym (here ∙ idle))),
       λ owner calls past moment octets written w a.
           let same : x ≡ w = let e : Some x ≡ Some w = here ∙ a.waits in cc in
           let question = question-is c.message.result c.in-Some-message.inbound v r a.question (c.message.ensures.asks owner calls past moment octets written w a) c.in-Some-message.is c.in-Request.is in
+          (refl, told ∙ (ap (λ (y : Awaited). head_of (interface_at s y) y (question_of v r)) same ∙ ap (λ (q : Question). head_of (interface_at s w) w q) question)),
+      λ s' held calls past waiting moment octets written w a.
+          let same : x ≡ w = let e : Some x ≡ Some w = here ∙ a.asks.waits in cc in
+          let question = question-is c.message.result c.in-Some-message.inbound v r a.asks.question (c.message.ensures.late s' held calls past waiting moment octets written w a) c.in-Some-message.is c.in-Request.is in
           (refl, told ∙ (ap (λ (y : Awaited). head_of (interface_at s y) y (question_of v r)) same ∙ ap (λ (q : Question). head_of (interface_at s w) w q) question)),
     )

@@ -17,7 +17,9 @@ returns-in_err-connect c = (
     c.connect.ensures.idle,
     (refl, refl),
     c.connect.ensures.catalogue,
+    c.connect.ensures.asks,
     c.connect.ensures.table,
+    c.connect.ensures.late,
   ),
 )
 
@@ -30,7 +32,9 @@ returns c = (
     c.connect.ensures.idle,
     (refl, refl),
     c.connect.ensures.catalogue,
+    c.connect.ensures.asks,
     c.connect.ensures.table,
+    c.connect.ensures.late,
   ),
 )
 

@@ -1,11 +1,13 @@
 use Rattle.std.proofs.Common.{◌≡◌, Ok, Err, ap, refl, ◌∙◌, arith}
 use Rattle.std.proofs.lemmas.Grind.{common_steps}
+use Rattle.ft_objects.specs.Filling.{offer_of}
 use Rattle.ft_orb.specs.declared.error.CloseError.TheVariants as closing
 use Rattle.ft_orb.specs.declared.error.ServeError.TheVariants as serving
 use Rattle.ft_orb.specs.declared.events.Note.TheVariants.{Done, Memory, Refused}
 use Rattle.ft_orb.specs.Standing.{note_of_closing}
 use Rattle.lemonrudder.proofs.Idling.{not_both, not_so}
 use Rattle.lemonrudder.proofs.Owing.{closed-as, grows, stays}
+use Rattle.lemonrudder.proofs.OwingLate.{ends-late-owed, ends-late-stays}
 use Rattle.lemonrudder.proofs.Unparked.{unparked_still}
 use Rattle.lemonrudder.proofs.serving.Serving.farewell.Goals as goal
 
@@ -31,10 +33,17 @@ returns-in-Ok c =
             refl,
             c.close.ensures.idle,
             c.close.ensures.catalogue,
+            c.close.ensures.asks,
             λ owner calls past rests placed.
                 let x = closed-as c.close.result Done _ (ap note_of_closing ended) (c.close.ensures.table owner calls past rests) in
                 let due = c.args.self.now.due in
                 (stays due.taken due.octets.items x.0 c.close.new.out.items placed x.1, (x.0, grows due.taken due.octets.items x.0 c.close.new.out.items placed x.1, x.2)),
+            λ x held calls past waiting rests placed.
+                let late = closed-as c.close.result Done _ (ap note_of_closing ended) (c.close.ensures.late x held calls past waiting rests) in
+                let due = c.args.self.now.due in (
+                  ends-late-stays offer_of x held calls past waiting due.taken due.octets.items c.close.new.out.items placed _ _ c.close.new.self late,
+                  ends-late-owed offer_of x held calls past waiting due.taken due.octets.items c.close.new.out.items placed _ _ c.close.new.self late,
+                ),
           ),
         ),
       ),
@@ -53,10 +62,17 @@ returns-in-Err-NoConnection c =
             refl,
             c.close.ensures.idle,
             c.close.ensures.catalogue,
+            c.close.ensures.asks,
             λ owner calls past rests placed.
                 let x = closed-as c.close.result Refused _ (ap note_of_closing ended) (c.close.ensures.table owner calls past rests) in
                 let due = c.args.self.now.due in
                 (stays due.taken due.octets.items x.0 c.close.new.out.items placed x.1, (x.0, grows due.taken due.octets.items x.0 c.close.new.out.items placed x.1, x.2)),
+            λ x held calls past waiting rests placed.
+                let late = closed-as c.close.result Refused _ (ap note_of_closing ended) (c.close.ensures.late x held calls past waiting rests) in
+                let due = c.args.self.now.due in (
+                  ends-late-stays offer_of x held calls past waiting due.taken due.octets.items c.close.new.out.items placed _ _ c.close.new.self late,
+                  ends-late-owed offer_of x held calls past waiting due.taken due.octets.items c.close.new.out.items placed _ _ c.close.new.self late,
+                ),
           ),
         ),
       ),
@@ -75,10 +91,17 @@ returns-in-Err-Memory c =
             refl,
             c.close.ensures.idle,
             c.close.ensures.catalogue,
+            c.close.ensures.asks,
             λ owner calls past rests placed.
                 let x = closed-as c.close.result (Memory 0 0) _ (ap note_of_closing ended) (c.close.ensures.table owner calls past rests) in
                 let due = c.args.self.now.due in
                 (stays due.taken due.octets.items x.0 c.close.new.out.items placed x.1, (x.0, grows due.taken due.octets.items x.0 c.close.new.out.items placed x.1, x.2)),
+            λ x held calls past waiting rests placed.
+                let late = closed-as c.close.result (Memory 0 0) _ (ap note_of_closing ended) (c.close.ensures.late x held calls past waiting rests) in
+                let due = c.args.self.now.due in (
+                  ends-late-stays offer_of x held calls past waiting due.taken due.octets.items c.close.new.out.items placed _ _ c.close.new.self late,
+                  ends-late-owed offer_of x held calls past waiting due.taken due.octets.items c.close.new.out.items placed _ _ c.close.new.self late,
+                ),
           ),
         ),
       ),

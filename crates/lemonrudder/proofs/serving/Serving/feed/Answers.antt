@@ -2,6 +2,7 @@ use Rattle.std.proofs.Common.{refl}
 use Rattle.ft_objects.specs.Filling.{offer_of}
 use Rattle.lemonrudder.proofs.Idling.{not_both, not_so}
 use Rattle.lemonrudder.proofs.Owing.{feeds-now-owed, feeds-once-owed, feeds-owed, feeds-stays}
+use Rattle.lemonrudder.proofs.OwingLate.{feeds-late-owed, feeds-late-stays}
 use Rattle.lemonrudder.proofs.Unparked.{unparked_still}
 use Rattle.lemonrudder.proofs.serving.Serving.feed.Goals as goal
 
@@ -27,6 +28,7 @@ returns c = (
         c.feed-fed.ensures.catalogue,
         (
           c.feed-fed.ensures.place,
+          c.feed-fed.ensures.number,
           c.feed-fed.ensures.fit,
           λ owner calls past rests placed.
               let due = c.args.self.now.due in
@@ -37,6 +39,12 @@ returns c = (
                 feeds-now-owed owner calls past due.taken due.octets.items c.feed-fed.new.out.items placed c.args.connection c.args.moment c.args.octets.now c.feed-fed.result _ (c.feed-fed.ensures.now owner calls past rests),
               ),
         ),
+        λ x held calls past waiting rests placed.
+            let due = c.args.self.now.due in
+            let h = c.feed-fed.ensures.late x held calls past waiting rests in (
+              feeds-late-stays offer_of x held calls past waiting due.taken due.octets.items c.feed-fed.new.out.items placed c.args.connection c.args.moment c.args.octets.now c.feed-fed.result c.feed-fed.new.self h,
+              feeds-late-owed offer_of x held calls past waiting due.taken due.octets.items c.feed-fed.new.out.items placed c.args.connection c.args.moment c.args.octets.now c.feed-fed.result c.feed-fed.new.self h,
+            ),
       ),
     ),
   ),

@@ -1,40 +1,26 @@
-use Rattle.std.proofs.Common.{refl, sym, ◌∙◌}
-use Rattle.std.proofs.lemmas.Option.{none-some}
-use Rattle.ft_log.specs.View.{performed_in}
-use Rattle.ft_orb.specs.Engines.{awaited_lent}
+use Rattle.std.proofs.Common.{refl}
 use Rattle.ft_objects.specs.Filling.{offer_of}
 use Rattle.lemonrudder.specs.Refusals.{refusal_of_serving}
 use Rattle.lemonrudder.proofs.Ended.{err-done, ok-done}
-use Rattle.lemonrudder.proofs.Handing.{can_at, none_can}
-use Rattle.lemonrudder.proofs.Idling.{not_both, not_so}
+use Rattle.lemonrudder.proofs.Idling.{not_so}
 use Rattle.lemonrudder.proofs.Owing.{resumes-now-owed, resumes-once-owed, resumes-owed, resumes-stays}
+use Rattle.lemonrudder.proofs.OwingLate.{resumes-late-owed, resumes-late-stays}
 use Rattle.lemonrudder.proofs.Unparked.{unparked_still}
 use Rattle.lemonrudder.proofs.serving.Serving.hand_in.Goals as goal
 
-pub returns-in_default : goal.returns-in_default
-returns-in_default c = (
-  λ idle. (refl, refl),
-  λ some cannot. absurd (not_both _ some (sym c.in_default.ensures)),
-  λ can. absurd (none_can (offer_of c.args.self.now.engine.offering.catalogue) _ can.0 (performed_in c.args.outcome) (sym c.in_default.ensures) can.1),
-)
-
 pub returns-then-not-can_answer : goal.returns-then-not-can_answer
-returns-then-not-can_answer c = (
-  λ idle. absurd (none-some _ (sym (c.in-Some.ensures ∙ idle))),
-  λ some cannot. (refl, refl),
-  λ can. absurd (not_so c.if-not-can_answer.true (c.can_answer.ensures.1 (can_at (offer_of c.args.self.now.engine.offering.catalogue) _ (awaited_lent c.in-Some.asked) can.0 (performed_in c.args.outcome) c.in-Some.ensures can.1))),
-)
+returns-then-not-can_answer c = (λ cannot. (refl, refl), λ can. absurd (not_so c.if-not-can_answer.true (c.can_answer.ensures.1 can)))
 
 pub returns-in_err-answer : goal.returns-in_err-answer
 returns-in_err-answer c = (
-  λ idle. absurd (none-some _ (sym (c.in-Some.ensures ∙ idle))),
-  λ some cannot. absurd (cannot (c.in-Some.asked.number, c.can_answer.ensures.0 c.if-not-can_answer.false)),
+  λ cannot. absurd (cannot (c.can_answer.ensures.0 c.if-not-can_answer.false)),
   λ can. (
     c.answer.result,
     err-done c.args.count refusal_of_serving c.answer.result _ c.from_residual.result c.in_err-answer.was c.from_residual.ensures.1,
     c.answer.ensures.idle,
     refl,
     c.answer.ensures.catalogue,
+    c.answer.ensures.asks,
     λ owner calls past moment octets written w asks gave placed.
         let due = c.args.self.now.due in
         let h = c.answer.ensures.table owner calls past moment octets written w asks gave in (
@@ -43,19 +29,25 @@ returns-in_err-answer c = (
           resumes-once-owed offer_of owner _ past due.taken due.octets.items c.answer.new.out.items placed w.connection moment octets written _ (c.answer.ensures.once owner calls past moment octets written w asks gave),
           resumes-now-owed owner _ past due.taken due.octets.items c.answer.new.out.items placed w.connection moment octets written _ (c.answer.ensures.now owner calls past moment octets written w asks gave),
         ),
+    λ x held calls past waiting moment octets written w asks placed.
+        let due = c.args.self.now.due in
+        let h = c.answer.ensures.late x held calls past waiting moment octets written w asks in (
+          resumes-late-stays offer_of x _ _ past waiting due.taken due.octets.items c.answer.new.out.items placed w.connection moment octets written _ c.answer.new.self h,
+          resumes-late-owed offer_of x _ _ past waiting due.taken due.octets.items c.answer.new.out.items placed w.connection moment octets written _ c.answer.new.self h,
+        ),
   ),
 )
 
 pub returns : goal.returns
 returns c = (
-  λ idle. absurd (none-some _ (sym (c.in-Some.ensures ∙ idle))),
-  λ some cannot. absurd (cannot (c.in-Some.asked.number, c.can_answer.ensures.0 c.if-not-can_answer.false)),
+  λ cannot. absurd (cannot (c.can_answer.ensures.0 c.if-not-can_answer.false)),
   λ can. (
     c.answer.result,
     ok-done c.args.count refusal_of_serving c.answer.result _ c.in_ok-answer.was,
     c.answer.ensures.idle,
     refl,
     c.answer.ensures.catalogue,
+    c.answer.ensures.asks,
     λ owner calls past moment octets written w asks gave placed.
         let due = c.args.self.now.due in
         let h = c.answer.ensures.table owner calls past moment octets written w asks gave in (
@@ -63,6 +55,12 @@ returns c = (
           resumes-owed offer_of owner _ past due.taken due.octets.items c.answer.new.out.items placed w.connection moment octets written _ c.answer.new.self h,
           resumes-once-owed offer_of owner _ past due.taken due.octets.items c.answer.new.out.items placed w.connection moment octets written _ (c.answer.ensures.once owner calls past moment octets written w asks gave),
           resumes-now-owed owner _ past due.taken due.octets.items c.answer.new.out.items placed w.connection moment octets written _ (c.answer.ensures.now owner calls past moment octets written w asks gave),
+        ),
+    λ x held calls past waiting moment octets written w asks placed.
+        let due = c.args.self.now.due in
+        let h = c.answer.ensures.late x held calls past waiting moment octets written w asks in (
+          resumes-late-stays offer_of x _ _ past waiting due.taken due.octets.items c.answer.new.out.items placed w.connection moment octets written _ c.answer.new.self h,
+          resumes-late-owed offer_of x _ _ past waiting due.taken due.octets.items c.answer.new.out.items placed w.connection moment octets written _ c.answer.new.self h,
         ),
   ),
 )

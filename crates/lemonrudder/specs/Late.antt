@@ -1,0 +1,59 @@
+-- What a call on a server does to what it stands for, also where requests were refused before: by what is known of the calls that
+-- were taken. At rest a server `Stays`, and while a request waits it `AsksLate`. It parks nothing.
+use Rattle.std.specs.Prelude.{◌≡◌, ℕ, ◌+◌, Bool, not, List, [], ◌∷◌, ◌++◌, length, Result}
+use Rattle.ft_log.specs.Holding.{Holding, known}
+use Rattle.ft_log.specs.Performed.{Performed}
+use Rattle.ft_objects.specs.Filling.{offer_of}
+use Rattle.ft_orb.specs.declared.engine.Fed.{Fed}
+use Rattle.ft_orb.specs.declared.error.ConnectError.{ConnectError}
+use Rattle.ft_orb.specs.declared.error.ServeError.{ServeError}
+use Rattle.ft_orb.specs.declared.events.Note.TheVariants.{Memory}
+use Rattle.ft_orb.specs.declared.parked.Waiter.{Waiter}
+use Rattle.ft_orb.specs.Engines.{Awaited}
+use Rattle.ft_orb.specs.History.{Close, Event, Lost, Opened, Piece, completed, line}
+use Rattle.ft_orb.specs.Outputs.{is_going}
+use Rattle.ft_orb.specs.Parking.{AsksLate, EndsLate, FeedsLate, ResumesLate, Settings, Stays, put_at, still}
+use Rattle.ft_orb.specs.Requests.{Call}
+use Rattle.ft_orb.specs.Standing.{note_of, note_of_opening}
+use Rattle.lemonrudder.specs.declared.serving.Serving.{Serving}
+use Rattle.lemonrudder.specs.Dues.{IsPlaced, owed}
+
+-- of all for which a server may stand at rest
+abbrev pub WhereStays : Serving → (Settings → (ℕ → Holding) → List Call → List Event → (ℕ → List Waiter) → Type 0) → Type 0
+WhereStays s Does = (x : Settings) (held : ℕ → Holding) (calls : List Call) (past : List Event) (waiting : ℕ → List Waiter) → Stays offer_of x held calls s.engine past waiting → Does x held calls past waiting
+
+-- .. and while a request waits
+abbrev pub WhereAsks : Serving → (Settings → (ℕ → Holding) → List Call → List Event → (ℕ → List Waiter) → ℕ → (octets written : List ℕ) → Awaited → Type 0) → Type 0
+WhereAsks s Does = (x : Settings) (held : ℕ → Holding) (calls : List Call) (past : List Event) (waiting : ℕ → List Waiter) (moment : ℕ) (octets written : List ℕ) (w : Awaited)
+    → AsksLate offer_of x held calls s.engine past waiting moment octets written w → Does x held calls past waiting moment octets written w
+
+-- a connection is opened
+abbrev pub OpensLate : ℕ → Serving → Serving → Result (Unit {0}) ConnectError → Type 0
+OpensLate c s t o = WhereStays s (λ x held calls past waiting. EndsLate offer_of x held calls past waiting (Opened c) (note_of_opening o) t.engine [] [])
+
+-- a connection is lost
+abbrev pub LosesLate : ℕ → Serving → Serving → Type 0
+LosesLate c s t = WhereStays s (λ x held calls past waiting. Stays offer_of x held calls t.engine (Lost c ∷ past) (still x.limits (Lost c ∷ past) waiting))
+
+-- a connection is closed, and what is written is due after what was
+abbrev pub ClosesLate : ℕ → Serving → Serving → Result (Unit {0}) ServeError → Type 0
+ClosesLate c s t o = WhereStays s (λ x held calls past waiting. IsPlaced s.due → IsPlaced t.due × EndsLate offer_of x held calls past waiting (Close c) (note_of o) t.engine (owed s.due) (owed t.due))
+
+-- it is reported whether what comes on a connection has no meaning
+abbrev pub IsClosedLate : ℕ → Bool → Serving → Type 0
+IsClosedLate c closed s = WhereStays s (λ x held calls past waiting. closed ≡ not (is_going x.limits (line past c)))
+    × WhereAsks s (λ x held calls past waiting moment octets written w. closed ≡ not (is_going x.limits (line (Piece w.connection moment octets ∷ past) c)))
+
+-- octets of a connection are taken, and what is written is due after what was
+abbrev pub TakesLate : (c moment : ℕ) → List ℕ → Serving → Serving → Result Fed ServeError → Type 0
+TakesLate c moment octets s t f = WhereStays s (λ x held calls past waiting. IsPlaced s.due → IsPlaced t.due × FeedsLate offer_of x held calls past waiting c moment octets f t.engine (owed s.due) (owed t.due))
+
+-- what waits has this outcome, and the answer is due after what was
+abbrev pub AnswersLate : Performed → Serving → Serving → Result (Unit {0}) ServeError → Type 0
+AnswersLate outcome s t o = WhereAsks s (λ x held calls past waiting moment octets written w. IsPlaced s.due
+    → IsPlaced t.due × ResumesLate offer_of x (put_at (length calls) (known outcome) held) (calls ++ w.call ∷ []) past waiting w.connection moment octets written (note_of o) t.engine (owed s.due) (owed t.due))
+
+-- what waits does not count, and its connection is lost: n requests and locates of its piece were answered before
+abbrev pub ForgetsLate : ℕ → Serving → Serving → Type 0
+ForgetsLate n s t = WhereAsks s (λ x held calls past waiting moment octets written w. (n + 1 ≡ length (completed x.limits past (Piece w.connection moment octets)))
+    × ResumesLate offer_of x held calls past waiting w.connection moment octets written (Memory n n) t.engine [] [])
