@@ -93,7 +93,7 @@ static_assert(!is_written<std::span<const std::byte>> && is_lent<std::span<const
 
 /* Names of one kind are not taken for names of another, nor numbers for names. */
 template <class... Given>
-constexpr bool is_system = std::is_invocable_v<decltype(&lr::Server::system), lr::Server&, Given...>;
+constexpr bool is_system = std::is_invocable_v<decltype(&lr::Server::system), lr::Server&, std::uint64_t, Given...>;
 static_assert(is_system<lr::SystemException, std::uint32_t, lr::Completed>);
 static_assert(!is_system<lr::SystemException, lr::Completed, std::uint32_t>);
 static_assert(!is_system<lr::ReplyStatus, std::uint32_t, lr::Completed>);
