@@ -1,4 +1,5 @@
-"""A plain model of clients that call again, of a server of the counter, and of what is said between them.
+"""A plain model of clients that call again, of a server of the counter and of an object that forwards, and of what is
+said between them.
 
 It follows crates/ft_ends/specs/World.antt, and for the two sides the specs of ft_client, ft_orb and giop_link. It
 remembers all that ever arrived, and no log. Of a message it knows how long it is and what it says; how long it is, and
@@ -17,6 +18,9 @@ CANCEL_SIZE = len(giop.cancel(0))
 TRANSIENT = "system big 24 " + "00000020" + b"IDL:omg.org/CORBA/TRANSIENT:1.0\0".hex()
 # .. and how it ends where the operation was completed
 COMPLETED_YES = "00000000"
+# the key of the object that forwards, and the outcome of each call under it: the nil reference
+ELSEWHERE = b"f"
+FORWARDED = "forwarded big 24 " + "00000001" + "00000000" + "00000000"
 
 
 def arguments_body(arguments):
@@ -42,6 +46,10 @@ class Call:
         self.key, self.operation = key.encode(), operation.encode()
         self.expiration, self.arguments = expiration, arguments
 
+    def under(self, key):
+        """It, as it is asked for under another object key."""
+        return Call(key, self.operation.decode(), self.expiration, self.arguments)
+
 
 def call_of(words):
     """The call of the words `KEY OPERATION EXPIRATION [LONG]`."""
@@ -50,10 +58,12 @@ def call_of(words):
 
 
 class Pending:
-    """A call that has not ended, its number, and the request id under which it was sent on this connection, if any."""
+    """A call that has not ended, its number, how it is asked for now, the request id under which it was sent on this
+    connection, if any, and whether it is led elsewhere.
+    """
 
     def __init__(self, number, call):
-        self.number, self.call, self.sent = number, call, None
+        self.number, self.call, self.asked, self.sent, self.is_led = number, call, call, None, False
 
 
 class Wire:
@@ -85,7 +95,7 @@ class Client:
     def __init__(self, client_id, version):
         self.client_id, self.version = client_id.encode(), version
         self.last, self.pending, self.wire, self.completions = 0, [], None, []
-        self.keeps = False
+        self.keeps = self.keeps_forwards = False
 
     def complete(self, pending, how):
         self.pending.remove(pending)
@@ -94,8 +104,8 @@ class Client:
     def send(self, pending):
         self.wire.ids += 1
         pending.sent = self.wire.ids
-        size = request_size(self.version, self.client_id, pending.number, pending.call)
-        self.wire.up.append((size, (pending.sent, (self.client_id, pending.number), pending.call)))
+        size = request_size(self.version, self.client_id, pending.number, pending.asked)
+        self.wire.up.append((size, (pending.sent, (self.client_id, pending.number), pending.asked)))
 
     def call(self, now, call):
         self.recall(self.last + 1, now, call)
@@ -120,7 +130,7 @@ class Client:
 
     def resend(self, now):
         for pending in self.pending:
-            if self.wire and pending.sent is None and now <= pending.call.expiration:
+            if self.wire and pending.sent is None and not pending.is_led and now <= pending.call.expiration:
                 self.send(pending)
 
     def part(self):
@@ -140,11 +150,21 @@ class Client:
         for pending in [p for p in self.pending if p.call.expiration < now]:
             self.complete(pending, "expired")
 
+    def redirect(self, number, key):
+        for pending in self.pending:
+            if pending.number == number and pending.is_led:
+                pending.asked, pending.is_led = pending.call.under(key), False
+
+    def is_kept(self, how):
+        """Whether a reply leaves its call pending."""
+        asks_again = how.startswith(TRANSIENT) and not how.endswith(COMPLETED_YES)
+        return (self.keeps and asks_again) or (self.keeps_forwards and how == FORWARDED)
+
     def settle(self, request_id, how):
         for pending in self.pending:
             if pending.sent == request_id:
-                if self.keeps and how.startswith(TRANSIENT) and not how.endswith(COMPLETED_YES):
-                    pending.sent = None
+                if self.is_kept(how):
+                    pending.sent, pending.is_led = None, how == FORWARDED
                 else:
                     self.complete(pending, how)
                 return
@@ -257,6 +277,16 @@ class Server:
         wire.is_shut = True
 
 
+class Forwarding(Server):
+    """The server of the counter and of the object that forwards."""
+
+    def refusal_of(self, call):
+        return None if call.key == ELSEWHERE else super().refusal_of(call)
+
+    def apply(self, call):
+        return FORWARDED if call.key == ELSEWHERE else super().apply(call)
+
+
 class Play:
     """A schedule that is being played, line by line."""
 
@@ -266,7 +296,7 @@ class Play:
     def take(self, line):
         name, *words = line.split(" ")
         if name == "server":
-            self.server = Server(int(words[0]), int(words[2]), int(words[3]), int(words[4]))
+            self.server = Forwarding(int(words[0]), int(words[2]), int(words[3]), int(words[4]))
         elif name == "client":
             self.clients.append(Client(words[0], words[1]))
         elif int(words[0]) < len(self.clients):
@@ -289,6 +319,10 @@ class Play:
             client.tick(int(words[0]))
         elif name == "keep":
             client.keeps = words[0] != "0"
+        elif name == "forwards":
+            client.keeps_forwards = words[0] != "0"
+        elif name == "redirect":
+            client.redirect(int(words[0]), words[1])
         elif name == "resend":
             client.resend(int(words[0]))
         elif name == "connect":

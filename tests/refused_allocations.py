@@ -98,6 +98,10 @@ SCHEDULES = [
     ("pieces of messages", TWO_CLIENTS, [
         "call 0 50 c add 100 7", "call 0 50 d add 100 7", "connect 0 50", "up 0 20 50", "up 0 80 50", "up 0 90 50",
         "down 0 5", "down 0 40", "down 0 90"]),
+    ("a call that is forwarded, and is asked for under another key", ONE_CLIENT, [
+        "forwards 0 1", "call 0 50 f add 100 7", "connect 0 50", "up 0 500 50", "down 0 500", "redirect 0 1 c",
+        "resend 0 60", "up 0 500 60", "down 0 500", "redirect 0 1 elsewhere", "forwards 0 0", "resend 0 61",
+        "up 0 500 61", "down 0 500"]),
 ]
 
 # scripts of an engine: a name, how they are to fail, and the events. Each request is `add(7)` with a key

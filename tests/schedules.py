@@ -1,9 +1,11 @@
 """Plays random schedules of clients and a server with the program `schedule_player`, and compares with a model.
 
 A schedule is a server, two clients and sixty steps or more, by a seed; crates/schedule_player/src/lines.rt says what
-its lines are. A client may crash: one of the same id then takes up again what it had pending, and steps in its place. Each is played twice: as it is, and with what goes up and down cut into small pieces. What completes, in
-order, and the total must be what tests/ends_model.py says, and the same both times. One that fails is printed with as
-few steps as are found with which it still does, as the program takes it.
+its lines are. A client may crash: one of the same id then takes up again what it had pending, and steps in its place. A
+call may be forwarded, and is asked for under another key then. Each schedule is played twice: as it is, and with what
+goes up and down cut into small pieces. What completes, in order, and the total must be what tests/ends_model.py says,
+and the same both times. One that fails is printed with as few steps as are found with which it still does, as the
+program takes it.
 """
 import random
 import unittest
@@ -84,7 +86,7 @@ class Maker:
         operation = dice.choice(["add"] * 8 + ["get", "get", "sub", ""])
         if self.at(client) and dice.random() < self.long:
             operation = self.long_operation(self.at(client))
-        key = dice.choice(["c"] * 12 + ["d", ""])
+        key = dice.choice(["c"] * 10 + ["f", "f", "d", ""])
         spans = [1, 1, 2, 3, 1000] if self.is_dense else [1000] * 6 + [50, 20, 5, 0, -1]
         expiration = max(0, now + dice.choice(spans))
         argument = dice.choice(["", *[f" {n}" for n in (0, 0, 1, 7, 7, 100, 500, -3, -500, 2147483647, -2147483648)]])
@@ -107,10 +109,19 @@ class Maker:
         pending = [p.number for p in self.at(client).pending] if self.at(client) else []
         return self.dice.choice([*pending, *pending[:1] * 3, self.dice.randint(1, 20), 0, -1])
 
+    def led(self, client):
+        """The number of a call: of one that is led elsewhere, if one is, or of some."""
+        numbers = [p.number for p in self.at(client).pending if p.is_led] if self.at(client) else []
+        return self.dice.choice([*numbers * 3, self.number(client)])
+
+    def other_key(self):
+        """A key under which a call is asked for that is led elsewhere."""
+        return self.dice.choice(["c", "c", "c", "f", "d", "", "elsewhere"])
+
     def step(self):
         dice, client = self.dice, self.dice.choice([*self.places * 4, self.places[1], 4])
-        kinds = {"call": self.calls, "connect": 8, "up": 14, "down": 14, "cut": 2, "shut": 3, "cancel": 4, "tick": 2, "keep": 1,
-                 "resend": 3}
+        kinds = {"call": self.calls, "connect": 8, "up": 14, "down": 14, "cut": 2, "shut": 3, "cancel": 4, "tick": 2,
+                 "keep": 1, "forwards": 1, "redirect": 2, "resend": 3}
         kind = dice.choices(list(kinds), kinds.values())[0]
         wire = (self.at(client) or Client("", "1.2")).wire or Wire()
         if kind == "call":
@@ -123,6 +134,10 @@ class Maker:
             return f"cancel {client} {self.number(client)}"
         if kind == "keep":
             return f"keep {client} {dice.choice([0, 1])}"
+        if kind == "forwards":
+            return f"forwards {client} {dice.choice([0, 1, 1])}"
+        if kind == "redirect":
+            return f"redirect {client} {self.led(client)} {self.other_key()}"
         if kind in ("connect", "resend", "tick"):
             return f"{kind} {client} {self.moment()}"
         return f"{kind} {client}"
@@ -160,6 +175,17 @@ class Maker:
                 self.add(f"down {client} 5000")
                 return
 
+    def lead(self, client):
+        """A call is forwarded, and asked for under another key, on this connection or on the next one."""
+        dice, now = self.dice, self.now
+        self.add(f"forwards {client} 1")
+        self.add(f"call {client} {now} f add {now + 1000} 7")
+        for _ in range(2):
+            for line in (f"connect {client} {now}", f"up {client} 5000 {now}", f"down {client} 5000"):
+                self.add(line)
+            self.add(f"redirect {client} {self.led(client)} {self.other_key()}")
+            self.add(dice.choice([f"resend {client} {now}", f"cut {client}", f"forwards {client} 0"]))
+
     def crash(self, which):
         """A client is gone, and one of its id takes up again what it had pending, if that had not happened yet."""
         old, new = which, which + 2
@@ -185,6 +211,8 @@ class Maker:
                 self.lapse(self.places[which])
             elif chance < 0.05:
                 self.crash(which)
+            elif chance < 0.07:
+                self.lead(self.places[which])
         return [*self.lines, "end"]
 
 

@@ -55,7 +55,7 @@ none-sent link c (Some l) none h = absurd cc
 
 -- A call that is refused is not taken.
 
-refused-is : (now : ℕ) (call : Call) (c : Client) (e : CallError) → IsRefusal e → IsCallError now call c e → is_taken now call c ≡ false
+pub refused-is : (now : ℕ) (call : Call) (c : Client) (e : CallError) → IsRefusal e → IsCallError now call c e → is_taken now call c ≡ false
 refused-is now call c e h is = and_right (has_no_ft call.form) (in_time now call c) (by e h is)
   where
     place : Bool
@@ -80,7 +80,7 @@ refused-is now call c e h is = and_right (has_no_ft call.form) (in_time now call
         (and_right (nat_lt c.last 2147483647) room (and_right (nat_lt (length c.pending) 64) place (and_right (stands_in (suc c.last) c call) (fits (suc c.last) c call) is.3)))
     by refused.Memory h is = absurd h
 
-recall-refused : (now id : ℕ) (call : Call) (c : Client) (e : RecallError) → IsRecallRefusal e → IsRecallError now id call c e → is_resumed now id call c ≡ false
+pub recall-refused : (now id : ℕ) (call : Call) (c : Client) (e : RecallError) → IsRecallRefusal e → IsRecallError now id call c e → is_resumed now id call c ≡ false
 recall-refused now id call c e h is = and_right (has_no_ft call.form) (free && (nat_le now call.expiration && room)) (by e h is)
   where
     free : Bool

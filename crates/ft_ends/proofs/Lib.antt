@@ -4,14 +4,15 @@ pub mod Spoken
 pub mod Written
 pub mod Served
 pub mod Small
+pub mod Ways
 pub mod Members
 pub mod Moves
 pub mod Stepped
 pub mod Worlds
 pub mod Short
 pub mod Faithful
-pub mod Ways
 pub mod Calling
+pub mod Noted
 pub mod Serving
 pub mod Held
 pub mod Ready

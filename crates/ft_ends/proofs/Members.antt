@@ -8,7 +8,7 @@ use Rattle.cdr_core.specs.Spelling.{IsClean}
 use Rattle.giop_core.specs.declared.header.Version.{Version}
 use Rattle.giop_frames.specs.declared.limits.Limits.{Limits}
 use Rattle.ft_log.specs.Keys.{RequestKey}
-use Rattle.ft_client.specs.Clients.{Called, Cancelled, Client, Ended, Expired, Kept, Linked, NeedsAddressing, Pending, Recalled, Resent, Resumed, Sent, Skipped, Ticked, Told, answered, completed_if, ended_by, find_pending, is_kept, is_resumed, is_taken, late, led_by, on_time, placed, placed_on, recalled, resent_if, says_again, says_placed, says_recalled, says_resent, settled, settled_all, transmission, waiting, withdrawn, without}
+use Rattle.ft_client.specs.Clients.{Called, Cancelled, Client, Ended, Expired, Kept, KeptForwards, Linked, NeedsAddressing, Pending, Recalled, Redirected, Resent, Resumed, Sent, Skipped, Ticked, Told, answered, asked_at, completed_if, ended_by, find_pending, is_kept, is_redirected, is_resumed, is_taken, late, led_by, on_time, placed, placed_on, recalled, resent_if, says_again, says_placed, says_recalled, says_resent, settled, settled_all, transmission, waiting, withdrawn, without}
 use Rattle.ft_client.specs.Directions.{stream}
 use Rattle.giop_link.specs.Hearing.{Hearing, news}
 use Rattle.ft_client.specs.Lives.{IsLife, IsOfCall, Life, ended_count, sent_at}
@@ -27,8 +27,9 @@ use Rattle.ft_ends.specs.Tellings.{answer_in, law_told, tellings}
 use Rattle.ft_ends.specs.World.{Member, Wire, acted, emptied, extended}
 use Rattle.ft_ends.proofs.Lists.{each-append, each-contains, each-drop, each-front, front-trans}
 use Rattle.ft_ends.proofs.Served.{IsReply, IsServed, Traced, front-more, served-said, traced-later}
-use Rattle.ft_ends.proofs.Small.{IsSmall, IsTaken, found-each, on_time-each, resent-as, resumed-is, settled-each, small-after, taken-is, without-each}
+use Rattle.ft_ends.proofs.Small.{IsSmall, IsTaken, asked_at-each, found-each, on_time-each, resent-as, resumed-is, settled-each, small-after, taken-is, without-each}
 use Rattle.ft_ends.proofs.Spoken.{IsAmong, IsSent, IsSentAs, IsSpoken, asked_as, asked_as-each, asked_as-id, ids-few, spoken-called, spoken-pending, spoken-resent, spoken-withdrawn, waiting-sent}
+use Rattle.ft_ends.proofs.Ways.{extended-nothing}
 
 -- the key of a client's call
 abbrev pub own_key : List ℕ → ℕ → RequestKey
@@ -96,10 +97,6 @@ module _ {State : Type 0} (meaning : Meaning State) (made : Made State) where
   -- A client's own doing.
 
   module _ (past : List Event) (opened : ℕ) where
-    extended-nothing : (w : Option Wire) → extended [] w ≡ w
-    extended-nothing None = refl
-    extended-nothing (Some x) = ap (λ (said : List Said). Some (record x { said = said })) (append-nil x.said)
-
     -- where nothing is said
     wired-nothing : (sent : List (ℕ × Transmission)) (pending : List Pending) (last : ℕ) (l : Option Linked) (w : Option Wire) → IsWired past opened sent pending last l w → IsWired past opened (sent ++ []) pending last l (extended [] w)
     wired-nothing sent pending last l w h =
@@ -256,6 +253,38 @@ module _ {State : Type 0} (meaning : Meaning State) (made : Made State) where
           small = small-after of_clients.as_long down (Kept keeps) c tt h.small;
           told = h.told;
           wired = wired-nothing past opened m.life.sent c.pending c.last c.link m.wire h.wired;
+        }
+
+    pub member-forwards : ClientLaws → (keeps : Bool) (m : Member) → IsMember past opened id version m → IsMember past opened id version (acted (sides_of meaning made hears) (KeptForwards keeps) m)
+    member-forwards of_clients keeps m h =
+        let c = m.life.client in
+        let down = hears c.limits in
+        record {
+          life = of_clients.goes_on id version down (KeptForwards keeps) m.life h.life;
+          small = small-after of_clients.as_long down (KeptForwards keeps) c tt h.small;
+          told = h.told;
+          wired = wired-nothing past opened m.life.sent c.pending c.last c.link m.wire h.wired;
+        }
+
+    pub member-redirected : ClientLaws → (number : ℤ) (key : List ℕ) (m : Member) → IsMember past opened id version m → IsMember past opened id version (acted (sides_of meaning made hears) (Redirected number key) m)
+    member-redirected of_clients number key m h =
+        let c = m.life.client in
+        let down = hears c.limits in
+        let other : Client = record c { pending = asked_at number key c.pending } in
+        let still = wired-nothing past opened m.life.sent c.pending c.last c.link m.wire h.wired in
+        record {
+          life = of_clients.goes_on id version down (Redirected number key) m.life h.life;
+          small = small-after of_clients.as_long down (Redirected number key) c tt h.small;
+          told =
+              elim (is_redirected key c (find_pending number c.pending)) as (λ b. AllByRecursion (λ x. IsToldOf (arrivals made.limits past) id x) (cond b other c).completions)
+              [ true ↦ h.told | false ↦ h.told ];
+          wired =
+              elim (is_redirected key c (find_pending number c.pending)) as (λ b. IsWired past opened (m.life.sent ++ []) (cond b other c).pending (cond b other c).last (cond b other c).link (extended [] m.wire)) [
+                | true ↦
+                    wired-fewer past opened (m.life.sent ++ []) c.pending (asked_at number key c.pending) c.last c.link (extended [] m.wire)
+                    (λ said each. asked_at-each (λ q. IsSent said q) number key c.pending (λ p found is. is) each) still
+                | false ↦ still
+              ];
         }
 
     pub member-resent : ClientLaws → (now : ℕ) (m : Member) → IsMember past opened id version m → IsMember past opened id version (acted (sides_of meaning made hears) (Resent now) m)

@@ -10,7 +10,7 @@ use Rattle.giop_core.specs.declared.header.Version.{Version}
 use Rattle.giop_frames.specs.declared.limits.Limits.{Limits}
 use Rattle.giop_link.specs.Hearing.{Ending, Hearing, meaning_in, news}
 use Rattle.giop_link.specs.Laws.{HearingGrows}
-use Rattle.ft_client.specs.Clients.{Called, Client, Ended, Fed, Happening, Joined, Kept, Linked, Parted, Pending, Recalled, Resent, Resumed, Skipped, Ticked, answered, completed_if, ended_by, ending_of, gives, ids_after, is_kept, led_by, parted, parted_at, resent, says as client_says, settled, settled_all, told_of, unsent, waiting}
+use Rattle.ft_client.specs.Clients.{Called, Client, Ended, Fed, Happening, Joined, Kept, KeptForwards, Linked, Parted, Pending, Recalled, Redirected, Resent, Resumed, Skipped, Ticked, answered, completed_if, ended_by, ending_of, gives, ids_after, is_kept, led_by, parted, parted_at, resent, says as client_says, settled, settled_all, told_of, unsent, waiting}
 use Rattle.ft_client.specs.Directions.{stream}
 use Rattle.ft_client.specs.Lives.{IsLife, Life, goes_on, moment_of, sent_at}
 use Rattle.ft_client.specs.Messages.{Answer, Said, Transmission, located, octets_said, replied}
@@ -25,9 +25,9 @@ use Rattle.ft_ends.specs.Laws.{ArePlain, AreShort, IsFineStep, IsPlain, sides_of
 use Rattle.ft_ends.specs.Private.{ClientLaws}
 use Rattle.ft_orb.specs.Tellings.{Telling, octets_told}
 use Rattle.ft_ends.specs.Tellings.{answer_in, law_told, tellings}
-use Rattle.ft_ends.specs.World.{CallNow, Cancel, Connect, Cut, Down, KeepOn, Member, Moved, RecallNow, ResendNow, Shut, SkipTo, Step, Tick, UpTo, Wire, acted, connected, cut, down, extended, fed_off, moved, moved_to, shut, up}
+use Rattle.ft_ends.specs.World.{CallNow, Cancel, Connect, Cut, Down, KeepForwards, KeepOn, Member, Moved, RecallNow, RedirectTo, ResendNow, Shut, SkipTo, Step, Tick, UpTo, Wire, acted, connected, cut, down, extended, fed_off, moved, moved_to, shut, up}
 use Rattle.ft_ends.proofs.Lists.{each-weaker}
-use Rattle.ft_ends.proofs.Members.{IsLinked, IsMember, IsToldOf, IsWired, member-called, member-kept, member-recalled, member-resent, member-resumed, member-skipped, member-ticked, news-replies, own-clean, served-down, told-later, told-settled_all}
+use Rattle.ft_ends.proofs.Members.{IsLinked, IsMember, IsToldOf, IsWired, member-called, member-forwards, member-kept, member-recalled, member-redirected, member-resent, member-resumed, member-skipped, member-ticked, news-replies, own-clean, served-down, told-later, told-settled_all}
 use Rattle.ft_ends.proofs.Served.{IsFrom, IsLine, IsReply, line-close, line-more, line-opened, line-other, line-piece, line-shut, piece-from, plain-from, served-here, tellings-here, tellings-other}
 use Rattle.ft_ends.proofs.Small.{IsSmall, resent-as, settled_all-each, small-after, small-parted}
 use Rattle.ft_ends.proofs.Spoken.{IsAmong, IsSent, asked_as-each, ids-few, spoken-none, spoken-pending, spoken-resent, spoken-sent}
@@ -396,6 +396,8 @@ module _ {State : Type 0} (meaning : Meaning State) (made : Made State) (hears :
     move-is faithful grow sends plain clean (RecallNow k now number call) fine = move-acted (Resumed now number call) refl (member-resumed meaning made hears past opened id version clean of_clients now number call m fine is)
     move-is faithful grow sends plain clean (SkipTo k number) fine = move-acted (Skipped number) refl (member-skipped meaning made hears past opened id version clean of_clients number m is)
     move-is faithful grow sends plain clean (KeepOn k keeps) fine = move-acted (Kept keeps) refl (member-kept meaning made hears past opened id version clean of_clients keeps m is)
+    move-is faithful grow sends plain clean (KeepForwards k keeps) fine = move-acted (KeptForwards keeps) refl (member-forwards meaning made hears past opened id version clean of_clients keeps m is)
+    move-is faithful grow sends plain clean (RedirectTo k number key) fine = move-acted (Redirected number key) refl (member-redirected meaning made hears past opened id version clean of_clients number key m is)
     move-is faithful grow sends plain clean (Connect k now) fine = by-wire m.wire refl
       where
         by-wire : (w : Option Wire) → m.wire ≡ w → IsMove past opened id version m (connected (sides_of meaning made hears) past opened now m w)

@@ -20,7 +20,7 @@ use Rattle.ft_orb.specs.ExactlyOnce.{OneExpiration}
 use Rattle.ft_orb.specs.History.{Event, arrivals}
 use Rattle.ft_orb.specs.Outputs.{Made}
 use Rattle.ft_objects.specs.Servants.{Meaning}
-use Rattle.ft_ends.specs.declared.wire.Wire.{Wire as CodeWire}
+use Rattle.ft_ends.specs.declared.post.Post.{Post}
 use Rattle.ft_ends.specs.declared.steps.Call.{Call as CodeCall}
 use Rattle.ft_ends.specs.declared.steps.Step.{Step as CodeStep}
 use Rattle.ft_ends.specs.declared.steps.Step.TheVariants as code
@@ -28,11 +28,12 @@ use Rattle.ft_ends.specs.Both.{AreDistinct}
 use Rattle.ft_ends.specs.Fine.{AreFaithful}
 use Rattle.ft_ends.specs.Laws.{AreShort, IsFineStep, sides_of}
 use Rattle.ft_ends.specs.Playing.{AreBeginning, AreNew, IsCallable, step_as}
-use Rattle.ft_ends.specs.Private.{AreHeld, AreSet, AreUnused, ClientLaws, IsReady, tells}
+use Rattle.ft_ends.specs.Private.{AreHeld, AreSet, AreBare, ClientLaws, IsReady, tells}
 use Rattle.ft_ends.specs.World.{Member, Newcomer, Step, Wire, World, client_of, given_out, member_of, moved, start, step, step_of, world}
 use Rattle.ft_ends.proofs.Held.{held-new}
 use Rattle.ft_ends.proofs.Members.{IsWired}
 use Rattle.ft_ends.proofs.Moves.{IsOff, move-is}
+use Rattle.ft_ends.proofs.Small.{all-typed}
 use Rattle.ft_ends.proofs.Worlds.{IsWorld, one-expiration, run-is, start-is, step-is}
 
 module _ {State : Type 0} (meaning : Meaning State) (made : Made State) (newcomers : List Newcomer) (distinct : AreDistinct newcomers) (of_clients : ClientLaws) (faithful : AreFaithful made.limits down) (grow : HearingGrows meaning_in) (sends : AreShort meaning made)
@@ -79,6 +80,7 @@ module _ {State : Type 0} (meaning : Meaning State) (made : Made State) (newcome
           record {
             linked = wired-linked w.past w.opened m.life.sent m.life.client.pending m.life.client.last m.life.client.link m.wire name.2.wired;
             fresh = (h.unopened (suc w.opened) (omega arith)).1;
+            called = record { call = name.2.life.alive.pending; values = all-typed m.life.client.version m.life.client.client_id m.life.client.pending name.2.small.waits };
             once = subst (λ (u : World). OneExpiration (arrivals made.limits u.past)) (after-here m is)
                 (one-expiration meaning made down newcomers distinct (step (sides_of meaning made down) w s) (step-is meaning made down newcomers of_clients faithful grow sends clean w s fine h));
           };
@@ -128,14 +130,14 @@ new-clean [] (c ∷ cs) h = absurd h
 new-clean (n ∷ ns) [] h = absurd h
 
 -- What begins is set.
-pub set-is : {State : Type 0} (meaning : Meaning State) (made : Made State) (newcomers : List Newcomer) (server : Shown State) (clients cs : List FtClient) (wires us : List CodeWire) (n : ℕ) → cs ≡ clients → us ≡ wires → n ≡ length clients
-    → IsTrue (meaning.is_state made.opening) → AreUnused n wires → AreBeginning meaning made newcomers server clients → AreSet meaning made newcomers server cs us
-set-is meaning made newcomers server clients cs wires us n clients_same wires_same count state unused h = record {
+pub set-is : {State : Type 0} (meaning : Meaning State) (made : Made State) (newcomers : List Newcomer) (server : Shown State) (clients cs : List FtClient) (posts us : List Post) (n : ℕ) → cs ≡ clients → us ≡ posts → n ≡ length clients
+    → IsTrue (meaning.is_state made.opening) → AreBare n posts → AreBeginning meaning made newcomers server clients → AreSet meaning made newcomers server cs us
+set-is meaning made newcomers server clients cs posts us n clients_same posts_same count state bare h = record {
   stands = h.stands;
   state = state;
-  held = subst (λ (vs : List CodeWire). AreHeld (tells meaning made []) (map member_of newcomers) cs vs) (sym wires_same)
-      (subst (λ (ds : List FtClient). AreHeld (tells meaning made []) (map member_of newcomers) ds wires) (sym clients_same)
-      (held-new (tells meaning made []) newcomers clients wires h.clients_are (subst (λ (k : ℕ). AreUnused k wires) count unused)));
+  held = subst (λ (vs : List Post). AreHeld (tells meaning made []) (map member_of newcomers) cs vs) (sym posts_same)
+      (subst (λ (ds : List FtClient). AreHeld (tells meaning made []) (map member_of newcomers) ds posts) (sym clients_same)
+      (held-new (tells meaning made []) newcomers clients posts h.clients_are (subst (λ (k : ℕ). AreBare k posts) count bare)));
   distinct = h.distinct;
   clean = new-clean newcomers clients h.clients_are;
 }

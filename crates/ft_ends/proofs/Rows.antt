@@ -1,6 +1,6 @@
 -- Samples over real octets: a counter, and a client that adds 7 to it. A request takes 84 octets, its reply 32, a system exception
 -- 72, and CloseConnection 12. And a servant whose operations are raw: its reply takes 28.
-use Rattle.std.proofs.Common.{◌≡◌, ℕ, ◌+ℤ◌, bytes_eq, true, if◌then◌else◌, List, [], ◌∷◌, ℤ, pos, refl, lit≤}
+use Rattle.std.proofs.Common.{◌≡◌, ℕ, ◌+ℤ◌, bytes_eq, false, true, if◌then◌else◌, List, [], ◌∷◌, ℤ, pos, refl, lit≤}
 use Rattle.cdr_core.specs.Encapsulation.{encapsulated, order_at}
 use Rattle.cdr_core.specs.Parts.{long, long_value, longlong, longlong_value}
 use Rattle.cdr_core.specs.Reading.{value_at, each_at, boolean_at, string_at, text_at, whole_at, number_at, part_at, octets_at, length_at, ordinal_at}
@@ -38,7 +38,7 @@ use Rattle.ft_orb.specs.Requests.{rules_of}
 use Rattle.ft_objects.specs.Servants.{Meaning}
 use Rattle.ft_ends.specs.Both.{ended_of}
 use Rattle.ft_ends.specs.Laws.{sides_of}
-use Rattle.ft_ends.specs.World.{CallNow, Cancel, Connect, Cut, Down, Shut, Step, Tick, UpTo, World, world}
+use Rattle.ft_ends.specs.World.{CallNow, Cancel, Connect, Cut, Down, KeepForwards, RedirectTo, ResendNow, Shut, Step, Tick, UpTo, World, world}
 
 -- a servant of one object, `c`, with one operation, `add`, of a long, which returns the total as a long long
 
@@ -144,3 +144,9 @@ sender = record {
 forwarded : shown_of sender (world_of sender (UpTo 0 84 50 ∷ Cut 0 ∷ Connect 0 60 ∷ UpTo 0 84 60 ∷ Down 0 28 ∷ [])) ≡ ((0, 1, Told LocationForward (record { order = Little; place = 24; octets = 0 ∷ 0 ∷ 0 ∷ 7 ∷ [] })) ∷ [], pos 1)
 unfolding arrivals_in front_in rendering heard_as ending_as sound_of content items_in messages_of fault_of rest_of split sight header_of judged_by judged_as message_of row encapsulated order_at ft_in behind_header value_at each_at boolean_at string_at text_at whole_at number_at part_at octets_at length_at ordinal_at
 forwarded = refl
+
+-- where forwards leave calls pending, the call is asked for under the key `d` then: it gets its one outcome, and is not performed again
+redirected : shown_of sender (world_of sender (KeepForwards 0 true ∷ UpTo 0 84 50 ∷ Down 0 28 ∷ RedirectTo 0 (pos 1) (100 ∷ []) ∷ ResendNow 0 60 ∷ UpTo 0 84 60 ∷ KeepForwards 0 false ∷ Down 0 28 ∷ []))
+    ≡ ((0, 1, Told LocationForward (record { order = Little; place = 24; octets = 0 ∷ 0 ∷ 0 ∷ 7 ∷ [] })) ∷ [], pos 1)
+unfolding arrivals_in front_in rendering heard_as ending_as sound_of content items_in messages_of fault_of rest_of split sight header_of judged_by judged_as message_of row encapsulated order_at ft_in behind_header value_at each_at boolean_at string_at text_at whole_at number_at part_at octets_at length_at ordinal_at
+redirected = refl

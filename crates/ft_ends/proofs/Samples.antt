@@ -1,14 +1,16 @@
 -- Samples: what the definitions give on short schedules, which are written out, over two simple directions: a request takes 84
 -- octets and a withdrawal 16, a reply with results 32, one with a system exception 72, and CloseConnection 12. The last octet of
 -- each says which it is, and all others are 0.
-use Rattle.std.proofs.Common.{◌≡◌, ℕ, ◌==◌, ◌||◌, max, nat_lt, Bool, false, if◌then◌else◌, List, [], ◌∷◌, ◌++◌, replicate, Option, Some, None, pos, refl, lit≤}
+use Rattle.std.proofs.Common.{◌≡◌, ℕ, ◌==◌, ◌||◌, max, nat_lt, bytes_eq, Bool, false, true, if◌then◌else◌, List, [], ◌∷◌, ◌++◌, replicate, Option, Some, None, pos, refl, lit≤}
 use Rattle.cdr_core.specs.Parts.{longlong_value}
 use Rattle.cdr_core.specs.Value.{no_values, values}
 use Rattle.giop_core.specs.Written.{behind_header}
 use Rattle.giop_core.specs.declared.header.Version.TheVariants.{V12}
 use Rattle.giop_frames.specs.declared.limits.Limits.{Limits}
 use Rattle.giop_link.specs.Hearing.{Ending, peer_closed}
-use Rattle.ft_log.specs.Performed.{Performed, returned, system}
+use Rattle.cdr_core.specs.declared.order.Order.TheVariants.{Big}
+use Rattle.ft_log.specs.Performed.{Performed, raw, returned, system}
+use Rattle.ft_log.specs.declared.outcome.RawStatus.TheVariants as raw_status
 use Rattle.ft_log.specs.declared.system_exception.Completion.TheVariants.{No}
 use Rattle.ft_log.specs.declared.system_exception.SystemName.TheVariants.{BadContext}
 use Rattle.ft_client.specs.Clients.{Cancelled, Ended, Expired}
@@ -18,7 +20,7 @@ use Rattle.ft_objects.specs.Replies.{body_of, order_of, status_of}
 use Rattle.ft_ends.specs.Both.{ended_of}
 use Rattle.ft_orb.specs.Tellings.{Closing, Failed, Located, Replied, Telling}
 use Rattle.ft_ends.specs.Tellings.{shown_as}
-use Rattle.ft_ends.specs.World.{CallNow, Cancel, Connect, Cut, Down, Shut, Sides, Step, Tick, UpTo, world}
+use Rattle.ft_ends.specs.World.{CallNow, Cancel, Connect, Cut, Down, KeepForwards, RedirectTo, ResendNow, Shut, Sides, Step, Tick, UpTo, world}
 
 -- a message of so many octets, of which the last says what it is
 abbrev message : ℕ → ℕ → List ℕ
@@ -130,3 +132,58 @@ cancelled = refl
 idle : completions (Connect 0 60 ∷ Down 1 32 ∷ Cut 0 ∷ UpTo 0 84 60 ∷ Shut 0 ∷ Down 0 32 ∷ Connect 0 60 ∷ UpTo 0 84 60 ∷ Down 0 32 ∷ []) ≡ (0, 1, ended_of seven) ∷ []
 unfolding behind_header
 idle = refl
+
+-- A server that sends each request on, and answers one that is asked for under another key than its call's. Its reply that forwards
+-- takes 24 octets.
+abbrev elsewhere : Performed
+elsewhere = raw raw_status.LocationForward Big []
+
+abbrev octets_by_key : Said → List ℕ
+octets_by_key (Asked t) = message 83 (if bytes_eq t.at t.call.object_key then 1 else 4)
+octets_by_key (Withdrawn version id) = message 15 2
+
+abbrev octets_by_status : Telling → List ℕ
+octets_by_status (Replied version order id status body) = if status == 0 then message 31 6 else message 23 5
+octets_by_status (Located version id status) = []
+octets_by_status Failed = []
+octets_by_status Closing = []
+
+abbrev heard_by : List ℕ → List Answer
+heard_by [] = []
+heard_by (n ∷ ns) =
+    if n == 5 then replied 1 (shown_as (order_of elsewhere) (status_of elsewhere) (body_of elsewhere)) ∷ heard_by ns
+    else (if n == 6 then replied 2 (shown_as (order_of seven) (status_of seven) (body_of seven)) ∷ heard_by ns else heard_by ns)
+
+abbrev is_asked : ℕ → List ℕ → Bool
+is_asked mark [] = false
+is_asked mark (n ∷ ns) = n == mark || is_asked mark ns
+
+abbrev answered_by : List ℕ → List Telling
+answered_by octets =
+    if is_asked 1 octets then Replied V12 Big 1 3 (body_of elsewhere) ∷ [] else (if is_asked 4 octets then Replied V12 Big 2 0 (body_of seven) ∷ [] else [])
+
+abbrev leads : List Event → Event → List Telling
+leads past (Opened c) = []
+leads past (Piece c moment octets) = answered_by octets
+leads past (Close c) = []
+leads past (Lost c) = []
+leads past (Withdrew i) = []
+leads past Changed = []
+
+abbrev leading : Sides
+leading = record { said = octets_by_key; telling = octets_by_status; hears = λ own. record { heard = heard_by; ending = λ octets. None }; says = leads }
+
+-- what completes where a client that keeps to forwards calls and connects, its call is forwarded, and then this happens
+abbrev led : List Step → List (ℕ × ℕ × Ended)
+led steps =
+    (world leading (record { client_id = 65 ∷ []; version = V12; limits = limits } ∷ []) (KeepForwards 0 true ∷ CallNow 0 50 add ∷ Connect 0 50 ∷ UpTo 0 84 50 ∷ Down 0 24 ∷ steps)).completions
+
+-- it is asked for under another key, and ends with what that gives
+redirected : led (RedirectTo 0 (pos 1) (102 ∷ []) ∷ ResendNow 0 60 ∷ UpTo 0 84 60 ∷ Down 0 32 ∷ []) ≡ (0, 1, ended_of seven) ∷ []
+unfolding behind_header
+redirected = refl
+
+-- it is not sent again before, and no other call is redirected
+unled : led (ResendNow 0 60 ∷ UpTo 0 84 60 ∷ RedirectTo 0 (pos 2) (102 ∷ []) ∷ ResendNow 0 60 ∷ UpTo 0 84 60 ∷ Down 0 32 ∷ Tick 0 101 ∷ []) ≡ (0, 1, Expired) ∷ []
+unfolding behind_header
+unled = refl

@@ -168,7 +168,7 @@ none-off (p ∷ ps) h =
     let rest = none-off ps h.1 in
     (ap (λ b. cond b (p ∷ staying is_unsettled ps) (staying is_unsettled ps)) here ∙ ap (λ (qs : List Pending). p ∷ qs) rest.0, ap (λ b. cond b (leaving is_unsettled Sent ps) ((p.id, Sent) ∷ leaving is_unsettled Sent ps)) here ∙ rest.1)
 
-all-typed : (version : Version) (client_id : List ℕ) (ps : List Pending) → AllByRecursion (λ p. IsFinePending version client_id p.id p.at p.call) ps → AreTyped ps
+pub all-typed : (version : Version) (client_id : List ℕ) (ps : List Pending) → AllByRecursion (λ p. IsFinePending version client_id p.id p.at p.call) ps → AreTyped ps
 all-typed version client_id [] h = tt
 all-typed version client_id (p ∷ ps) h = (h.0.fine.values, all-typed version client_id ps h.1)
 
@@ -269,7 +269,7 @@ asked_at-length id key (p ∷ ps) =
     elim (int_eq (pos p.id) id) as (λ b. length (cond b (record p { at = key; led = None } ∷ ps) (p ∷ asked_at id key ps)) ≡ suc (length ps)) [ true ↦ refl | false ↦ ap suc (asked_at-length id key ps) ]
 
 -- what holds of each holds of each then, where it holds of the one that is found under the other key
-asked_at-each : (P : Pending → Type 0) (id : ℤ) (key : List ℕ) (ps : List Pending) → ((p : Pending) → find_pending id ps ≡ Some p → P p → P (record p { at = key; led = None })) → AllByRecursion P ps → AllByRecursion P (asked_at id key ps)
+pub asked_at-each : (P : Pending → Type 0) (id : ℤ) (key : List ℕ) (ps : List Pending) → ((p : Pending) → find_pending id ps ≡ Some p → P p → P (record p { at = key; led = None })) → AllByRecursion P ps → AllByRecursion P (asked_at id key ps)
 asked_at-each P id key [] at h = tt
 asked_at-each P id key (p ∷ ps) at h =
     elim (int_eq (pos p.id) id) as (λ b. ((q : Pending) → cond b (Some p) (find_pending id ps) ≡ Some q → P q → P (record q { at = key; led = None })) → AllByRecursion P (cond b (record p { at = key; led = None } ∷ ps) (p ∷ asked_at id key ps)))

@@ -9,8 +9,9 @@ use Rattle.ft_client.specs.Lives.{Life}
 use Rattle.ft_client.specs.Messages.{Call}
 use Rattle.ft_orb.specs.History.{Event}
 use Rattle.ft_ends.specs.Laws.{CallsAreOfSteps, IsPartOf, both, call_in, calls_in, contents, left, none}
+use Rattle.ft_ends.specs.Private.{calls_after}
 use Rattle.ft_ends.specs.World as world
-use Rattle.ft_ends.specs.World.{CallNow, Cancel, Connect, Cut, Down, KeepOn, Member, Newcomer, RecallNow, ResendNow, Shut, Sides, SkipTo, Step, Tick, UpTo, Wire, World, client_of, emptied, fed_off, given_out, member_of, moved, run, start, step, step_of}
+use Rattle.ft_ends.specs.World.{CallNow, Cancel, Connect, Cut, Down, KeepForwards, KeepOn, Member, Newcomer, RecallNow, RedirectTo, ResendNow, Shut, Sides, SkipTo, Step, Tick, UpTo, Wire, World, client_of, emptied, fed_off, given_out, member_of, moved, run, start, step, step_of}
 use Rattle.ft_ends.proofs.Lists.{set-here, set-other}
 
 -- Lists that are part of others.
@@ -76,6 +77,8 @@ module _ (sides : Sides) where
   adds past opened (RecallNow k now id call) m = (cond (is_resumed now id call m.life.client) ((id, call) ∷ []) [], refl, taken-part (is_resumed now id call m.life.client) id call k)
   adds past opened (SkipTo k id) m = ([], refl, none)
   adds past opened (KeepOn k keeps) m = ([], refl, none)
+  adds past opened (KeepForwards k keeps) m = ([], refl, none)
+  adds past opened (RedirectTo k id key) m = ([], refl, none)
   adds past opened (Connect k now) m = nothing (Connect k now) m _ (calls-joined past opened now m m.wire)
   adds past opened (ResendNow k now) m = ([], refl, none)
   adds past opened (UpTo k n now) m = nothing (UpTo k n now) m _ (calls-up past opened n now m m.wire)
@@ -84,6 +87,23 @@ module _ (sides : Sides) where
   adds past opened (Shut k) m = nothing (Shut k) m _ (calls-shut past opened m m.wire)
   adds past opened (Cancel k id) m = ([], refl, none)
   adds past opened (Tick k now) m = ([], refl, none)
+
+  -- .. and which calls it has made then
+  pub calls-moved : (past : List Event) (opened : ℕ) (s : Step) (m : Member) → (moved sides past opened s m).member.life.calls ≡ calls_after s m.life.client m.life.calls
+  calls-moved past opened (CallNow k now call) m = refl
+  calls-moved past opened (RecallNow k now id call) m = refl
+  calls-moved past opened (SkipTo k id) m = append-nil m.life.calls
+  calls-moved past opened (KeepOn k keeps) m = append-nil m.life.calls
+  calls-moved past opened (KeepForwards k keeps) m = append-nil m.life.calls
+  calls-moved past opened (RedirectTo k id key) m = append-nil m.life.calls
+  calls-moved past opened (Connect k now) m = calls-joined past opened now m m.wire
+  calls-moved past opened (ResendNow k now) m = append-nil m.life.calls
+  calls-moved past opened (UpTo k n now) m = calls-up past opened n now m m.wire
+  calls-moved past opened (Down k n) m = calls-down past opened n m m.wire
+  calls-moved past opened (Cut k) m = calls-cut past opened m m.wire
+  calls-moved past opened (Shut k) m = calls-shut past opened m m.wire
+  calls-moved past opened (Cancel k id) m = append-nil m.life.calls
+  calls-moved past opened (Tick k now) m = append-nil m.life.calls
 
   -- where the calls of each client are part of some, they are part of those and of its step's
   part-step : (w : World) (s : Step) (calls : ℕ → List Call) → ((k : ℕ) (m : Member) → slice_get w.members k ≡ Some m → IsPartOf (contents m.life.calls) (calls k))

@@ -45,6 +45,11 @@ way-first old new all is at idle = ([], ap (λ (o : List ℕ). o ++ all) (sym id
 pub way-empty : (way : Way) (all : List ℕ) → all ≡ [] → IsIdle way → IsWay way all 0
 way-empty way all none idle = ([], none ∙ sym idle.octets, (let zero = idle.delivered in omega (arith, zero)))
 
+-- where nothing is said
+pub extended-nothing : (o : Option Wire) → extended [] o ≡ o
+extended-nothing None = refl
+extended-nothing (Some x) = ap (λ (said : List Said). Some (record x { said = said })) (append-nil x.said)
+
 module _ (tells : ℕ → List Telling) where
   -- a wire for a connection has its number
   pub its-number : (wire : CodeWire) (x : Wire) (n : ℕ) → wire.number ≡ Some n → IsWire tells wire x → n ≡ x.number

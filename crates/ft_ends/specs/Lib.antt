@@ -8,5 +8,7 @@ pub mod Both
 pub mod Fine
 pub mod Laws
 pub mod Playing
+-- a proof that a field of `Taken` cites, which nobody has to read
+pub mod facts
 -- words of private functions: nothing public rests on them
 pub mod Private

@@ -17,7 +17,7 @@ use Rattle.ft_ends.specs.declared.steps.Call.{Call as CodeCall}
 use Rattle.ft_ends.specs.declared.steps.Step.{Step as CodeStep}
 use Rattle.ft_ends.specs.declared.steps.Step.TheVariants as code
 use Rattle.ft_ends.specs.Both.{AreDistinct}
-use Rattle.ft_ends.specs.World.{CallNow, Cancel, Connect, Cut, Down, KeepOn, Member, Newcomer, RecallNow, ResendNow, Shut, SkipTo, Step, Tick, UpTo}
+use Rattle.ft_ends.specs.World.{CallNow, Cancel, Connect, Cut, Down, KeepForwards, KeepOn, Member, Newcomer, RecallNow, RedirectTo, ResendNow, Shut, SkipTo, Step, Tick, UpTo}
 
 -- a call of the code
 abbrev pub call_as : CodeCall → Call
@@ -29,6 +29,8 @@ step_as (code.Call k now call) = CallNow k now (call_as call)
 step_as (code.Recall k number now call) = RecallNow k now number (call_as call)
 step_as (code.Skip k number) = SkipTo k number
 step_as (code.Keep k keeps) = KeepOn k keeps
+step_as (code.KeepForwards k keeps) = KeepForwards k keeps
+step_as (code.Redirect k id key) = RedirectTo k id key.items
 step_as (code.Connect k now) = Connect k now
 step_as (code.Resend k now) = ResendNow k now
 step_as (code.Up k n now) = UpTo k n now
@@ -44,6 +46,8 @@ IsCallable (code.Call k now call) = IsClean call.operation.items × AreWritable 
 IsCallable (code.Recall k number now call) = IsClean call.operation.items × AreWritable (values_of call.arguments.items)
 IsCallable (code.Skip k number) = Unit {0}
 IsCallable (code.Keep k keeps) = Unit {0}
+IsCallable (code.KeepForwards k keeps) = Unit {0}
+IsCallable (code.Redirect k id key) = Unit {0}
 IsCallable (code.Connect k now) = Unit {0}
 IsCallable (code.Resend k now) = Unit {0}
 IsCallable (code.Up k n now) = Unit {0}

@@ -2,7 +2,7 @@
 use Rattle.std.specs.Prelude.{ℕ, suc, ◌+◌, ℤ, Bool, List, [], ◌∷◌, ◌++◌, drop, length, map, slice_set, take, Option, Some, None, slice_get}
 use Rattle.giop_core.specs.declared.header.Version.{Version}
 use Rattle.giop_frames.specs.declared.limits.Limits.{Limits}
-use Rattle.ft_client.specs.Clients.{Called, Ended, Fed, Happening, Joined, Kept, Linked, Parted, Recalled, Resent, Resumed, Skipped, Ticked, says}
+use Rattle.ft_client.specs.Clients.{Called, Ended, Fed, Happening, Joined, Kept, KeptForwards, Linked, Parted, Recalled, Redirected, Resent, Resumed, Skipped, Ticked, says}
 use Rattle.ft_client.specs.Directions.{stream}
 use Rattle.giop_link.specs.Hearing.{Hearing}
 use Rattle.ft_client.specs.Lives.{Life, goes_on, new_life}
@@ -40,14 +40,17 @@ pub record World : Type 0 where
   pub completions : List (ℕ × ℕ × Ended)
 
 -- What may happen next, at a moment where there is one: client k calls; it takes a call of before up again, under its number;
--- it learns up to which number calls of before were numbered; it learns whether TRANSIENT leaves its calls pending; it connects; it
--- sends again what is due; the next n octets that it wrote go up, or all; it gets the next n octets that the server wrote, or all; its connection is cut; the server closes it; the client cancels a
--- call; it learns of a moment.
+-- it learns up to which number calls of before were numbered; it learns whether TRANSIENT leaves its calls pending, and whether a
+-- forward does; it learns under which object key a call that is led elsewhere is asked for; it connects; it sends again what is due;
+-- the next n octets that it wrote go up, or all; it gets the next n octets that the server wrote, or all; its connection is cut; the
+-- server closes it; the client cancels a call; it learns of a moment.
 pub data Step : Type 0 where
   CallNow : (k now : ℕ) → Call → Step
   RecallNow : (k now id : ℕ) → Call → Step
   SkipTo : (k id : ℕ) → Step
   KeepOn : (k : ℕ) (keeps : Bool) → Step
+  KeepForwards : (k : ℕ) (keeps : Bool) → Step
+  RedirectTo : (k : ℕ) (id : ℤ) → List ℕ → Step
   Connect : (k now : ℕ) → Step
   ResendNow : (k now : ℕ) → Step
   UpTo : (k n now : ℕ) → Step
@@ -63,6 +66,8 @@ client_of (CallNow k now call) = k
 client_of (RecallNow k now id call) = k
 client_of (SkipTo k id) = k
 client_of (KeepOn k keeps) = k
+client_of (KeepForwards k keeps) = k
+client_of (RedirectTo k id key) = k
 client_of (Connect k now) = k
 client_of (ResendNow k now) = k
 client_of (UpTo k n now) = k
@@ -166,6 +171,8 @@ module _ (sides : Sides) where
   moved past opened (RecallNow k now id call) m = moved_to past opened (acted (Resumed now id call) m)
   moved past opened (SkipTo k id) m = moved_to past opened (acted (Skipped id) m)
   moved past opened (KeepOn k keeps) m = moved_to past opened (acted (Kept keeps) m)
+  moved past opened (KeepForwards k keeps) m = moved_to past opened (acted (KeptForwards keeps) m)
+  moved past opened (RedirectTo k id key) m = moved_to past opened (acted (Redirected id key) m)
   moved past opened (Connect k now) m = connected past opened now m m.wire
   moved past opened (ResendNow k now) m = moved_to past opened (acted (Resent now) m)
   moved past opened (UpTo k n now) m = up past opened n now m m.wire

@@ -9,7 +9,9 @@ pub mod laws;
 mod octets;
 mod outcomes;
 mod playing;
+mod post;
 mod steps;
+mod taken;
 mod way;
 mod wire;
 

@@ -1,32 +1,48 @@
 //! Which outcomes of the two sides' calls end a schedule: failed allocations alone. What is refused does nothing.
 
-ghost use Rattle.std.specs.Prelude.{◌≡◌, IfErr, OnErr, OnOk, false, true};
+ghost use Rattle.std.specs.Prelude.{◌≡◌, IfErr, IfOk, OnErr, OnOk, false, true};
+ghost use Rattle.std.specs.Result.{is_ok, result_ok};
 ghost use Rattle.ft_orb.specs.Laws.{is_memory};
 ghost use Rattle.ft_orb.specs.Standing.{note_of, note_of_opening};
-ghost use Rattle.ft_ends.specs.Private.{IsRecallRefusal, IsRefusal};
+ghost use Rattle.ft_ends.specs.Private.{IsRecallRefusal, IsRedirectRefusal, IsRefusal};
 
-use ft_client::{CallError, RecallError};
+use ft_client::{CallError, RecallError, RedirectError};
 use ft_orb::{ConnectError, ServeError};
 use std::alloc::AllocError;
 
-/// A call.
-pub(crate) fn after_call(outcome: Result<i32, CallError>) -> Result<(), AllocError>
+/// A call: its number, if it was taken.
+pub(crate) fn after_call(outcome: Result<i32, CallError>) -> Result<Option<i32>, AllocError>
     ensures ok { OnOk result (IfErr outcome IsRefusal) }
+    ensures number { IfOk result (λ number. number ≡ result_ok outcome) }
     ensures err { OnErr result (outcome ≡ Err CallError.Memory) }
 {
     match outcome {
+        Ok(number) => Ok(Some(number)),
         Err(CallError::Memory) => Err(AllocError),
-        _ => Ok(()),
+        Err(_) => Ok(None),
     }
 }
 
-/// A call of before.
-pub(crate) fn after_recall(outcome: Result<(), RecallError>) -> Result<(), AllocError>
+/// A call of before: whether it was taken up again.
+pub(crate) fn after_recall(outcome: Result<(), RecallError>) -> Result<bool, AllocError>
     ensures ok { OnOk result (IfErr outcome IsRecallRefusal) }
+    ensures taken { IfOk result (λ taken. taken ≡ is_ok outcome) }
     ensures err { OnErr result (outcome ≡ Err RecallError.Memory) }
 {
     match outcome {
+        Ok(()) => Ok(true),
         Err(RecallError::Memory) => Err(AllocError),
+        Err(_) => Ok(false),
+    }
+}
+
+/// A call that is redirected.
+pub(crate) fn after_redirect(outcome: Result<(), RedirectError>) -> Result<(), AllocError>
+    ensures ok { OnOk result (IfErr outcome IsRedirectRefusal) }
+    ensures err { OnErr result (outcome ≡ Err RedirectError.Memory) }
+{
+    match outcome {
+        Err(RedirectError::Memory) => Err(AllocError),
         _ => Ok(()),
     }
 }

@@ -41,6 +41,17 @@ pub enum Step {
         client: u32,
         keeps: bool,
     },
+    /// It learns whether a forward leaves its calls pending from now on.
+    KeepForwards {
+        client: u32,
+        keeps: bool,
+    },
+    /// The call of a number, which is led elsewhere, is asked for under another object key from now on.
+    Redirect {
+        client: u32,
+        id: i32,
+        object_key: Vec<u8>,
+    },
     /// It connects.
     Connect {
         client: u32,
@@ -95,6 +106,8 @@ impl Step {
             | Step::Recall { client, .. }
             | Step::Skip { client, .. }
             | Step::Keep { client, .. }
+            | Step::KeepForwards { client, .. }
+            | Step::Redirect { client, .. }
             | Step::Connect { client, .. }
             | Step::Resend { client, .. }
             | Step::Up { client, .. }

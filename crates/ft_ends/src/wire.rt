@@ -1,12 +1,12 @@
 //! What is between a client and the server, and the steps that touch it.
 
-ghost use Rattle.std.specs.Prelude.{◌≡◌, ◌+◌, ◌<◌, ◌≤◌, ℕ, ℤ, List, [], ◌∷◌, Option, Some, None, OnErr, OnOk, false, is_some, length, suc, take, true};
+ghost use Rattle.std.specs.Prelude.{◌≡◌, ◌+◌, ◌<◌, ◌≤◌, ℕ, ℤ, List, [], ◌∷◌, Option, Some, None, IfOk, OnErr, OnOk, map, false, is_some, length, suc, take, true};
 ghost use Rattle.cdr_core.specs.Spelling.{IsClean};
 ghost use Rattle.cdr_core.specs.View.{values_of};
 ghost use Rattle.cdr_core.specs.Writing.{AreWritable};
 ghost use Rattle.ft_client.specs.declared.error.CallError.TheVariants.{Memory};
 ghost use Rattle.ft_client.specs.Calling.{IsCallError};
-ghost use Rattle.ft_client.specs.Clients.{Called, Client, Joined, Parted, Recalled, Resent, Resumed, after, says};
+ghost use Rattle.ft_client.specs.Clients.{Called, Client, Joined, Parted, Recalled, Resent, Resumed, after, made, says};
 ghost use Rattle.ft_client.specs.Standing.{FtStands, down};
 ghost use Rattle.ft_orb.specs.ExactlyOnce.{OneExpiration};
 ghost use Rattle.ft_orb.specs.History as history;
@@ -15,7 +15,7 @@ ghost use Rattle.ft_orb.specs.Outputs.{Made};
 ghost use Rattle.ft_orb.specs.Standing.{Stands};
 ghost use Rattle.ft_ends.specs.Laws.{sides_of};
 ghost use Rattle.ft_ends.specs.Playing.{call_as};
-ghost use Rattle.ft_ends.specs.Private.{Holds, IsUnused, IsWire, IsWireFor, tells};
+ghost use Rattle.ft_ends.specs.Private.{Holds, IsUnused, IsWire, IsWireFor, noted, numbered_call, tells};
 ghost use Rattle.ft_orb.specs.Tellings.{Telling};
 ghost use Rattle.ft_ends.specs.World as world;
 ghost use Rattle.ft_ends.specs.World.{Member, coming_down, extended, fed_with, going_up};
@@ -58,17 +58,18 @@ impl Wire {
     }
 }
 
-/// A client calls. A call that is refused does nothing, and is no error.
+/// A client calls: the number of its call. One that is refused does nothing, and is no error.
 pub(crate) fn called(
     client: &mut FtClient,
     wire: &mut Wire,
     now: u64,
     call: &Call,
-) -> Result<(), AllocError>
+) -> Result<Option<i32>, AllocError>
     requires clean { IsClean call.now.operation.items }
     requires writable { AreWritable (values_of call.now.arguments.items) }
     ensures ok { OnOk result ((tells : ℕ → List Telling) (c : Client) (o : Option world.Wire) → FtStands client.old c → is_some c.link ≡ is_some o → IsWireFor tells wire.old o
         → FtStands client.new (after (down c.limits) (Called now (call_as call.now)) c) × IsWireFor tells wire.new (extended (says (Called now (call_as call.now)) c) o)) }
+    ensures number { IfOk result (λ number. (c : Client) → FtStands client.old c → noted number (call_as call.now) ≡ map numbered_call (made (Called now (call_as call.now)) c)) }
     ensures err { OnErr result ((c : Client) → FtStands client.old c → IsCallError now (call_as call.now) c Memory) }
 {
     after_call(client.call(
@@ -81,20 +82,21 @@ pub(crate) fn called(
     ))
 }
 
-/// A client takes a call of before up again. One that is refused does nothing, and is no error.
+/// A client takes a call of before up again: its number. One that is refused does nothing, and is no error.
 pub(crate) fn recalled(
     client: &mut FtClient,
     wire: &mut Wire,
     number: u32,
     now: u64,
     call: &Call,
-) -> Result<(), AllocError>
+) -> Result<Option<i32>, AllocError>
     requires clean { IsClean call.now.operation.items }
     requires writable { AreWritable (values_of call.now.arguments.items) }
-    ensures { OnOk result ((tells : ℕ → List Telling) (c : Client) (o : Option world.Wire) → FtStands client.old c → is_some c.link ≡ is_some o → IsWireFor tells wire.old o
+    ensures ok { OnOk result ((tells : ℕ → List Telling) (c : Client) (o : Option world.Wire) → FtStands client.old c → is_some c.link ≡ is_some o → IsWireFor tells wire.old o
         → FtStands client.new (after (down c.limits) (Resumed now number (call_as call.now)) c) × IsWireFor tells wire.new (extended (says (Resumed now number (call_as call.now)) c) o)) }
+    ensures number { IfOk result (λ given. (c : Client) → FtStands client.old c → noted given (call_as call.now) ≡ map numbered_call (made (Resumed now number (call_as call.now)) c)) }
 {
-    after_recall(client.recall(
+    let outcome = client.recall(
         number,
         now,
         &call.object_key,
@@ -102,7 +104,12 @@ pub(crate) fn recalled(
         &call.arguments,
         call.expiration,
         &mut wire.up.octets,
-    ))
+    );
+    let is_taken = after_recall(outcome)?;
+    if !is_taken {
+        return Ok(None);
+    }
+    Ok(i32::try_from(number).ok())
 }
 
 /// A client cancels a call.

@@ -11,8 +11,11 @@
 //! - `up K COUNT NOW`, `down K COUNT`
 //! - `cancel K ID`, `tick K NOW`
 //! - `keep K 1`, `keep K 0`: whether TRANSIENT leaves calls pending
+//! - `forwards K 1`, `forwards K 0`: whether a forward does
+//! - `redirect K ID KEY`: a call that is led elsewhere is asked for under another object key
 //!
-//! There is one space between words, numbers are in decimal digits, and KEY and OPERATION are the octets of the word.
+//! The counter's key is `c`, and each call under the key `f` is forwarded. There is one space between words, numbers are
+//! in decimal digits, and KEY and OPERATION are the octets of the word.
 
 ghost use Rattle.std.specs.Prelude.{OnOk};
 ghost use Rattle.std.specs.List.{AllByRecursion};

@@ -3,6 +3,7 @@
 ghost use Rattle.std.specs.List.{AllByRecursion};
 ghost use Rattle.ft_ends.specs.Playing.{IsCallable};
 
+use crate::forwarding::Forwarding;
 use crate::schedule::Terms;
 use cdr_core::Order;
 use counter::Counter;
@@ -89,12 +90,13 @@ pub(crate) fn play(
         capacity: terms.capacity,
         share: terms.share,
     };
-    let mut server = Server::new(alloc, counter, terms.limits, retention, hasher);
+    let servant = Forwarding { counter };
+    let mut server = Server::new(alloc, servant, terms.limits, retention, hasher);
     let mut completions = Vec::new(alloc);
     let played = both_ends(alloc, &mut server, clients, steps, &mut completions);
     Ok(Played {
         completions,
         played,
-        total: server.servant().total(),
+        total: server.servant().counter.total(),
     })
 }

@@ -72,6 +72,20 @@ fn recall_in(alloc: Global, words: &[&str]) -> Result<Step, Stop>
     })
 }
 
+/// What is redirected, in the words `K ID KEY`.
+fn redirect_in(alloc: Global, words: &[&str]) -> Result<Step, Stop>
+    ensures { IfOk result IsCallable }
+{
+    let [client, id, key] = words else {
+        return Err(Stop::BadLine);
+    };
+    Ok(Step::Redirect {
+        client: ulong(client)?,
+        id: long(id)?,
+        object_key: Vec::from_slice(alloc, key.as_bytes())?,
+    })
+}
+
 /// What goes up, in the words `K COUNT NOW`.
 fn up_in(words: &[&str]) -> Result<Step, Stop>
     ensures { IfOk result IsCallable }
@@ -96,6 +110,10 @@ fn numbered_step(name: &str, client: u32, number: &str) -> Result<Step, Stop>
             number: ulong(number)?,
         }),
         "keep" => Ok(Step::Keep {
+            client,
+            keeps: ulong(number)? != 0,
+        }),
+        "forwards" => Ok(Step::KeepForwards {
             client,
             keeps: ulong(number)? != 0,
         }),
@@ -141,6 +159,7 @@ pub(crate) fn step_in(alloc: Global, name: &str, words: &[&str]) -> Result<Step,
     match (name, words) {
         ("call", _) => call_in(alloc, words),
         ("recall", _) => recall_in(alloc, words),
+        ("redirect", _) => redirect_in(alloc, words),
         ("up", _) => up_in(words),
         (_, [client]) => plain_step(name, ulong(client)?),
         (_, [client, number]) => numbered_step(name, ulong(client)?, number),

@@ -44,14 +44,14 @@ returns-clause-given g c made newcomers begins =
     let state = subst (λ s. IsTrue (g.S.Servant.meaning.is_state s)) (c.servant.ensures.lent ∙ begins.stands.table.state) c.known.ensures in
     let count : c.len.result ≡ length c.args.clients.now.items = let len = c.len.ensures in omega (arith, len) in
     c.run.ensures.given made newcomers
-    (set-is g.S.Servant.meaning made newcomers c.args.server.now c.args.clients.now.items c.deref_mut.result.now c.in-Ok.wires.items c.deref_mut-2.result.now c.len.result c.deref_mut.ensures.value c.deref_mut-2.ensures.value count state c.in-Ok.ensures begins)
+    (set-is g.S.Servant.meaning made newcomers c.args.server.now c.args.clients.now.items c.deref_mut.result.now c.in-Ok.posts.items c.deref_mut-2.result.now c.len.result c.deref_mut.ensures.value c.deref_mut-2.ensures.value count state c.in-Ok.ensures begins)
 
 pub returns-clause-server : goal.returns-clause-server
 returns-clause-server g c = on_ok_weaker c.run.result (λ stands made newcomers begins.
     let state = subst (λ s. IsTrue (g.S.Servant.meaning.is_state s)) (c.servant.ensures.lent ∙ begins.stands.table.state) c.known.ensures in
     let count : c.len.result ≡ length c.args.clients.now.items = let len = c.len.ensures in omega (arith, len) in
     stands made newcomers
-    (set-is g.S.Servant.meaning made newcomers c.args.server.now c.args.clients.now.items c.deref_mut.result.now c.in-Ok.wires.items c.deref_mut-2.result.now c.len.result c.deref_mut.ensures.value c.deref_mut-2.ensures.value count state c.in-Ok.ensures begins))
+    (set-is g.S.Servant.meaning made newcomers c.args.server.now c.args.clients.now.items c.deref_mut.result.now c.in-Ok.posts.items c.deref_mut-2.result.now c.len.result c.deref_mut.ensures.value c.deref_mut-2.ensures.value count state c.in-Ok.ensures begins))
     c.run.ensures.stands
 
 pub returns-clause-clients : goal.returns-clause-clients
@@ -62,7 +62,7 @@ returns-clause-clients g c = on_ok_weaker c.run.result (λ stands made newcomers
     let back = take_at c.run.new.clients (drop (length c.run.new.clients) c.args.clients.now.items) c.args.clients.now.len many in
     subst (λ cs. AreClientsOf (world (sides_of g.S.Servant.meaning made down) newcomers (map step_as c.args.steps.now)).members cs) (sym back)
     (stands made newcomers
-    (set-is g.S.Servant.meaning made newcomers c.args.server.now c.args.clients.now.items c.deref_mut.result.now c.in-Ok.wires.items c.deref_mut-2.result.now c.len.result c.deref_mut.ensures.value c.deref_mut-2.ensures.value count state c.in-Ok.ensures begins)))
+    (set-is g.S.Servant.meaning made newcomers c.args.server.now c.args.clients.now.items c.deref_mut.result.now c.in-Ok.posts.items c.deref_mut-2.result.now c.len.result c.deref_mut.ensures.value c.deref_mut-2.ensures.value count state c.in-Ok.ensures begins)))
     c.run.ensures.clients
 
 pub returns-clause-once : goal.returns-clause-once

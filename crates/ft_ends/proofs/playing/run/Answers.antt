@@ -44,9 +44,9 @@ loop-i-preserved g c = record {
       let is_world = world-is meaning made newcomers set.distinct of_clients faithful grow short set.clean front (first-fine i steps c.requires.fine) in
       let ready = ready-is meaning made newcomers set.distinct of_clients faithful grow short set.clean (world sides newcomers front) (step_as s) fine is_world in
       let next = ok-then c.step_among.result (sym c.is_err.ensures.value ∙ c.if-is_err.false) c.step_among.ensures.stepped made (map given_of c.args.out.now.items) (world sides newcomers front) h ready in
-      subst (λ ss. Runs meaning made c.step_among.new.server c.step_among.new.opened c.step_among.new.clients c.step_among.new.wires (map given_of c.args.out.now.items) c.step_among.new.out.items (world sides newcomers ss))
+      subst (λ ss. Runs meaning made c.step_among.new.server c.step_among.new.opened c.step_among.new.clients c.step_among.new.posts (map given_of c.args.out.now.items) c.step_among.new.out.items (world sides newcomers ss))
       (sym (steps-more steps i s c.loop-i-test.true c.index-steps-i.is))
-      (subst (λ w. Runs meaning made c.step_among.new.server c.step_among.new.opened c.step_among.new.clients c.step_among.new.wires (map given_of c.args.out.now.items) c.step_among.new.out.items w)
+      (subst (λ w. Runs meaning made c.step_among.new.server c.step_among.new.opened c.step_among.new.clients c.step_among.new.posts (map given_of c.args.out.now.items) c.step_among.new.out.items w)
       (sym (world-push sides newcomers front (step_as s))) next);
 }
 
@@ -68,7 +68,7 @@ returns-clause-clients g c made newcomers set =
     let w = world (sides_of meaning made down) newcomers (map step_as (take c.loop-i.i c.args.steps.now)) in
     let h = c.loop-i.invariant.runs made newcomers set in
     subst (λ (ss : List CodeStep). AreClientsOf (world (sides_of meaning made down) newcomers (map step_as ss)).members c.loop-i.clients) (take_all c.loop-i.i c.args.steps.now c.loop-i-test.false)
-    (held-stand (tells meaning made w.past) w.members c.loop-i.clients c.loop-i.wires h.held)
+    (held-stand (tells meaning made w.past) w.members c.loop-i.clients c.loop-i.posts h.held)
 
 pub returns-then-is_err-clause-given : goal.returns-then-is_err-clause-given
 returns-then-is_err-clause-given g c made newcomers set =

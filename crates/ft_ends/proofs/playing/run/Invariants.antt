@@ -11,6 +11,6 @@ use Rattle.ft_ends.proofs.playing.run.Given as goal
 abbrev pub invariant-loop-i : goal.invariant-loop-i
 invariant-loop-i g l = record {
   few : l.opened ≤ l.i;
-  runs : (made : Made g.row.S.Denot) (newcomers : List Newcomer) → AreSet g.S.Servant.meaning made newcomers l.fn.server l.fn.clients l.fn.wires
-      → Runs g.S.Servant.meaning made l.server l.opened l.clients l.wires (map given_of l.fn.out.items) l.out.items (world (sides_of g.S.Servant.meaning made down) newcomers (map step_as (take l.i l.steps)));
+  runs : (made : Made g.row.S.Denot) (newcomers : List Newcomer) → AreSet g.S.Servant.meaning made newcomers l.fn.server l.fn.clients l.fn.posts
+      → Runs g.S.Servant.meaning made l.server l.opened l.clients l.posts (map given_of l.fn.out.items) l.out.items (world (sides_of g.S.Servant.meaning made down) newcomers (map step_as (take l.i l.steps)));
 }
