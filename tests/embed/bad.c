@@ -498,7 +498,7 @@ static void tickets_are_of_one_request(void) {
     other_tickets_are_refused(&server, late);
     other_tickets_are_refused(&server, 0);
     other_tickets_are_refused(&server, ticket + 1);
-    asking_servers_refuse(&server);
+    WANT(lr_server_connect(&server, 99), LR_E_ASKING); /* (it waits still) */
     if (connection < 3) {
       WANT(lr_server_give_up(&server, ticket), LR_OK);
       WANT(lr_server_give_up(&server, ticket), LR_E_IDLE);
