@@ -70,7 +70,7 @@ const char *lr_strerror(int64_t error) {
       [-LR_E_VALUE] = "the octets are no value of the type",
       [-LR_E_TYPES] = "the codes spell no valid types",
       [-LR_E_TEXT] = "a NUL where none may be, or a name of a length that is not allowed",
-      [-LR_E_TAKEN] = "there is an object or operation of that name",
+      [-LR_E_TAKEN] = "there is an object or operation of that name, or a call of that number or a greater one",
       [-LR_E_OBJECT] = "there is no object of that key",
       [-LR_E_RAW] = "every operation of the object is raw",
       [-LR_E_REFERENCE] = "no stringified reference",
@@ -81,6 +81,7 @@ const char *lr_strerror(int64_t error) {
       [-LR_E_LONG] = "the message would be longer than its size can say",
       [-LR_E_LOST] = "an allocation failed, and the connection is gone",
       [-LR_E_PLACE] = "the body would stand at a place that is not divisible by 8",
+      [-LR_E_FORWARD] = "no pending call of that number is led elsewhere",
   };
   if (error >= 0) return texts[0];
   if (error < -(int64_t)(sizeof texts / sizeof *texts - 1)) return "an unknown error";

@@ -93,6 +93,14 @@ static int64_t call_add(lr_client *client) {
   return lr_client_call(client, NOW, LATER, "c", 1, "add", 3, one_long, 1, LR_BIG, "\0\0\0\5", 4);
 }
 
+static int64_t recall_add(lr_client *client, int64_t call) {
+  return lr_client_recall(client, call, NOW, LATER, "c", 1, "add", 3, one_long, 1, LR_BIG, "\0\0\0\5", 4);
+}
+
+static int64_t redirect_add(lr_client *client, int64_t call) {
+  return lr_client_redirect(client, call, "d", 1, "add", 3, one_long, 1, LR_BIG, "\0\0\0\5", 4);
+}
+
 /* A client that has made `calls` calls makes one more, which is answered. */
 static void client_works(lr_client *client, int64_t calls) {
   lr_completion completion;
@@ -171,6 +179,12 @@ static lr_catalogue given;
   CALL(client_lost, CLIENT, lr_client_lost(slot))                                                       \
   CALL(client_is_connected, CLIENT, lr_client_is_connected(slot))                                       \
   CALL(client_call, CLIENT, call_add(slot))                                                             \
+  CALL(client_set, CLIENT, lr_client_set(slot, LR_CLIENT_KEEP_FORWARD, 1))                              \
+  CALL(client_recall, CLIENT, recall_add(slot, 9))                                                      \
+  CALL(client_skip_to, CLIENT, lr_client_skip_to(slot, 9))                                              \
+  CALL(client_resend, CLIENT, lr_client_resend(slot, NOW))                                              \
+  CALL(client_forwarded, CLIENT, lr_client_forwarded(slot, &got_completion, room, sizeof room))         \
+  CALL(client_redirect, CLIENT, redirect_add(slot, 1))                                                  \
   CALL(client_cancel, CLIENT, lr_client_cancel(slot, 1))                                                \
   CALL(client_tick, CLIENT, lr_client_tick(slot, NOW))                                                  \
   CALL(client_feed, CLIENT, lr_client_feed(slot, "G", 1))                                               \

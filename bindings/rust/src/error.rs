@@ -68,7 +68,7 @@ errors! {
     Types = -13,
     /// A NUL where none may be, or a name of a length that is not allowed.
     Text = -14,
-    /// There is an object or operation of that name.
+    /// There is an object or operation of that name, or a call of that number or a greater one.
     Taken = -15,
     /// There is no object of that key.
     Object = -16,
@@ -90,6 +90,8 @@ errors! {
     Lost = -24,
     /// The body would stand at a place that is not divisible by 8.
     Place = -25,
+    /// No pending call of that number is led elsewhere.
+    Forward = -27,
 }
 
 impl fmt::Display for Error {
