@@ -1197,6 +1197,7 @@ class Ends(Case):
                         seen.append((message.key, message.ft.retention_id))
                         status, body = await answers.get()
                         writer.write(lr.write_reply(message.request_id, body, status=status))
+                writer.close()
 
             async def until(condition):
                 while not condition():
