@@ -78,7 +78,7 @@ void rattle_dealloc(void *at) { release_octets(at); }
   E(VALUE, "the octets are no value of the type")                                                              \
   E(TYPES, "the codes spell no valid types")                                                                   \
   E(TEXT, "a NUL where none may be, or a name of a length that is not allowed")                                \
-  E(TAKEN, "there is an object or operation of that name")                                                     \
+  E(TAKEN, "there is an object or operation of that name, or a call of that number or a greater one")          \
   E(OBJECT, "there is no object of that key")                                                                  \
   E(RAW, "every operation of the object is raw")                                                               \
   E(REFERENCE, "no stringified reference")                                                                     \
@@ -89,7 +89,8 @@ void rattle_dealloc(void *at) { release_octets(at); }
   E(LONG, "the message would be longer than its size can say")                                                 \
   E(LOST, "an allocation failed, and the connection is gone")                                                  \
   E(PLACE, "the body would stand at a place that is not divisible by 8")                                       \
-  E(TICKET, "no request of that ticket waits")
+  E(TICKET, "no request of that ticket waits")                                                                 \
+  E(FORWARD, "no pending call of that number is led elsewhere")
 
 struct error {
   const char *name, *text;

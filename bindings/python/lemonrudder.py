@@ -220,6 +220,7 @@ class Error(enum.IntEnum):
     LOST = -24
     PLACE = -25
     TICKET = -26
+    FORWARD = -27
 
 
 class _Part(enum.IntEnum):
@@ -243,6 +244,11 @@ class _Ended(enum.IntEnum):
     NEEDS_ADDRESSING = 4
     EXPIRED = 5
     CANCELLED = 6
+
+
+class _Setting(enum.IntEnum):
+    KEEP_TRANSIENT = 1
+    KEEP_FORWARD = 2
 
 
 class _Code(enum.IntEnum):
@@ -367,6 +373,12 @@ _FUNCTIONS: Dict[str, Tuple[Any, ...]] = {
     "lr_client_lost": (_SLOT,),
     "lr_client_is_connected": (_SLOT,),
     "lr_client_call": (_SLOT, _U64, _U64, *_LENT, *_LENT, *_LENT, _U32, *_LENT),
+    "lr_client_set": (_SLOT, _U32, _U64),
+    "lr_client_recall": (_SLOT, _I64, _U64, _U64, *_LENT, *_LENT, *_LENT, _U32, *_LENT),
+    "lr_client_skip_to": (_SLOT, _I64),
+    "lr_client_resend": (_SLOT, _U64),
+    "lr_client_forwarded": (_SLOT, ctypes.POINTER(_Completion), *_LENT),
+    "lr_client_redirect": (_SLOT, _I64, *_LENT, *_LENT, *_LENT, _U32, *_LENT),
     "lr_client_cancel": (_SLOT, _I64),
     "lr_client_tick": (_SLOT, _U64),
     "lr_client_feed": (_SLOT, *_LENT),
@@ -1945,8 +1957,9 @@ class Client:
     that a server that keeps outcomes performs it once. A client is for one event loop.
 
     host and port: of the server. client_id: 1 to 256 octets without a NUL, which no other client has or had: servers
-    know a call by it and by a number that begins at 1. Without one it is random. version: 0 to 2. limit and partials:
-    as of Assembler. delays: the seconds to wait before a new connection, the least and the most.
+    know a call by it and by a number that begins at 1. Without one it is random; with one of before, `recall` and
+    `skip_to` say which numbers were used. version: 0 to 2. limit and partials: as of Assembler. delays: the seconds to
+    wait before a new connection, the least and the most.
     Raises LemonrudderError (RANGE, TEXT); ValueError: no port.
     """
 
@@ -1994,6 +2007,70 @@ class Client:
         VALUE: the reply does not hold the results); ValueError or TypeError (the values are not of their types). A call
         that is cancelled is cancelled at the server too, which may have performed it.
         """
+        return await self._made(None, key, operation, arguments, values, results, raises, timeout, expiration)
+
+    async def recall(self, number: int, key: Text, operation: Text, arguments: str = "", values: Sequence[Any] = (),
+                     results: str = "", raises: Optional[Mapping[str, str]] = None, *, expiration: int) -> Any:
+        """Takes a call of before up again under its number: as call, in a client with the id of before. A server that
+        performed it gives its first outcome. expiration: the one that it had.
+
+        Raises what call does, and LemonrudderError (TAKEN: the number is not greater than each that this client gave or
+        took up; RANGE: it is below 0, or over 2147483647).
+        """
+        return await self._made(number, key, operation, arguments, values, results, raises, 0.0, expiration)
+
+    def skip_to(self, number: int) -> None:
+        """Numbers up to this one were used before: the next call gets a greater one.
+
+        Raises LemonrudderError (RANGE: it is below 0, or over 2147483647)."""
+        _call(_library.lr_client_skip_to, self._slot, number)
+
+    def keep(self, *, transient: bool = False, forward: bool = False) -> None:
+        """Whether TRANSIENT, unless the operation was completed, and a forward leave their calls pending from now on,
+        until `resend` and `redirect`, in place of raising."""
+        _call(_library.lr_client_set, self._slot, _Setting.KEEP_TRANSIENT, transient)
+        _call(_library.lr_client_set, self._slot, _Setting.KEEP_FORWARD, forward)
+
+    def resend(self) -> None:
+        """Sends what is pending, was not sent on this connection and is not led elsewhere."""
+        if self._transport is not None:
+            _call(_library.lr_client_resend, self._slot, now())
+            self._flush()
+
+    def forwarded(self) -> Optional[Tuple[int, Ior]]:
+        """The number of the first pending call that is led elsewhere, and the reference to which; None where none is.
+        Raises LemonrudderError (SHORT, VALUE: the forward holds no reference)."""
+        completion = _Completion()
+        room, size = self._room, len(self._room)
+        if not _call(_library.lr_client_forwarded, self._slot, completion, room, size):
+            return None
+        if completion.body_size > size:
+            room, size = ctypes.create_string_buffer(completion.body_size), completion.body_size
+            _call(_library.lr_client_forwarded, self._slot, completion, room, size)
+        octets = ctypes.string_at(room, completion.body_size)
+        body = Body(octets, _named(Order, completion.body_order), completion.body_at)
+        return completion.call, Ior.read(body.reader())
+
+    def redirect(self, number: int, key: Text, operation: Text, arguments: str = "",
+                 values: Sequence[Any] = ()) -> None:
+        """Asks by another key for a call that is led elsewhere, with its number: `resend` sends it where the connection
+        leads there, or else `reconnect`. What it asks is given again; for anything else nothing is promised of it.
+        Raises LemonrudderError (FORWARD: it is not led elsewhere; RANGE, TEXT, LONG); ValueError or TypeError."""
+        octets, codes = pack(arguments, *values), type_codes(arguments)
+        _call(_library.lr_client_redirect, self._slot, number, *_lent(key), *_lent(operation), *_lent(codes), BIG,
+              *_lent(octets))
+
+    def reconnect(self, host: Optional[str] = None, port: Optional[int] = None) -> None:
+        """Leaves the connection, if there is one; what is pending is sent on the next, which leads to this host and
+        port where they are given."""
+        self.host, self.port = host or self.host, port or self.port
+        if self._transport is not None:
+            self._transport.abort()
+
+    async def _made(self, number: Optional[int], key: Text, operation: Text, arguments: str, values: Sequence[Any],
+                    results: str, raises: Optional[Mapping[str, str]], timeout: float,
+                    expiration: Optional[int]) -> Any:
+        """Makes a call, under a number of before if there is one, and returns its results."""
         raises = raises or {}
         octets, codes = pack(arguments, *values), type_codes(arguments)
         for format in (results, *raises.values()):
@@ -2001,7 +2078,8 @@ class Client:
         if expiration is None:
             # (thousands of years are for ever)
             expiration = now() + round(min(max(timeout, 0.0), 1e11) * 10**7)
-        number = await self._begin(expiration, (*_lent(key), *_lent(operation), *_lent(codes), BIG, *_lent(octets)))
+        words = (*_lent(key), *_lent(operation), *_lent(codes), BIG, *_lent(octets))
+        number = await self._begin(number, expiration, words)
         loop = asyncio.get_running_loop()
         future = self._futures[number] = loop.create_future()
         self._flush()
@@ -2037,11 +2115,14 @@ class Client:
     async def __aexit__(self, *error: Any) -> None:
         await self.close()
 
-    async def _begin(self, expiration: int, words: Tuple[Any, ...]) -> int:
+    async def _begin(self, number: Optional[int], expiration: int, words: Tuple[Any, ...]) -> int:
         """Takes a call, and returns its number. While as many are pending as may be, it waits for one to end."""
         while not self.is_closed:
             try:
-                return _call(_library.lr_client_call, self._slot, now(), expiration, *words)
+                if number is None:
+                    return _call(_library.lr_client_call, self._slot, now(), expiration, *words)
+                _call(_library.lr_client_recall, self._slot, number, now(), expiration, *words)
+                return number
             except LemonrudderError as error:
                 if error.number == Error.EXPIRED:
                     raise Expired("the expiration is past") from None

@@ -89,7 +89,7 @@ enum {
   LR_E_VALUE = -12,     /* the octets are no value of the type */
   LR_E_TYPES = -13,     /* the codes spell no valid types */
   LR_E_TEXT = -14,      /* a NUL where none may be, or a name of a length that is not allowed */
-  LR_E_TAKEN = -15,     /* there is an object or operation of that name */
+  LR_E_TAKEN = -15,     /* there is an object or operation of that name, or a call of that number or a greater one */
   LR_E_OBJECT = -16,    /* there is no object of that key */
   LR_E_RAW = -17,       /* every operation of the object is raw */
   LR_E_REFERENCE = -18, /* no stringified reference */
@@ -100,7 +100,8 @@ enum {
   LR_E_LONG = -23,      /* the message would be longer than its size can say */
   LR_E_LOST = -24,      /* an allocation failed, and the connection is gone */
   LR_E_PLACE = -25,     /* the body would stand at a place that is not divisible by 8 */
-  LR_E_TICKET = -26     /* no request of that ticket waits */
+  LR_E_TICKET = -26,    /* no request of that ticket waits */
+  LR_E_FORWARD = -27    /* no pending call of that number is led elsewhere */
 };
 
 /* The text of an error, with a NUL at its end; that of LR_OK, where the number is 0 or more. */
@@ -359,8 +360,9 @@ LR_API int64_t lr_server_output(lr_server *server, void *room, size_t size);
  */
 
 /* Opens a client that is not connected. Its id, 1 to 256 octets without a NUL, names it to each server. It numbers its
- * calls from 1, so an id is used once: a client that is opened with one that was used before, by a program that was
- * started again say, is given the outcomes of calls of before. Limits as of lr_server_open.
+ * calls from 1: a client that is opened with an id that was used before, by a program that was started again say, is
+ * given the outcomes of calls of before, unless lr_client_recall and lr_client_skip_to say which numbers were used.
+ * Limits as of lr_server_open.
  * LR_E_OPEN, LR_E_RANGE, LR_E_TEXT, LR_E_MEMORY. */
 LR_API int64_t lr_client_open(lr_client *client, const void *id, size_t id_size, uint32_t version,
                               uint32_t message_limit, uint32_t partials);
@@ -375,12 +377,38 @@ LR_API int64_t lr_client_lost(lr_client *client);
 /* 1 where it is connected, else 0. LR_E_EMPTY. */
 LR_API int64_t lr_client_is_connected(lr_client *client);
 
+/* What lr_client_set says of the replies that come from then on. */
+enum {
+  LR_CLIENT_KEEP_TRANSIENT = 1, /* TRANSIENT leaves its call pending, unless the operation was completed */
+  LR_CLIENT_KEEP_FORWARD = 2    /* a forward leaves its call pending: lr_client_forwarded */
+};
+
+/* 1: such a reply leaves its call pending, until it expires or is cancelled; 0, as in a new client: it ends it.
+ * LR_E_EMPTY, LR_E_RANGE. */
+LR_API int64_t lr_client_set(lr_client *client, uint32_t what, uint64_t value);
+
 /* Calls an operation of an object, and answers the number of the call: 1, 2 and so on. `types` are those of the
  * arguments, which are octets of an order, aligned from place 0, and none left over. LR_E_EMPTY, LR_E_RANGE,
  * LR_E_TYPES, LR_E_TEXT, LR_E_SHORT, LR_E_VALUE, LR_E_EXPIRED, LR_E_CALLS, LR_E_LONG, LR_E_MEMORY. */
 LR_API int64_t lr_client_call(lr_client *client, uint64_t now, uint64_t expiration, const void *key, size_t key_size,
                               const void *operation, size_t operation_size, const uint8_t *types, size_t types_size,
                               uint32_t order, const void *arguments, size_t arguments_size);
+
+/* Takes a call of before up again under its number, in a client that was opened anew with the id of before: a server
+ * that performed it gives its first outcome. Numbers go up, and the expiration is the one of before. The next call gets
+ * the number after this one. Errors as of lr_client_call; LR_E_RANGE also where the number is below 0 or over
+ * 2147483647; and LR_E_TAKEN: it is not greater than each that this client gave or took up. */
+LR_API int64_t lr_client_recall(lr_client *client, int64_t call, uint64_t now, uint64_t expiration, const void *key,
+                                size_t key_size, const void *operation, size_t operation_size, const uint8_t *types,
+                                size_t types_size, uint32_t order, const void *arguments, size_t arguments_size);
+
+/* Numbers up to this one were used before: the next call gets a greater one. Where this client has given or taken up
+ * it or a greater one, nothing changes. LR_E_EMPTY, LR_E_RANGE (it is below 0, or over 2147483647). */
+LR_API int64_t lr_client_skip_to(lr_client *client, int64_t call);
+
+/* What is pending, was not sent on this connection, is not led elsewhere and not past its expiration is due: what
+ * TRANSIENT left pending, and what was redirected. LR_E_EMPTY, LR_E_LOST. */
+LR_API int64_t lr_client_resend(lr_client *client, uint64_t now);
 
 /* Cancels a call: 1, and it completes as cancelled, or 0 where it is not pending. LR_E_EMPTY, LR_E_RANGE (no number
  * of 32 bits with a sign), LR_E_MEMORY. */
@@ -420,6 +448,19 @@ LR_API int64_t lr_client_completed(lr_client *client, lr_completion *completion)
 /* Copies the body of the completion taken last, as much of it as the room has octets, and answers its size. LR_E_EMPTY,
  * LR_E_NONE. */
 LR_API int64_t lr_client_body(lr_client *client, void *room, size_t size);
+
+/* The first pending call, by its number, that is led elsewhere: 1, or 0 where none is, and `completion` is as it was.
+ * It is said as one that ended by LR_ENDED_FORWARDED, and its body, the reference, is copied, as much of it as the room
+ * has octets; it is not sent again until lr_client_redirect. LR_E_EMPTY. */
+LR_API int64_t lr_client_forwarded(lr_client *client, lr_completion *completion, void *room, size_t size);
+
+/* Asks for a call that is led elsewhere by another key, with its number and its expiration: lr_client_resend sends it,
+ * or the next lr_client_connected. What is pending is sent on one connection: that it leads there is up to you. The
+ * operation and the arguments are those of the call; for others nothing is promised of it. LR_E_FORWARD (it is not led
+ * elsewhere), LR_E_EMPTY, LR_E_RANGE, LR_E_TYPES, LR_E_TEXT, LR_E_SHORT, LR_E_VALUE, LR_E_LONG, LR_E_MEMORY. */
+LR_API int64_t lr_client_redirect(lr_client *client, int64_t call, const void *key, size_t key_size,
+                                  const void *operation, size_t operation_size, const uint8_t *types, size_t types_size,
+                                  uint32_t order, const void *arguments, size_t arguments_size);
 
 /* Moves octets that are due on the connection into the room, as many as it has, and answers how many. LR_E_EMPTY. */
 LR_API int64_t lr_client_output(lr_client *client, void *room, size_t size);

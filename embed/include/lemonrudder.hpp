@@ -706,6 +706,11 @@ class Client : public Slot<lr_client> {
   Done connected(std::uint64_t now) noexcept { return detail::done(lr_client_connected(slot(), now)); }
   Done lost() noexcept { return detail::done(lr_client_lost(slot())); }
   bool is_connected() noexcept { return lr_client_is_connected(slot()) == 1; }
+  /* Whether TRANSIENT leaves calls pending from now on, or a forward. */
+  Done keep_transient(bool keeps) noexcept {
+    return detail::done(lr_client_set(slot(), LR_CLIENT_KEEP_TRANSIENT, keeps));
+  }
+  Done keep_forward(bool keeps) noexcept { return detail::done(lr_client_set(slot(), LR_CLIENT_KEEP_FORWARD, keeps)); }
 
   /* Calls an operation, and answers the number of the call. */
   Result<std::int64_t> call(std::uint64_t now, const Call& call) noexcept {
@@ -714,6 +719,32 @@ class Client : public Slot<lr_client> {
                                          call.types.size(), static_cast<std::uint32_t>(call.order),
                                          call.arguments.data(), call.arguments.size()));
   }
+  /* Takes a call of before up again, under its number. */
+  Done recall(std::int64_t number, std::uint64_t now, const Call& call) noexcept {
+    return detail::done(lr_client_recall(slot(), number, now, call.expiration, call.key.data(), call.key.size(),
+                                         call.operation.data(), call.operation.size(), call.types.data(),
+                                         call.types.size(), static_cast<std::uint32_t>(call.order),
+                                         call.arguments.data(), call.arguments.size()));
+  }
+  /* Numbers up to this one were used before. */
+  Done skip_to(std::int64_t number) noexcept { return detail::done(lr_client_skip_to(slot(), number)); }
+  /* Sends what is pending and was not sent on this connection. */
+  Done resend(std::uint64_t now) noexcept { return detail::done(lr_client_resend(slot(), now)); }
+
+  /* The first call that is led elsewhere, if there is one, and as much of the reference to which as the room has. */
+  Result<std::optional<lr_completion>> forwarded(Room room) noexcept {
+    lr_completion completion{};
+    const std::int64_t answer = lr_client_forwarded(slot(), &completion, room.data(), room.size());
+    return detail::found(answer, completion);
+  }
+  /* Asks for it by the key of a call that asks the same, whose expiration counts for nothing here. */
+  Done redirect(std::int64_t number, const Call& call) noexcept {
+    return detail::done(lr_client_redirect(slot(), number, call.key.data(), call.key.size(), call.operation.data(),
+                                           call.operation.size(), call.types.data(), call.types.size(),
+                                           static_cast<std::uint32_t>(call.order), call.arguments.data(),
+                                           call.arguments.size()));
+  }
+
   /* Cancels a call, and answers whether it was pending. */
   Result<bool> cancel(std::int64_t call) noexcept { return detail::truth(lr_client_cancel(slot(), call)); }
   Done tick(std::uint64_t now) noexcept { return detail::done(lr_client_tick(slot(), now)); }

@@ -98,6 +98,14 @@ static int64_t call_add(lr_client *client) {
   return lr_client_call(client, NOW, LATER, "c", 1, "add", 3, one_long, 1, LR_BIG, "\0\0\0\5", 4);
 }
 
+static int64_t recall_add(lr_client *client, int64_t call) {
+  return lr_client_recall(client, call, NOW, LATER, "c", 1, "add", 3, one_long, 1, LR_BIG, "\0\0\0\5", 4);
+}
+
+static int64_t redirect_add(lr_client *client, int64_t call) {
+  return lr_client_redirect(client, call, "d", 1, "add", 3, one_long, 1, LR_BIG, "\0\0\0\5", 4);
+}
+
 /* A client that has made `calls` calls makes one more, which is answered. */
 static void client_works(lr_client *client, int64_t calls) {
   lr_completion completion;
@@ -178,6 +186,12 @@ static lr_catalogue given;
   CALL(client_lost, CLIENT, lr_client_lost(slot))                                                       \
   CALL(client_is_connected, CLIENT, lr_client_is_connected(slot))                                       \
   CALL(client_call, CLIENT, call_add(slot))                                                             \
+  CALL(client_set, CLIENT, lr_client_set(slot, LR_CLIENT_KEEP_FORWARD, 1))                              \
+  CALL(client_recall, CLIENT, recall_add(slot, 9))                                                      \
+  CALL(client_skip_to, CLIENT, lr_client_skip_to(slot, 9))                                              \
+  CALL(client_resend, CLIENT, lr_client_resend(slot, NOW))                                              \
+  CALL(client_forwarded, CLIENT, lr_client_forwarded(slot, &got_completion, room, sizeof room))         \
+  CALL(client_redirect, CLIENT, redirect_add(slot, 1))                                                  \
   CALL(client_cancel, CLIENT, lr_client_cancel(slot, 1))                                                \
   CALL(client_tick, CLIENT, lr_client_tick(slot, NOW))                                                  \
   CALL(client_feed, CLIENT, lr_client_feed(slot, "G", 1))                                               \
@@ -466,8 +480,8 @@ static void asking_servers_refuse(lr_server *server) {
   WANT(lr_server_identify(server, ticket), 0);
 }
 
-/* What each call answers that takes a ticket, where that of the request that waits is another one. A number that is none
- * comes first, and what comes of an outcome last. */
+/* What each call answers that takes a ticket, where that of the request that waits is another one. A number that is
+ * none comes first, and what comes of an outcome last. */
 static void other_tickets_are_refused(lr_server *server, uint64_t other) {
   WANT(lr_server_answer(server, other, 2, "\0\0\0\1", 4), LR_E_RANGE);
   WANT(lr_server_answer(server, other, LR_BIG, "\0\0\0\1", 4), LR_E_TICKET);

@@ -190,6 +190,28 @@ void a_call_acts_once() {
   CHECK(is_cancelled.ok() && !*is_cancelled);
 }
 
+/* A call of before is forwarded, and asked for by another key. */
+void a_call_goes_on() {
+  auto client = lr::Client::open("A", 2, limits);
+  if (!client) return CHECK(false);
+  const lr::Call call{"c", "add", later, one_long, lr::Octets("\0\0\0\5", 4)};
+  std::array<std::uint8_t, 9> room{};
+  CHECK(client->keep_transient(true) && client->keep_forward(true));
+  CHECK(client->skip_to(4) && client->recall(5, now, call));
+  CHECK(client->recall(5, now, call).error() == LR_E_TAKEN);
+  CHECK(client->redirect(5, call).error() == LR_E_FORWARD);
+  CHECK(client->connected(now) && !due_of(*client).empty());
+  const auto none = client->forwarded(room);
+  CHECK(none && !*none);
+  std::array<std::uint8_t, 64> reply{};
+  const auto size = lr::write_reply(reply, {2, lr::Order::big, 1}, LR_LOCATION_FORWARD, "reference");
+  CHECK(size && client->feed(lr::Octets(reply.data(), *size)));
+  const auto led = client->forwarded(room);
+  CHECK(led && *led && (*led)->call == 5 && (*led)->body_size == 9 && room[8] == 'e');
+  CHECK(client->redirect(5, call) && due_of(*client).empty());
+  CHECK(client->resend(now) && !due_of(*client).empty());
+}
+
 /* How often the library took memory. */
 long allocations = 0;
 
@@ -555,6 +577,7 @@ int main() {
   CHECK(lr_set_heap(allocate, reallocate, std::free) == LR_OK);
   objects_move();
   a_call_acts_once();
+  a_call_goes_on();
   a_body_is_made_once();
   requests_are_answered();
   messages_are_read();

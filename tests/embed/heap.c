@@ -381,6 +381,48 @@ static void calls(void) {
   lr_close(&client);
 }
 
+/* The request id of the Request that a client sent, whose id is the only one below 65536. */
+static uint32_t sent_id(void) {
+  int64_t size = lr_client_output(&client, room, sizeof room);
+  return CHECK(size > 16) ? (uint32_t)room[14] << 8 | room[15] : 0;
+}
+
+/* A call of before is forwarded, and asked for by another key. */
+static void goes_on(void) {
+  lr_completion led;
+  struct octets reply;
+  client = (lr_client)LR_INIT;
+  memset(completed, 0, sizeof completed);
+  AGAIN(lr_client_open(&client, "A", 1, 2, LIMIT, PARTIALS), LR_OK);
+  WANT(lr_client_set(&client, LR_CLIENT_KEEP_FORWARD, 1), LR_OK);
+  WANT(lr_client_skip_to(&client, 2), LR_OK);
+  AGAIN(lr_client_recall(&client, 3, NOW, LATER, "c", 1, "add", 3, one_long, 1, LR_BIG, "\0\0\0\5", 4), LR_OK);
+  connect_client();
+  for (int tries = 0; lr_client_forwarded(&client, &led, room, sizeof room) == 0 && tries < 2; tries++) {
+    begin_reply(&reply, 2, LR_BIG, sent_id(), LR_LOCATION_FORWARD);
+    put_octets(&reply, "reference", 9);
+    end_message(&reply);
+    if (lr_client_feed(&client, reply.all, reply.size) != LR_E_LOST) continue;
+    CHECK(tell());
+    connect_client();
+  }
+  WANT(lr_client_forwarded(&client, &led, room, sizeof room), 1);
+  CHECK(led.call == 3 && led.body_size == 9 && memcmp(room, "reference", 9) == 0);
+  AGAIN(lr_client_redirect(&client, 3, "d", 1, "add", 3, one_long, 1, LR_BIG, "\0\0\0\5", 4), LR_OK);
+  if (lr_client_resend(&client, NOW) == LR_E_LOST) {
+    CHECK(tell());
+    WANT(lr_client_is_connected(&client), 0);
+    connect_client();
+  }
+  if (!reply_to_all(room, (size_t)lr_client_output(&client, room, sizeof room))) {
+    connect_client();
+    CHECK(reply_to_all(room, (size_t)lr_client_output(&client, room, sizeof room)));
+  }
+  take_completions();
+  WANT(completed[3], 1);
+  lr_close(&client);
+}
+
 /* ---- a stream ---- */
 
 /* Feeds a request in two frames, and what it is; false where there was no memory, and the stream is at its end. */
@@ -477,6 +519,7 @@ static const struct {
   void (*script)(void);
 } scripts[] = {{"serves", serves},
                {"calls", calls},
+               {"goes_on", goes_on},
                {"reads_a_stream", reads_a_stream},
                {"refers", refers},
                {"writes_messages", writes_messages},

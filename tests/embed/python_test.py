@@ -1209,6 +1209,80 @@ class Ends(Case):
         with self.assertLogs("lemonrudder"):
             self.run_async(main())
 
+    def test_a_call_goes_on(self):
+        """TRANSIENT and a forward leave a call pending: it is sent again, and asked for by another key."""
+        there = lr.Ior.iiop("IDL:K:1.0", "elsewhere", 7, "other")
+        forward = lr.pack("s[(Lo)]", there.type_id, [(profile.tag, profile.data) for profile in there.profiles])
+        transient = lr.pack("sLL", "IDL:omg.org/CORBA/TRANSIENT:1.0", 0, 1)
+
+        async def main():
+            seen, answers = [], asyncio.Queue()
+
+            async def serve(reader, writer):
+                assembler = lr.Assembler()
+                while octets := await reader.read(4096):
+                    for message in assembler.feed(octets):
+                        seen.append((message.key, message.ft.retention_id))
+                        status, body = await answers.get()
+                        writer.write(lr.write_reply(message.request_id, body, status=status))
+                writer.close()
+
+            async def until(condition):
+                while not condition():
+                    await asyncio.sleep(0.005)
+
+            listener = await asyncio.start_server(serve, "127.0.0.1", 0)
+            async with lr.Client("127.0.0.1", listener.sockets[0].getsockname()[1], "A") as client:
+                client.keep(transient=True, forward=True)
+                client.skip_to(4)
+                client.resend()
+                call = asyncio.ensure_future(client.call("k", "op", "l", [5], "l"))
+                answers.put_nowait((lr.ReplyStatus.SYSTEM_EXCEPTION, transient))
+                await until(lambda: client.resend() or len(seen) == 2)
+                self.assertIsNone(client.forwarded())
+                self.fails(Error.FORWARD, client.redirect, 5, "other", "op", "l", [5])
+                answers.put_nowait((lr.ReplyStatus.LOCATION_FORWARD, forward))
+                await until(client.forwarded)
+                self.assertEqual(client.forwarded(), (5, there))
+                client.redirect(5, "other", "op", "l", [5])
+                answers.put_nowait((lr.ReplyStatus.NO_EXCEPTION, lr.pack("l", 6)))
+                client.reconnect()
+                self.assertEqual(await call, 6)
+                self.assertEqual(seen, [(b"k", 5), (b"k", 5), (b"other", 5)])
+                client.keep()
+                answers.put_nowait((lr.ReplyStatus.LOCATION_FORWARD, forward))
+                with self.assertRaises(lr.ForwardRequest):
+                    await client.call("k", "op")
+            listener.close()
+        self.run_async(main())
+
+    def test_calls_of_before(self):
+        """A client that is made anew with its old id takes a call of before up again, and it acts once."""
+        async def main():
+            asked = []
+            server, client = await self.pair({"op": ("l", "l", lambda number: asked.append(number) or len(asked))})
+            expiration = lr.now() + 10**9
+            async with server, client:
+                self.assertEqual(await client.call("k", "op", "l", [5], "l", expiration=expiration), 1)
+                again = lr.Client(client.host, client.port, client.client_id)
+                async with again:
+                    words = ("k", "op", "l", [5], "l")
+                    self.assertEqual(await again.recall(1, *words, expiration=expiration), 1)
+                    with self.assertRaises(lr.LemonrudderError) as caught:
+                        await again.recall(1, *words, expiration=expiration)
+                    self.assertEqual(caught.exception.number, Error.TAKEN)
+                    with self.assertRaises(lr.LemonrudderError) as caught:
+                        await again.recall(1 << 31, *words, expiration=expiration)
+                    self.assertEqual(caught.exception.number, Error.RANGE)
+                    with self.assertRaises(lr.Expired):
+                        await again.recall(2, *words, expiration=lr.now() - 1)
+                    self.assertEqual(await again.call(*words), 2)
+                    self.fails(Error.RANGE, again.skip_to, -1)
+                    again.skip_to(9)
+                    self.assertEqual(await again.call(*words), 3)
+            self.assertEqual(asked, [5, 5, 5])
+        self.run_async(main())
+
     def test_given_up_and_asked_again(self):
         async def main():
             asked = []
@@ -1661,7 +1735,8 @@ HEADER = os.path.join(ROOT, "embed", "include", "lemonrudder.h")
 # what stands for the names of the header, by how they begin; of several the first that has the name counts
 ENUMS = [
     ("LR_E_", lr.Error), ("LR_WISH_", lr.Wish), ("LR_COMPLETED_", lr.Completed), ("LR_PART_", lr._Part),
-    ("LR_FAULT_", lr.Fault), ("LR_ENDED_", lr._Ended), ("LR_IOR_", lr._IorPart), ("LR_", lr.Order),
+    ("LR_FAULT_", lr.Fault), ("LR_ENDED_", lr._Ended), ("LR_IOR_", lr._IorPart),
+    ("LR_CLIENT_", lr._Setting), ("LR_", lr.Order),
     ("LR_", lr.ReplyStatus), ("LR_", lr.LocateStatus), ("LR_", lr.SystemName), ("LR_", lr.MessageType),
     ("LR_", lr._Code),
 ]

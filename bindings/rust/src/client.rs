@@ -123,6 +123,122 @@ impl Client {
         i32::try_from(number).map_err(|_| Error::Range)
     }
 
+    /// Takes a call of before up again under its number, in a client that was opened anew with the
+    /// id of before: a server that performed it gives its first outcome. Its expiration is the one
+    /// of before. The next call gets the number after this one.
+    ///
+    /// # Errors
+    ///
+    /// As of [`Client::call`]; `Range` where the number is below 0; and `Taken`, where it is not
+    /// greater than each that this client gave or took up.
+    pub fn recall(&mut self, number: i32, now: Moment, call: &Call<'_>) -> Result<(), Error> {
+        let types = codes_of(call.types)?;
+        let arguments = call.arguments.as_octets();
+        // SAFETY: the key, the name, the codes and the arguments are lent.
+        done(unsafe {
+            sys::lr_client_recall(
+                &mut self.slot,
+                number.into(),
+                now.0,
+                call.expiration.0,
+                call.key.as_ptr().cast(),
+                call.key.len(),
+                call.operation.as_ptr().cast(),
+                call.operation.len(),
+                types.as_ptr(),
+                types.len(),
+                call.arguments.order().number(),
+                arguments.as_ptr().cast(),
+                arguments.len(),
+            )
+        })
+    }
+
+    /// Numbers up to this one were used before: the next call gets a greater one.
+    ///
+    /// # Errors
+    ///
+    /// `Range`, where it is below 0.
+    pub fn skip_to(&mut self, number: i32) -> Result<(), Error> {
+        done(sys::lr_client_skip_to(&mut self.slot, number.into()))
+    }
+
+    /// Whether the system exception TRANSIENT leaves its call pending from now on, unless the
+    /// operation was completed. In a new client it ends it.
+    pub fn keep_transient(&mut self, keeps: bool) {
+        sure(sys::lr_client_set(&mut self.slot, sys::LR_CLIENT_KEEP_TRANSIENT, keeps.into()));
+    }
+
+    /// Whether a forward leaves its call pending from now on, for [`Client::forwarded`]. In a new
+    /// client it ends it.
+    pub fn keep_forward(&mut self, keeps: bool) {
+        sure(sys::lr_client_set(&mut self.slot, sys::LR_CLIENT_KEEP_FORWARD, keeps.into()));
+    }
+
+    /// What is pending, was not sent on this connection, is not led elsewhere and not past its
+    /// expiration is due.
+    ///
+    /// # Errors
+    ///
+    /// `Lost`.
+    pub fn resend(&mut self, now: Moment) -> Result<(), Error> {
+        done(sys::lr_client_resend(&mut self.slot, now.0))
+    }
+
+    /// The first pending call, by its number, that is led elsewhere, if one is, as one that ended
+    /// so: its body is the reference.
+    ///
+    /// # Errors
+    ///
+    /// `Range`, where it has a number that this version of the crate has no name for.
+    pub fn forwarded(&mut self) -> Result<Option<Completion<'_>>, Error> {
+        let mut said = lr_completion::default();
+        loop {
+            let (room, size) = (self.body.as_mut_ptr().cast(), self.body.len());
+            // SAFETY: the room is lent.
+            let found = unsafe { sys::lr_client_forwarded(&mut self.slot, &mut said, room, size) };
+            if count(found)? == 0 {
+                return Ok(None);
+            }
+            let whole = error::size(said.body_size)?;
+            self.body.resize(whole, 0);
+            if whole <= size {
+                return Ok(Some(self.completion(&said)?));
+            }
+        }
+    }
+
+    /// Asks by another key for a call that is led elsewhere, with its number and its expiration:
+    /// [`Client::resend`] sends it, or the next [`Client::connected`]. That the connection leads to
+    /// where it is led is up to the caller. What it asks is given again, but for its expiration,
+    /// which counts for nothing here; for another operation or other arguments nothing is promised
+    /// of it.
+    ///
+    /// # Errors
+    ///
+    /// `Forward`, where it is not led elsewhere, `Types`, `Text`, `Short`, `Value`, `Long`,
+    /// `Memory`.
+    pub fn redirect(&mut self, number: i32, call: &Call<'_>) -> Result<(), Error> {
+        let types = codes_of(call.types)?;
+        let arguments = call.arguments.as_octets();
+        // SAFETY: the key, the name, the codes and the arguments are lent.
+        done(unsafe {
+            sys::lr_client_redirect(
+                &mut self.slot,
+                number.into(),
+                call.key.as_ptr().cast(),
+                call.key.len(),
+                call.operation.as_ptr().cast(),
+                call.operation.len(),
+                types.as_ptr(),
+                types.len(),
+                call.arguments.order().number(),
+                arguments.as_ptr().cast(),
+                arguments.len(),
+            )
+        })
+    }
+
     /// Cancels a call: whether it was pending, and completes as cancelled.
     ///
     /// # Errors
@@ -164,13 +280,18 @@ impl Client {
             // SAFETY: the room is lent.
             done(unsafe { sys::lr_client_body(&mut self.slot, room, size) })?;
         }
-        Ok(Some(Completion {
+        Ok(Some(self.completion(&said)?))
+    }
+
+    /// What is said of a call whose body was copied.
+    fn completion(&self, said: &lr_completion) -> Result<Completion<'_>, Error> {
+        Ok(Completion {
             call: said.call,
             ended: Ended::of(said.how)?,
             body: &self.body,
             order: Order::of(said.body_order)?,
             at: said.body_at,
-        }))
+        })
     }
 
     /// Moves octets that are due on the connection into the room, as many as it has, and answers

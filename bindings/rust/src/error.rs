@@ -70,7 +70,7 @@ errors! {
     Types = -13,
     /// A NUL where none may be, or a name of a length that is not allowed.
     Text = -14,
-    /// There is an object or operation of that name.
+    /// There is an object or operation of that name, or a call of that number or a greater one.
     Taken = -15,
     /// There is no object of that key.
     Object = -16,
@@ -94,6 +94,8 @@ errors! {
     Place = -25,
     /// No request of that ticket waits.
     Ticket = -26,
+    /// No pending call of that number is led elsewhere.
+    Forward = -27,
 }
 
 /// What the library says of a number by one of two functions: lr_strerror, lr_error_name.

@@ -2,7 +2,8 @@
 
 use lemonrudder::cdr::Writer;
 use lemonrudder::{
-    write, Call, Client, Completed, Ended, Error, Ior, Limits, Moment, Order, Status, Type, Version,
+    write, Assembler, Call, Client, Completed, Ended, Error, Ior, Limits, Moment, Order, Status,
+    Type, Version,
 };
 
 const CALL: Call =
@@ -125,6 +126,73 @@ fn a_fault_or_a_goodbye_ends_the_connection() -> Result<(), Error> {
         client.connected(Moment(60))?;
         assert!(!client.take_output().is_empty());
     }
+    Ok(())
+}
+
+/// The Request that is due: its request id, the number of its call, and its key.
+fn sent(client: &mut Client) -> Result<(u32, i32, Vec<u8>), Error> {
+    let mut assembler = Assembler::open(Limits::default())?;
+    assembler.feed(&client.take_output())?;
+    let message = assembler.message()?.expect("it is whole");
+    let number = message.ft_request().expect("it carries FT_REQUEST").retention_id;
+    Ok((message.request_id(), number, message.key().expect("it has a key").to_vec()))
+}
+
+#[test]
+fn transient_leaves_a_call_pending_where_that_is_kept() -> Result<(), Error> {
+    let mut client = called()?;
+    client.keep_transient(true);
+    let mut body = Writer::new(Order::Big);
+    body.string("IDL:omg.org/CORBA/TRANSIENT:1.0")?.ulong(0)?.ulong(1)?;
+    client.feed(&reply(Status::SystemException, body.as_octets())?)?;
+    assert!(client.completed()?.is_none());
+    assert_eq!(client.take_output(), []);
+    client.resend(Moment(60))?;
+    assert_eq!(sent(&mut client)?, (2, 1, b"c".to_vec()));
+    client.keep_transient(false);
+    let again =
+        write::reply(Version::V12, Order::Big, 2, Status::SystemException, body.as_octets())?;
+    client.feed(&again)?;
+    let completion = client.completed()?.expect("it has ended");
+    assert_eq!((completion.call, completion.ended), (1, Ended::System));
+    Ok(())
+}
+
+#[test]
+fn a_call_of_before_keeps_its_number() -> Result<(), Error> {
+    let mut client = Client::open("A", Version::V12, Limits::default())?;
+    let now = Moment(50);
+    assert_eq!(client.recall(-1, now, &CALL), Err(Error::Range));
+    assert_eq!(client.recall(0, now, &CALL), Err(Error::Taken));
+    client.connected(now)?;
+    client.recall(7, now, &CALL)?;
+    assert_eq!(sent(&mut client)?, (1, 7, b"c".to_vec()));
+    assert_eq!(client.recall(7, now, &CALL), Err(Error::Taken));
+    assert_eq!(client.recall(8, Moment(101), &CALL), Err(Error::Expired));
+    client.skip_to(9)?;
+    client.skip_to(8)?;
+    assert_eq!(client.skip_to(-1), Err(Error::Range));
+    assert_eq!(client.call(now, &CALL), Ok(10));
+    Ok(())
+}
+
+#[test]
+fn a_forward_is_followed_under_the_same_number() -> Result<(), Error> {
+    let mut client = called()?;
+    client.keep_forward(true);
+    assert!(client.forwarded()?.is_none());
+    assert_eq!(client.redirect(1, &CALL), Err(Error::Forward));
+    let mut body = Writer::new(Order::Big);
+    Ior::iiop("IDL:A:1.0", Version::V12, "host", 9, b"key")?.write(&mut body)?;
+    client.feed(&reply(Status::LocationForward, body.as_octets())?)?;
+    assert!(client.completed()?.is_none());
+    let led = client.forwarded()?.expect("it is led elsewhere");
+    assert_eq!((led.call, led.ended, led.body), (1, Ended::Forwarded, body.as_octets()));
+    let key = led.forwarded()?.expect("it has one").address()?.expect("it has an address").key;
+    client.redirect(1, &Call { key: &key, ..CALL })?;
+    assert!(client.forwarded()?.is_none());
+    client.resend(Moment(60))?;
+    assert_eq!(sent(&mut client)?, (2, 1, b"key".to_vec()));
     Ok(())
 }
 

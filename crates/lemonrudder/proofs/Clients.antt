@@ -31,6 +31,10 @@ on_same_client P o s r answer is said holds = subst (λ x. OnClient P (Some x) (
 pub on_cancel : (o : Object) (s t : Calling) (r : Result ℕ Refusal) (answer call passed : ℤ) → passed ≡ call → o ≡ AClient s → answer ≡ number_in r → OnCancel passed s t r → OnClient (OnCancel call) (Some o) (Some (AClient t)) answer
 on_cancel o s t r answer call passed same is said holds = on_client (OnCancel call) o s t r answer is said (subst (λ z. OnCancel z s t r) same holds)
 
+-- of a call on one of a number, which the code passes on
+pub on_numbered : (P : ℤ → Calling → Calling → Result ℕ Refusal → Type 0) (o : Object) (s t : Calling) (r : Result ℕ Refusal) (answer call passed : ℤ) → passed ≡ call → o ≡ AClient s → answer ≡ number_in r → P passed s t r → OnClient (P call) (Some o) (Some (AClient t)) answer
+on_numbered P o s t r answer call passed same is said holds = on_client (P call) o s t r answer is said (subst (λ z. P z s t r) same holds)
+
 -- what is written is appended to what is due
 pub stands_after : (h : Happening) (s : Calling) (c : FtClient) (octets : Vec ℕ Global) (x : Standing) → Stands s x → FtStands c (after (down x.client.limits) h x.client)
     → octets.items ≡ s.due.octets.items ++ stream octets_said (says h x.client) → Stands (record s { client = c; due = record s.due { octets = octets } }) (happened h x)

@@ -1,28 +1,30 @@
--- A call that a client makes, in the words of what it stands for.
-use Rattle.std.proofs.Common.{◌≡◌, ◌∙◌, ◌↔◌, inr, ℕ, suc, Bool, true, false, IsTrue, List, ◌++◌, Result, Ok, Err, Vec, Global, refl, subst, sym}
+-- Calls that a client makes, takes up again or redirects, in the words of what it stands for.
+use Rattle.std.proofs.Common.{◌≡◌, ◌∙◌, ◌↔◌, inl, inr, ℕ, suc, ℤ, Bool, true, false, IsTrue, List, ◌++◌, Option, Some, Result, Ok, Err, Vec, Global, refl, subst, sym}
 use Rattle.std.proofs.lemmas.Bool.{false≢true}
 use Rattle.cdr_core.specs.declared.order.Order.{Order}
 use Rattle.cdr_core.specs.declared.types.Ty.{Ty}
 use Rattle.cdr_core.specs.declared.values.Val.{Val}
-use Rattle.cdr_core.specs.Spelling.{IsClean, SpellsMembers}
+use Rattle.cdr_core.specs.Spelling.{SpellsMembers}
 use Rattle.cdr_core.specs.View.{forms_of, values_of}
 use Rattle.cdr_core.specs.Writing.{AreWritable}
 use Rattle.ft_client.specs.declared.client.FtClient.{FtClient}
 use Rattle.ft_client.specs.declared.error.CallError.{CallError}
-use Rattle.ft_client.specs.declared.error.CallError.TheVariants as calling
-use Rattle.ft_client.specs.Calling.{IsCallError, call_of}
-use Rattle.ft_client.specs.Clients.{Called, Client, after, is_taken, says}
+use Rattle.ft_client.specs.declared.error.RecallError.{RecallError}
+use Rattle.ft_client.specs.declared.error.RedirectError.{RedirectError}
+use Rattle.ft_client.specs.Calling.{IsCallError, IsFitting, IsRecallError, IsRedirectError, call_of}
+use Rattle.ft_client.specs.Clients.{Called, Client, Pending, Redirected, Resumed, after, find_pending, is_resumed, is_taken, says}
 use Rattle.ft_client.specs.Directions.{stream}
-use Rattle.ft_client.specs.Messages.{octets_said}
+use Rattle.ft_client.specs.Messages.{octets_said, typed}
 use Rattle.ft_client.specs.Standing.{FtStands, down}
 use Rattle.lemonrudder.specs.declared.calling.Calling.{Calling}
 use Rattle.lemonrudder.specs.declared.refusal.Refusal.{Refusal}
 use Rattle.lemonrudder.specs.Calls.{Standing, Stands, Stays}
 use Rattle.lemonrudder.specs.Declares.{Spell}
-use Rattle.lemonrudder.specs.Invokes.{AreArguments, IsWhyNot, OnCall, Question, asked}
-use Rattle.lemonrudder.specs.Naming.{or_range, order_named}
-use Rattle.lemonrudder.specs.Refusals.{refusal_of_calling}
-use Rattle.lemonrudder.proofs.Clients.{named_ok, stands_after}
+use Rattle.lemonrudder.specs.Invokes.{AreArguments, AreAsked, OnCall, Question, asked}
+use Rattle.lemonrudder.specs.Naming.{call_numbered, or_range, order_named}
+use Rattle.lemonrudder.specs.Refusals.{refusal_of_calling, refusal_of_recalling, refusal_of_redirecting}
+use Rattle.lemonrudder.specs.Resuming.{OnRecall, OnRedirect}
+use Rattle.lemonrudder.proofs.Clients.{named_ok, stands_after, stands_silent}
 
 -- the values that were read, as the code lends them
 pub arguments_are : (q : Question) (ts lent : List Ty) (order : Order) (xs vs : List Val) → Spell (forms_of ts) q.types → ◌≡◌ {A = Result Order Refusal} (Ok order) (or_range (order_named q.order)) → lent ≡ ts → xs ≡ vs
@@ -35,28 +37,63 @@ arguments_are q ts lent order xs vs spell named types values spelled =
 pub not_writable : (b : Bool) (xs : List Val) → (IsTrue b ↔ AreWritable (values_of xs)) → b ≡ false → ¬ (AreWritable (values_of xs))
 not_writable b xs decides not = λ may. false≢true (sym not ∙ decides.1 may)
 
-why_client : (q : Question) (s : Calling) (xs : List Val) (f : CallError) → AreArguments q (values_of xs) → IsClean q.operation → ((x : Standing) → Stands s x → IsCallError q.now (asked q (values_of xs)) x.client f) → IsWhyNot q s (refusal_of_calling f)
-why_client q s xs calling.Expired are clean why = (values_of xs, are, clean, inr (calling.Expired, refl, why))
-why_client q s xs calling.IdsUsed are clean why = (values_of xs, are, clean, inr (calling.IdsUsed, refl, why))
-why_client q s xs calling.TooManyCalls are clean why = (values_of xs, are, clean, inr (calling.TooManyCalls, refl, why))
-why_client q s xs calling.TooLong are clean why = (values_of xs, are, clean, inr (calling.TooLong, refl, why))
-why_client q s xs calling.Memory are clean why = tt
+-- the values that can be asked for, as the code lends them
+pub asked_are : (q : Question) (xs vs : List Val) → xs ≡ vs → AreAsked q (values_of vs) → AreAsked q (values_of xs)
+asked_are q xs vs same are = subst (λ zs. AreAsked q (values_of zs)) (sym same) are
 
 -- the client does not take it
-pub client_refuses : (q : Question) (s t : Calling) (xs : List Val) (f : CallError) (r : Result ℕ Refusal) → AreArguments q (values_of xs) → IsClean q.operation
-    → ((m : Client) → FtStands s.client m → IsCallError q.now (call_of q.key q.operation xs q.expiration) m f) → Stays s t → r ≡ Err (refusal_of_calling f) → OnCall q s t r
-client_refuses q s t xs f r are clean why same gave = subst (λ x. OnCall q s t x) (sym gave) (same, why_client q s xs f are clean (λ x st. why x.client st.client))
+pub client_refuses : (now expiration : ℕ) (q : Question) (s t : Calling) (xs : List Val) (f : CallError) (r : Result ℕ Refusal) → AreAsked q (values_of xs)
+    → ((m : Client) → FtStands s.client m → IsCallError now (call_of q.key q.operation xs expiration) m f) → Stays s t → r ≡ Err (refusal_of_calling f) → OnCall now expiration q s t r
+client_refuses now expiration q s t xs f r are why same gave = subst (λ x. OnCall now expiration q s t x) (sym gave) (same, inr (values_of xs, are, f, refl, λ x st. why x.client st.client))
 
 -- it takes it
-pub client_takes : (q : Question) (s : Calling) (c : FtClient) (octets : Vec ℕ Global) (xs : List Val) (n : ℕ) → AreArguments q (values_of xs) → IsClean q.operation
+pub client_takes : (now expiration : ℕ) (q : Question) (s : Calling) (c : FtClient) (octets : Vec ℕ Global) (xs : List Val) (n : ℕ) → AreAsked q (values_of xs)
     → ((m : Client) → FtStands s.client m → n ≡ suc m.last)
-    → ((m : Client) → FtStands s.client m → is_taken q.now (call_of q.key q.operation xs q.expiration) m ≡ true)
-    → ((m : Client) → FtStands s.client m → FtStands c (after (down m.limits) (Called q.now (call_of q.key q.operation xs q.expiration)) m))
-    → ((m : Client) → FtStands s.client m → octets.items ≡ s.due.octets.items ++ stream octets_said (says (Called q.now (call_of q.key q.operation xs q.expiration)) m))
-    → OnCall q s (record s { client = c; due = record s.due { octets = octets } }) (Ok n)
-client_takes q s c octets xs n are clean number taken stands out = (
+    → ((m : Client) → FtStands s.client m → is_taken now (call_of q.key q.operation xs expiration) m ≡ true)
+    → ((m : Client) → FtStands s.client m → FtStands c (after (down m.limits) (Called now (call_of q.key q.operation xs expiration)) m))
+    → ((m : Client) → FtStands s.client m → octets.items ≡ s.due.octets.items ++ stream octets_said (says (Called now (call_of q.key q.operation xs expiration)) m))
+    → OnCall now expiration q s (record s { client = c; due = record s.due { octets = octets } }) (Ok n)
+client_takes now expiration q s c octets xs n are number taken stands out = (
   values_of xs,
   are,
-  clean,
-  λ x st. (number x.client st.client, taken x.client st.client, stands_after (Called q.now (asked q (values_of xs))) s c octets x st (stands x.client st.client) (out x.client st.client)),
+  λ x st. (number x.client st.client, taken x.client st.client, stands_after (Called now (asked q (values_of xs) expiration)) s c octets x st (stands x.client st.client) (out x.client st.client)),
+)
+
+-- one of before is not taken up again
+pub client_leaves : (call : ℤ) (now expiration : ℕ) (q : Question) (s t : Calling) (id : ℕ) (xs : List Val) (f : RecallError) (r : Result ℕ Refusal) → call_numbered call ≡ Some id → AreAsked q (values_of xs)
+    → ((m : Client) → FtStands s.client m → IsRecallError now id (call_of q.key q.operation xs expiration) m f) → Stays s t → r ≡ Err (refusal_of_recalling f) → OnRecall call now expiration q s t r
+client_leaves call now expiration q s t id xs f r number are why same gave =
+    subst (λ x. OnRecall call now expiration q s t x) (sym gave) (same, inr (inr (id, values_of xs, number, are, f, refl, λ x st. why x.client st.client)))
+
+-- it is taken up again
+pub client_resumes : (call : ℤ) (now expiration : ℕ) (q : Question) (s : Calling) (c : FtClient) (octets : Vec ℕ Global) (id : ℕ) (xs : List Val) → call_numbered call ≡ Some id → AreAsked q (values_of xs)
+    → ((m : Client) → FtStands s.client m → is_resumed now id (call_of q.key q.operation xs expiration) m ≡ true)
+    → ((m : Client) → FtStands s.client m → FtStands c (after (down m.limits) (Resumed now id (call_of q.key q.operation xs expiration)) m))
+    → ((m : Client) → FtStands s.client m → octets.items ≡ s.due.octets.items ++ stream octets_said (says (Resumed now id (call_of q.key q.operation xs expiration)) m))
+    → OnRecall call now expiration q s (record s { client = c; due = record s.due { octets = octets } }) (Ok 0)
+client_resumes call now expiration q s c octets id xs number are taken stands out = (
+  refl,
+  id,
+  values_of xs,
+  number,
+  are,
+  λ x st. (taken x.client st.client, stands_after (Resumed now id (asked q (values_of xs) expiration)) s c octets x st (stands x.client st.client) (out x.client st.client)),
+)
+
+-- a call is not redirected
+pub client_unled : (call : ℤ) (q : Question) (s t : Calling) (xs : List Val) (f : RedirectError) (r : Result ℕ Refusal) → AreAsked q (values_of xs)
+    → ((m : Client) → FtStands s.client m → IsRedirectError call (call_of q.key q.operation xs) m f) → Stays s t → r ≡ Err (refusal_of_redirecting f) → OnRedirect call q s t r
+client_unled call q s t xs f r are why same gave = subst (λ x. OnRedirect call q s t x) (sym gave) (same, inr (inr (values_of xs, are, f, refl, λ x st. why x.client st.client)))
+
+-- it is
+pub client_redirects : (call : ℤ) (q : Question) (s : Calling) (c : FtClient) (xs : List Val) → AreAsked q (values_of xs)
+    → ((m : Client) → FtStands s.client m → IsFitting call (call_of q.key q.operation xs) m true)
+    → ((m : Client) (p : Pending) → FtStands s.client m → find_pending call m.pending ≡ Some p → p.call.form ≡ typed → p.call.operation ≡ q.operation → p.call.arguments ≡ values_of xs
+    → FtStands c (after (down m.limits) (Redirected call q.key) m))
+    → OnRedirect call q s (record s { client = c }) (Ok 0)
+client_redirects call q s c xs are fitting stands = (
+  refl,
+  values_of xs,
+  are,
+  λ x st. (fitting x.client st.client, λ p find form operation arguments. stands_silent s c x _ st (stands x.client p st.client find form operation arguments)),
 )

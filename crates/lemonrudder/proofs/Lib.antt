@@ -20,6 +20,7 @@ mod Raising
 mod Reading
 mod References
 mod Refusing
+mod Resuming
 mod Servers
 mod Telling
 mod Unparked

@@ -109,9 +109,12 @@ body_or_none None = record { order = Big; place = 0; octets = [] }
 body_or_none (Some body) = body
 
 -- what is said of a call that ended
+abbrev pub head_with : ℤ → ℕ → Option Rest → CompletionHead
+head_with call how told = let body = body_or_none told in
+    record { body_size = length body.octets; body_at = body.place; call = call; how = how; body_order = order_number body.order; reserved = 0 }
+
 abbrev pub head_of : ℤ → Ended → CompletionHead
-head_of call ended = let body = body_or_none (told ended) in
-    record { body_size = length body.octets; body_at = body.place; call = call; how = how_ended ended; body_order = order_number body.order; reserved = 0 }
+head_of call ended = head_with call (how_ended ended) (told ended)
 
 -- the first of these completions is taken, if there is one
 abbrev pub Takes : List (ℕ × Ended) → CompletionHead → CompletionHead → Standing → Calling → Result ℕ Refusal → Type 0

@@ -1,5 +1,5 @@
 -- Numbers of the header, and what they name.
-use Rattle.std.specs.Prelude.{◌≡◌, ℕ, ◌≤◌, [], ◌∷◌, slice_get, Option, Some, None, Result, Ok, Err, ◌==◌, if◌then◌else◌}
+use Rattle.std.specs.Prelude.{◌≡◌, ℕ, ◌≤◌, nat_lt, ℤ, pos, negsuc, Bool, true, false, [], ◌∷◌, slice_get, Option, Some, None, Result, Ok, Err, ◌==◌, if◌then◌else◌}
 use Rattle.cdr_core.specs.declared.order.Order.{Order}
 use Rattle.cdr_core.specs.declared.order.Order.TheVariants.{Big, Little}
 use Rattle.giop_core.specs.declared.header.Version.{Version}
@@ -35,6 +35,15 @@ by_order (Some Little) big little = little
 abbrev pub order_number : Order → ℕ
 order_number Big = 0
 order_number Little = 1
+
+-- 0 names no, and 1 yes
+abbrev pub truth_named : ℕ → Option Bool
+truth_named n = if n == 0 then Some false else (if n == 1 then Some true else None)
+
+-- the number of a call: none is below 0, or more than the greatest long
+abbrev pub call_numbered : ℤ → Option ℕ
+call_numbered (pos n) = if nat_lt n 2147483648 then Some n else None
+call_numbered (negsuc n) = None
 
 -- the minor number of a version
 abbrev pub minor_number : Version → ℕ

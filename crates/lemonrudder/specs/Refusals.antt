@@ -7,6 +7,10 @@ use Rattle.cdr_core.specs.declared.fault.Kind.{Kind}
 use Rattle.cdr_core.specs.declared.fault.Kind.TheVariants as kind
 use Rattle.ft_client.specs.declared.error.CallError.{CallError}
 use Rattle.ft_client.specs.declared.error.CallError.TheVariants as calling
+use Rattle.ft_client.specs.declared.error.RecallError.{RecallError}
+use Rattle.ft_client.specs.declared.error.RecallError.TheVariants as recalling
+use Rattle.ft_client.specs.declared.error.RedirectError.{RedirectError}
+use Rattle.ft_client.specs.declared.error.RedirectError.TheVariants as redirecting
 use Rattle.ft_orb.specs.declared.error.ConnectError.{ConnectError}
 use Rattle.ft_orb.specs.declared.error.ConnectError.TheVariants as connecting
 use Rattle.ft_objects.specs.declared.error.InterfacesError.{InterfacesError}
@@ -48,6 +52,7 @@ error_number refusal.Long = negsuc 22
 error_number refusal.Lost = negsuc 23
 error_number refusal.Place = negsuc 24
 error_number refusal.Ticket = negsuc 25
+error_number refusal.Forward = negsuc 26
 
 -- a count as a signed number of 64 bits: the greatest, where it is more
 abbrev pub signed_of : ℕ → ℤ
@@ -85,6 +90,18 @@ refusal_of_calling calling.IdsUsed = refusal.Calls
 refusal_of_calling calling.TooManyCalls = refusal.Calls
 refusal_of_calling calling.TooLong = refusal.Long
 refusal_of_calling calling.Memory = refusal.Memory
+
+abbrev pub refusal_of_recalling : RecallError → Refusal
+refusal_of_recalling recalling.NumberUsed = refusal.Taken
+refusal_of_recalling recalling.Expired = refusal.Expired
+refusal_of_recalling recalling.TooManyCalls = refusal.Calls
+refusal_of_recalling recalling.TooLong = refusal.Long
+refusal_of_recalling recalling.Memory = refusal.Memory
+
+abbrev pub refusal_of_redirecting : RedirectError → Refusal
+refusal_of_redirecting redirecting.NotForwarded = refusal.Forward
+refusal_of_redirecting redirecting.TooLong = refusal.Long
+refusal_of_redirecting redirecting.Memory = refusal.Memory
 
 abbrev pub refusal_of_connecting : ConnectError → Refusal
 refusal_of_connecting connecting.NotNew = refusal.Connection

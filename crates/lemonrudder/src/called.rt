@@ -4,8 +4,9 @@ ghost use Rattle.std.specs.Prelude.{◌≡◌, ◌<ℤ◌, ◌≤ℤ◌, pos, So
 ghost use Rattle.lemonrudder.specs.Answers.{OnClient};
 ghost use Rattle.lemonrudder.specs.Calls.{OnBody, OnCancel, OnCompleted, OnConnected, OnFeed, OnIsConnected, OnLost, OnOutput, OnTick};
 ghost use Rattle.lemonrudder.specs.Invokes.{OnCall, question_of};
+ghost use Rattle.lemonrudder.specs.Resuming.{OnForwarded, OnRecall, OnRedirect, OnResend, OnSet, OnSkip};
 
-use crate::calling::{Call, CompletionHead};
+use crate::calling::{CompletionHead, Question};
 use crate::object::Object;
 use crate::refusal::{Refusal, number_of, signed};
 
@@ -39,14 +40,82 @@ pub fn is_connected(object: &Object) -> i64
     signed(client.is_connected())
 }
 
-/// Calls an operation.
-pub fn call(object: &mut Object, call: &Call<'_>) -> i64
-    ensures { OnClient (OnCall (question_of call.entry.now)) (Some object.old) (Some object.new) result }
+/// Says whether TRANSIENT leaves calls pending from now on, or a forward.
+pub fn set(object: &mut Object, what: u32, value: u64) -> i64
+    ensures { OnClient (OnSet what value) (Some object.old) (Some object.new) result }
 {
     let Object::Client(client) = object else {
         return Refusal::Empty.number();
     };
-    number_of(client.call(call))
+    number_of(client.set(what, value))
+}
+
+/// Calls an operation.
+pub fn call(object: &mut Object, now: u64, expiration: u64, question: &Question<'_>) -> i64
+    ensures { OnClient (OnCall now expiration (question_of question.now)) (Some object.old) (Some object.new) result }
+{
+    let Object::Client(client) = object else {
+        return Refusal::Empty.number();
+    };
+    number_of(client.call(now, expiration, question))
+}
+
+/// Takes a call of before up again.
+pub fn recall(
+    object: &mut Object,
+    call: i64,
+    now: u64,
+    expiration: u64,
+    question: &Question<'_>,
+) -> i64
+    ensures { OnClient (OnRecall call now expiration (question_of question.now)) (Some object.old) (Some object.new) result }
+{
+    let Object::Client(client) = object else {
+        return Refusal::Empty.number();
+    };
+    number_of(client.recall(call, now, expiration, question))
+}
+
+/// Numbers up to this one were given to calls of before.
+pub fn skip_to(object: &mut Object, call: i64) -> i64
+    ensures { OnClient (OnSkip call) (Some object.old) (Some object.new) result }
+{
+    let Object::Client(client) = object else {
+        return Refusal::Empty.number();
+    };
+    number_of(client.skip_to(call))
+}
+
+/// Sends what is pending and was not sent on this connection.
+pub fn resend(object: &mut Object, now: u64) -> i64
+    ensures { OnClient (OnResend now) (Some object.old) (Some object.new) result }
+{
+    let Object::Client(client) = object else {
+        return Refusal::Empty.number();
+    };
+    number_of(client.resend(now))
+}
+
+/// Says the first call that is led elsewhere, and copies the reference to which.
+pub fn forwarded(object: &Object, head: &mut CompletionHead, room: &mut [u8]) -> i64
+    ensures told { OnClient (OnForwarded head.old head.new room.old room.new) (Some object.now) (Some object.now) result }
+    ensures none { result ≤ℤ pos 0 → head.new ≡ head.old }
+    ensures uncopied { result ≤ℤ pos 0 → room.new ≡ room.old }
+{
+    let Object::Client(client) = object else {
+        return Refusal::Empty.number();
+    };
+    signed(client.forwarded(head, room))
+}
+
+/// Asks under another object key for a call that is led elsewhere.
+pub fn redirect(object: &mut Object, call: i64, question: &Question<'_>) -> i64
+    ensures { OnClient (OnRedirect call (question_of question.now)) (Some object.old) (Some object.new) result }
+{
+    let Object::Client(client) = object else {
+        return Refusal::Empty.number();
+    };
+    number_of(client.redirect(call, question))
 }
 
 /// Cancels a call.

@@ -2,13 +2,14 @@
 
 ghost use Rattle.std.specs.Prelude.{◌≡◌, option_map};
 ghost use Rattle.ft_client.specs.Ends.{body_of, ended_of};
-ghost use Rattle.lemonrudder.specs.Calls.{head_of, how_ended, told};
+ghost use Rattle.lemonrudder.specs.Calls.{head_of, head_with, how_ended, told};
+
+mod asking;
 
 use crate::due::Due;
-use crate::named::{limits_of, number_of_order, order_of, version_of};
+use crate::named::{limits_of, number_of_call, number_of_order, truth_of, version_of};
 use crate::refusal::{Refusal, copied, count_of};
-use crate::types::{types_of, values_of};
-use cdr_core::{are_writable, has_no_nul};
+use cdr_core::has_no_nul;
 use ft_client::{Ended, FtClient, ReplyBody};
 use std::alloc::Global;
 
@@ -24,16 +25,14 @@ pub struct CompletionHead {
     pub reserved: u32,
 }
 
-/// A call: what it asks, and until when.
+/// What a call asks.
 #[derive(Clone, Copy)]
-pub struct Call<'c> {
-    pub now: u64,
-    pub expiration: u64,
-    pub key: &'c [u8],
-    pub operation: &'c [u8],
-    pub types: &'c [u8],
+pub struct Question<'q> {
+    pub key: &'q [u8],
+    pub operation: &'q [u8],
+    pub types: &'q [u8],
     pub order: u32,
-    pub arguments: &'c [u8],
+    pub arguments: &'q [u8],
 }
 
 /// A client, and what is due on its connection.
@@ -62,11 +61,10 @@ fn of_ended(ended: &Ended) -> (u32, Option<&ReplyBody>)
     }
 }
 
-/// What is said of a call that ended. Where no reply came, the numbers of its body are 0.
-fn head_of(call: i32, ended: &Ended) -> CompletionHead
-    ensures { result ≡ head_of call (ended_of ended.now) }
+/// What is said of a call that ended so. Where no reply came, the numbers of its body are 0.
+fn head_with(call: i32, how: u32, body: Option<&ReplyBody>) -> CompletionHead
+    ensures { result ≡ head_with call how (option_map (λ b. body_of b.now) body.entry) }
 {
-    let (how, body) = of_ended(ended);
     let (body_size, body_at, body_order) = match body {
         Some(body) => (count_of(&body.octets), body.at, number_of_order(body.order)),
         None => (0, 0, 0),
@@ -81,10 +79,18 @@ fn head_of(call: i32, ended: &Ended) -> CompletionHead
     }
 }
 
+/// What is said of a call that ended.
+fn head_of(call: i32, ended: &Ended) -> CompletionHead
+    ensures { result ≡ head_of call (ended_of ended.now) }
+{
+    let (how, body) = of_ended(ended);
+    head_with(call, how, body)
+}
+
 impl Calling {
     ghost use Rattle.std.specs.Prelude.{◌≡◌, Ok, false, is_some};
     ghost use Rattle.lemonrudder.specs.Calls.{IsMade, OnBody, OnCancel, OnCompleted, OnConnected, OnFeed, OnIsConnected, OnLost, OnOutput, OnTick};
-    ghost use Rattle.lemonrudder.specs.Invokes.{OnCall, question_of};
+    ghost use Rattle.lemonrudder.specs.Resuming.{OnResend, OnSet, OnSkip};
 
     /// A client that is not connected.
     pub fn new(
@@ -137,28 +143,36 @@ impl Calling {
         u64::from(self.client.is_connected())
     }
 
-    /// Takes a call, and answers its number.
-    pub fn call(&mut self, call: &Call<'_>) -> Result<u64, Refusal>
-        ensures { OnCall (question_of call.entry.now) self.old self.new result }
+    /// Says whether TRANSIENT leaves calls pending from now on, or a forward.
+    pub fn set(&mut self, what: u32, value: u64) -> Result<u64, Refusal>
+        ensures { OnSet what value self.old self.new result }
     {
-        let types = types_of(self.alloc, call.types)?;
-        let order = order_of(call.order)?;
-        let arguments = values_of(self.alloc, &types, order, call.arguments)?;
-        if !has_no_nul(call.operation) {
-            return Err(Refusal::Text);
+        let keeps = truth_of(value)?;
+        match what {
+            1 => self.client.keep_on_transient(keeps),
+            2 => self.client.keep_on_forward(keeps),
+            _ => return Err(Refusal::Range),
         }
-        if !are_writable(&arguments) {
-            return Err(Refusal::Long);
+        Ok(0)
+    }
+
+    /// Numbers up to this one were given to calls of before.
+    pub fn skip_to(&mut self, call: i64) -> Result<u64, Refusal>
+        ensures { OnSkip call self.old self.new result }
+    {
+        let number = number_of_call(call)?;
+        self.client.skip_to(number);
+        Ok(0)
+    }
+
+    /// Sends what is pending and was not sent on this connection.
+    pub fn resend(&mut self, now: u64) -> Result<u64, Refusal>
+        ensures { OnResend now self.old self.new result }
+    {
+        match self.client.resend(now, &mut self.due.octets) {
+            Ok(()) => Ok(0),
+            Err(_) => Err(Refusal::Lost),
         }
-        let number = self.client.call(
-            call.now,
-            call.key,
-            call.operation,
-            &arguments,
-            call.expiration,
-            &mut self.due.octets,
-        )?;
-        Ok(u64::from(number.unsigned_abs()))
     }
 
     /// Cancels a call.

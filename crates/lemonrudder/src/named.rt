@@ -1,7 +1,7 @@
 //! Numbers of the header, and what they name.
 
 ghost use Rattle.std.specs.Prelude.{◌≡◌};
-ghost use Rattle.lemonrudder.specs.Naming.{GivesLimits, completion_named, minor_number, or_range, order_named, order_number, raw_status_named, system_name_named, version_named, wish_named, wish_number};
+ghost use Rattle.lemonrudder.specs.Naming.{GivesLimits, call_numbered, completion_named, minor_number, or_range, order_named, order_number, raw_status_named, system_name_named, truth_named, version_named, wish_named, wish_number};
 
 use crate::refusal::Refusal;
 use cdr_core::Order;
@@ -50,6 +50,30 @@ pub fn number_of_order(order: Order) -> u32
     match order {
         Order::Big => 0,
         Order::Little => 1,
+    }
+}
+
+/// The truth of a number: 0 is no, 1 yes.
+pub fn truth_of(number: u64) -> Result<bool, Refusal>
+    ensures { result ≡ or_range (truth_named number) }
+{
+    match number {
+        0 => Ok(false),
+        1 => Ok(true),
+        _ => Err(Refusal::Range),
+    }
+}
+
+/// The greatest number of a call, the greatest long.
+const LAST: u32 = 2_147_483_647;
+
+/// The number of a call.
+pub fn number_of_call(call: i64) -> Result<u32, Refusal>
+    ensures { result ≡ or_range (call_numbered call) }
+{
+    match u32::try_from(call) {
+        Ok(number) if number <= LAST => Ok(number),
+        _ => Err(Refusal::Range),
     }
 }
 

@@ -2,10 +2,10 @@
 
 ghost use Rattle.std.specs.Prelude.{◌≡◌, ◌<◌, ◌≤◌, length};
 ghost use Rattle.lemonrudder.specs.declared.refusal.Refusal.TheVariants.{Memory};
-ghost use Rattle.lemonrudder.specs.Refusals.{error_number, filled, number_in, refusal_of_calling, refusal_of_connecting, refusal_of_fault, refusal_of_offering, refusal_of_reading, refusal_of_referring, refusal_of_serving, refusal_of_writing, signed_of};
+ghost use Rattle.lemonrudder.specs.Refusals.{error_number, filled, number_in, refusal_of_calling, refusal_of_connecting, refusal_of_fault, refusal_of_offering, refusal_of_reading, refusal_of_recalling, refusal_of_redirecting, refusal_of_referring, refusal_of_serving, refusal_of_writing, signed_of};
 
 use cdr_core::{CdrError, Fault, Kind};
-use ft_client::CallError;
+use ft_client::{CallError, RecallError, RedirectError};
 use ft_objects::InterfacesError;
 use ft_orb::{ConnectError, ServeError};
 use giop_core::WriteError;
@@ -43,7 +43,7 @@ pub enum Refusal {
     Types,
     /// A NUL where none may be, or a length that is not allowed.
     Text,
-    /// There is an object or operation of that name.
+    /// There is an object or operation of that name, or a call of that number or a greater one.
     Taken,
     /// There is no object of that key.
     Object,
@@ -67,6 +67,8 @@ pub enum Refusal {
     Place,
     /// No request of that ticket waits.
     Ticket,
+    /// No pending call of that number is led elsewhere.
+    Forward,
 }
 
 impl Refusal {
@@ -101,6 +103,7 @@ impl Refusal {
             Refusal::Lost => -24,
             Refusal::Place => -25,
             Refusal::Ticket => -26,
+            Refusal::Forward => -27,
         }
     }
 }
@@ -229,6 +232,32 @@ impl From<CallError> for Refusal {
             CallError::TooManyCalls => Refusal::Calls,
             CallError::TooLong => Refusal::Long,
             CallError::Memory => Refusal::Memory,
+        }
+    }
+}
+
+impl From<RecallError> for Refusal {
+    ghost from_gives = { λ e r. r ≡ refusal_of_recalling e };
+
+    fn from(error: RecallError) -> Refusal {
+        match error {
+            RecallError::NumberUsed => Refusal::Taken,
+            RecallError::Expired => Refusal::Expired,
+            RecallError::TooManyCalls => Refusal::Calls,
+            RecallError::TooLong => Refusal::Long,
+            RecallError::Memory => Refusal::Memory,
+        }
+    }
+}
+
+impl From<RedirectError> for Refusal {
+    ghost from_gives = { λ e r. r ≡ refusal_of_redirecting e };
+
+    fn from(error: RedirectError) -> Refusal {
+        match error {
+            RedirectError::NotForwarded => Refusal::Forward,
+            RedirectError::TooLong => Refusal::Long,
+            RedirectError::Memory => Refusal::Memory,
         }
     }
 }

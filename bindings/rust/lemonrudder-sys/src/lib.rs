@@ -133,6 +133,9 @@ pub const LR_PART_BODY: u32 = 2;
 pub const LR_PART_CLIENT: u32 = 3;
 pub const LR_PART_PAYLOAD: u32 = 4;
 
+pub const LR_CLIENT_KEEP_TRANSIENT: u32 = 1;
+pub const LR_CLIENT_KEEP_FORWARD: u32 = 2;
+
 pub const LR_IOR_DATA: u32 = 0;
 pub const LR_IOR_HOST: u32 = 1;
 pub const LR_IOR_KEY: u32 = 2;
@@ -261,6 +264,43 @@ unsafe extern "C" {
         client: &mut lr_slot,
         now: u64,
         expiration: u64,
+        key: *const c_void,
+        key_size: usize,
+        operation: *const c_void,
+        operation_size: usize,
+        types: *const u8,
+        types_size: usize,
+        order: u32,
+        arguments: *const c_void,
+        arguments_size: usize,
+    ) -> i64;
+    pub safe fn lr_client_set(client: &mut lr_slot, what: u32, value: u64) -> i64;
+    pub fn lr_client_recall(
+        client: &mut lr_slot,
+        call: i64,
+        now: u64,
+        expiration: u64,
+        key: *const c_void,
+        key_size: usize,
+        operation: *const c_void,
+        operation_size: usize,
+        types: *const u8,
+        types_size: usize,
+        order: u32,
+        arguments: *const c_void,
+        arguments_size: usize,
+    ) -> i64;
+    pub safe fn lr_client_skip_to(client: &mut lr_slot, call: i64) -> i64;
+    pub safe fn lr_client_resend(client: &mut lr_slot, now: u64) -> i64;
+    pub fn lr_client_forwarded(
+        client: &mut lr_slot,
+        completion: &mut lr_completion,
+        room: *mut c_void,
+        size: usize,
+    ) -> i64;
+    pub fn lr_client_redirect(
+        client: &mut lr_slot,
+        call: i64,
         key: *const c_void,
         key_size: usize,
         operation: *const c_void,

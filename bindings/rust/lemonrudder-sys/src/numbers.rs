@@ -27,6 +27,7 @@ pub const LR_E_LONG: i64 = -23;
 pub const LR_E_LOST: i64 = -24;
 pub const LR_E_PLACE: i64 = -25;
 pub const LR_E_TICKET: i64 = -26;
+pub const LR_E_FORWARD: i64 = -27;
 
 pub const LR_BIG: u32 = 0;
 pub const LR_LITTLE: u32 = 1;

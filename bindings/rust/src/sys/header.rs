@@ -122,6 +122,10 @@ fn each_number_has_the_name_of_the_header() {
         assert_eq!(error.name(), if is_known { &name } else { "LR_E_UNKNOWN" });
         assert_eq!(numbers.remove(&name), is_known.then_some(code), "{name}");
     }
+    let settings = [super::LR_CLIENT_KEEP_TRANSIENT, super::LR_CLIENT_KEEP_FORWARD];
+    for (name, number) in ["TRANSIENT", "FORWARD"].into_iter().zip(settings) {
+        assert_eq!(numbers.remove(&format!("LR_CLIENT_KEEP_{name}")), Some(number.into()));
+    }
     let parts =
         [super::LR_PART_KEY, super::LR_PART_OPERATION, super::LR_PART_BODY, super::LR_PART_CLIENT];
     let names = ["PART_KEY", "PART_OPERATION", "PART_BODY", "PART_CLIENT", "PART_PAYLOAD"];

@@ -5,10 +5,11 @@ ghost use Rattle.lemonrudder.specs.Answers.{OnClient};
 ghost use Rattle.lemonrudder.specs.Calls.{IsMade, OnBody, OnCancel, OnCompleted, OnConnected, OnFeed, OnIsConnected, OnLost, OnOutput, OnTick};
 ghost use Rattle.lemonrudder.specs.Invokes.{OnCall, question};
 ghost use Rattle.lemonrudder.specs.Opening.{OpensMade};
+ghost use Rattle.lemonrudder.specs.Resuming.{OnForwarded, OnRecall, OnRedirect, OnResend, OnSet, OnSkip};
 ghost use Rattle.lemonrudder.specs.Slots.{held_in};
 
 use crate::called;
-use crate::calling::{Call, Calling, CompletionHead};
+use crate::calling::{Calling, CompletionHead, Question};
 use crate::object::Object;
 use crate::opened::open;
 use crate::refusal::Refusal;
@@ -72,6 +73,19 @@ pub extern "C" fn lr_client_is_connected(alloc: Global, slot: &mut Slot) -> i64
     answer
 }
 
+/// Says whether TRANSIENT leaves calls pending from now on, or a forward.
+#[unsafe(no_mangle)]
+pub extern "C" fn lr_client_set(alloc: Global, slot: &mut Slot, what: u32, value: u64) -> i64
+    ensures { OnClient (OnSet what value) (held_in slot.old) (held_in slot.new) result }
+{
+    let Some(mut object) = slot.take(alloc) else {
+        return Refusal::Empty.number();
+    };
+    let answer = called::set(&mut object, what, value);
+    slot.put(object);
+    answer
+}
+
 /// Calls an operation of an object, and answers the number of the call.
 #[unsafe(no_mangle)]
 pub extern "C" fn lr_client_call(
@@ -85,11 +99,9 @@ pub extern "C" fn lr_client_call(
     order: u32,
     arguments: &[u8],
 ) -> i64
-    ensures { OnClient (OnCall (question now expiration key.now operation.now types.now order arguments.now)) (held_in slot.old) (held_in slot.new) result }
+    ensures { OnClient (OnCall now expiration (question key.now operation.now types.now order arguments.now)) (held_in slot.old) (held_in slot.new) result }
 {
-    let call = Call {
-        now,
-        expiration,
+    let asked = Question {
         key,
         operation,
         types,
@@ -99,7 +111,113 @@ pub extern "C" fn lr_client_call(
     let Some(mut object) = slot.take(alloc) else {
         return Refusal::Empty.number();
     };
-    let answer = called::call(&mut object, &call);
+    let answer = called::call(&mut object, now, expiration, &asked);
+    slot.put(object);
+    answer
+}
+
+/// Takes a call of before up again, under its own number.
+#[unsafe(no_mangle)]
+pub extern "C" fn lr_client_recall(
+    alloc: Global,
+    slot: &mut Slot,
+    call: i64,
+    now: u64,
+    expiration: u64,
+    key: &[u8],
+    operation: &[u8],
+    types: &[u8],
+    order: u32,
+    arguments: &[u8],
+) -> i64
+    ensures { OnClient (OnRecall call now expiration (question key.now operation.now types.now order arguments.now)) (held_in slot.old) (held_in slot.new) result }
+{
+    let asked = Question {
+        key,
+        operation,
+        types,
+        order,
+        arguments,
+    };
+    let Some(mut object) = slot.take(alloc) else {
+        return Refusal::Empty.number();
+    };
+    let answer = called::recall(&mut object, call, now, expiration, &asked);
+    slot.put(object);
+    answer
+}
+
+/// Numbers up to this one were given to calls of before.
+#[unsafe(no_mangle)]
+pub extern "C" fn lr_client_skip_to(alloc: Global, slot: &mut Slot, call: i64) -> i64
+    ensures { OnClient (OnSkip call) (held_in slot.old) (held_in slot.new) result }
+{
+    let Some(mut object) = slot.take(alloc) else {
+        return Refusal::Empty.number();
+    };
+    let answer = called::skip_to(&mut object, call);
+    slot.put(object);
+    answer
+}
+
+/// Sends what is pending and was not sent on this connection.
+#[unsafe(no_mangle)]
+pub extern "C" fn lr_client_resend(alloc: Global, slot: &mut Slot, now: u64) -> i64
+    ensures { OnClient (OnResend now) (held_in slot.old) (held_in slot.new) result }
+{
+    let Some(mut object) = slot.take(alloc) else {
+        return Refusal::Empty.number();
+    };
+    let answer = called::resend(&mut object, now);
+    slot.put(object);
+    answer
+}
+
+/// Says the first call that is led elsewhere, and copies the reference to which.
+#[unsafe(no_mangle)]
+pub extern "C" fn lr_client_forwarded(
+    alloc: Global,
+    slot: &mut Slot,
+    completion: &mut CompletionHead,
+    room: &mut [u8],
+) -> i64
+    ensures told { OnClient (OnForwarded completion.old completion.new room.old room.new) (held_in slot.old) (held_in slot.new) result }
+    ensures none { result ≤ℤ pos 0 → completion.new ≡ completion.old }
+    ensures uncopied { result ≤ℤ pos 0 → room.new ≡ room.old }
+{
+    let Some(object) = slot.take(alloc) else {
+        return Refusal::Empty.number();
+    };
+    let answer = called::forwarded(&object, completion, room);
+    slot.put(object);
+    answer
+}
+
+/// Asks under another object key for a call that is led elsewhere.
+#[unsafe(no_mangle)]
+pub extern "C" fn lr_client_redirect(
+    alloc: Global,
+    slot: &mut Slot,
+    call: i64,
+    key: &[u8],
+    operation: &[u8],
+    types: &[u8],
+    order: u32,
+    arguments: &[u8],
+) -> i64
+    ensures { OnClient (OnRedirect call (question key.now operation.now types.now order arguments.now)) (held_in slot.old) (held_in slot.new) result }
+{
+    let asked = Question {
+        key,
+        operation,
+        types,
+        order,
+        arguments,
+    };
+    let Some(mut object) = slot.take(alloc) else {
+        return Refusal::Empty.number();
+    };
+    let answer = called::redirect(&mut object, call, &asked);
     slot.put(object);
     answer
 }

@@ -1,0 +1,19 @@
+use Rattle.std.proofs.Common.{◌≡◌, ◌∙◌, ℤ, FitsSigned, Ok, subst, sym}
+use Rattle.std.proofs.lemmas.Int.{to_z-of_z}
+use Rattle.std.specs.Int.{w32, w64}
+use Rattle.lemonrudder.specs.declared.calling.Calling.{Calling}
+use Rattle.lemonrudder.specs.Invokes.{question_of}
+use Rattle.lemonrudder.specs.Resuming.{OnRedirect}
+use Rattle.lemonrudder.proofs.Invoking.{asked_are, client_redirects}
+use Rattle.lemonrudder.proofs.calling.Calling.redirect.Goals as goal
+
+pub returns : goal.returns
+returns c =
+    let q = question_of c.args.question.now in
+    let s = c.args.self.now in
+    let o = c.in_ok-redirect.ensures in
+    let call : ◌≡◌ {A = ℤ} c.in-Ok.id c.args.call = c.in-Ok.ensures.1 ∙ to_z-of_z w64 c.args.call c.ranges.call in
+    let fits : FitsSigned w32 c.in-Ok.id = subst (λ (z : ℤ). FitsSigned w32 z) (sym c.in-Ok.ensures.1) c.in-Ok.ensures.0 in
+    let are = asked_are q c.deref.result.now _ c.deref.ensures.value c.in_ok-arguments.ensures.asked in
+    let t : Calling = record s { client = c.redirect.new.self } in
+    subst (λ (z : ℤ). OnRedirect z q s t (Ok 0)) (to_z-of_z w32 c.in-Ok.id fits ∙ call) (client_redirects _ q s c.redirect.new.self c.deref.result.now are o.fitting o.stands)
