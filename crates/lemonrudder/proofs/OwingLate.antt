@@ -1,5 +1,5 @@
 -- What is written after what was due is due too, in the words of what is known of the calls.
-use Rattle.std.proofs.Common.{◌≡◌, ℕ, ◌≤◌, List, length, drop, Result, Ok, Err, IfSome, Option}
+use Rattle.std.proofs.Common.{ℕ, ◌≤◌, List, length, drop, Result, Ok, Err}
 use Rattle.ft_log.specs.Holding.{Holding}
 use Rattle.ft_log.specs.Performed.{Performed}
 use Rattle.ft_objects.specs.Catalogues.{Offer}
