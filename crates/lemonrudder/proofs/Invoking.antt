@@ -1,5 +1,5 @@
 -- Calls that a client makes, takes up again or redirects, in the words of what it stands for.
-use Rattle.std.proofs.Common.{◌≡◌, ◌∙◌, ◌↔◌, inl, inr, ℕ, suc, ℤ, Bool, true, false, IsTrue, List, ◌++◌, Option, Some, Result, Ok, Err, Vec, Global, refl, subst, sym}
+use Rattle.std.proofs.Common.{◌≡◌, ◌∙◌, ◌↔◌, inr, ℕ, suc, ℤ, Bool, true, false, IsTrue, List, ◌++◌, Some, Result, Ok, Err, Vec, Global, refl, subst, sym}
 use Rattle.std.proofs.lemmas.Bool.{false≢true}
 use Rattle.cdr_core.specs.declared.order.Order.{Order}
 use Rattle.cdr_core.specs.declared.types.Ty.{Ty}

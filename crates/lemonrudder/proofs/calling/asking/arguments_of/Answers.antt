@@ -1,7 +1,6 @@
-use Rattle.std.proofs.Common.{refl}
+use Rattle.std.proofs.Common.{refl, subst}
 use Rattle.cdr_core.specs.View.{values_of}
 use Rattle.cdr_core.specs.Writing.{AreWritable}
-use Rattle.std.proofs.Common.{subst}
 use Rattle.lemonrudder.specs.Invokes.{question_of}
 use Rattle.lemonrudder.proofs.Invoking.{arguments_are, not_writable}
 use Rattle.lemonrudder.proofs.calling.asking.arguments_of.Goals as goal
