@@ -1048,9 +1048,9 @@ static void moments_are_counted(void) {
 }
 
 static void errors_have_texts(void) {
-  for (int64_t one = LR_E_PLACE; one <= LR_OK; one++) {
+  for (int64_t one = LR_E_FORWARD; one <= LR_OK; one++) {
     CHECK(lr_strerror(one) != NULL && lr_strerror(one)[0] != 0);
-    for (int64_t other = LR_E_PLACE; other < one; other++) CHECK(strcmp(lr_strerror(one), lr_strerror(other)) != 0);
+    for (int64_t other = LR_E_FORWARD; other < one; other++) CHECK(strcmp(lr_strerror(one), lr_strerror(other)) != 0);
   }
   CHECK(strcmp(lr_strerror(5), lr_strerror(LR_OK)) == 0 && strcmp(lr_strerror(INT64_MAX), lr_strerror(LR_OK)) == 0);
   CHECK(strcmp(lr_strerror(-1000), lr_strerror(INT64_MIN)) == 0);
@@ -1063,10 +1063,10 @@ static void errors_have_names(void) {
   NAMED(LR_E_EMPTY);
   NAMED(LR_E_RANGE);
   NAMED(LR_E_NONE);
-  NAMED(LR_E_PLACE);
-  for (int64_t one = LR_E_PLACE; one < LR_OK; one++) {
+  NAMED(LR_E_FORWARD);
+  for (int64_t one = LR_E_FORWARD; one < LR_OK; one++) {
     CHECK(strncmp(lr_error_name(one), "LR_E_", 5) == 0 && strcmp(lr_error_name(one), "LR_E_UNKNOWN") != 0);
-    for (int64_t other = LR_E_PLACE; other < one; other++) CHECK(strcmp(lr_error_name(one), lr_error_name(other)) != 0);
+    for (int64_t other = LR_E_FORWARD; other < one; other++) CHECK(strcmp(lr_error_name(one), lr_error_name(other)) != 0);
   }
   CHECK(strcmp(lr_error_name(5), "LR_OK") == 0 && strcmp(lr_error_name(INT64_MAX), "LR_OK") == 0);
   CHECK(strcmp(lr_error_name(-1000), "LR_E_UNKNOWN") == 0 && strcmp(lr_error_name(INT64_MIN), "LR_E_UNKNOWN") == 0);

@@ -184,7 +184,7 @@ mod tests {
 
     #[test]
     fn each_code_has_its_error() {
-        for code in -26..=-1 {
+        for code in -27..=-1 {
             let error = Error::of(code);
             assert!(!matches!(error, Error::Unknown(_)));
             assert_eq!(error.code(), code);
@@ -198,7 +198,7 @@ mod tests {
 
     #[test]
     fn an_error_has_the_text_of_the_library() {
-        for code in -26..=-1 {
+        for code in -27..=-1 {
             assert!(!Error::of(code).to_string().is_empty());
         }
         assert_ne!(Error::Memory.to_string(), Error::Lost.to_string());
