@@ -1066,7 +1066,9 @@ static void errors_have_names(void) {
   NAMED(LR_E_FORWARD);
   for (int64_t one = LR_E_FORWARD; one < LR_OK; one++) {
     CHECK(strncmp(lr_error_name(one), "LR_E_", 5) == 0 && strcmp(lr_error_name(one), "LR_E_UNKNOWN") != 0);
-    for (int64_t other = LR_E_FORWARD; other < one; other++) CHECK(strcmp(lr_error_name(one), lr_error_name(other)) != 0);
+    for (int64_t other = LR_E_FORWARD; other < one; other++) {
+      CHECK(strcmp(lr_error_name(one), lr_error_name(other)) != 0);
+    }
   }
   CHECK(strcmp(lr_error_name(5), "LR_OK") == 0 && strcmp(lr_error_name(INT64_MAX), "LR_OK") == 0);
   CHECK(strcmp(lr_error_name(-1000), "LR_E_UNKNOWN") == 0 && strcmp(lr_error_name(INT64_MIN), "LR_E_UNKNOWN") == 0);
