@@ -4,8 +4,8 @@
  *     engine CALLS COUNT PIECE [add|repeat|locate|rising|scattered [ENTRIES]]
  *
  * The words after CALLS, the messages and what is printed are those of `benches engine` (crates/benches/src/server.rt).
- * CALLS is which functions are called: `few` or `asked`, what a server can't do without; or `loop`, all that
- * examples/bank.c and its loop call.
+ * CALLS is which functions are called: `few`, what a server can't do without, or `loop`, all that examples/bank.c and
+ * its loop call.
  */
 #include <lemonrudder.h>
 #include <stdbool.h>
@@ -28,7 +28,7 @@ static const unsigned char keyed_message[84] = {
 static const unsigned char locate_message[25] = {
     'G', 'I', 'O', 'P', 1, 2, 0, 3, 0, 0, 0, 13, 0, 0, 0, 1, 0, 0, 0, 0, 0, 0, 0, 1, 'c'};
 
-enum calls { FEW, ASKED, LOOP };
+enum calls { FEW, LOOP };
 
 static enum calls calls;
 static lr_server server = LR_INIT;
@@ -155,14 +155,14 @@ static void open_server(uint32_t entries) {
 static int which(const char *word, int count, const char *const *words) {
   for (int index = 0; index < count; index++)
     if (strcmp(word, words[index]) == 0) return index;
-  fputs("usage: engine few|asked|loop COUNT PIECE [add|repeat|locate|rising|scattered [ENTRIES]]\n", stderr);
+  fputs("usage: engine few|loop COUNT PIECE [add|repeat|locate|rising|scattered [ENTRIES]]\n", stderr);
   exit(2);
 }
 
 int main(int count, char **words) {
-  static const char *const of_calls[] = {"few", "asked", "loop"};
+  static const char *const of_calls[] = {"few", "loop"};
   static const char *const kinds[] = {"add", "repeat", "locate", "rising", "scattered"};
-  calls = (enum calls)which(count < 4 || count > 6 ? "" : words[1], 3, of_calls);
+  calls = (enum calls)which(count < 4 || count > 6 ? "" : words[1], 2, of_calls);
   size_t messages = strtoul(words[2], NULL, 10), piece = strtoul(words[3], NULL, 10);
   int kind = which(count > 4 ? words[4] : "add", 5, kinds);
   size_t entries = count > 5 ? strtoul(words[5], NULL, 10) : 1024;

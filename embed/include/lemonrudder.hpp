@@ -732,8 +732,8 @@ class Client : public Slot<lr_client> {
   Done resend(std::uint64_t now) noexcept { return detail::done(lr_client_resend(slot(), now)); }
 
   /* The first call that is led elsewhere, if there is one, and as much of the reference to which as the room has. */
-  Result<std::optional<lr_completion>> forwarded(Room room) noexcept {
-    lr_completion completion{};
+  Result<std::optional<Completion>> forwarded(Room room) noexcept {
+    Completion completion{};
     const std::int64_t answer = lr_client_forwarded(slot(), &completion, room.data(), room.size());
     return detail::found(answer, completion);
   }

@@ -204,7 +204,7 @@ void a_call_goes_on() {
   const auto none = client->forwarded(room);
   CHECK(none && !*none);
   std::array<std::uint8_t, 64> reply{};
-  const auto size = lr::write_reply(reply, {2, lr::Order::big, 1}, LR_LOCATION_FORWARD, "reference");
+  const auto size = lr::write_reply(reply, {2, lr::Order::big, 1}, lr::ReplyStatus::location_forward, "reference");
   CHECK(size && client->feed(lr::Octets(reply.data(), *size)));
   const auto led = client->forwarded(room);
   CHECK(led && *led && (*led)->call == 5 && (*led)->body_size == 9 && room[8] == 'e');
