@@ -22,7 +22,7 @@ SECONDS = {
     "ft_log": 104,
     "ft_client": 164,
     "ft_objects": 82,
-    "ft_orb": 324,
+    "ft_orb": 900,
     "ft_ends": 200,
     "ft_tcp": 48,
     "lemonrudder": 635,
@@ -35,6 +35,7 @@ SECONDS = {
     "giop_tool": 314,
     "uses": 250,
     "orb_tests": 150,
+    "schedule_player": 150,
 }
 # the parts of a crate that its proof and its code are made from
 PARTS = ("src", "specs", "proofs")
