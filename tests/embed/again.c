@@ -158,7 +158,7 @@ static int carry(lr_server *server, uint64_t connection) {
     at += taken;
     if (lr_server_asked(server, &request) != 1) continue;
     asked++;
-    WANT(lr_server_answer(server, LR_BIG, "\0\0\0\6", 4), LR_OK);
+    WANT(lr_server_answer(server, request.ticket, LR_BIG, "\0\0\0\6", 4), LR_OK);
   }
   size = lr_server_output(server, room, sizeof room);
   WANT(lr_client_feed(&client, room, (size_t)size), size);
