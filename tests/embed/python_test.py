@@ -1,4 +1,4 @@
-"""Tests bindings/python/lemonrudder.py and its examples.
+"""Tests bindings/python/lemonrudder and its examples.
 
 What is read is compared with the rows and cases of `giop show`, with octets of tests/giop.py, and with the models of
 tests/engine.py. The library is that of LEMONRUDDER_LIBRARY, or the one that tests/programs.py finds.
@@ -11,6 +11,7 @@ import logging
 import os
 import random
 import re
+import shutil
 import socket
 import struct
 import subprocess
@@ -24,7 +25,7 @@ from tests import base, cases, giop, rows
 from tests import engine as model
 from tests import engine_model
 from tests.cdr import Octets
-from tests.programs import ROOT, library
+from tests.programs import NEEDS, ROOT, library
 
 if "LEMONRUDDER_LIBRARY" not in os.environ:
     os.environ["LEMONRUDDER_LIBRARY"] = os.path.join(library(), "lib", "liblemonrudder.so")
@@ -1823,7 +1824,7 @@ class Library(Case):
     def test_another_version(self):
         """A library of another series is refused by its version."""
         with tempfile.TemporaryDirectory() as folder:
-            module = os.path.join(ROOT, "bindings", "python", "lemonrudder.py")
+            module = os.path.join(ROOT, "bindings", "python", "lemonrudder", "__init__.py")
             with open(module, encoding="utf-8") as file:
                 text = file.read()
             major, minor, patch = lr.VERSION
@@ -1854,12 +1855,36 @@ class Library(Case):
                 self.assertIn(text, run.stderr)
                 self.assertIn("ImportError", run.stderr)
 
+    def imported(self, folder):
+        """What a program prints that imports the package of a folder, which has the library in it."""
+        words = [sys.executable, "-c", "import lemonrudder; print(lemonrudder.type_codes('l'))"]
+        given = {name: value for name, value in os.environ.items() if name != "LEMONRUDDER_LIBRARY"}
+        run = subprocess.run(words, env={**given, "PYTHONPATH": folder}, capture_output=True, text=True, timeout=SECONDS)
+        self.assertEqual(run.stderr, "")
+        return run.stdout
+
+    def package_in(self, folder):
+        """A copy of the package in a folder, with the library beside it."""
+        package = os.path.join(folder, "lemonrudder")
+        shutil.copytree(os.path.join(ROOT, "bindings", "python", "lemonrudder"), package)
+        shutil.copy(os.environ["LEMONRUDDER_LIBRARY"], os.path.join(package, "liblemonrudder.so"))
+        return package
+
     def test_beside_the_module(self):
         with tempfile.TemporaryDirectory() as folder:
-            module = os.path.join(ROOT, "bindings", "python", "lemonrudder.py")
-            os.symlink(module, os.path.join(folder, "lemonrudder.py"))
-            os.symlink(os.environ["LEMONRUDDER_LIBRARY"], os.path.join(folder, "liblemonrudder.so"))
-            words = [sys.executable, "-c", "import lemonrudder; print(lemonrudder.type_codes('l'))"]
-            given = {name: value for name, value in os.environ.items() if name != "LEMONRUDDER_LIBRARY"}
-            run = subprocess.run(words, env={**given, "PYTHONPATH": folder}, capture_output=True, text=True)
-            self.assertEqual((run.stdout, run.stderr), ("b'\\x06'\n", ""))
+            self.package_in(folder)
+            self.assertEqual(self.imported(folder), "b'\\x06'\n")
+
+    def test_installed(self):
+        """pip installs the package with its library and the mark of its types, without a registry."""
+        tools = [it for it in (sys.executable, "/usr/bin/python3") if os.path.exists(it) and not subprocess.run(
+            [it, "-c", "import setuptools, wheel, pip"], capture_output=True, timeout=SECONDS).returncode]
+        if not tools:
+            self.skipTest(NEEDS + "pip, setuptools and wheel")
+        with tempfile.TemporaryDirectory() as source, tempfile.TemporaryDirectory() as folder:
+            self.package_in(source)
+            shutil.copy(os.path.join(ROOT, "bindings", "python", "pyproject.toml"), source)
+            subprocess.run([tools[0], "-m", "pip", "install", "-q", "--no-index", "--no-deps", "--no-build-isolation",
+                            "--target", folder, source], check=True, capture_output=True, timeout=SECONDS)
+            self.assertTrue(os.path.exists(os.path.join(folder, "lemonrudder", "py.typed")))
+            self.assertEqual(self.imported(folder), "b'\\x06'\n")
