@@ -355,8 +355,9 @@ LR_API int64_t lr_server_output(lr_server *server, void *room, size_t size);
 /* ---- a client that sends its calls again ---- */
 
 /*
- * Each call is sent with FT_REQUEST, once on each connection until it is answered or its expiration is past, so that
- * a server that keeps outcomes performs it once. Octets that are due are moved by lr_client_output after each call.
+ * Each call is sent with FT_REQUEST, on each connection until it is answered or its expiration is past, so that a
+ * server that keeps outcomes performs it once: on one connection once, unless lr_client_resend sends it again. Octets
+ * that are due are moved by lr_client_output after each call.
  */
 
 /* Opens a client that is not connected. Its id, 1 to 256 octets without a NUL, names it to each server. It numbers its
@@ -367,8 +368,8 @@ LR_API int64_t lr_server_output(lr_server *server, void *room, size_t size);
 LR_API int64_t lr_client_open(lr_client *client, const void *id, size_t id_size, uint32_t version,
                               uint32_t message_limit, uint32_t partials);
 
-/* The client is connected anew: what is pending and not past its expiration is due. Octets that were due for the
- * connection before are dropped. LR_E_EMPTY, LR_E_LOST. */
+/* The client is connected anew: what is pending, is not led elsewhere and not past its expiration is due. Octets that
+ * were due for the connection before are dropped. LR_E_EMPTY, LR_E_LOST. */
 LR_API int64_t lr_client_connected(lr_client *client, uint64_t now);
 
 /* The connection is lost: what is pending stays so. LR_E_EMPTY. */
@@ -397,7 +398,7 @@ LR_API int64_t lr_client_call(lr_client *client, uint64_t now, uint64_t expirati
 /* Takes a call of before up again under its number, in a client that was opened anew with the id of before: a server
  * that performed it gives its first outcome. Numbers go up, and the expiration is the one of before. The next call gets
  * the number after this one. Errors as of lr_client_call; LR_E_RANGE also where the number is below 0 or over
- * 2147483647; and LR_E_TAKEN: it is not greater than each that this client gave or took up. */
+ * 2147483647; and LR_E_TAKEN: it is 0, or not greater than each that this client gave, took up or skipped. */
 LR_API int64_t lr_client_recall(lr_client *client, int64_t call, uint64_t now, uint64_t expiration, const void *key,
                                 size_t key_size, const void *operation, size_t operation_size, const uint8_t *types,
                                 size_t types_size, uint32_t order, const void *arguments, size_t arguments_size);
@@ -456,8 +457,9 @@ LR_API int64_t lr_client_forwarded(lr_client *client, lr_completion *completion,
 
 /* Asks for a call that is led elsewhere by another key, with its number and its expiration: lr_client_resend sends it,
  * or the next lr_client_connected. What is pending is sent on one connection: that it leads there is up to you. The
- * operation and the arguments are those of the call; for others nothing is promised of it. LR_E_FORWARD (it is not led
- * elsewhere), LR_E_EMPTY, LR_E_RANGE, LR_E_TYPES, LR_E_TEXT, LR_E_SHORT, LR_E_VALUE, LR_E_LONG, LR_E_MEMORY. */
+ * operation and the arguments are those of the call; for others nothing is promised of this client. LR_E_FORWARD (it
+ * is not led elsewhere), LR_E_EMPTY, LR_E_RANGE, LR_E_TYPES, LR_E_TEXT, LR_E_SHORT, LR_E_VALUE, LR_E_LONG,
+ * LR_E_MEMORY. */
 LR_API int64_t lr_client_redirect(lr_client *client, int64_t call, const void *key, size_t key_size,
                                   const void *operation, size_t operation_size, const uint8_t *types, size_t types_size,
                                   uint32_t order, const void *arguments, size_t arguments_size);

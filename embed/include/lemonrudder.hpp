@@ -114,8 +114,8 @@ constexpr std::uint8_t* room_at(T* at) noexcept {
 }  // namespace detail
 
 /* Octets that are lent: a pointer and a size. Any contiguous range of octets, bytes or characters becomes that: a
- * vector, string, array, view or span. A `const char*`, and a literal, is a text that ends before its first NUL; what
- * has NULs is "\0\1"_o, or a pointer and a size. */
+ * vector, string, array, view or span. A `const char*`, and an array of `char`, as a literal is, is a text that ends
+ * before its first NUL, and has one; what has others is "\0\1"_o, or a pointer and a size. */
 class Octets {
  public:
   constexpr Octets() noexcept = default;

@@ -1250,11 +1250,49 @@ class Ends(Case):
                 client.reconnect()
                 self.assertEqual(await call, 6)
                 self.assertEqual(seen, [(b"k", 5), (b"k", 5), (b"other", 5)])
+                answers.put_nowait((lr.ReplyStatus.LOCATION_FORWARD, b""))
+                call = asyncio.ensure_future(client.call("k", "op"))
+                await until(lambda: client.forwarded() or call.done())
+                with self.assertRaises(lr.LemonrudderError) as caught:
+                    await call
+                self.assertEqual((caught.exception.number, client.forwarded()), (Error.SHORT, None))
                 client.keep()
                 answers.put_nowait((lr.ReplyStatus.LOCATION_FORWARD, forward))
                 with self.assertRaises(lr.ForwardRequest):
                     await client.call("k", "op")
             listener.close()
+        self.run_async(main())
+
+    def test_another_place(self):
+        """A connection that is under way to another place than the one that was asked for since takes nothing."""
+        async def main():
+            came = {}
+
+            async def listener(name):
+                async def serve(reader, writer):
+                    came.setdefault(name, []).append(await reader.read(4096))
+                    writer.close()
+                server = await asyncio.start_server(serve, "127.0.0.1", 0)
+                return server, server.sockets[0].getsockname()[1]
+
+            (first, before), (second, after) = await listener("first"), await listener("second")
+            async with lr.Client("127.0.0.1", before) as client:
+                for port in (0, 65536):
+                    with self.assertRaises(ValueError):
+                        client.reconnect(port=port)
+                call = asyncio.ensure_future(client.call("k", "op"))
+                while client._task is None:
+                    await asyncio.sleep(0)
+                await asyncio.sleep(0)
+                client.reconnect(port=after)
+                while "second" not in came:
+                    await asyncio.sleep(0.005)
+                self.assertEqual([it.operation for it in lr.messages(came["second"][0])], ["op"])
+                self.assertFalse(any(came.get("first", [])))
+                call.cancel()
+                await asyncio.wait([call])
+            first.close()
+            second.close()
         self.run_async(main())
 
     def test_calls_of_before(self):

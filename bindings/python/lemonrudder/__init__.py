@@ -2014,8 +2014,8 @@ class Client:
         """Takes a call of before up again under its number: as call, in a client with the id of before. A server that
         performed it gives its first outcome. expiration: the one that it had.
 
-        Raises what call does, and LemonrudderError (TAKEN: the number is not greater than each that this client gave or
-        took up; RANGE: it is below 0, or over 2147483647).
+        Raises what call does, and LemonrudderError (TAKEN: the number is 0, or not greater than each that this client
+        gave, took up or skipped; RANGE: it is below 0, or over 2147483647).
         """
         return await self._made(number, key, operation, arguments, values, results, raises, 0.0, expiration)
 
@@ -2032,29 +2032,40 @@ class Client:
         _call(_library.lr_client_set, self._slot, _Setting.KEEP_FORWARD, forward)
 
     def resend(self) -> None:
-        """Sends what is pending, was not sent on this connection and is not led elsewhere."""
-        if self._transport is not None:
+        """Sends what is pending, was not sent on this connection and is not led elsewhere.
+        Raises LemonrudderError (LOST: an allocation failed, and the connection is given up)."""
+        if self._transport is None:
+            return
+        try:
             _call(_library.lr_client_resend, self._slot, now())
-            self._flush()
+        except LemonrudderError:
+            self._transport.abort()
+            raise
+        self._flush()
 
     def forwarded(self) -> Optional[Tuple[int, Ior]]:
         """The number of the first pending call that is led elsewhere, and the reference to which; None where none is.
-        Raises LemonrudderError (SHORT, VALUE: the forward holds no reference)."""
+        A call whose forward holds no reference ends by LemonrudderError (SHORT, VALUE)."""
         completion = _Completion()
-        room, size = self._room, len(self._room)
-        if not _call(_library.lr_client_forwarded, self._slot, completion, room, size):
-            return None
-        if completion.body_size > size:
-            room, size = ctypes.create_string_buffer(completion.body_size), completion.body_size
-            _call(_library.lr_client_forwarded, self._slot, completion, room, size)
-        octets = ctypes.string_at(room, completion.body_size)
-        body = Body(octets, _named(Order, completion.body_order), completion.body_at)
-        return completion.call, Ior.read(body.reader())
+        while True:
+            room, size = self._room, len(self._room)
+            if not _call(_library.lr_client_forwarded, self._slot, completion, room, size):
+                return None
+            if completion.body_size > size:
+                room, size = ctypes.create_string_buffer(completion.body_size), completion.body_size
+                _call(_library.lr_client_forwarded, self._slot, completion, room, size)
+            octets = ctypes.string_at(room, completion.body_size)
+            body = Body(octets, _named(Order, completion.body_order), completion.body_at)
+            try:
+                return completion.call, Ior.read(body.reader())
+            except LemonrudderError:
+                self._give(completion.call, _Ended.FORWARDED, body)
+                self._cancel(completion.call)
 
     def redirect(self, number: int, key: Text, operation: Text, arguments: str = "",
                  values: Sequence[Any] = ()) -> None:
         """Asks by another key for a call that is led elsewhere, with its number: `resend` sends it where the connection
-        leads there, or else `reconnect`. What it asks is given again; for anything else nothing is promised of it.
+        leads there, or else `reconnect`. What it asks is given again; for anything else nothing is promised of the client.
         Raises LemonrudderError (FORWARD: it is not led elsewhere; RANGE, TEXT, LONG); ValueError or TypeError."""
         octets, codes = pack(arguments, *values), type_codes(arguments)
         _call(_library.lr_client_redirect, self._slot, number, *_lent(key), *_lent(operation), *_lent(codes), BIG,
@@ -2062,8 +2073,11 @@ class Client:
 
     def reconnect(self, host: Optional[str] = None, port: Optional[int] = None) -> None:
         """Leaves the connection, if there is one; what is pending is sent on the next, which leads to this host and
-        port where they are given."""
-        self.host, self.port = host or self.host, port or self.port
+        port where they are given. Raises ValueError: no port."""
+        port = self.port if port is None else port
+        if not 0 < port < 65536:
+            raise ValueError(f"no port: {port}")
+        self.host, self.port = self.host if host is None else host, port
         if self._transport is not None:
             self._transport.abort()
 
@@ -2150,13 +2164,18 @@ class Client:
                 octets = _copied(self._room, _library.lr_client_body, self._slot)
             body = Body(octets, _named(Order, completion.body_order), completion.body_at)
             self._is_heard = self._is_heard or completion.how <= _Ended.NEEDS_ADDRESSING
-            future = self._futures.pop(completion.call, None)
-            if future is not None and not future.done():
-                future.set_result((completion.how, body))
+            self._give(completion.call, completion.how, body)
+            self._futures.pop(completion.call, None)
             turns, self._turns = self._turns, []
             for turn in turns:
                 if not turn.done():
                     turn.set_result(None)
+
+    def _give(self, number: int, how: int, body: Body) -> None:
+        """Says how a call has ended to who waits for it."""
+        future = self._futures.get(number)
+        if future is not None and not future.done():
+            future.set_result((how, body))
 
     def _cancel(self, number: int) -> None:
         if number in self._futures and not self.is_closed:
@@ -2179,7 +2198,8 @@ class Client:
         while self._futures:
             self._is_heard = False
             try:
-                _, link = await loop.create_connection(lambda: _Link(self, loop.create_future()), self.host, self.port)
+                at = self.host, self.port
+                _, link = await loop.create_connection(lambda: _Link(self, loop.create_future(), at), *at)
                 await link.ended
             except (OSError, ValueError) as error:
                 _LOG.debug("no connection: %s", error)
@@ -2237,13 +2257,17 @@ def _ended(how: int, body: Body, results: str, raises: Mapping[str, str]) -> Any
 
 
 class _Link(asyncio.Protocol):
-    """A connection of a Client. `ended` is done once it is gone."""
+    """A connection of a Client to a host and port. `ended` is done once it is gone."""
 
-    def __init__(self, client: Client, ended: asyncio.Future[None]) -> None:
-        self.client, self.ended = client, ended
+    def __init__(self, client: Client, ended: asyncio.Future[None], at: Tuple[str, int]) -> None:
+        self.client, self.ended, self.at = client, ended, at
 
     def connection_made(self, transport: Any) -> None:
-        self.client._connected(transport)
+        # (another place may have been asked for meanwhile)
+        if self.at == (self.client.host, self.client.port):
+            self.client._connected(transport)
+        else:
+            transport.abort()
 
     def data_received(self, data: bytes) -> None:
         self.client._receive(bytes(data))

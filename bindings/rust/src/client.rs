@@ -75,8 +75,8 @@ impl Client {
         Ok(Client { slot, body: Vec::new() })
     }
 
-    /// It is connected anew: what is pending and not past its expiration is due. Octets that were
-    /// due for the connection before are dropped.
+    /// It is connected anew: what is pending, not led elsewhere and not past its expiration is due.
+    /// Octets that were due for the connection before are dropped.
     ///
     /// # Errors
     ///
@@ -129,8 +129,8 @@ impl Client {
     ///
     /// # Errors
     ///
-    /// As of [`Client::call`]; `Range` where the number is below 0; and `Taken`, where it is not
-    /// greater than each that this client gave or took up.
+    /// As of [`Client::call`]; `Range` where the number is below 0; and `Taken`, where it is 0, or
+    /// not greater than each that this client gave, took up or skipped.
     pub fn recall(&mut self, number: i32, now: Moment, call: &Call<'_>) -> Result<(), Error> {
         let types = codes_of(call.types)?;
         let arguments = call.arguments.as_octets();
@@ -212,7 +212,7 @@ impl Client {
     /// [`Client::resend`] sends it, or the next [`Client::connected`]. That the connection leads to
     /// where it is led is up to the caller. What it asks is given again, but for its expiration,
     /// which counts for nothing here; for another operation or other arguments nothing is promised
-    /// of it.
+    /// of the client.
     ///
     /// # Errors
     ///
