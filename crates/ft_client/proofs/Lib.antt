@@ -12,6 +12,7 @@ pub mod Whole
 pub mod Unled
 pub mod Restarting
 pub mod Waiting
+pub mod Keys
 pub mod Feeds
 pub mod Counts
 pub mod Models

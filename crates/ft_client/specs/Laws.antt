@@ -5,7 +5,7 @@ use Rattle.giop_core.specs.declared.header.Version.{Version}
 use Rattle.giop_frames.specs.declared.limits.Limits.{Limits}
 use Rattle.ft_client.specs.Clients.{Client, Happening, Linked, Resent, says, transmission_to}
 use Rattle.giop_link.specs.Hearing.{Hearing}
-use Rattle.ft_client.specs.Lives.{HasNoGaps, IsLife, Life, goes_on, leaves_out, lived, new_life, sent_at}
+use Rattle.ft_client.specs.Lives.{HasNoGaps, IsAskedAt, IsLife, Life, goes_on, leaves_out, lived, new_life, redirections, sent_at}
 use Rattle.ft_client.specs.Messages.{Answer, Call, request_behind}
 
 -- Whatever happens to a client, and whatever it hears: each call is pending or was completed once, and each transmission of it
@@ -34,3 +34,8 @@ IdsAreLeft = (client_id : List ℕ) (version : Version) (limits : Limits) (down 
 -- it: no transmission there has its number.
 abbrev pub WaitingIsNotResent : Type 0
 WaitingIsNotResent = (client_id : List ℕ) (version : Version) (limits : Limits) (down : Hearing Answer) (happenings : List Happening) (now : ℕ) (m : Client) → (lived down happenings (new_life client_id version limits)).client ≡ m → AllByRecursion (λ p. is_some p.sent ≡ true → AllByRecursion (λ x. x.1.retention_id ≢ p.id) (sent_at now (says (Resent now) m))) m.pending
+
+-- Whatever happens to a client, and whatever it hears: each transmission of a call asks under the call's own object key, or under one
+-- that a redirection of that call gave.
+abbrev pub CallsKeepTheirKeys : Type 0
+CallsKeepTheirKeys = (client_id : List ℕ) (version : Version) (limits : Limits) (down : Hearing Answer) (happenings : List Happening) → AllByRecursion (λ x. IsAskedAt (redirections happenings) x.1) (lived down happenings (new_life client_id version limits)).sent

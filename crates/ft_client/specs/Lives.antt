@@ -1,6 +1,6 @@
 -- A client with all that ever was, and what is true of it.
-use Rattle.std.specs.Prelude.{◌≡◌, ℕ, ◌+◌, ◌<◌, ◌≤◌, ◌==◌, ◌&&◌, nat_le, nat_lt, Bool, true, false, if◌then◌else◌, List, [], ◌∷◌, ◌++◌, length, Option, Some, None}
-use Rattle.std.specs.List.{AllByRecursion}
+use Rattle.std.specs.Prelude.{◌≡◌, ◌⊎◌, ℕ, ◌+◌, ◌<◌, ◌≤◌, ◌==◌, ◌&&◌, nat_le, nat_lt, ℤ, pos, Bool, true, false, if◌then◌else◌, List, [], ◌∷◌, ◌++◌, length, Option, Some, None}
+use Rattle.std.specs.List.{AllByRecursion, Contains}
 use Rattle.giop_core.specs.declared.header.Version.{Version}
 use Rattle.giop_frames.specs.declared.limits.Limits.{Limits}
 use Rattle.ft_client.specs.Clients.{Called, Client, Ended, Fed, Happening, Joined, Kept, KeptForwards, Parted, Pending, Recalled, Redirected, Resent, Resumed, Skipped, Taken, Ticked, after, gives, made, new_client, says}
@@ -101,6 +101,19 @@ pub record IsLife (client_id : List ℕ) (version : Version) (l : Life) : Type 0
   pub alive : IsAlive client_id version l.calls l.taken l.client
   -- each transmission of a call carries this client's id and the call's content, and none was made past its expiration
   pub sent : AllByRecursion (λ x. IsOfCall client_id version l.calls x) l.sent
+
+-- the object keys that redirections give, each with the number of its call
+abbrev pub redirection : Happening → List (ℤ × List ℕ)
+redirection (Redirected id key) = (id, key) ∷ []
+redirection _ = []
+
+abbrev pub redirections : List Happening → List (ℤ × List ℕ)
+redirections [] = []
+redirections (h ∷ hs) = redirection h ++ redirections hs
+
+-- a transmission that asks under its call's own object key, or under one that these give its number
+abbrev pub IsAskedAt : List (ℤ × List ℕ) → Transmission → Type 0
+IsAskedAt keys t = (t.at ≡ t.call.object_key) ⊎ Contains keys (pos t.retention_id, t.at)
 
 -- what leaves numbers out: a call of before that is taken up again, and a number that is skipped
 abbrev pub leaves_out : Happening → Bool

@@ -1,12 +1,18 @@
 //! Laws over the definitions: each is what a function with an empty body ensures.
 
-ghost use Rattle.ft_client.specs.Laws.{CallsCompleteOnce, IdsAreLeft, LivesGoOn, NumbersHaveNoGaps, RequestsAreAsLong, WaitingIsNotResent};
+ghost use Rattle.ft_client.specs.Laws.{CallsCompleteOnce, CallsKeepTheirKeys, IdsAreLeft, LivesGoOn, NumbersHaveNoGaps, RequestsAreAsLong, WaitingIsNotResent};
 ghost use Rattle.ft_client.specs.Restarting.{RestartsAreLosses};
 
 /// Whatever happens to a client: each call is pending or was completed once, and each transmission of it carries its
 /// content, none past its expiration.
 pub fn a_call_completes_once()
     ensures { CallsCompleteOnce }
+{}
+
+/// Whatever happens to a client: each transmission of a call asks for it under its own object key, or under one that a
+/// redirection of that call gave.
+pub fn calls_keep_their_keys()
+    ensures { CallsKeepTheirKeys }
 {}
 
 /// Where no call of before is taken up again and no number is skipped, each number up to the last was given a call.
