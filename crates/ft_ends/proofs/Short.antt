@@ -40,6 +40,35 @@ refusal-short name.NoPermission = lit≤ tt
 refusal-short name.ImpLimit = lit≤ tt
 refusal-short name.Internal = lit≤ tt
 refusal-short name.Transient = lit≤ tt
+refusal-short name.NoMemory = lit≤ tt
+refusal-short name.CommFailure = lit≤ tt
+refusal-short name.InvObjref = lit≤ tt
+refusal-short name.Initialize = lit≤ tt
+refusal-short name.NoImplement = lit≤ tt
+refusal-short name.BadTypecode = lit≤ tt
+refusal-short name.NoResponse = lit≤ tt
+refusal-short name.PersistStore = lit≤ tt
+refusal-short name.BadInvOrder = lit≤ tt
+refusal-short name.FreeMem = lit≤ tt
+refusal-short name.InvIdent = lit≤ tt
+refusal-short name.InvFlag = lit≤ tt
+refusal-short name.IntfRepos = lit≤ tt
+refusal-short name.ObjAdapter = lit≤ tt
+refusal-short name.DataConversion = lit≤ tt
+refusal-short name.TransactionRequired = lit≤ tt
+refusal-short name.TransactionRolledback = lit≤ tt
+refusal-short name.InvalidTransaction = lit≤ tt
+refusal-short name.InvPolicy = lit≤ tt
+refusal-short name.CodesetIncompatible = lit≤ tt
+refusal-short name.Rebind = lit≤ tt
+refusal-short name.Timeout = lit≤ tt
+refusal-short name.TransactionUnavailable = lit≤ tt
+refusal-short name.TransactionMode = lit≤ tt
+refusal-short name.BadQos = lit≤ tt
+refusal-short name.InvalidActivity = lit≤ tt
+refusal-short name.ActivityCompleted = lit≤ tt
+refusal-short name.ActivityRequired = lit≤ tt
+refusal-short name.ThreadCancelled = lit≤ tt
 
 -- arguments that octets spell by valid types fit them; no types are a case of their own, since no structure is without members
 members-fit : SpelledFits → (ts : Forms) (order : Order) (o : ℕ) (octets : List ℕ) (vs : Values) → AreValid ts → AreOctets octets → SpellsMembers ts order vs o octets → FitsMembers ts vs

@@ -31,6 +31,6 @@ RoomIsBelowBoth = (capacity share : ℕ) (key : RequestKey) (keys : List Request
 abbrev pub IdsAreClean : Type 0
 IdsAreClean = (name : SystemName) → IsClean (repository_id name)
 
--- .. and at most 38 octets.
+-- .. and at most 45 octets.
 abbrev pub IdsAreShort : Type 0
-IdsAreShort = (name : SystemName) → length (repository_id name) ≤ 38
+IdsAreShort = (name : SystemName) → length (repository_id name) ≤ 45

@@ -24,7 +24,7 @@ pub fn room_is_below_both()
     ensures { RoomIsBelowBoth }
 {}
 
-/// The repository id of each system exception has no NUL, and at most 38 octets.
+/// The repository id of each system exception has no NUL, and at most 45 octets.
 pub fn repository_ids_are_clean()
     ensures clean { IdsAreClean }
     ensures bound { IdsAreShort }

@@ -87,4 +87,4 @@ completion_named n = slice_get (Yes ∷ No ∷ Maybe ∷ []) n
 
 -- a system exception, by the number of the header
 abbrev pub system_name_named : ℕ → Option SystemName
-system_name_named n = slice_get (system.Marshal ∷ system.BadContext ∷ system.NoResources ∷ system.BadOperation ∷ system.ObjectNotExist ∷ system.Unknown ∷ system.BadParam ∷ system.NoPermission ∷ system.ImpLimit ∷ system.Internal ∷ system.Transient ∷ []) n
+system_name_named n = slice_get (system.Marshal ∷ system.BadContext ∷ system.NoResources ∷ system.BadOperation ∷ system.ObjectNotExist ∷ system.Unknown ∷ system.BadParam ∷ system.NoPermission ∷ system.ImpLimit ∷ system.Internal ∷ system.Transient ∷ system.NoMemory ∷ system.CommFailure ∷ system.InvObjref ∷ system.Initialize ∷ system.NoImplement ∷ system.BadTypecode ∷ system.NoResponse ∷ system.PersistStore ∷ system.BadInvOrder ∷ system.FreeMem ∷ system.InvIdent ∷ system.InvFlag ∷ system.IntfRepos ∷ system.ObjAdapter ∷ system.DataConversion ∷ system.TransactionRequired ∷ system.TransactionRolledback ∷ system.InvalidTransaction ∷ system.InvPolicy ∷ system.CodesetIncompatible ∷ system.Rebind ∷ system.Timeout ∷ system.TransactionUnavailable ∷ system.TransactionMode ∷ system.BadQos ∷ system.InvalidActivity ∷ system.ActivityCompleted ∷ system.ActivityRequired ∷ system.ThreadCancelled ∷ []) n

@@ -203,6 +203,35 @@ named name.NoPermission = refl
 named name.ImpLimit = refl
 named name.Internal = refl
 named name.Transient = refl
+named name.NoMemory = refl
+named name.CommFailure = refl
+named name.InvObjref = refl
+named name.Initialize = refl
+named name.NoImplement = refl
+named name.BadTypecode = refl
+named name.NoResponse = refl
+named name.PersistStore = refl
+named name.BadInvOrder = refl
+named name.FreeMem = refl
+named name.InvIdent = refl
+named name.InvFlag = refl
+named name.IntfRepos = refl
+named name.ObjAdapter = refl
+named name.DataConversion = refl
+named name.TransactionRequired = refl
+named name.TransactionRolledback = refl
+named name.InvalidTransaction = refl
+named name.InvPolicy = refl
+named name.CodesetIncompatible = refl
+named name.Rebind = refl
+named name.Timeout = refl
+named name.TransactionUnavailable = refl
+named name.TransactionMode = refl
+named name.BadQos = refl
+named name.InvalidActivity = refl
+named name.ActivityCompleted = refl
+named name.ActivityRequired = refl
+named name.ThreadCancelled = refl
 
 -- a system exception can be sent
 pub system_is_renderable : (n : SystemName) (minor : ℕ) (completion : Completion) → IsRenderable (system n minor completion)
