@@ -3,7 +3,7 @@ use Rattle.std.specs.Prelude.{◌≡◌, ◌⊎◌, ℕ, ◌<◌, List, ◌++◌
 use Rattle.giop_link.specs.Linking.{close_connection}
 use Rattle.ft_log.specs.Holding.{Holding}
 use Rattle.ft_log.specs.Performed.{Performed}
-use Rattle.ft_objects.specs.Filling.{offer_of}
+use Rattle.ft_objects.specs.Families.{families_offer}
 use Rattle.ft_orb.specs.declared.error.ServeError.{ServeError}
 use Rattle.ft_orb.specs.declared.error.ServeError.TheVariants.{Memory as Short}
 use Rattle.ft_orb.specs.declared.parked.Waiter.{Waiter}
@@ -30,9 +30,9 @@ OwesNoMore s t = (owed t.due ≡ owed s.due) × (IsPlaced s.due → IsPlaced t.d
 -- up, and nothing more is due.
 abbrev pub Declines : Performed → Serving → Serving → Result (Unit {0}) ServeError → Type 0
 Declines outcome s t (Ok done) = WhereAsks s (λ x held calls past waiting moment octets written w. IsPlaced s.due
-    → IsPlaced t.due × DeclinesLate offer_of x held calls past waiting moment octets written w outcome t.engine (owed s.due) (owed t.due))
+    → IsPlaced t.due × DeclinesLate families_offer x held calls past waiting moment octets written w outcome t.engine (owed s.due) (owed t.due))
 Declines outcome s t (Err e) = OwesNoMore s t × (n : ℕ) × (e ≡ Short n n) × ForgetsLate n s t
-    × ((x : Settings) (held : ℕ → Holding) (calls : List Call) (past : List Event) (waiting : ℕ → List Waiter) (moment : ℕ) (octets written : List ℕ) (w : Awaited) (a : AsksLate offer_of x held calls s.engine past waiting moment octets written w)
+    × ((x : Settings) (held : ℕ → Holding) (calls : List Call) (past : List Event) (waiting : ℕ → List Waiter) (moment : ℕ) (octets written : List ℕ) (w : Awaited) (a : AsksLate families_offer x held calls s.engine past waiting moment octets written w)
     → 0 < length (reply_to outcome (waiter_of w.connection a.asks.question)))
 
 -- the request of a ticket is refused, by a system exception with COMPLETED_NO

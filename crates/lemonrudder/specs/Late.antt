@@ -3,7 +3,7 @@
 use Rattle.std.specs.Prelude.{◌≡◌, ℕ, ◌+◌, Bool, not, List, [], ◌∷◌, ◌++◌, length, Result}
 use Rattle.ft_log.specs.Holding.{Holding, known}
 use Rattle.ft_log.specs.Performed.{Performed}
-use Rattle.ft_objects.specs.Filling.{offer_of}
+use Rattle.ft_objects.specs.Families.{families_offer}
 use Rattle.ft_orb.specs.declared.engine.Fed.{Fed}
 use Rattle.ft_orb.specs.declared.error.ConnectError.{ConnectError}
 use Rattle.ft_orb.specs.declared.error.ServeError.{ServeError}
@@ -20,24 +20,24 @@ use Rattle.lemonrudder.specs.Dues.{IsPlaced, owed}
 
 -- of all for which a server may stand at rest
 abbrev pub WhereStays : Serving → (Settings → (ℕ → Holding) → List Call → List Event → (ℕ → List Waiter) → Type 0) → Type 0
-WhereStays s Does = (x : Settings) (held : ℕ → Holding) (calls : List Call) (past : List Event) (waiting : ℕ → List Waiter) → Stays offer_of x held calls s.engine past waiting → Does x held calls past waiting
+WhereStays s Does = (x : Settings) (held : ℕ → Holding) (calls : List Call) (past : List Event) (waiting : ℕ → List Waiter) → Stays families_offer x held calls s.engine past waiting → Does x held calls past waiting
 
 -- .. and while a request waits
 abbrev pub WhereAsks : Serving → (Settings → (ℕ → Holding) → List Call → List Event → (ℕ → List Waiter) → ℕ → (octets written : List ℕ) → Awaited → Type 0) → Type 0
 WhereAsks s Does = (x : Settings) (held : ℕ → Holding) (calls : List Call) (past : List Event) (waiting : ℕ → List Waiter) (moment : ℕ) (octets written : List ℕ) (w : Awaited)
-    → AsksLate offer_of x held calls s.engine past waiting moment octets written w → Does x held calls past waiting moment octets written w
+    → AsksLate families_offer x held calls s.engine past waiting moment octets written w → Does x held calls past waiting moment octets written w
 
 -- a connection is opened
 abbrev pub OpensLate : ℕ → Serving → Serving → Result (Unit {0}) ConnectError → Type 0
-OpensLate c s t o = WhereStays s (λ x held calls past waiting. EndsLate offer_of x held calls past waiting (Opened c) (note_of_opening o) t.engine [] [])
+OpensLate c s t o = WhereStays s (λ x held calls past waiting. EndsLate families_offer x held calls past waiting (Opened c) (note_of_opening o) t.engine [] [])
 
 -- a connection is lost
 abbrev pub LosesLate : ℕ → Serving → Serving → Type 0
-LosesLate c s t = WhereStays s (λ x held calls past waiting. Stays offer_of x held calls t.engine (Lost c ∷ past) (still x.limits (Lost c ∷ past) waiting))
+LosesLate c s t = WhereStays s (λ x held calls past waiting. Stays families_offer x held calls t.engine (Lost c ∷ past) (still x.limits (Lost c ∷ past) waiting))
 
 -- a connection is closed, and what is written is due after what was
 abbrev pub ClosesLate : ℕ → Serving → Serving → Result (Unit {0}) ServeError → Type 0
-ClosesLate c s t o = WhereStays s (λ x held calls past waiting. IsPlaced s.due → IsPlaced t.due × EndsLate offer_of x held calls past waiting (Close c) (note_of o) t.engine (owed s.due) (owed t.due))
+ClosesLate c s t o = WhereStays s (λ x held calls past waiting. IsPlaced s.due → IsPlaced t.due × EndsLate families_offer x held calls past waiting (Close c) (note_of o) t.engine (owed s.due) (owed t.due))
 
 -- it is reported whether what comes on a connection has no meaning
 abbrev pub IsClosedLate : ℕ → Bool → Serving → Type 0
@@ -46,14 +46,14 @@ IsClosedLate c closed s = WhereStays s (λ x held calls past waiting. closed ≡
 
 -- octets of a connection are taken, and what is written is due after what was
 abbrev pub TakesLate : (c moment : ℕ) → List ℕ → Serving → Serving → Result Fed ServeError → Type 0
-TakesLate c moment octets s t f = WhereStays s (λ x held calls past waiting. IsPlaced s.due → IsPlaced t.due × FeedsLate offer_of x held calls past waiting c moment octets f t.engine (owed s.due) (owed t.due))
+TakesLate c moment octets s t f = WhereStays s (λ x held calls past waiting. IsPlaced s.due → IsPlaced t.due × FeedsLate families_offer x held calls past waiting c moment octets f t.engine (owed s.due) (owed t.due))
 
 -- what waits has this outcome, and the answer is due after what was
 abbrev pub AnswersLate : Performed → Serving → Serving → Result (Unit {0}) ServeError → Type 0
 AnswersLate outcome s t o = WhereAsks s (λ x held calls past waiting moment octets written w. IsPlaced s.due
-    → IsPlaced t.due × ResumesLate offer_of x (put_at (length calls) (known outcome) held) (calls ++ w.call ∷ []) past waiting w.connection moment octets written (note_of o) t.engine (owed s.due) (owed t.due))
+    → IsPlaced t.due × ResumesLate families_offer x (put_at (length calls) (known outcome) held) (calls ++ w.call ∷ []) past waiting w.connection moment octets written (note_of o) t.engine (owed s.due) (owed t.due))
 
 -- what waits does not count, and its connection is lost: n requests and locates of its piece were answered before
 abbrev pub ForgetsLate : ℕ → Serving → Serving → Type 0
 ForgetsLate n s t = WhereAsks s (λ x held calls past waiting moment octets written w. (n + 1 ≡ length (completed x.limits past (Piece w.connection moment octets)))
-    × ResumesLate offer_of x held calls past waiting w.connection moment octets written (Memory n n) t.engine [] [])
+    × ResumesLate families_offer x held calls past waiting w.connection moment octets written (Memory n n) t.engine [] [])

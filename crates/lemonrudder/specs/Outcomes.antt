@@ -14,7 +14,8 @@ use Rattle.ft_orb.specs.declared.error.ServeError.{ServeError}
 use Rattle.ft_objects.specs.Accessors.{read_at, string_of}
 use Rattle.ft_orb.specs.Engines.{Asks, Awaited, CanAnswer, Resumes, ResumesOnce, waits_in}
 use Rattle.ft_orb.specs.EnginesNow.{ResumesNow}
-use Rattle.ft_objects.specs.Filling.{ids_of, is_a_name, names_id, non_existent_name, offer_of}
+use Rattle.ft_objects.specs.Families.{families_ids, families_offer}
+use Rattle.ft_objects.specs.Filling.{is_a_name, names_id, non_existent_name}
 use Rattle.ft_orb.specs.History.{Event}
 use Rattle.ft_objects.specs.Interfaces.{Interface, operation}
 use Rattle.ft_orb.specs.Owners.{Owner}
@@ -31,15 +32,15 @@ use Rattle.lemonrudder.specs.Serves.{ByTicket, IsIdle, IsRefused, KeepsCatalogue
 
 -- the outcome of the call that waits is kept, if it is to be, and the answer is due after what was
 abbrev pub Answers : Performed → Serving → Serving → Result (Unit {0}) ServeError → Type 0
-Answers outcome s t o = (owner : Owner) (calls : List Call) (past : List Event) (moment : ℕ) (octets written : List ℕ) (w : Awaited) → Asks offer_of owner calls s.engine past moment octets written w
+Answers outcome s t o = (owner : Owner) (calls : List Call) (past : List Event) (moment : ℕ) (octets written : List ℕ) (w : Awaited) → Asks families_offer owner calls s.engine past moment octets written w
     → owner.answers calls w.call ≡ outcome → IsPlaced s.due
-    → IsPlaced t.due × Resumes offer_of owner (calls ++ w.call ∷ []) past w.connection moment octets written (note_of o) t.engine (owed s.due) (owed t.due)
-    × ResumesOnce offer_of owner (calls ++ w.call ∷ []) past w.connection moment octets written (note_of o) (owed s.due) (owed t.due)
+    → IsPlaced t.due × Resumes families_offer owner (calls ++ w.call ∷ []) past w.connection moment octets written (note_of o) t.engine (owed s.due) (owed t.due)
+    × ResumesOnce families_offer owner (calls ++ w.call ∷ []) past w.connection moment octets written (note_of o) (owed s.due) (owed t.due)
     × ResumesNow owner (calls ++ w.call ∷ []) past w.connection moment octets written (note_of o) (owed s.due) (owed t.due)
 
 -- an outcome of the request of a number is handed in, and n is answered: not where it can't be that of the operation
 abbrev pub HandsIn : (number n : ℕ) → Performed → Serving → Serving → Result ℕ Refusal → Type 0
-HandsIn number n outcome s t r = let Can = CanAnswer (offer_of s.engine.offering.catalogue) (waits_in s.engine) number outcome in
+HandsIn number n outcome s t r = let Can = CanAnswer (families_offer s.engine.offering.catalogue) (waits_in s.engine) number outcome in
     (¬ Can → IsRefused refusal.Outcome s t r)
     × (Can → (o : Result (Unit {0}) ServeError) × (r ≡ done_of n refusal_of_serving o) × IsIdle t × (t.due_on ≡ s.due_on) × KeepsCatalogue s t × KeepsTickets s t × Answers outcome s t o × AnswersLate outcome s t o)
 
@@ -54,7 +55,7 @@ ByName (Some x) s t r Does = Does x
 
 -- what the operation of a call is
 abbrev pub interface_at : Serving → Awaited → Interface
-interface_at s w = (offer_of s.engine.offering.catalogue).interface w.call.object_key w.call.operation
+interface_at s w = (families_offer s.engine.offering.catalogue).interface w.call.object_key w.call.operation
 
 -- the types of the results of an operation, if it has types
 abbrev pub result_types : Interface → Option Forms
@@ -100,7 +101,7 @@ abbrev pub identity_by : Option (List (List ℕ)) → Call → Option Bool
 identity_by ids call = if not (names_id ids (codes "IDL:omg.org/CORBA/Object:1.0")) then None else (if bytes_eq call.operation non_existent_name then Some false else (if bytes_eq call.operation is_a_name then option_map (names_id ids) (read_at string_of 0 call.arguments) else None))
 
 abbrev pub identity_at : Serving → Awaited → Option Bool
-identity_at s w = identity_by (ids_of s.engine.offering.catalogue w.call.object_key) w.call
+identity_at s w = identity_by (families_ids s.engine.offering.catalogue w.call.object_key) w.call
 
 -- the answer to `_is_a` or `_non_existent`; where the request is neither, nothing changes
 abbrev pub Identifies : ℕ → Option Bool → Serving → Serving → Result ℕ Refusal → Type 0

@@ -12,7 +12,7 @@ use Rattle.ft_objects.specs.Accessors.{boolean_of, octets_in, read_at, ulong_of}
 use Rattle.ft_log.specs.Holding.{Holding}
 use Rattle.ft_orb.specs.declared.parked.Waiter.{Waiter}
 use Rattle.ft_orb.specs.Engines.{Asks, Awaited, waits_in}
-use Rattle.ft_objects.specs.Filling.{offer_of}
+use Rattle.ft_objects.specs.Families.{families_offer}
 use Rattle.ft_orb.specs.History.{Event}
 use Rattle.ft_objects.specs.Interfaces.{Interface, raw_operation}
 use Rattle.ft_orb.specs.Owners.{Owner}
@@ -46,9 +46,9 @@ head_of i w q = with_body i w.call.arguments (with_question q.version q.id q.wis
 -- the head of what waits is reported, and 1; where nothing waits 0, and the caller's head is as it was
 abbrev pub OnAsked : (head new : RequestHead) → Serving → Serving → Result ℕ Refusal → Type 0
 OnAsked head new s t r = (t ≡ s) × (IsIdle s → (r ≡ Ok 0) × (new ≡ head))
-    × ((owner : Owner) (calls : List Call) (past : List Event) (moment : ℕ) (octets written : List ℕ) (w : Awaited) → (a : Asks offer_of owner calls s.engine past moment octets written w)
+    × ((owner : Owner) (calls : List Call) (past : List Event) (moment : ℕ) (octets written : List ℕ) (w : Awaited) → (a : Asks families_offer owner calls s.engine past moment octets written w)
     → (r ≡ Ok 1) × (new ≡ head_of (interface_at s w) w a.question))
-    × ((x : Settings) (held : ℕ → Holding) (calls : List Call) (past : List Event) (waiting : ℕ → List Waiter) (moment : ℕ) (octets written : List ℕ) (w : Awaited) → (a : AsksLate offer_of x held calls s.engine past waiting moment octets written w)
+    × ((x : Settings) (held : ℕ → Holding) (calls : List Call) (past : List Event) (waiting : ℕ → List Waiter) (moment : ℕ) (octets written : List ℕ) (w : Awaited) → (a : AsksLate families_offer x held calls s.engine past waiting moment octets written w)
     → (r ≡ Ok 1) × (new ≡ head_of (interface_at s w) w a.asks.question))
 
 -- octets are copied to the front of a room, as many as it has, and how many they are is returned
@@ -77,9 +77,9 @@ client_in _ = None
 
 -- the client id of the request that waits is reported, if it carries one
 abbrev pub TellsClient : (room new : List ℕ) → Serving → Result ℕ Refusal → Type 0
-TellsClient room new s r = ((owner : Owner) (calls : List Call) (past : List Event) (moment : ℕ) (octets written : List ℕ) (w : Awaited) → (a : Asks offer_of owner calls s.engine past moment octets written w)
+TellsClient room new s r = ((owner : Owner) (calls : List Call) (past : List Event) (moment : ℕ) (octets written : List ℕ) (w : Awaited) → (a : Asks families_offer owner calls s.engine past moment octets written w)
     → TellsIfSome (client_in (ft_in a.question.contexts)) room new r)
-    × ((x : Settings) (held : ℕ → Holding) (calls : List Call) (past : List Event) (waiting : ℕ → List Waiter) (moment : ℕ) (octets written : List ℕ) (w : Awaited) → (a : AsksLate offer_of x held calls s.engine past waiting moment octets written w)
+    × ((x : Settings) (held : ℕ → Holding) (calls : List Call) (past : List Event) (waiting : ℕ → List Waiter) (moment : ℕ) (octets written : List ℕ) (w : Awaited) → (a : AsksLate families_offer x held calls s.engine past waiting moment octets written w)
     → TellsIfSome (client_in (ft_in a.asks.question.contexts)) room new r)
 
 -- a part of the request that waits is reported: its object key, its operation, its body or its client id

@@ -8,7 +8,7 @@ use Rattle.ft_orb.specs.declared.error.ServeError.{ServeError}
 use Rattle.ft_orb.specs.declared.events.Note.TheVariants.{Memory}
 use Rattle.ft_orb.specs.Engines.{Asks, Awaited, Feeds, FeedsOnce, IsFit, IsLeftAt, IsNumbered, IsThen, Resumes, ResumesOnce, Rests, asks_in, waits_in}
 use Rattle.ft_orb.specs.EnginesNow.{FeedsNow, ResumesNow}
-use Rattle.ft_objects.specs.Filling.{offer_of}
+use Rattle.ft_objects.specs.Families.{families_offer}
 use Rattle.ft_orb.specs.History.{Close, Event, Lost, Opened, Piece, completed, line}
 use Rattle.ft_orb.specs.Outputs.{is_going}
 use Rattle.ft_orb.specs.Owners.{Owner}
@@ -72,7 +72,7 @@ done_of n why (Err e) = Err (why e)
 -- a connection is opened: not while a request waits
 abbrev pub OnConnect : ℕ → Serving → Serving → Result ℕ Refusal → Type 0
 OnConnect c s t r = WhereIdle s t r ((o : Result (Unit {0}) ConnectError) × (r ≡ done_of 0 refusal_of_connecting o) × IsIdle t × KeepsDue s t × KeepsCatalogue s t × KeepsTickets s t
-    × ((owner : Owner) (calls : List Call) (past : List Event) → Rests offer_of owner calls s.engine past → IsThen offer_of owner calls past (Opened c) (note_of_opening o) t.engine [])
+    × ((owner : Owner) (calls : List Call) (past : List Event) → Rests families_offer owner calls s.engine past → IsThen families_offer owner calls past (Opened c) (note_of_opening o) t.engine [])
     × OpensLate c s t o)
 
 -- what was due on a connection is dropped, and what is due on another stays
@@ -82,13 +82,13 @@ DropsDue c s t = (t.due_on ≡ s.due_on) × (s.due_on ≡ c → (owed t.due ≡ 
 -- a connection is lost: not while a request waits
 abbrev pub OnLost : ℕ → Serving → Serving → Result ℕ Refusal → Type 0
 OnLost c s t r = WhereIdle s t r ((r ≡ Ok 0) × IsIdle t × DropsDue c s t × KeepsCatalogue s t × KeepsTickets s t
-    × ((owner : Owner) (calls : List Call) (past : List Event) → Rests offer_of owner calls s.engine past → Rests offer_of owner calls t.engine (Lost c ∷ past))
+    × ((owner : Owner) (calls : List Call) (past : List Event) → Rests families_offer owner calls s.engine past → Rests families_offer owner calls t.engine (Lost c ∷ past))
     × LosesLate c s t)
 
 -- the engine closes a connection, and what it writes is due after what was
 abbrev pub Closes : ℕ → Serving → Serving → Result (Unit {0}) ServeError → Type 0
-Closes c s t o = (owner : Owner) (calls : List Call) (past : List Event) → Rests offer_of owner calls s.engine past → IsPlaced s.due
-    → IsPlaced t.due × ((written : List ℕ) × (owed t.due ≡ owed s.due ++ written) × IsThen offer_of owner calls past (Close c) (note_of o) t.engine written)
+Closes c s t o = (owner : Owner) (calls : List Call) (past : List Event) → Rests families_offer owner calls s.engine past → IsPlaced s.due
+    → IsPlaced t.due × ((written : List ℕ) × (owed t.due ≡ owed s.due ++ written) × IsThen families_offer owner calls past (Close c) (note_of o) t.engine written)
 
 -- goodbye is said on a connection: not while a request waits, nor while octets are due on another connection
 abbrev pub OnFarewell : ℕ → Serving → Serving → Result ℕ Refusal → Type 0
@@ -97,8 +97,8 @@ OnFarewell c s t r = WhereFree c s t r ((o : Result (Unit {0}) ServeError) × (r
 -- it is reported whether what comes on a connection has no meaning
 abbrev pub OnIsClosed : ℕ → Serving → Serving → Result ℕ Refusal → Type 0
 OnIsClosed c s t r = (t ≡ s) × (closed : Bool) × (r ≡ Ok (from_bool closed))
-    × ((owner : Owner) (calls : List Call) (past : List Event) → Rests offer_of owner calls s.engine past → closed ≡ not (is_going owner.limits (line past c)))
-    × ((owner : Owner) (calls : List Call) (past : List Event) (moment : ℕ) (octets written : List ℕ) (w : Awaited) → Asks offer_of owner calls s.engine past moment octets written w
+    × ((owner : Owner) (calls : List Call) (past : List Event) → Rests families_offer owner calls s.engine past → closed ≡ not (is_going owner.limits (line past c)))
+    × ((owner : Owner) (calls : List Call) (past : List Event) (moment : ℕ) (octets written : List ℕ) (w : Awaited) → Asks families_offer owner calls s.engine past moment octets written w
     → closed ≡ not (is_going owner.limits (line (Piece w.connection moment octets ∷ past) c)))
     × IsClosedLate c closed s
 
@@ -112,10 +112,10 @@ taken_of size (Err e) = Err (refusal_of_serving e)
 -- the engine takes octets, and what it writes is due after what was
 abbrev pub Takes : (c moment : ℕ) → List ℕ → Serving → Serving → Result Fed ServeError → Type 0
 Takes c moment octets s t f =
-    IsLeftAt c (length octets) f (waits_in t.engine) × IsNumbered (asks_in s.engine) (asks_in t.engine) f (waits_in t.engine) × IsFit (offer_of t.engine.offering.catalogue) (waits_in t.engine)
-    × ((owner : Owner) (calls : List Call) (past : List Event) → Rests offer_of owner calls s.engine past → IsPlaced s.due
-    → IsPlaced t.due × Feeds offer_of owner calls past c moment octets f t.engine (owed s.due) (owed t.due)
-    × FeedsOnce offer_of owner calls past c moment octets f (waits_in t.engine) (owed s.due) (owed t.due)
+    IsLeftAt c (length octets) f (waits_in t.engine) × IsNumbered (asks_in s.engine) (asks_in t.engine) f (waits_in t.engine) × IsFit (families_offer t.engine.offering.catalogue) (waits_in t.engine)
+    × ((owner : Owner) (calls : List Call) (past : List Event) → Rests families_offer owner calls s.engine past → IsPlaced s.due
+    → IsPlaced t.due × Feeds families_offer owner calls past c moment octets f t.engine (owed s.due) (owed t.due)
+    × FeedsOnce families_offer owner calls past c moment octets f (waits_in t.engine) (owed s.due) (owed t.due)
     × FeedsNow owner calls past c moment octets f (waits_in t.engine) (owed s.due) (owed t.due))
 
 -- octets of a connection are fed: not while a request waits, nor while octets are due on another connection
@@ -124,14 +124,14 @@ OnFeed c moment octets s t r = WhereFree c s t r ((f : Result Fed ServeError) ×
 
 -- n requests and locates of its piece were answered before the request that waits
 abbrev pub AreBefore : ℕ → Serving → Type 0
-AreBefore n s = (owner : Owner) (calls : List Call) (past : List Event) (moment : ℕ) (octets written : List ℕ) (w : Awaited) → Asks offer_of owner calls s.engine past moment octets written w
+AreBefore n s = (owner : Owner) (calls : List Call) (past : List Event) (moment : ℕ) (octets written : List ℕ) (w : Awaited) → Asks families_offer owner calls s.engine past moment octets written w
     → n + 1 ≡ length (completed owner.limits past (Piece w.connection moment octets))
 
 -- the request that waits does not count, and its connection is lost
 abbrev pub Forgets : ℕ → Serving → Serving → Type 0
-Forgets n s t = (owner : Owner) (calls : List Call) (past : List Event) (moment : ℕ) (octets written : List ℕ) (w : Awaited) → Asks offer_of owner calls s.engine past moment octets written w
-    → Resumes offer_of owner calls past w.connection moment octets written (Memory n n) t.engine [] []
-    × ResumesOnce offer_of owner calls past w.connection moment octets written (Memory n n) [] []
+Forgets n s t = (owner : Owner) (calls : List Call) (past : List Event) (moment : ℕ) (octets written : List ℕ) (w : Awaited) → Asks families_offer owner calls s.engine past moment octets written w
+    → Resumes families_offer owner calls past w.connection moment octets written (Memory n n) t.engine [] []
+    × ResumesOnce families_offer owner calls past w.connection moment octets written (Memory n n) [] []
     × ResumesNow owner calls past w.connection moment octets written (Memory n n) [] []
 
 -- the request of a ticket is given up

@@ -12,7 +12,7 @@ use crate::due::Due;
 use crate::refusal::Refusal;
 use crate::terms::Terms;
 use ft_log::Retention;
-use ft_objects::Interfaces;
+use ft_objects::Families;
 use ft_orb::{CloseError, Engine, Places};
 use std::alloc::Global;
 use std::hash::RandomState;
@@ -21,7 +21,7 @@ use taken::taken_of;
 /// An engine that parks nothing, and what is due on one of its connections.
 #[derive(Drop)]
 pub struct Serving {
-    engine: Engine<Interfaces>,
+    engine: Engine<Families>,
     alloc: Global,
     due: Due,
     due_on: u64,
@@ -33,8 +33,8 @@ impl Serving {
     ghost use Rattle.lemonrudder.specs.Serves.{IsDueElsewhere, OnConnect, OnFarewell, OnFeed, OnGiveUp, OnIsClosed, OnLost, OnOutput};
 
     /// A server to which nothing has happened.
-    pub fn new(alloc: Global, interfaces: Interfaces, terms: Terms, hasher: RandomState) -> Serving
-        ensures { IsNew interfaces terms.limits terms.capacity terms.share result }
+    pub fn new(alloc: Global, families: Families, terms: Terms, hasher: RandomState) -> Serving
+        ensures { IsNew families terms.limits terms.capacity terms.share result }
     {
         let Terms {
             limits,
@@ -45,7 +45,7 @@ impl Serving {
         Serving {
             engine: Engine::new(
                 alloc,
-                interfaces,
+                families,
                 limits,
                 Retention { capacity, share },
                 Places::none(),

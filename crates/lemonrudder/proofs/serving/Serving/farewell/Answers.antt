@@ -1,6 +1,6 @@
 use Rattle.std.proofs.Common.{◌≡◌, Ok, Err, ap, refl, ◌∙◌, arith}
 use Rattle.std.proofs.lemmas.Grind.{common_steps}
-use Rattle.ft_objects.specs.Filling.{offer_of}
+use Rattle.ft_objects.specs.Families.{families_offer}
 use Rattle.ft_orb.specs.declared.error.CloseError.TheVariants as closing
 use Rattle.ft_orb.specs.declared.error.ServeError.TheVariants as serving
 use Rattle.ft_orb.specs.declared.events.Note.TheVariants.{Done, Memory, Refused}
@@ -41,8 +41,8 @@ returns-in-Ok c =
             λ x held calls past waiting rests placed.
                 let late = closed-as c.close.result Done _ (ap note_of_closing ended) (c.close.ensures.late x held calls past waiting rests) in
                 let due = c.args.self.now.due in (
-                  ends-late-stays offer_of x held calls past waiting due.taken due.octets.items c.close.new.out.items placed _ _ c.close.new.self late,
-                  ends-late-owed offer_of x held calls past waiting due.taken due.octets.items c.close.new.out.items placed _ _ c.close.new.self late,
+                  ends-late-stays families_offer x held calls past waiting due.taken due.octets.items c.close.new.out.items placed _ _ c.close.new.self late,
+                  ends-late-owed families_offer x held calls past waiting due.taken due.octets.items c.close.new.out.items placed _ _ c.close.new.self late,
                 ),
           ),
         ),
@@ -70,8 +70,8 @@ returns-in-Err-NoConnection c =
             λ x held calls past waiting rests placed.
                 let late = closed-as c.close.result Refused _ (ap note_of_closing ended) (c.close.ensures.late x held calls past waiting rests) in
                 let due = c.args.self.now.due in (
-                  ends-late-stays offer_of x held calls past waiting due.taken due.octets.items c.close.new.out.items placed _ _ c.close.new.self late,
-                  ends-late-owed offer_of x held calls past waiting due.taken due.octets.items c.close.new.out.items placed _ _ c.close.new.self late,
+                  ends-late-stays families_offer x held calls past waiting due.taken due.octets.items c.close.new.out.items placed _ _ c.close.new.self late,
+                  ends-late-owed families_offer x held calls past waiting due.taken due.octets.items c.close.new.out.items placed _ _ c.close.new.self late,
                 ),
           ),
         ),
@@ -99,8 +99,8 @@ returns-in-Err-Memory c =
             λ x held calls past waiting rests placed.
                 let late = closed-as c.close.result (Memory 0 0) _ (ap note_of_closing ended) (c.close.ensures.late x held calls past waiting rests) in
                 let due = c.args.self.now.due in (
-                  ends-late-stays offer_of x held calls past waiting due.taken due.octets.items c.close.new.out.items placed _ _ c.close.new.self late,
-                  ends-late-owed offer_of x held calls past waiting due.taken due.octets.items c.close.new.out.items placed _ _ c.close.new.self late,
+                  ends-late-stays families_offer x held calls past waiting due.taken due.octets.items c.close.new.out.items placed _ _ c.close.new.self late,
+                  ends-late-owed families_offer x held calls past waiting due.taken due.octets.items c.close.new.out.items placed _ _ c.close.new.self late,
                 ),
           ),
         ),

@@ -1,5 +1,5 @@
 use Rattle.std.proofs.Common.{refl}
-use Rattle.ft_objects.specs.Filling.{offer_of}
+use Rattle.ft_objects.specs.Families.{families_offer}
 use Rattle.lemonrudder.proofs.Idling.{not_both, not_so}
 use Rattle.lemonrudder.proofs.Owing.{feeds-now-owed, feeds-once-owed, feeds-owed, feeds-stays}
 use Rattle.lemonrudder.proofs.OwingLate.{feeds-late-owed, feeds-late-stays}
@@ -33,17 +33,17 @@ returns c = (
           λ owner calls past rests placed.
               let due = c.args.self.now.due in
               let h = c.feed-fed.ensures.table owner calls past rests in (
-                feeds-stays offer_of owner calls past due.taken due.octets.items c.feed-fed.new.out.items placed c.args.connection c.args.moment c.args.octets.now c.feed-fed.result c.feed-fed.new.self h,
-                feeds-owed offer_of owner calls past due.taken due.octets.items c.feed-fed.new.out.items placed c.args.connection c.args.moment c.args.octets.now c.feed-fed.result c.feed-fed.new.self h,
-                feeds-once-owed offer_of owner calls past due.taken due.octets.items c.feed-fed.new.out.items placed c.args.connection c.args.moment c.args.octets.now c.feed-fed.result _ (c.feed-fed.ensures.once owner calls past rests),
+                feeds-stays families_offer owner calls past due.taken due.octets.items c.feed-fed.new.out.items placed c.args.connection c.args.moment c.args.octets.now c.feed-fed.result c.feed-fed.new.self h,
+                feeds-owed families_offer owner calls past due.taken due.octets.items c.feed-fed.new.out.items placed c.args.connection c.args.moment c.args.octets.now c.feed-fed.result c.feed-fed.new.self h,
+                feeds-once-owed families_offer owner calls past due.taken due.octets.items c.feed-fed.new.out.items placed c.args.connection c.args.moment c.args.octets.now c.feed-fed.result _ (c.feed-fed.ensures.once owner calls past rests),
                 feeds-now-owed owner calls past due.taken due.octets.items c.feed-fed.new.out.items placed c.args.connection c.args.moment c.args.octets.now c.feed-fed.result _ (c.feed-fed.ensures.now owner calls past rests),
               ),
         ),
         λ x held calls past waiting rests placed.
             let due = c.args.self.now.due in
             let h = c.feed-fed.ensures.late x held calls past waiting rests in (
-              feeds-late-stays offer_of x held calls past waiting due.taken due.octets.items c.feed-fed.new.out.items placed c.args.connection c.args.moment c.args.octets.now c.feed-fed.result c.feed-fed.new.self h,
-              feeds-late-owed offer_of x held calls past waiting due.taken due.octets.items c.feed-fed.new.out.items placed c.args.connection c.args.moment c.args.octets.now c.feed-fed.result c.feed-fed.new.self h,
+              feeds-late-stays families_offer x held calls past waiting due.taken due.octets.items c.feed-fed.new.out.items placed c.args.connection c.args.moment c.args.octets.now c.feed-fed.result c.feed-fed.new.self h,
+              feeds-late-owed families_offer x held calls past waiting due.taken due.octets.items c.feed-fed.new.out.items placed c.args.connection c.args.moment c.args.octets.now c.feed-fed.result c.feed-fed.new.self h,
             ),
       ),
     ),

@@ -1,5 +1,5 @@
 use Rattle.std.proofs.Common.{refl}
-use Rattle.ft_objects.specs.Filling.{offer_of}
+use Rattle.ft_objects.specs.Families.{families_offer}
 use Rattle.lemonrudder.specs.Refusals.{refusal_of_serving}
 use Rattle.lemonrudder.proofs.Ended.{err-done, ok-done}
 use Rattle.lemonrudder.proofs.Idling.{not_so}
@@ -24,16 +24,16 @@ returns-in_err-answer c = (
     λ owner calls past moment octets written w asks gave placed.
         let due = c.args.self.now.due in
         let h = c.answer.ensures.table owner calls past moment octets written w asks gave in (
-          resumes-stays offer_of owner _ past due.taken due.octets.items c.answer.new.out.items placed w.connection moment octets written _ c.answer.new.self h,
-          resumes-owed offer_of owner _ past due.taken due.octets.items c.answer.new.out.items placed w.connection moment octets written _ c.answer.new.self h,
-          resumes-once-owed offer_of owner _ past due.taken due.octets.items c.answer.new.out.items placed w.connection moment octets written _ (c.answer.ensures.once owner calls past moment octets written w asks gave),
+          resumes-stays families_offer owner _ past due.taken due.octets.items c.answer.new.out.items placed w.connection moment octets written _ c.answer.new.self h,
+          resumes-owed families_offer owner _ past due.taken due.octets.items c.answer.new.out.items placed w.connection moment octets written _ c.answer.new.self h,
+          resumes-once-owed families_offer owner _ past due.taken due.octets.items c.answer.new.out.items placed w.connection moment octets written _ (c.answer.ensures.once owner calls past moment octets written w asks gave),
           resumes-now-owed owner _ past due.taken due.octets.items c.answer.new.out.items placed w.connection moment octets written _ (c.answer.ensures.now owner calls past moment octets written w asks gave),
         ),
     λ x held calls past waiting moment octets written w asks placed.
         let due = c.args.self.now.due in
         let h = c.answer.ensures.late x held calls past waiting moment octets written w asks in (
-          resumes-late-stays offer_of x _ _ past waiting due.taken due.octets.items c.answer.new.out.items placed w.connection moment octets written _ c.answer.new.self h,
-          resumes-late-owed offer_of x _ _ past waiting due.taken due.octets.items c.answer.new.out.items placed w.connection moment octets written _ c.answer.new.self h,
+          resumes-late-stays families_offer x _ _ past waiting due.taken due.octets.items c.answer.new.out.items placed w.connection moment octets written _ c.answer.new.self h,
+          resumes-late-owed families_offer x _ _ past waiting due.taken due.octets.items c.answer.new.out.items placed w.connection moment octets written _ c.answer.new.self h,
         ),
   ),
 )
@@ -51,16 +51,16 @@ returns c = (
     λ owner calls past moment octets written w asks gave placed.
         let due = c.args.self.now.due in
         let h = c.answer.ensures.table owner calls past moment octets written w asks gave in (
-          resumes-stays offer_of owner _ past due.taken due.octets.items c.answer.new.out.items placed w.connection moment octets written _ c.answer.new.self h,
-          resumes-owed offer_of owner _ past due.taken due.octets.items c.answer.new.out.items placed w.connection moment octets written _ c.answer.new.self h,
-          resumes-once-owed offer_of owner _ past due.taken due.octets.items c.answer.new.out.items placed w.connection moment octets written _ (c.answer.ensures.once owner calls past moment octets written w asks gave),
+          resumes-stays families_offer owner _ past due.taken due.octets.items c.answer.new.out.items placed w.connection moment octets written _ c.answer.new.self h,
+          resumes-owed families_offer owner _ past due.taken due.octets.items c.answer.new.out.items placed w.connection moment octets written _ c.answer.new.self h,
+          resumes-once-owed families_offer owner _ past due.taken due.octets.items c.answer.new.out.items placed w.connection moment octets written _ (c.answer.ensures.once owner calls past moment octets written w asks gave),
           resumes-now-owed owner _ past due.taken due.octets.items c.answer.new.out.items placed w.connection moment octets written _ (c.answer.ensures.now owner calls past moment octets written w asks gave),
         ),
     λ x held calls past waiting moment octets written w asks placed.
         let due = c.args.self.now.due in
         let h = c.answer.ensures.late x held calls past waiting moment octets written w asks in (
-          resumes-late-stays offer_of x _ _ past waiting due.taken due.octets.items c.answer.new.out.items placed w.connection moment octets written _ c.answer.new.self h,
-          resumes-late-owed offer_of x _ _ past waiting due.taken due.octets.items c.answer.new.out.items placed w.connection moment octets written _ c.answer.new.self h,
+          resumes-late-stays families_offer x _ _ past waiting due.taken due.octets.items c.answer.new.out.items placed w.connection moment octets written _ c.answer.new.self h,
+          resumes-late-owed families_offer x _ _ past waiting due.taken due.octets.items c.answer.new.out.items placed w.connection moment octets written _ c.answer.new.self h,
         ),
   ),
 )

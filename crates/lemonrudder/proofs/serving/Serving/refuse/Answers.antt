@@ -1,5 +1,5 @@
 use Rattle.std.proofs.Common.{◌≡◌, ◌∙◌, ◌≤◌, drop, length, ap, Result, Ok, Err, refl, sym, subst}
-use Rattle.ft_objects.specs.Filling.{offer_of}
+use Rattle.ft_objects.specs.Families.{families_offer}
 use Rattle.ft_orb.specs.declared.error.ServeError.{ServeError}
 use Rattle.ft_orb.specs.Engines.{awaited_lent, handled_in, waits_in}
 use Rattle.ft_orb.specs.Parking.{not_now}
@@ -49,8 +49,8 @@ returns c =
       λ x held calls past waiting moment octets written w asks placed.
           let h = c.in_ok-decline.ensures.late x held calls past waiting moment octets written w asks in
           let refusal = not_now c.in_ok-name.name c.args.minor in (
-            declines-late-stays offer_of x held calls past waiting due.taken due.octets.items c.decline.new.out.items placed moment octets written w refusal c.decline.new.self h,
-            declines-late-owed offer_of x held calls past waiting due.taken due.octets.items c.decline.new.out.items placed moment octets written w refusal c.decline.new.self h,
+            declines-late-stays families_offer x held calls past waiting due.taken due.octets.items c.decline.new.out.items placed moment octets written w refusal c.decline.new.self h,
+            declines-late-owed families_offer x held calls past waiting due.taken due.octets.items c.decline.new.out.items placed moment octets written w refusal c.decline.new.self h,
           ),
     ))
 
