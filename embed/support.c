@@ -71,7 +71,7 @@ void rattle_dealloc(void *at) { release_octets(at); }
   E(CONNECTION, "there is no such connection, or the number of a new one is not greater than each before")     \
   E(ASKING, "a request waits for its outcome")                                                                 \
   E(IDLE, "no request waits")                                                                                  \
-  E(DUE, "octets are due that were not taken")                                                                 \
+  E(PARKS, "as many requests are parked as may be, in all or of the connection")                               \
   E(OUTCOME, "no outcome of the operation, or one that can't be sent")                                         \
   E(ROOM, "the room is too small")                                                                             \
   E(SHORT, "octets are missing at the end")                                                                    \
@@ -89,7 +89,7 @@ void rattle_dealloc(void *at) { release_octets(at); }
   E(LONG, "the message would be longer than its size can say")                                                 \
   E(LOST, "an allocation failed, and the connection is gone")                                                  \
   E(PLACE, "the body would stand at a place that is not divisible by 8")                                       \
-  E(TICKET, "no request of that ticket waits")                                                                 \
+  E(TICKET, "no request of that ticket waits or is parked")                                                    \
   E(FORWARD, "no pending call of that number is led elsewhere")
 
 struct error {

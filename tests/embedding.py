@@ -419,7 +419,7 @@ def header_names_numbers(kit: Kit) -> None:
     """Each number that the header for C names has a name in it too; errors and types have but the one."""
     with open(os.path.join(kit.include, "lemonrudder.h"), encoding="ascii") as file:
         text = file.read()
-    types = re.findall(r"\b(LR_\w+) =", text[text.index("LR_BOOLEAN ="):text.index("/* A moment,")])
+    types = re.findall(r"\b(LR_\w+) =", text[text.index("LR_TYPE_BOOLEAN ="):text.index("/* A moment,")])
     named = set(re.findall(r"\b(LR_\w+) = \d", text)) - {"LR_OK", *types}
     with open(os.path.join(kit.include, "lemonrudder.hpp"), encoding="ascii") as file:
         want(named - set(re.findall(r"\bLR_\w+", file.read())), set())

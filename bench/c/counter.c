@@ -23,7 +23,7 @@ static int64_t total;
 static void perform(lr_server *server, const lr_request *asked) {
   char operation[4];
   unsigned char body[4], result[8];
-  lr_place in = {0, 0, LR_BIG, 0}, out = {0, 0, LR_BIG, 0};
+  lr_place in = {0, 0, LR_ORDER_BIG, 0}, out = {0, 0, LR_ORDER_BIG, 0};
   int32_t n = 0;
   int64_t sum;
   if (lr_server_identify(server, asked->ticket) != 0) return;
@@ -31,17 +31,17 @@ static void perform(lr_server *server, const lr_request *asked) {
   if (lr_server_part(server, LR_PART_BODY, body, sizeof body) < 0) return;
   if (operation[0] == 'a') lr_get_long(body, asked->body_size, &in, &n);
   if (__builtin_add_overflow(total, n, &sum)) {
-    lr_server_raise(server, asked->ticket, OVERFLOWS, SIZE(OVERFLOWS), LR_BIG, NULL, 0);
+    lr_server_raise(server, asked->ticket, OVERFLOWS, SIZE(OVERFLOWS), LR_ORDER_BIG, NULL, 0);
     return;
   }
   lr_put_longlong(result, sizeof result, &out, sum);
-  int64_t answered = lr_server_answer(server, asked->ticket, LR_BIG, result, sizeof result);
+  int64_t answered = lr_server_answer(server, asked->ticket, LR_ORDER_BIG, result, sizeof result);
   if (answered == LR_OK || answered == LR_E_LOST) total = sum;
 }
 
 /* Opens a server with the counter as its one object. */
 static int64_t open_server(lr_server *server, const void *key, size_t size) {
-  static const uint8_t number[] = {LR_LONG}, result[] = {LR_LONGLONG};
+  static const uint8_t number[] = {LR_TYPE_LONG}, result[] = {LR_TYPE_LONGLONG};
   lr_catalogue counter = LR_INIT;
   uint64_t seeds[2];
   int64_t done = getentropy(seeds, sizeof seeds) == 0 ? lr_catalogue_open(&counter) : LR_E_RANGE;

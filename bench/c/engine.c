@@ -51,13 +51,13 @@ static int64_t sure(int64_t answer) {
 /* Performs `add` or `get`, whose name has come. */
 static void perform(uint64_t ticket, const char *operation) {
   unsigned char body[16], result[8];
-  lr_place in = {0, 0, LR_BIG, 0}, out = {0, 0, LR_BIG, 0};
+  lr_place in = {0, 0, LR_ORDER_BIG, 0}, out = {0, 0, LR_ORDER_BIG, 0};
   int32_t n = 0;
   int64_t size = sure(lr_server_part(&server, LR_PART_BODY, body, sizeof body));
   if (operation[0] == 'a') sure(lr_get_long(body, (size_t)size, &in, &n));
   total += n;
   sure(lr_put_longlong(result, sizeof result, &out, total));
-  sure(lr_server_answer(&server, ticket, LR_BIG, result, sizeof result));
+  sure(lr_server_answer(&server, ticket, LR_ORDER_BIG, result, sizeof result));
 }
 
 /* Moves what is due to the answers. */
@@ -138,7 +138,7 @@ static void take_keyed(size_t count, size_t entries, bool is_scattered, bool fee
 
 /* Opens a server of the counter that keeps so many outcomes, and connection 1. */
 static void open_server(uint32_t entries) {
-  static const uint8_t number[] = {LR_LONG}, result[] = {LR_LONGLONG};
+  static const uint8_t number[] = {LR_TYPE_LONG}, result[] = {LR_TYPE_LONGLONG};
   static const char overflow[] = "IDL:Counter/Overflow:1.0";
   lr_catalogue counter = LR_INIT;
   sure(lr_catalogue_open(&counter));

@@ -81,7 +81,7 @@ static int64_t sure(int64_t answer) {
 
 /* Opens a server of one object: `add` takes a long and returns a long long, and `give` is raw. */
 static void open_server(void) {
-  static const uint8_t number[] = {LR_LONG}, result[] = {LR_LONGLONG};
+  static const uint8_t number[] = {LR_TYPE_LONG}, result[] = {LR_TYPE_LONGLONG};
   lr_catalogue counter = LR_INIT;
   sure(lr_catalogue_open(&counter));
   sure(lr_catalogue_object(&counter, "c", 1));
@@ -94,9 +94,9 @@ static void open_server(void) {
 static size_t request(unsigned char *room, const char *operation, const char *client, int32_t number, uint64_t expiration) {
   static const unsigned char seven[] = {0, 0, 0, 7};
   unsigned char context[64];
-  int64_t size = sure(lr_write_ft(context, sizeof context, LR_BIG, client, strlen(client), number, expiration));
-  return (size_t)sure(lr_write_request(room, ROOM, 2, LR_BIG, 1, LR_WISH_FULL, "c", 1, operation, strlen(operation),
-                                       LR_FT_REQUEST, context, (size_t)size, seven, sizeof seven));
+  int64_t size = sure(lr_write_ft(context, sizeof context, LR_ORDER_BIG, client, strlen(client), number, expiration));
+  return (size_t)sure(lr_write_request(room, ROOM, 2, LR_ORDER_BIG, 1, LR_WISH_FULL, "c", 1, operation, strlen(operation),
+                                       LR_CONTEXT_FT_REQUEST, context, (size_t)size, seven, sizeof seven));
 }
 
 /* Takes octets of a connection to their end, answers what is asked by so many octets, and drops what is due. */
@@ -109,8 +109,8 @@ static void take(uint64_t connection, uint64_t now, const unsigned char *octets,
     size -= (size_t)taken;
     bool is_asking = sure(lr_server_asked(&server, &asked)) == 1;
     uint64_t ticket = asked.ticket;
-    if (is_asking && asked.is_raw) sure(lr_server_answer_raw(&server, ticket, LR_NO_EXCEPTION, LR_BIG, room, result));
-    if (is_asking && !asked.is_raw) sure(lr_server_answer(&server, ticket, LR_BIG, room, result));
+    if (is_asking && asked.is_raw) sure(lr_server_answer_raw(&server, ticket, LR_REPLY_NO_EXCEPTION, LR_ORDER_BIG, room, result));
+    if (is_asking && !asked.is_raw) sure(lr_server_answer(&server, ticket, LR_ORDER_BIG, room, result));
     while (sure(lr_server_output(&server, room, sizeof room)) > 0) continue;
   }
 }

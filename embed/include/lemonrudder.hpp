@@ -36,7 +36,7 @@
 #include "lemonrudder.h"
 
 namespace lemonrudder {
-inline namespace v0_1 {
+inline namespace v0_2 {
 
 /* ---- octets ---- */
 
@@ -170,7 +170,7 @@ class Room {
   std::size_t size_ = 0;
 };
 
-/* Types, as octets: LR_STRING, LR_LONG and so on. They may be written in place: {LR_STRING, LR_LONG}. */
+/* Types, as octets: LR_TYPE_STRING, LR_TYPE_LONG and so on. They may be written in place: {LR_TYPE_STRING, LR_TYPE_LONG}. */
 using Types = std::initializer_list<std::uint8_t>;
 
 /* ---- results ---- */
@@ -390,7 +390,7 @@ Result<std::optional<T>> found(std::int64_t answer, const T& value) noexcept {
 
 /* ---- names ---- */
 
-enum class Order : std::uint32_t { big = LR_BIG, little = LR_LITTLE };
+enum class Order : std::uint32_t { big = LR_ORDER_BIG, little = LR_ORDER_LITTLE };
 
 enum class Wish : std::uint32_t { none = LR_WISH_NONE, empty = LR_WISH_EMPTY, full = LR_WISH_FULL };
 
@@ -405,35 +405,35 @@ enum class Part : std::uint32_t {
 enum class IorPart : std::uint32_t { data = LR_IOR_DATA, host = LR_IOR_HOST, key = LR_IOR_KEY };
 
 enum class ReplyStatus : std::uint32_t {
-  no_exception = LR_NO_EXCEPTION,
-  user_exception = LR_USER_EXCEPTION,
-  system_exception = LR_SYSTEM_EXCEPTION,
-  location_forward = LR_LOCATION_FORWARD,
-  location_forward_perm = LR_LOCATION_FORWARD_PERM,
-  needs_addressing_mode = LR_NEEDS_ADDRESSING_MODE
+  no_exception = LR_REPLY_NO_EXCEPTION,
+  user_exception = LR_REPLY_USER_EXCEPTION,
+  system_exception = LR_REPLY_SYSTEM_EXCEPTION,
+  location_forward = LR_REPLY_LOCATION_FORWARD,
+  location_forward_perm = LR_REPLY_LOCATION_FORWARD_PERM,
+  needs_addressing_mode = LR_REPLY_NEEDS_ADDRESSING_MODE
 };
 
 enum class LocateStatus : std::uint32_t {
-  unknown_object = LR_UNKNOWN_OBJECT,
-  object_here = LR_OBJECT_HERE,
-  object_forward = LR_OBJECT_FORWARD,
-  object_forward_perm = LR_OBJECT_FORWARD_PERM,
-  system_exception = LR_LOC_SYSTEM_EXCEPTION,
-  needs_addressing_mode = LR_LOC_NEEDS_ADDRESSING_MODE
+  unknown_object = LR_LOCATE_UNKNOWN_OBJECT,
+  object_here = LR_LOCATE_OBJECT_HERE,
+  object_forward = LR_LOCATE_OBJECT_FORWARD,
+  object_forward_perm = LR_LOCATE_OBJECT_FORWARD_PERM,
+  system_exception = LR_LOCATE_SYSTEM_EXCEPTION,
+  needs_addressing_mode = LR_LOCATE_NEEDS_ADDRESSING_MODE
 };
 
 enum class SystemException : std::uint32_t {
-  marshal = LR_MARSHAL,
-  bad_context = LR_BAD_CONTEXT,
-  no_resources = LR_NO_RESOURCES,
-  bad_operation = LR_BAD_OPERATION,
-  object_not_exist = LR_OBJECT_NOT_EXIST,
-  unknown = LR_UNKNOWN,
-  bad_param = LR_BAD_PARAM,
-  no_permission = LR_NO_PERMISSION,
-  imp_limit = LR_IMP_LIMIT,
-  internal = LR_INTERNAL,
-  transient = LR_TRANSIENT
+  marshal = LR_EX_MARSHAL,
+  bad_context = LR_EX_BAD_CONTEXT,
+  no_resources = LR_EX_NO_RESOURCES,
+  bad_operation = LR_EX_BAD_OPERATION,
+  object_not_exist = LR_EX_OBJECT_NOT_EXIST,
+  unknown = LR_EX_UNKNOWN,
+  bad_param = LR_EX_BAD_PARAM,
+  no_permission = LR_EX_NO_PERMISSION,
+  imp_limit = LR_EX_IMP_LIMIT,
+  internal = LR_EX_INTERNAL,
+  transient = LR_EX_TRANSIENT
 };
 
 enum class Completed : std::uint32_t { yes = LR_COMPLETED_YES, no = LR_COMPLETED_NO, maybe = LR_COMPLETED_MAYBE };
@@ -466,14 +466,14 @@ enum class Fault : std::uint32_t {
 };
 
 enum class MessageType : std::uint32_t {
-  request = LR_REQUEST,
-  reply = LR_REPLY,
-  cancel_request = LR_CANCEL_REQUEST,
-  locate_request = LR_LOCATE_REQUEST,
-  locate_reply = LR_LOCATE_REPLY,
-  close_connection = LR_CLOSE_CONNECTION,
-  message_error = LR_MESSAGE_ERROR,
-  fragment = LR_FRAGMENT
+  request = LR_MSG_REQUEST,
+  reply = LR_MSG_REPLY,
+  cancel_request = LR_MSG_CANCEL_REQUEST,
+  locate_request = LR_MSG_LOCATE_REQUEST,
+  locate_reply = LR_MSG_LOCATE_REPLY,
+  close_connection = LR_MSG_CLOSE_CONNECTION,
+  message_error = LR_MSG_ERROR,
+  fragment = LR_MSG_FRAGMENT
 };
 
 /* Three structs of lemonrudder.h, with functions that answer what some of their numbers are called above. */
@@ -1183,7 +1183,7 @@ inline Count write_ft(Room room, Order order, Octets client, std::int32_t retent
                                    client.size(), retention_id, expiration));
 }
 
-}  // namespace v0_1
+}  // namespace v0_2
 }  // namespace lemonrudder
 
 #endif

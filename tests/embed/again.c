@@ -7,9 +7,9 @@
 enum { LIMIT = 4096, PARTIALS = 2, NOW = 1000, LATER = 2000 };
 
 #define TRANSIENT "IDL:omg.org/CORBA/TRANSIENT:1.0"
-#define ADD(argument) "add", 3, one_long, 1, LR_BIG, (argument), 4
+#define ADD(argument) "add", 3, one_long, 1, LR_ORDER_BIG, (argument), 4
 
-static const uint8_t one_long[] = {LR_LONG}, no_type[] = {0};
+static const uint8_t one_long[] = {LR_TYPE_LONG}, no_type[] = {0};
 static unsigned char room[4096];
 static lr_client client;
 
@@ -35,7 +35,7 @@ static uint32_t sent(int32_t call, const char *key) {
   WANT(lr_assembler_open(&assembler, LIMIT, PARTIALS), LR_OK);
   WANT(lr_assembler_feed(&assembler, room, (size_t)size), size);
   WANT(lr_assembler_message(&assembler, &said), 1);
-  CHECK(said.type == LR_REQUEST && said.has_client == 1 && said.retention_id == call && said.expiration == LATER);
+  CHECK(said.type == LR_MSG_REQUEST && said.has_client == 1 && said.retention_id == call && said.expiration == LATER);
   WANT(lr_assembler_part(&assembler, LR_PART_KEY, room, sizeof room), (int64_t)strlen(key));
   CHECK(memcmp(room, key, strlen(key)) == 0);
   WANT(lr_assembler_part(&assembler, LR_PART_BODY, room, sizeof room), 4);
@@ -56,7 +56,7 @@ static void raise_transient(uint32_t request_id, uint32_t completed) {
 
 static void answer(uint32_t request_id) {
   struct octets reply;
-  begin_reply(&reply, 2, LR_BIG, request_id, LR_NO_EXCEPTION);
+  begin_reply(&reply, 2, LR_ORDER_BIG, request_id, LR_REPLY_NO_EXCEPTION);
   put_number(&reply, 6, 4);
   end_message(&reply);
   feed(&reply);
@@ -158,7 +158,7 @@ static int carry(lr_server *server, uint64_t connection) {
     at += taken;
     if (lr_server_asked(server, &request) != 1) continue;
     asked++;
-    WANT(lr_server_answer(server, request.ticket, LR_BIG, "\0\0\0\6", 4), LR_OK);
+    WANT(lr_server_answer(server, request.ticket, LR_ORDER_BIG, "\0\0\0\6", 4), LR_OK);
   }
   size = lr_server_output(server, room, sizeof room);
   WANT(lr_client_feed(&client, room, (size_t)size), size);
@@ -199,11 +199,11 @@ static void numbers_of_before_are_refused(void) {
   WANT(recall_add((INT64_C(1) << 32) + 1), LR_E_RANGE);
   WANT(recall_add(0), LR_E_TAKEN);
   WANT(lr_client_recall(&client, 1, NOW, NOW - 1, "c", 1, ADD("\0\0\0\5")), LR_E_EXPIRED);
-  WANT(lr_client_recall(&client, 1, NOW, LATER, "c", 1, "a\0", 2, one_long, 1, LR_BIG, "\0\0\0\5", 4), LR_E_TEXT);
+  WANT(lr_client_recall(&client, 1, NOW, LATER, "c", 1, "a\0", 2, one_long, 1, LR_ORDER_BIG, "\0\0\0\5", 4), LR_E_TEXT);
   WANT(lr_client_recall(&client, 1, NOW, LATER, "c", 1, "add", 3, one_long, 1, 2, "\0\0\0\5", 4), LR_E_RANGE);
-  WANT(lr_client_recall(&client, 1, NOW, LATER, "c", 1, "add", 3, one_long, 1, LR_BIG, "\0\0\0", 3), LR_E_SHORT);
-  WANT(lr_client_recall(&client, 1, NOW, LATER, "c", 1, "add", 3, NULL, 0, LR_BIG, "\0\0\0\5", 4), LR_E_VALUE);
-  WANT(lr_client_recall(&client, 1, NOW, LATER, "c", 1, "add", 3, no_type, 1, LR_BIG, NULL, 0), LR_E_TYPES);
+  WANT(lr_client_recall(&client, 1, NOW, LATER, "c", 1, "add", 3, one_long, 1, LR_ORDER_BIG, "\0\0\0", 3), LR_E_SHORT);
+  WANT(lr_client_recall(&client, 1, NOW, LATER, "c", 1, "add", 3, NULL, 0, LR_ORDER_BIG, "\0\0\0\5", 4), LR_E_VALUE);
+  WANT(lr_client_recall(&client, 1, NOW, LATER, "c", 1, "add", 3, no_type, 1, LR_ORDER_BIG, NULL, 0), LR_E_TYPES);
   WANT(call_add(), 1);
   WANT(lr_client_skip_to(&client, -1), LR_E_RANGE);
   WANT(lr_client_skip_to(&client, INT64_C(1) << 31), LR_E_RANGE);
@@ -231,7 +231,7 @@ static void numbers_of_before_are_refused(void) {
 
 static void forward(uint32_t request_id, uint32_t status) {
   struct octets reply;
-  begin_reply(&reply, 2, LR_LITTLE, request_id, status);
+  begin_reply(&reply, 2, LR_ORDER_LITTLE, request_id, status);
   align(&reply, 8);
   put_octets(&reply, "a reference", 11);
   end_message(&reply);
@@ -245,7 +245,7 @@ static void is_led(int32_t call) {
   memset(body, 0xee, sizeof body);
   if (!WANT(lr_client_forwarded(&client, &completion, body, sizeof body), 1)) return;
   CHECK(completion.call == call && completion.how == LR_ENDED_FORWARDED && completion.body_size == 11);
-  CHECK(completion.body_at == 24 && completion.body_order == LR_LITTLE && completion.reserved == 0);
+  CHECK(completion.body_at == 24 && completion.body_order == LR_ORDER_LITTLE && completion.reserved == 0);
   CHECK(memcmp(body, "a reference\xee", 12) == 0);
   memset(body, 0xee, sizeof body);
   WANT(lr_client_forwarded(&client, &completion, body, 3), 1);
@@ -266,7 +266,7 @@ static void a_forward_ends_a_call(void) {
   open_client();
   WANT(lr_client_connected(&client, NOW), LR_OK);
   WANT(call_add(), 1);
-  forward(sent(1, "c"), LR_LOCATION_FORWARD);
+  forward(sent(1, "c"), LR_REPLY_LOCATION_FORWARD);
   nothing_is_led();
   WANT(redirect_add(1), LR_E_FORWARD);
   ends(1, LR_ENDED_FORWARDED);
@@ -281,7 +281,7 @@ static void a_forward_leaves_a_call_pending(void) {
     WANT(call_add(), call);
     nothing_is_led();
     WANT(redirect_add(call), LR_E_FORWARD);
-    forward(sent(call, "c"), call == 1 ? LR_LOCATION_FORWARD : LR_LOCATION_FORWARD_PERM);
+    forward(sent(call, "c"), call == 1 ? LR_REPLY_LOCATION_FORWARD : LR_REPLY_LOCATION_FORWARD_PERM);
     nothing_ends();
     is_led(call);
     WANT(lr_client_resend(&client, NOW), LR_OK);
@@ -312,9 +312,9 @@ static void the_first_is_told_of(void) {
     WANT(call_add(), call);
     ids[call] = sent(call, "c");
   }
-  forward(ids[3], LR_LOCATION_FORWARD);
+  forward(ids[3], LR_REPLY_LOCATION_FORWARD);
   is_led(3);
-  forward(ids[2], LR_LOCATION_FORWARD);
+  forward(ids[2], LR_REPLY_LOCATION_FORWARD);
   is_led(2);
   WANT(redirect_add(3), LR_OK);
   is_led(2);
@@ -322,7 +322,7 @@ static void the_first_is_told_of(void) {
   ends(2, LR_ENDED_CANCELLED);
   nothing_is_led();
   lr_client_output(&client, room, sizeof room);
-  forward(ids[1], LR_LOCATION_FORWARD);
+  forward(ids[1], LR_REPLY_LOCATION_FORWARD);
   is_led(1);
   WANT(lr_client_tick(&client, LATER + 1), LR_OK);
   ends(1, LR_ENDED_EXPIRED);
@@ -336,17 +336,17 @@ static void redirects_are_refused(void) {
   WANT(lr_client_set(&client, LR_CLIENT_KEEP_FORWARD, 1), LR_OK);
   WANT(lr_client_connected(&client, NOW), LR_OK);
   WANT(call_add(), 1);
-  forward(sent(1, "c"), LR_LOCATION_FORWARD);
+  forward(sent(1, "c"), LR_REPLY_LOCATION_FORWARD);
   WANT(redirect_add(0), LR_E_FORWARD);
   WANT(redirect_add(2), LR_E_FORWARD);
   WANT(redirect_add(-1), LR_E_FORWARD);
   WANT(redirect_add(INT64_MAX), LR_E_RANGE);
   WANT(redirect_add((INT64_C(1) << 32) + 1), LR_E_RANGE);
-  WANT(lr_client_redirect(&client, 1, "d", 1, "a\0", 2, one_long, 1, LR_BIG, "\0\0\0\5", 4), LR_E_TEXT);
+  WANT(lr_client_redirect(&client, 1, "d", 1, "a\0", 2, one_long, 1, LR_ORDER_BIG, "\0\0\0\5", 4), LR_E_TEXT);
   WANT(lr_client_redirect(&client, 1, "d", 1, "add", 3, one_long, 1, 2, "\0\0\0\5", 4), LR_E_RANGE);
-  WANT(lr_client_redirect(&client, 1, "d", 1, "add", 3, one_long, 1, LR_BIG, "\0\0\0", 3), LR_E_SHORT);
-  WANT(lr_client_redirect(&client, 1, "d", 1, "add", 3, NULL, 0, LR_BIG, "\0\0\0\5", 4), LR_E_VALUE);
-  WANT(lr_client_redirect(&client, 1, "d", 1, "add", 3, no_type, 1, LR_BIG, NULL, 0), LR_E_TYPES);
+  WANT(lr_client_redirect(&client, 1, "d", 1, "add", 3, one_long, 1, LR_ORDER_BIG, "\0\0\0", 3), LR_E_SHORT);
+  WANT(lr_client_redirect(&client, 1, "d", 1, "add", 3, NULL, 0, LR_ORDER_BIG, "\0\0\0\5", 4), LR_E_VALUE);
+  WANT(lr_client_redirect(&client, 1, "d", 1, "add", 3, no_type, 1, LR_ORDER_BIG, NULL, 0), LR_E_TYPES);
   is_led(1);
   WANT(redirect_add(1), LR_OK);
   lr_close(&client);

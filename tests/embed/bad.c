@@ -13,7 +13,7 @@ static struct octets message, wanted;
 
 /* ---- objects that work ---- */
 
-static const uint8_t one_long[] = {LR_LONG}, one_boolean[] = {LR_BOOLEAN};
+static const uint8_t one_long[] = {LR_TYPE_LONG}, one_boolean[] = {LR_TYPE_BOOLEAN};
 
 #define OVERFLOW_ID "IDL:Counter/Overflow:1.0"
 
@@ -40,14 +40,14 @@ static void open_server(lr_server *server) {
 /* A request of 1.2 with one long. Without a client it may act again. */
 static void make_request(uint32_t request_id, const char *key, const char *operation, const char *client,
                          int32_t retention_id, uint32_t argument) {
-  struct asking asking = {2, LR_BIG, request_id, LR_WISH_FULL, key, operation, client, retention_id, LATER};
+  struct asking asking = {2, LR_ORDER_BIG, request_id, LR_WISH_FULL, key, operation, client, retention_id, LATER};
   begin_request(&message, &asking, true);
   put_number(&message, argument, 4);
   end_message(&message);
 }
 
 static void make_reply(uint32_t request_id, uint32_t result) {
-  begin_reply(&wanted, 2, LR_BIG, request_id, LR_NO_EXCEPTION);
+  begin_reply(&wanted, 2, LR_ORDER_BIG, request_id, LR_REPLY_NO_EXCEPTION);
   put_number(&wanted, result, 4);
   end_message(&wanted);
 }
@@ -77,12 +77,12 @@ static void server_works(lr_server *server, uint64_t connection) {
   ask(server, connection);
   WANT(lr_server_asked(server, &request), 1);
   CHECK(request.connection == connection && request.key_size == 1 && request.operation_size == 3);
-  CHECK(request.body_size == 4 && request.body_at == 0 && request.body_order == LR_BIG && request.is_raw == 0);
+  CHECK(request.body_size == 4 && request.body_at == 0 && request.body_order == LR_ORDER_BIG && request.is_raw == 0);
   CHECK(request.request_id == 7 && request.version == 2 && request.wish == LR_WISH_FULL && request.has_client == 0);
   CHECK(request.retention_id == 0 && request.client_size == 0 && request.expiration == 0);
   WANT(lr_server_part(server, LR_PART_BODY, room, sizeof room), 4);
   CHECK(memcmp(room, "\0\0\0\5", 4) == 0);
-  WANT(lr_server_answer(server, ticket, LR_BIG, "\0\0\0\6", 4), LR_OK);
+  WANT(lr_server_answer(server, ticket, LR_ORDER_BIG, "\0\0\0\6", 4), LR_OK);
   make_reply(7, 6);
   CHECK(is_due(server));
 }
@@ -95,15 +95,15 @@ static void catalogue_works(lr_catalogue *catalogue) {
 }
 
 static int64_t call_add(lr_client *client) {
-  return lr_client_call(client, NOW, LATER, "c", 1, "add", 3, one_long, 1, LR_BIG, "\0\0\0\5", 4);
+  return lr_client_call(client, NOW, LATER, "c", 1, "add", 3, one_long, 1, LR_ORDER_BIG, "\0\0\0\5", 4);
 }
 
 static int64_t recall_add(lr_client *client, int64_t call) {
-  return lr_client_recall(client, call, NOW, LATER, "c", 1, "add", 3, one_long, 1, LR_BIG, "\0\0\0\5", 4);
+  return lr_client_recall(client, call, NOW, LATER, "c", 1, "add", 3, one_long, 1, LR_ORDER_BIG, "\0\0\0\5", 4);
 }
 
 static int64_t redirect_add(lr_client *client, int64_t call) {
-  return lr_client_redirect(client, call, "d", 1, "add", 3, one_long, 1, LR_BIG, "\0\0\0\5", 4);
+  return lr_client_redirect(client, call, "d", 1, "add", 3, one_long, 1, LR_ORDER_BIG, "\0\0\0\5", 4);
 }
 
 /* A client that has made `calls` calls makes one more, which is answered. */
@@ -127,7 +127,7 @@ static void assembler_works(lr_assembler *assembler) {
   make_request(7, "c", "add", "A", 3, 5);
   WANT(lr_assembler_feed(assembler, message.all, message.size), (int64_t)message.size);
   WANT(lr_assembler_message(assembler, &head), 1);
-  CHECK(head.type == LR_REQUEST && head.version == 2 && head.order == LR_BIG && head.request_id == 7);
+  CHECK(head.type == LR_MSG_REQUEST && head.version == 2 && head.order == LR_ORDER_BIG && head.request_id == 7);
   CHECK(head.wish == LR_WISH_FULL && head.contexts == 1 && head.has_key == 1 && head.key_size == 1);
   CHECK(head.operation_size == 3 && head.body_size == 4 && head.body_at % 8 == 0 && head.has_client == 1);
   CHECK(head.retention_id == 3 && head.client_size == 1 && head.expiration == LATER && head.payload_size == 0);
@@ -173,13 +173,13 @@ static lr_catalogue given;
   CALL(server_feed, SERVER, lr_server_feed(slot, 1, NOW, "G", 1))                                       \
   CALL(server_asked, SERVER, lr_server_asked(slot, &got_request))                                       \
   CALL(server_part, SERVER, lr_server_part(slot, LR_PART_KEY, room, sizeof room))                       \
-  CALL(server_answer, SERVER, lr_server_answer(slot, ticket, LR_BIG, "\0\0\0\1", 4))                    \
-  CALL(server_raise, SERVER, lr_server_raise(slot, ticket, "IDL:E:1.0", 9, LR_BIG, NULL, 0))            \
-  CALL(server_system, SERVER, lr_server_system(slot, ticket, LR_UNKNOWN, 0, LR_COMPLETED_NO))           \
-  CALL(server_answer_raw, SERVER, lr_server_answer_raw(slot, ticket, LR_NO_EXCEPTION, LR_BIG, NULL, 0)) \
+  CALL(server_answer, SERVER, lr_server_answer(slot, ticket, LR_ORDER_BIG, "\0\0\0\1", 4))                    \
+  CALL(server_raise, SERVER, lr_server_raise(slot, ticket, "IDL:E:1.0", 9, LR_ORDER_BIG, NULL, 0))            \
+  CALL(server_system, SERVER, lr_server_system(slot, ticket, LR_EX_UNKNOWN, 0, LR_COMPLETED_NO))           \
+  CALL(server_answer_raw, SERVER, lr_server_answer_raw(slot, ticket, LR_REPLY_NO_EXCEPTION, LR_ORDER_BIG, NULL, 0)) \
   CALL(server_identify, SERVER, lr_server_identify(slot, ticket))                                       \
   CALL(server_give_up, SERVER, lr_server_give_up(slot, ticket))                                         \
-  CALL(server_refuse, SERVER, lr_server_refuse(slot, ticket, LR_TRANSIENT, 0))                          \
+  CALL(server_refuse, SERVER, lr_server_refuse(slot, ticket, LR_EX_TRANSIENT, 0))                          \
   CALL(server_goodbye, SERVER, lr_server_goodbye(slot, ticket))                                         \
   CALL(server_output, SERVER, lr_server_output(slot, room, sizeof room))                                \
   CALL(client_connected, CLIENT, lr_client_connected(slot, NOW))                                        \
@@ -335,25 +335,25 @@ static const struct {
   bool is_right;
 } types[] = {
     {0, {0}, true},
-    {1, {LR_BOOLEAN}, true},
-    {1, {LR_OCTETS}, true},
-    {2, {LR_LONG, LR_SEQUENCE}, true},
-    {3, {LR_LONG, LR_SEQUENCE, LR_SEQUENCE}, true},
-    {5, {LR_STRING, LR_LONG, LR_SEQUENCE, LR_STRUCT, 2}, true},
-    {2, {LR_ENUM, 1}, true},
-    {2, {LR_ENUM, 255}, true},
-    {4, {LR_STRING, LR_STRUCT, 1, LR_LONG}, true},
+    {1, {LR_TYPE_BOOLEAN}, true},
+    {1, {LR_TYPE_OCTETS}, true},
+    {2, {LR_TYPE_LONG, LR_TYPE_SEQUENCE}, true},
+    {3, {LR_TYPE_LONG, LR_TYPE_SEQUENCE, LR_TYPE_SEQUENCE}, true},
+    {5, {LR_TYPE_STRING, LR_TYPE_LONG, LR_TYPE_SEQUENCE, LR_TYPE_STRUCT, 2}, true},
+    {2, {LR_TYPE_ENUM, 1}, true},
+    {2, {LR_TYPE_ENUM, 255}, true},
+    {4, {LR_TYPE_STRING, LR_TYPE_STRUCT, 1, LR_TYPE_LONG}, true},
     {1, {0}, false},
     {1, {15}, false},
     {1, {255}, false},
-    {1, {LR_SEQUENCE}, false},
-    {1, {LR_ENUM}, false},
-    {2, {LR_ENUM, 0}, false},
-    {2, {LR_LONG, LR_STRUCT}, false},
-    {3, {LR_LONG, LR_STRUCT, 0}, false},
-    {2, {LR_STRUCT, 1}, false},
-    {3, {LR_LONG, LR_STRUCT, 2}, false},
-    {3, {LR_LONG, LR_STRUCT, 255}, false},
+    {1, {LR_TYPE_SEQUENCE}, false},
+    {1, {LR_TYPE_ENUM}, false},
+    {2, {LR_TYPE_ENUM, 0}, false},
+    {2, {LR_TYPE_LONG, LR_TYPE_STRUCT}, false},
+    {3, {LR_TYPE_LONG, LR_TYPE_STRUCT, 0}, false},
+    {2, {LR_TYPE_STRUCT, 1}, false},
+    {3, {LR_TYPE_LONG, LR_TYPE_STRUCT, 2}, false},
+    {3, {LR_TYPE_LONG, LR_TYPE_STRUCT, 255}, false},
 };
 
 static void types_are_refused(void) {
@@ -369,7 +369,7 @@ static void types_are_refused(void) {
     WANT(lr_catalogue_operation(&catalogue, "c", 1, one, 2, codes, size, NULL, 0), is_right ? LR_OK : LR_E_TYPES);
     WANT(lr_catalogue_operation(&catalogue, "c", 1, other, 2, NULL, 0, codes, size), is_right ? LR_OK : LR_E_TYPES);
     WANT(lr_catalogue_exception(&catalogue, "IDL:E:1.0", 9, codes, size), is_right ? LR_OK : LR_E_TYPES);
-    if (!is_right) WANT(lr_client_call(&client, NOW, LATER, "c", 1, "x", 1, codes, size, LR_BIG, NULL, 0), LR_E_TYPES);
+    if (!is_right) WANT(lr_client_call(&client, NOW, LATER, "c", 1, "x", 1, codes, size, LR_ORDER_BIG, NULL, 0), LR_E_TYPES);
   }
   catalogue_works(&catalogue);
   client_works(&client, 0);
@@ -421,17 +421,17 @@ static void exceptions_are_of_the_next_operation(void) {
   WANT(lr_server_connect(&server, 1), LR_OK);
   make_request(1, "c", "after", NULL, 0, 5);
   ask(&server, 1);
-  WANT(lr_server_raise(&server, ticket, id, SIZE(id), LR_BIG, NULL, 0), LR_E_OUTCOME);
-  WANT(lr_server_answer(&server, ticket, LR_BIG, NULL, 0), LR_OK);
+  WANT(lr_server_raise(&server, ticket, id, SIZE(id), LR_ORDER_BIG, NULL, 0), LR_E_OUTCOME);
+  WANT(lr_server_answer(&server, ticket, LR_ORDER_BIG, NULL, 0), LR_OK);
   make_request(2, "c", "quiet", NULL, 0, 5);
   ask(&server, 1);
-  WANT(lr_server_raise(&server, ticket, id, SIZE(id), LR_BIG, NULL, 0), LR_E_OUTCOME);
-  WANT(lr_server_answer(&server, ticket, LR_BIG, NULL, 0), LR_OK);
+  WANT(lr_server_raise(&server, ticket, id, SIZE(id), LR_ORDER_BIG, NULL, 0), LR_E_OUTCOME);
+  WANT(lr_server_answer(&server, ticket, LR_ORDER_BIG, NULL, 0), LR_OK);
   lr_server_output(&server, room, sizeof room);
   make_request(3, "c", "raises", NULL, 0, 5);
   ask(&server, 1);
-  WANT(lr_server_raise(&server, ticket, id, SIZE(id), LR_BIG, NULL, 0), LR_OK);
-  begin_reply(&wanted, 2, LR_BIG, 3, LR_USER_EXCEPTION);
+  WANT(lr_server_raise(&server, ticket, id, SIZE(id), LR_ORDER_BIG, NULL, 0), LR_OK);
+  begin_reply(&wanted, 2, LR_ORDER_BIG, 3, LR_REPLY_USER_EXCEPTION);
   put_text(&wanted, id);
   end_message(&wanted);
   CHECK(is_due(&server));
@@ -449,14 +449,14 @@ static void idle_servers_refuse(lr_server *server) {
   CHECK(memcmp(&request, &before, sizeof request) == 0);
   for (uint32_t part = LR_PART_KEY; part <= LR_PART_CLIENT; part++)
     WANT(lr_server_part(server, part, room, sizeof room), LR_E_IDLE);
-  WANT(lr_server_answer(server, ticket, LR_BIG, "\0\0\0\1", 4), LR_E_IDLE);
-  WANT(lr_server_raise(server, ticket, OVERFLOW_ID, SIZE(OVERFLOW_ID), LR_BIG, "\0\0\0\1", 4), LR_E_IDLE);
-  WANT(lr_server_system(server, ticket, LR_UNKNOWN, 0, LR_COMPLETED_NO), LR_E_IDLE);
-  WANT(lr_server_answer_raw(server, ticket, LR_NO_EXCEPTION, LR_BIG, NULL, 0), LR_E_IDLE);
+  WANT(lr_server_answer(server, ticket, LR_ORDER_BIG, "\0\0\0\1", 4), LR_E_IDLE);
+  WANT(lr_server_raise(server, ticket, OVERFLOW_ID, SIZE(OVERFLOW_ID), LR_ORDER_BIG, "\0\0\0\1", 4), LR_E_IDLE);
+  WANT(lr_server_system(server, ticket, LR_EX_UNKNOWN, 0, LR_COMPLETED_NO), LR_E_IDLE);
+  WANT(lr_server_answer_raw(server, ticket, LR_REPLY_NO_EXCEPTION, LR_ORDER_BIG, NULL, 0), LR_E_IDLE);
   WANT(lr_server_identify(server, ticket), LR_E_IDLE);
   WANT(lr_server_give_up(server, ticket), LR_E_IDLE);
-  WANT(lr_server_refuse(server, ticket, LR_TRANSIENT, 0), LR_E_IDLE);
-  WANT(lr_server_refuse(server, ticket, LR_TRANSIENT + 1, 0), LR_E_RANGE);
+  WANT(lr_server_refuse(server, ticket, LR_EX_TRANSIENT, 0), LR_E_IDLE);
+  WANT(lr_server_refuse(server, ticket, LR_EX_TRANSIENT + 1, 0), LR_E_RANGE);
   WANT(lr_server_goodbye(server, ticket), LR_E_IDLE);
 }
 
@@ -472,10 +472,10 @@ static void asking_servers_refuse(lr_server *server) {
   WANT(lr_server_part(server, LR_PART_PAYLOAD, room, sizeof room), LR_E_NONE);
   WANT(lr_server_part(server, 5, room, sizeof room), LR_E_NONE);
   WANT(lr_server_part(server, UINT32_MAX, room, sizeof room), LR_E_NONE);
-  WANT(lr_server_system(server, ticket, LR_TRANSIENT + 1, 0, LR_COMPLETED_NO), LR_E_RANGE);
+  WANT(lr_server_system(server, ticket, LR_EX_TRANSIENT + 1, 0, LR_COMPLETED_NO), LR_E_RANGE);
   WANT(lr_server_system(server, ticket, UINT32_MAX, 0, LR_COMPLETED_NO), LR_E_RANGE);
-  WANT(lr_server_system(server, ticket, LR_UNKNOWN, 0, 3), LR_E_RANGE);
-  WANT(lr_server_refuse(server, ticket, LR_TRANSIENT + 1, 0), LR_E_RANGE);
+  WANT(lr_server_system(server, ticket, LR_EX_UNKNOWN, 0, 3), LR_E_RANGE);
+  WANT(lr_server_refuse(server, ticket, LR_EX_TRANSIENT + 1, 0), LR_E_RANGE);
   WANT(lr_server_refuse(server, ticket, UINT32_MAX, 0), LR_E_RANGE);
   WANT(lr_server_identify(server, ticket), 0);
 }
@@ -484,19 +484,19 @@ static void asking_servers_refuse(lr_server *server) {
  * none comes first, and what comes of an outcome last. */
 static void other_tickets_are_refused(lr_server *server, uint64_t other) {
   WANT(lr_server_answer(server, other, 2, "\0\0\0\1", 4), LR_E_RANGE);
-  WANT(lr_server_answer(server, other, LR_BIG, "\0\0\0\1", 4), LR_E_TICKET);
-  WANT(lr_server_answer(server, other, LR_BIG, NULL, 0), LR_E_TICKET);
+  WANT(lr_server_answer(server, other, LR_ORDER_BIG, "\0\0\0\1", 4), LR_E_TICKET);
+  WANT(lr_server_answer(server, other, LR_ORDER_BIG, NULL, 0), LR_E_TICKET);
   WANT(lr_server_raise(server, other, OVERFLOW_ID, SIZE(OVERFLOW_ID), 2, "\0\0\0\1", 4), LR_E_RANGE);
-  WANT(lr_server_raise(server, other, OVERFLOW_ID, SIZE(OVERFLOW_ID), LR_BIG, "\0\0\0\1", 4), LR_E_TICKET);
-  WANT(lr_server_raise(server, other, NULL, 0, LR_BIG, NULL, 0), LR_E_TICKET);
-  WANT(lr_server_system(server, other, LR_TRANSIENT + 1, 0, LR_COMPLETED_NO), LR_E_RANGE);
-  WANT(lr_server_system(server, other, LR_UNKNOWN, 0, LR_COMPLETED_NO), LR_E_TICKET);
-  WANT(lr_server_answer_raw(server, other, LR_NO_EXCEPTION, 2, NULL, 0), LR_E_RANGE);
-  WANT(lr_server_answer_raw(server, other, LR_NO_EXCEPTION, LR_BIG, NULL, 0), LR_E_TICKET);
+  WANT(lr_server_raise(server, other, OVERFLOW_ID, SIZE(OVERFLOW_ID), LR_ORDER_BIG, "\0\0\0\1", 4), LR_E_TICKET);
+  WANT(lr_server_raise(server, other, NULL, 0, LR_ORDER_BIG, NULL, 0), LR_E_TICKET);
+  WANT(lr_server_system(server, other, LR_EX_TRANSIENT + 1, 0, LR_COMPLETED_NO), LR_E_RANGE);
+  WANT(lr_server_system(server, other, LR_EX_UNKNOWN, 0, LR_COMPLETED_NO), LR_E_TICKET);
+  WANT(lr_server_answer_raw(server, other, LR_REPLY_NO_EXCEPTION, 2, NULL, 0), LR_E_RANGE);
+  WANT(lr_server_answer_raw(server, other, LR_REPLY_NO_EXCEPTION, LR_ORDER_BIG, NULL, 0), LR_E_TICKET);
   WANT(lr_server_identify(server, other), LR_E_TICKET);
   WANT(lr_server_give_up(server, other), LR_E_TICKET);
-  WANT(lr_server_refuse(server, other, LR_TRANSIENT + 1, 0), LR_E_RANGE);
-  WANT(lr_server_refuse(server, other, LR_TRANSIENT, 0), LR_E_TICKET);
+  WANT(lr_server_refuse(server, other, LR_EX_TRANSIENT + 1, 0), LR_E_RANGE);
+  WANT(lr_server_refuse(server, other, LR_EX_TRANSIENT, 0), LR_E_TICKET);
   WANT(lr_server_goodbye(server, other), LR_E_TICKET);
 }
 
@@ -518,7 +518,7 @@ static void tickets_are_of_one_request(void) {
       WANT(lr_server_give_up(&server, ticket), LR_E_IDLE);
       continue;
     }
-    WANT(lr_server_answer(&server, ticket, LR_BIG, "\0\0\0\6", 4), LR_OK);
+    WANT(lr_server_answer(&server, ticket, LR_ORDER_BIG, "\0\0\0\6", 4), LR_OK);
     make_reply(7, 6);
     CHECK(is_due(&server));
   }
@@ -533,8 +533,8 @@ static void refused_requests_come_again(void) {
   make_request(7, "c", "add", "A", 3, 5);
   for (uint64_t times = 1; times <= 2; times++) {
     ask(&server, 1);
-    WANT(lr_server_refuse(&server, ticket, times == 1 ? LR_TRANSIENT : LR_NO_RESOURCES, 9), LR_OK);
-    WANT(lr_server_refuse(&server, ticket, LR_TRANSIENT, 9), LR_E_IDLE);
+    WANT(lr_server_refuse(&server, ticket, times == 1 ? LR_EX_TRANSIENT : LR_EX_NO_RESOURCES, 9), LR_OK);
+    WANT(lr_server_refuse(&server, ticket, LR_EX_TRANSIENT, 9), LR_E_IDLE);
     system_reply(&wanted, 2, 7, times == 1 ? "IDL:omg.org/CORBA/TRANSIENT:1.0" : "IDL:omg.org/CORBA/NO_RESOURCES:1.0",
                  LR_COMPLETED_NO);
     wanted.all[wanted.size - 5] = 9; /* (the minor code) */
@@ -542,7 +542,7 @@ static void refused_requests_come_again(void) {
     WANT(lr_server_is_closed(&server, 1), 0);
   }
   ask(&server, 1);
-  WANT(lr_server_answer(&server, ticket, LR_BIG, "\0\0\0\6", 4), LR_OK);
+  WANT(lr_server_answer(&server, ticket, LR_ORDER_BIG, "\0\0\0\6", 4), LR_OK);
   make_reply(7, 6);
   CHECK(is_due(&server));
   WANT(lr_server_feed(&server, 1, NOW, message.all, message.size), (int64_t)message.size);
@@ -560,7 +560,7 @@ static void goodbye_comes_before_the_end(void) {
   WANT(lr_server_connect(&server, 1), LR_OK);
   make_request(6, "c", "add", "A", 2, 5);
   ask(&server, 1);
-  WANT(lr_server_answer(&server, ticket, LR_BIG, "\0\0\0\6", 4), LR_OK);
+  WANT(lr_server_answer(&server, ticket, LR_ORDER_BIG, "\0\0\0\6", 4), LR_OK);
   make_request(7, "c", "add", "A", 3, 5);
   ask(&server, 1);
   WANT(lr_server_goodbye(&server, ticket), LR_OK);
@@ -571,7 +571,7 @@ static void goodbye_comes_before_the_end(void) {
   CHECK(is_due(&server));
   WANT(lr_server_connect(&server, 2), LR_OK); /* nothing was kept, so it is asked again */
   ask(&server, 2);
-  WANT(lr_server_answer(&server, ticket, LR_BIG, "\0\0\0\6", 4), LR_OK);
+  WANT(lr_server_answer(&server, ticket, LR_ORDER_BIG, "\0\0\0\6", 4), LR_OK);
   make_reply(7, 6);
   CHECK(is_due(&server));
   server_works(&server, 3);
@@ -582,27 +582,27 @@ static void goodbye_comes_before_the_end(void) {
 static void typed_outcomes_are_refused(lr_server *server) {
   WANT(lr_server_answer(server, ticket, 2, "\0\0\0\1", 4), LR_E_RANGE);
   WANT(lr_server_answer(server, ticket, UINT32_MAX, "\0\0\0\1", 4), LR_E_RANGE);
-  WANT(lr_server_answer(server, ticket, LR_BIG, "\0\0\0", 3), LR_E_OUTCOME);
-  WANT(lr_server_answer(server, ticket, LR_BIG, "\0\0\0\1\0", 5), LR_E_OUTCOME);
-  WANT(lr_server_answer(server, ticket, LR_BIG, NULL, 0), LR_E_OUTCOME);
-  WANT(lr_server_answer_raw(server, ticket, LR_NO_EXCEPTION, LR_BIG, "\0\0\0\1", 4), LR_E_OUTCOME);
-  WANT(lr_server_raise(server, ticket, "IDL:Other:1.0", 13, LR_BIG, "\0\0\0\1", 4), LR_E_OUTCOME);
-  WANT(lr_server_raise(server, ticket, NULL, 0, LR_BIG, "\0\0\0\1", 4), LR_E_OUTCOME);
-  WANT(lr_server_raise(server, ticket, OVERFLOW_ID, SIZE(OVERFLOW_ID), LR_BIG, "\0\0\0", 3), LR_E_OUTCOME);
-  WANT(lr_server_raise(server, ticket, OVERFLOW_ID, SIZE(OVERFLOW_ID), LR_BIG, NULL, 0), LR_E_OUTCOME);
+  WANT(lr_server_answer(server, ticket, LR_ORDER_BIG, "\0\0\0", 3), LR_E_OUTCOME);
+  WANT(lr_server_answer(server, ticket, LR_ORDER_BIG, "\0\0\0\1\0", 5), LR_E_OUTCOME);
+  WANT(lr_server_answer(server, ticket, LR_ORDER_BIG, NULL, 0), LR_E_OUTCOME);
+  WANT(lr_server_answer_raw(server, ticket, LR_REPLY_NO_EXCEPTION, LR_ORDER_BIG, "\0\0\0\1", 4), LR_E_OUTCOME);
+  WANT(lr_server_raise(server, ticket, "IDL:Other:1.0", 13, LR_ORDER_BIG, "\0\0\0\1", 4), LR_E_OUTCOME);
+  WANT(lr_server_raise(server, ticket, NULL, 0, LR_ORDER_BIG, "\0\0\0\1", 4), LR_E_OUTCOME);
+  WANT(lr_server_raise(server, ticket, OVERFLOW_ID, SIZE(OVERFLOW_ID), LR_ORDER_BIG, "\0\0\0", 3), LR_E_OUTCOME);
+  WANT(lr_server_raise(server, ticket, OVERFLOW_ID, SIZE(OVERFLOW_ID), LR_ORDER_BIG, NULL, 0), LR_E_OUTCOME);
   WANT(lr_server_raise(server, ticket, OVERFLOW_ID, SIZE(OVERFLOW_ID), 2, "\0\0\0\1", 4), LR_E_RANGE);
 }
 
 /* The same of a raw operation. */
 static void raw_outcomes_are_refused(lr_server *server) {
   static unsigned char body[1048577];
-  WANT(lr_server_answer(server, ticket, LR_BIG, "\0\0\0\1", 4), LR_E_OUTCOME);
-  WANT(lr_server_answer(server, ticket, LR_BIG, NULL, 0), LR_E_OUTCOME);
-  WANT(lr_server_raise(server, ticket, OVERFLOW_ID, SIZE(OVERFLOW_ID), LR_BIG, "\0\0\0\1", 4), LR_E_OUTCOME);
-  WANT(lr_server_answer_raw(server, ticket, LR_LOCATION_FORWARD + 1, LR_BIG, NULL, 0), LR_E_RANGE);
-  WANT(lr_server_answer_raw(server, ticket, UINT32_MAX, LR_BIG, NULL, 0), LR_E_RANGE);
-  WANT(lr_server_answer_raw(server, ticket, LR_NO_EXCEPTION, 2, NULL, 0), LR_E_RANGE);
-  WANT(lr_server_answer_raw(server, ticket, LR_NO_EXCEPTION, LR_BIG, body, sizeof body), LR_E_OUTCOME);
+  WANT(lr_server_answer(server, ticket, LR_ORDER_BIG, "\0\0\0\1", 4), LR_E_OUTCOME);
+  WANT(lr_server_answer(server, ticket, LR_ORDER_BIG, NULL, 0), LR_E_OUTCOME);
+  WANT(lr_server_raise(server, ticket, OVERFLOW_ID, SIZE(OVERFLOW_ID), LR_ORDER_BIG, "\0\0\0\1", 4), LR_E_OUTCOME);
+  WANT(lr_server_answer_raw(server, ticket, LR_REPLY_LOCATION_FORWARD + 1, LR_ORDER_BIG, NULL, 0), LR_E_RANGE);
+  WANT(lr_server_answer_raw(server, ticket, UINT32_MAX, LR_ORDER_BIG, NULL, 0), LR_E_RANGE);
+  WANT(lr_server_answer_raw(server, ticket, LR_REPLY_NO_EXCEPTION, 2, NULL, 0), LR_E_RANGE);
+  WANT(lr_server_answer_raw(server, ticket, LR_REPLY_NO_EXCEPTION, LR_ORDER_BIG, body, sizeof body), LR_E_OUTCOME);
 }
 
 static void servers_refuse(void) {
@@ -615,35 +615,35 @@ static void servers_refuse(void) {
   ask(&server, 1);
   asking_servers_refuse(&server);
   typed_outcomes_are_refused(&server);
-  WANT(lr_server_answer(&server, ticket, LR_LITTLE, "\6\0\0\0", 4), LR_OK);
+  WANT(lr_server_answer(&server, ticket, LR_ORDER_LITTLE, "\6\0\0\0", 4), LR_OK);
   make_reply(1, 6);
   CHECK(is_due(&server));
   idle_servers_refuse(&server);
   make_request(2, "c", "add", NULL, 0, 5);
   ask(&server, 1);
-  WANT(lr_server_raise(&server, ticket, OVERFLOW_ID, SIZE(OVERFLOW_ID), LR_LITTLE, "\6\0\0\0", 4), LR_OK);
-  begin_reply(&wanted, 2, LR_BIG, 2, LR_USER_EXCEPTION);
+  WANT(lr_server_raise(&server, ticket, OVERFLOW_ID, SIZE(OVERFLOW_ID), LR_ORDER_LITTLE, "\6\0\0\0", 4), LR_OK);
+  begin_reply(&wanted, 2, LR_ORDER_BIG, 2, LR_REPLY_USER_EXCEPTION);
   put_text(&wanted, OVERFLOW_ID);
   put_number(&wanted, 6, 4);
   end_message(&wanted);
   CHECK(is_due(&server));
   make_request(3, "c", "is", NULL, 0, 5);
   ask(&server, 1);
-  WANT(lr_server_answer(&server, ticket, LR_BIG, "\2", 1), LR_E_OUTCOME); /* no boolean */
-  WANT(lr_server_system(&server, ticket, LR_TRANSIENT, 0, LR_COMPLETED_MAYBE), LR_OK);
+  WANT(lr_server_answer(&server, ticket, LR_ORDER_BIG, "\2", 1), LR_E_OUTCOME); /* no boolean */
+  WANT(lr_server_system(&server, ticket, LR_EX_TRANSIENT, 0, LR_COMPLETED_MAYBE), LR_OK);
   system_reply(&wanted, 2, 3, "IDL:omg.org/CORBA/TRANSIENT:1.0", LR_COMPLETED_MAYBE);
   CHECK(is_due(&server));
   make_request(4, "one", "do", NULL, 0, 5);
   ask(&server, 1);
   asking_servers_refuse(&server);
   raw_outcomes_are_refused(&server);
-  WANT(lr_server_answer_raw(&server, ticket, LR_LOCATION_FORWARD, LR_LITTLE, body, sizeof body), LR_OK);
-  CHECK(lr_server_output(&server, room, sizeof room) == 24 + (int64_t)sizeof body && room[6] == LR_LITTLE);
+  WANT(lr_server_answer_raw(&server, ticket, LR_REPLY_LOCATION_FORWARD, LR_ORDER_LITTLE, body, sizeof body), LR_OK);
+  CHECK(lr_server_output(&server, room, sizeof room) == 24 + (int64_t)sizeof body && room[6] == LR_ORDER_LITTLE);
   make_request(5, "raw", "anything", NULL, 0, 5);
   ask(&server, 1);
   raw_outcomes_are_refused(&server);
-  WANT(lr_server_answer_raw(&server, ticket, LR_NO_EXCEPTION, LR_BIG, NULL, 0), LR_OK);
-  begin_reply(&wanted, 2, LR_BIG, 5, LR_NO_EXCEPTION);
+  WANT(lr_server_answer_raw(&server, ticket, LR_REPLY_NO_EXCEPTION, LR_ORDER_BIG, NULL, 0), LR_OK);
+  begin_reply(&wanted, 2, LR_ORDER_BIG, 5, LR_REPLY_NO_EXCEPTION);
   end_message(&wanted);
   CHECK(is_due(&server));
   server_works(&server, 2);
@@ -652,7 +652,7 @@ static void servers_refuse(void) {
 
 /* What a raw request is said to be, in little order. */
 static void raw_requests_are_as_they_came(void) {
-  struct asking asking = {2, LR_LITTLE, 9, LR_WISH_EMPTY, "raw", "any", "client", -5, LATER};
+  struct asking asking = {2, LR_ORDER_LITTLE, 9, LR_WISH_EMPTY, "raw", "any", "client", -5, LATER};
   lr_server server = LR_INIT;
   lr_request request;
   open_server(&server);
@@ -663,7 +663,7 @@ static void raw_requests_are_as_they_came(void) {
   ask(&server, 3);
   WANT(lr_server_asked(&server, &request), 1);
   CHECK(request.connection == 3 && request.key_size == 3 && request.operation_size == 3 && request.is_raw == 1);
-  CHECK(request.body_size == 3 && request.body_order == LR_LITTLE && request.body_at == message.size - 3);
+  CHECK(request.body_size == 3 && request.body_order == LR_ORDER_LITTLE && request.body_at == message.size - 3);
   CHECK(request.request_id == 9 && request.version == 2 && request.wish == LR_WISH_EMPTY);
   CHECK(request.has_client == 1 && request.retention_id == -5 && request.client_size == 6);
   CHECK(request.expiration == LATER);
@@ -680,8 +680,8 @@ static void raw_requests_are_as_they_came(void) {
   WANT(lr_server_output(&server, room, sizeof room), 0);
   WANT(lr_server_connect(&server, 4), LR_OK); /* it was given up, so it is asked again */
   ask(&server, 4);
-  WANT(lr_server_answer_raw(&server, ticket, LR_NO_EXCEPTION, LR_BIG, "\1", 1), LR_OK);
-  begin_reply(&wanted, 2, LR_BIG, 9, LR_NO_EXCEPTION); /* an empty reply was wished for */
+  WANT(lr_server_answer_raw(&server, ticket, LR_REPLY_NO_EXCEPTION, LR_ORDER_BIG, "\1", 1), LR_OK);
+  begin_reply(&wanted, 2, LR_ORDER_BIG, 9, LR_REPLY_NO_EXCEPTION); /* an empty reply was wished for */
   end_message(&wanted);
   CHECK(is_due(&server));
   lr_close(&server);
@@ -745,14 +745,14 @@ static void objects_are_identified(void) {
   WANT(lr_server_open(&server, &catalogue, LIMIT, PARTIALS, 100, 100, 1, 2), LR_OK);
   WANT(lr_server_connect(&server, 1), LR_OK);
   for (uint32_t index = 0; index < COUNT(asked); index++) {
-    struct asking asking = {2, LR_BIG, index, LR_WISH_FULL, "c", asked[index].operation, NULL, 0, 0};
+    struct asking asking = {2, LR_ORDER_BIG, index, LR_WISH_FULL, "c", asked[index].operation, NULL, 0, 0};
     begin_request(&message, &asking, asked[index].id != NULL);
     if (asked[index].id != NULL) put_text(&message, asked[index].id);
     end_message(&message);
     ask(&server, 1);
     WANT(lr_server_identify(&server, ticket), 1);
     WANT(lr_server_identify(&server, ticket), LR_E_IDLE);
-    begin_reply(&wanted, 2, LR_BIG, index, LR_NO_EXCEPTION);
+    begin_reply(&wanted, 2, LR_ORDER_BIG, index, LR_REPLY_NO_EXCEPTION);
     put_number(&wanted, asked[index].answer, 1);
     end_message(&wanted);
     CHECK(is_due(&server));
@@ -777,16 +777,16 @@ static void client_names_are_refused(void) {
 }
 
 static void calls_are_refused(lr_client *client) {
-  static const uint8_t text[] = {LR_STRING};
+  static const uint8_t text[] = {LR_TYPE_STRING};
   WANT(lr_client_call(client, NOW, LATER, "c", 1, "x", 1, one_long, 1, 2, "\0\0\0\1", 4), LR_E_RANGE);
-  WANT(lr_client_call(client, NOW, LATER, "c", 1, "x", 1, one_long, 1, LR_BIG, "\0\0\0", 3), LR_E_SHORT);
-  WANT(lr_client_call(client, NOW, LATER, "c", 1, "x", 1, one_long, 1, LR_BIG, NULL, 0), LR_E_SHORT);
-  WANT(lr_client_call(client, NOW, LATER, "c", 1, "x", 1, one_long, 1, LR_BIG, "\0\0\0\1\0", 5), LR_E_VALUE);
-  WANT(lr_client_call(client, NOW, LATER, "c", 1, "x", 1, NULL, 0, LR_BIG, "\0", 1), LR_E_VALUE);
-  WANT(lr_client_call(client, NOW, LATER, "c", 1, "x", 1, one_boolean, 1, LR_BIG, "\2", 1), LR_E_VALUE);
-  WANT(lr_client_call(client, NOW, LATER, "c", 1, "x", 1, text, 1, LR_BIG, "\0\0\0\2ab", 6), LR_E_VALUE);
-  WANT(lr_client_call(client, NOW, LATER, "c", 1, "x\0", 2, one_long, 1, LR_BIG, "\0\0\0\1", 4), LR_E_TEXT);
-  WANT(lr_client_call(client, NOW, NOW - 1, "c", 1, "x", 1, one_long, 1, LR_BIG, "\0\0\0\1", 4), LR_E_EXPIRED);
+  WANT(lr_client_call(client, NOW, LATER, "c", 1, "x", 1, one_long, 1, LR_ORDER_BIG, "\0\0\0", 3), LR_E_SHORT);
+  WANT(lr_client_call(client, NOW, LATER, "c", 1, "x", 1, one_long, 1, LR_ORDER_BIG, NULL, 0), LR_E_SHORT);
+  WANT(lr_client_call(client, NOW, LATER, "c", 1, "x", 1, one_long, 1, LR_ORDER_BIG, "\0\0\0\1\0", 5), LR_E_VALUE);
+  WANT(lr_client_call(client, NOW, LATER, "c", 1, "x", 1, NULL, 0, LR_ORDER_BIG, "\0", 1), LR_E_VALUE);
+  WANT(lr_client_call(client, NOW, LATER, "c", 1, "x", 1, one_boolean, 1, LR_ORDER_BIG, "\2", 1), LR_E_VALUE);
+  WANT(lr_client_call(client, NOW, LATER, "c", 1, "x", 1, text, 1, LR_ORDER_BIG, "\0\0\0\2ab", 6), LR_E_VALUE);
+  WANT(lr_client_call(client, NOW, LATER, "c", 1, "x\0", 2, one_long, 1, LR_ORDER_BIG, "\0\0\0\1", 4), LR_E_TEXT);
+  WANT(lr_client_call(client, NOW, NOW - 1, "c", 1, "x", 1, one_long, 1, LR_ORDER_BIG, "\0\0\0\1", 4), LR_E_EXPIRED);
   WANT(lr_client_cancel(client, INT64_MAX), LR_E_RANGE);
   WANT(lr_client_cancel(client, INT64_MIN), LR_E_RANGE);
   WANT(lr_client_cancel(client, (INT64_C(1) << 32) + 1), LR_E_RANGE);
@@ -860,10 +860,10 @@ static void assemblers_refuse(void) {
   WANT(lr_assembler_context(&assembler, 1, &id, room, sizeof room), LR_E_NONE);
   WANT(lr_assembler_context(&assembler, UINT32_MAX, &id, room, sizeof room), LR_E_NONE);
   CHECK(id == 77);
-  CHECK(lr_assembler_context(&assembler, 0, &id, NULL, 0) > 0 && id == LR_FT_REQUEST);
+  CHECK(lr_assembler_context(&assembler, 0, &id, NULL, 0) > 0 && id == LR_CONTEXT_FT_REQUEST);
   WANT(lr_assembler_feed(&assembler, goodbye, sizeof goodbye), sizeof goodbye);
   WANT(lr_assembler_message(&assembler, &head), 1);
-  CHECK(head.type == LR_CLOSE_CONNECTION && head.key_size == 0 && head.body_size == 0 && head.has_key == 0);
+  CHECK(head.type == LR_MSG_CLOSE_CONNECTION && head.key_size == 0 && head.body_size == 0 && head.has_key == 0);
   for (uint32_t part = LR_PART_KEY; part <= LR_PART_PAYLOAD; part++)
     WANT(lr_assembler_part(&assembler, part, room, sizeof room), LR_E_NONE);
   WANT(lr_assembler_context(&assembler, 0, &id, room, sizeof room), LR_E_NONE);
@@ -909,41 +909,41 @@ static int64_t write_request_of(uint32_t version, uint32_t order, uint32_t wish,
 static void messages_are_refused(void) {
   make_request(7, "c", "add", NULL, 0, 5);
   make_reply(7, 6);
-  WANT(write_request_of(3, LR_BIG, LR_WISH_FULL, "add", 3, sizeof room), LR_E_RANGE);
+  WANT(write_request_of(3, LR_ORDER_BIG, LR_WISH_FULL, "add", 3, sizeof room), LR_E_RANGE);
   WANT(write_request_of(2, 2, LR_WISH_FULL, "add", 3, sizeof room), LR_E_RANGE);
-  WANT(write_request_of(2, LR_BIG, 3, "add", 3, sizeof room), LR_E_RANGE);
-  WANT(write_request_of(0, LR_BIG, LR_WISH_EMPTY, "add", 3, sizeof room), LR_E_RANGE);
-  WANT(write_request_of(1, LR_BIG, LR_WISH_EMPTY, "add", 3, sizeof room), LR_E_RANGE);
-  WANT(write_request_of(2, LR_BIG, LR_WISH_FULL, "a\0d", 3, sizeof room), LR_E_TEXT);
+  WANT(write_request_of(2, LR_ORDER_BIG, 3, "add", 3, sizeof room), LR_E_RANGE);
+  WANT(write_request_of(0, LR_ORDER_BIG, LR_WISH_EMPTY, "add", 3, sizeof room), LR_E_RANGE);
+  WANT(write_request_of(1, LR_ORDER_BIG, LR_WISH_EMPTY, "add", 3, sizeof room), LR_E_RANGE);
+  WANT(write_request_of(2, LR_ORDER_BIG, LR_WISH_FULL, "a\0d", 3, sizeof room), LR_E_TEXT);
   memset(room, 0xee, message.size);
-  WANT(write_request_of(2, LR_BIG, LR_WISH_FULL, "add", 3, message.size - 1), LR_E_ROOM);
+  WANT(write_request_of(2, LR_ORDER_BIG, LR_WISH_FULL, "add", 3, message.size - 1), LR_E_ROOM);
   CHECK(room[0] == 0xee && memcmp(room, room + 1, message.size - 1) == 0);
-  WANT(write_request_of(2, LR_BIG, LR_WISH_FULL, "add", 3, message.size), (int64_t)message.size);
+  WANT(write_request_of(2, LR_ORDER_BIG, LR_WISH_FULL, "add", 3, message.size), (int64_t)message.size);
   CHECK(equal(room, message.size, &message));
-  WANT(lr_write_request(NULL, 0, 2, LR_BIG, 7, LR_WISH_FULL, NULL, 0, NULL, 0, 0, NULL, 0, NULL, 0), LR_E_ROOM);
-  WANT(lr_write_reply(room, sizeof room, 3, LR_BIG, 7, LR_NO_EXCEPTION, NULL, 0), LR_E_RANGE);
-  WANT(lr_write_reply(room, sizeof room, 2, 2, 7, LR_NO_EXCEPTION, NULL, 0), LR_E_RANGE);
-  WANT(lr_write_reply(room, sizeof room, 2, LR_BIG, 7, LR_NEEDS_ADDRESSING_MODE + 1, NULL, 0), LR_E_RANGE);
-  WANT(lr_write_reply(room, sizeof room, 0, LR_BIG, 7, LR_LOCATION_FORWARD_PERM, NULL, 0), LR_E_RANGE);
-  WANT(lr_write_reply(room, wanted.size - 1, 2, LR_BIG, 7, LR_NO_EXCEPTION, "\0\0\0\6", 4), LR_E_ROOM);
-  WANT(lr_write_reply(room, wanted.size, 2, LR_BIG, 7, LR_NO_EXCEPTION, "\0\0\0\6", 4), (int64_t)wanted.size);
+  WANT(lr_write_request(NULL, 0, 2, LR_ORDER_BIG, 7, LR_WISH_FULL, NULL, 0, NULL, 0, 0, NULL, 0, NULL, 0), LR_E_ROOM);
+  WANT(lr_write_reply(room, sizeof room, 3, LR_ORDER_BIG, 7, LR_REPLY_NO_EXCEPTION, NULL, 0), LR_E_RANGE);
+  WANT(lr_write_reply(room, sizeof room, 2, 2, 7, LR_REPLY_NO_EXCEPTION, NULL, 0), LR_E_RANGE);
+  WANT(lr_write_reply(room, sizeof room, 2, LR_ORDER_BIG, 7, LR_REPLY_NEEDS_ADDRESSING_MODE + 1, NULL, 0), LR_E_RANGE);
+  WANT(lr_write_reply(room, sizeof room, 0, LR_ORDER_BIG, 7, LR_REPLY_LOCATION_FORWARD_PERM, NULL, 0), LR_E_RANGE);
+  WANT(lr_write_reply(room, wanted.size - 1, 2, LR_ORDER_BIG, 7, LR_REPLY_NO_EXCEPTION, "\0\0\0\6", 4), LR_E_ROOM);
+  WANT(lr_write_reply(room, wanted.size, 2, LR_ORDER_BIG, 7, LR_REPLY_NO_EXCEPTION, "\0\0\0\6", 4), (int64_t)wanted.size);
   CHECK(equal(room, wanted.size, &wanted));
-  WANT(lr_write_cancel(room, sizeof room, 3, LR_BIG, 7), LR_E_RANGE);
+  WANT(lr_write_cancel(room, sizeof room, 3, LR_ORDER_BIG, 7), LR_E_RANGE);
   WANT(lr_write_cancel(room, sizeof room, 2, 2, 7), LR_E_RANGE);
-  WANT(lr_write_cancel(room, 15, 2, LR_BIG, 7), LR_E_ROOM);
-  WANT(lr_write_cancel(room, 16, 2, LR_BIG, 7), 16);
+  WANT(lr_write_cancel(room, 15, 2, LR_ORDER_BIG, 7), LR_E_ROOM);
+  WANT(lr_write_cancel(room, 16, 2, LR_ORDER_BIG, 7), 16);
   CHECK(memcmp(room, "GIOP\1\2\0\2\0\0\0\4\0\0\0\7", 16) == 0);
-  WANT(lr_write_locate_request(room, sizeof room, 3, LR_BIG, 7, "c", 1), LR_E_RANGE);
+  WANT(lr_write_locate_request(room, sizeof room, 3, LR_ORDER_BIG, 7, "c", 1), LR_E_RANGE);
   WANT(lr_write_locate_request(room, sizeof room, 2, 2, 7, "c", 1), LR_E_RANGE);
-  WANT(lr_write_locate_request(room, 20, 0, LR_BIG, 7, "c", 1), LR_E_ROOM);
-  WANT(lr_write_locate_request(room, 21, 0, LR_BIG, 7, "c", 1), 21);
+  WANT(lr_write_locate_request(room, 20, 0, LR_ORDER_BIG, 7, "c", 1), LR_E_ROOM);
+  WANT(lr_write_locate_request(room, 21, 0, LR_ORDER_BIG, 7, "c", 1), 21);
   CHECK(memcmp(room, "GIOP\1\0\0\3\0\0\0\11\0\0\0\7\0\0\0\1c", 21) == 0);
-  WANT(lr_write_locate_reply(room, sizeof room, 3, LR_BIG, 7, 1), LR_E_RANGE);
+  WANT(lr_write_locate_reply(room, sizeof room, 3, LR_ORDER_BIG, 7, 1), LR_E_RANGE);
   WANT(lr_write_locate_reply(room, sizeof room, 2, 2, 7, 1), LR_E_RANGE);
-  WANT(lr_write_locate_reply(room, sizeof room, 2, LR_BIG, 7, 6), LR_E_RANGE);
-  WANT(lr_write_locate_reply(room, sizeof room, 0, LR_BIG, 7, 3), LR_E_RANGE);
-  WANT(lr_write_locate_reply(room, 19, 2, LR_BIG, 7, 1), LR_E_ROOM);
-  WANT(lr_write_locate_reply(room, 20, 2, LR_BIG, 7, 1), 20);
+  WANT(lr_write_locate_reply(room, sizeof room, 2, LR_ORDER_BIG, 7, 6), LR_E_RANGE);
+  WANT(lr_write_locate_reply(room, sizeof room, 0, LR_ORDER_BIG, 7, 3), LR_E_RANGE);
+  WANT(lr_write_locate_reply(room, 19, 2, LR_ORDER_BIG, 7, 1), LR_E_ROOM);
+  WANT(lr_write_locate_reply(room, 20, 2, LR_ORDER_BIG, 7, 1), 20);
   CHECK(memcmp(room, "GIOP\1\2\0\4\0\0\0\10\0\0\0\7\0\0\0\1", 20) == 0);
   WANT(lr_write_close(room, 11), LR_E_ROOM);
   WANT(lr_write_close(room, 12), 12);
@@ -952,28 +952,28 @@ static void messages_are_refused(void) {
   WANT(lr_write_error(room, 12), 12);
   CHECK(memcmp(room, "GIOP\1\0\0\6\0\0\0\0", 12) == 0);
   WANT(lr_write_ft(room, sizeof room, 2, "A", 1, 3, LATER), LR_E_RANGE);
-  WANT(lr_write_ft(room, sizeof room, LR_BIG, "a\0b", 3, 3, LATER), LR_E_TEXT);
-  WANT(lr_write_ft(room, 23, LR_BIG, "A", 1, 3, 2000), LR_E_ROOM);
-  WANT(lr_write_ft(room, 24, LR_BIG, "A", 1, 3, 2000), 24);
+  WANT(lr_write_ft(room, sizeof room, LR_ORDER_BIG, "a\0b", 3, 3, LATER), LR_E_TEXT);
+  WANT(lr_write_ft(room, 23, LR_ORDER_BIG, "A", 1, 3, 2000), LR_E_ROOM);
+  WANT(lr_write_ft(room, 24, LR_ORDER_BIG, "A", 1, 3, 2000), 24);
   CHECK(memcmp(room, "\0\0\0\0\0\0\0\2A\0\0\0\0\0\0\3\0\0\0\0\0\0\7\xd0", 24) == 0);
 }
 
 /* In 1.0 and 1.1 the body stands where the fields before it end: after those of the key `c` at 44, of `ccccc` at 48. */
 static void places_are_refused(void) {
   for (uint32_t version = 0; version <= 1; version++) {
-    struct asking asking = {version, LR_BIG, 7, LR_WISH_FULL, "ccccc", "add", NULL, 0, 0};
+    struct asking asking = {version, LR_ORDER_BIG, 7, LR_WISH_FULL, "ccccc", "add", NULL, 0, 0};
     begin_request(&message, &asking, true);
     put_number(&message, 5, 4);
     end_message(&message);
-    WANT(write_request_of(version, LR_BIG, LR_WISH_FULL, "add", 3, sizeof room), LR_E_PLACE);
-    WANT(lr_write_request(room, sizeof room, version, LR_BIG, 7, LR_WISH_FULL, "ccccc", 5, "add", 3, 0, NULL, 0,
+    WANT(write_request_of(version, LR_ORDER_BIG, LR_WISH_FULL, "add", 3, sizeof room), LR_E_PLACE);
+    WANT(lr_write_request(room, sizeof room, version, LR_ORDER_BIG, 7, LR_WISH_FULL, "ccccc", 5, "add", 3, 0, NULL, 0,
                           "\0\0\0\5", 4),
          52);
     CHECK(equal(room, 52, &message));
     asking.key = "c";
     begin_request(&message, &asking, false);
     end_message(&message);
-    WANT(lr_write_request(room, 44, version, LR_BIG, 7, LR_WISH_FULL, "c", 1, "add", 3, 0, NULL, 0, NULL, 0), 44);
+    WANT(lr_write_request(room, 44, version, LR_ORDER_BIG, 7, LR_WISH_FULL, "c", 1, "add", 3, 0, NULL, 0, NULL, 0), 44);
     CHECK(equal(room, 44, &message));
   }
 }

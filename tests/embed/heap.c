@@ -57,7 +57,7 @@ static bool tell(void) {
   } while (0)
 
 static unsigned char room[1 << 16];
-static const uint8_t one_long[] = {LR_LONG};
+static const uint8_t one_long[] = {LR_TYPE_LONG};
 
 #define RAISED "IDL:C/Wrong:1.0"
 
@@ -76,13 +76,13 @@ struct exchange {
   int asked;
 };
 
-static int64_t returns(void) { return lr_server_answer(&server, ticket, LR_BIG, "\0\0\0\6", 4); }
+static int64_t returns(void) { return lr_server_answer(&server, ticket, LR_ORDER_BIG, "\0\0\0\6", 4); }
 
-static int64_t raises(void) { return lr_server_raise(&server, ticket, RAISED, SIZE(RAISED), LR_BIG, "\0\0\0\7", 4); }
+static int64_t raises(void) { return lr_server_raise(&server, ticket, RAISED, SIZE(RAISED), LR_ORDER_BIG, "\0\0\0\7", 4); }
 
-static int64_t fails(void) { return lr_server_system(&server, ticket, LR_UNKNOWN, 0, LR_COMPLETED_MAYBE); }
+static int64_t fails(void) { return lr_server_system(&server, ticket, LR_EX_UNKNOWN, 0, LR_COMPLETED_MAYBE); }
 
-static int64_t writes(void) { return lr_server_answer_raw(&server, ticket, LR_NO_EXCEPTION, LR_BIG, "\1\2\3", 3); }
+static int64_t writes(void) { return lr_server_answer_raw(&server, ticket, LR_REPLY_NO_EXCEPTION, LR_ORDER_BIG, "\1\2\3", 3); }
 
 static int64_t identifies(void) {
   int64_t answer = lr_server_identify(&server, ticket);
@@ -161,7 +161,7 @@ static void send_until_answered(struct exchange *exchange) {
 
 static void make_exchange(struct exchange *exchange, uint32_t id, const char *key, const char *operation,
                           const char *client, int64_t (*answer)(void)) {
-  struct asking asking = {2, LR_BIG, id, LR_WISH_FULL, key, operation, client, (int32_t)id, LATER};
+  struct asking asking = {2, LR_ORDER_BIG, id, LR_WISH_FULL, key, operation, client, (int32_t)id, LATER};
   exchange->answer = answer;
   exchange->asked = 0;
   begin_request(&exchange->request, &asking, true);
@@ -171,7 +171,7 @@ static void make_exchange(struct exchange *exchange, uint32_t id, const char *ke
     put_number(&exchange->request, 5, 4);
   }
   end_message(&exchange->request);
-  begin_reply(&exchange->reply, 2, LR_BIG, id, answer == raises ? LR_USER_EXCEPTION : LR_NO_EXCEPTION);
+  begin_reply(&exchange->reply, 2, LR_ORDER_BIG, id, answer == raises ? LR_REPLY_USER_EXCEPTION : LR_REPLY_NO_EXCEPTION);
   if (answer == returns) put_number(&exchange->reply, 6, 4);
   if (answer == raises) put_text(&exchange->reply, RAISED);
   if (answer == raises) put_number(&exchange->reply, 7, 4);
@@ -192,11 +192,11 @@ static void acts_once(struct exchange *exchange) {
 
 /* A request in two frames (CORBA 3.3 Part 2, 9.4.9), cut after its first 24 octets. */
 static void cut(struct octets *request) {
-  struct octets first = {.size = 0, .order = LR_BIG}, last;
+  struct octets first = {.size = 0, .order = LR_ORDER_BIG}, last;
   put_octets(&first, request->all, 24);
   first.all[6] |= 2;
   end_message(&first);
-  begin_message(&last, 2, LR_BIG, LR_FRAGMENT);
+  begin_message(&last, 2, LR_ORDER_BIG, LR_MSG_FRAGMENT);
   put_octets(&last, request->all + 12, 4);
   put_octets(&last, request->all + 24, request->size - 24);
   end_message(&last);
@@ -234,7 +234,7 @@ static void is_given_up(struct exchange *exchange) {
 static void is_turned_down(struct exchange *exchange, uint32_t id) {
   struct octets refusal;
   ask(exchange);
-  int64_t answer = lr_server_refuse(&server, ticket, LR_TRANSIENT, 0);
+  int64_t answer = lr_server_refuse(&server, ticket, LR_EX_TRANSIENT, 0);
   if (answer == LR_E_LOST) {
     CHECK(tell());
     reconnect();
@@ -307,11 +307,11 @@ static int completed[8];
 
 /* Replies at once to each Request among octets that a client sent. False where the connection is lost then. */
 static bool reply_to_all(const unsigned char *sent, size_t size) {
-  struct octets reply, all = {.size = 0, .order = LR_BIG};
+  struct octets reply, all = {.size = 0, .order = LR_ORDER_BIG};
   for (size_t at = 0; at + 16 <= size;) {
     size_t length = (size_t)sent[at + 10] << 8 | sent[at + 11];
-    if (sent[at + 7] == LR_REQUEST) {
-      begin_reply(&reply, 2, LR_BIG, (uint32_t)sent[at + 14] << 8 | sent[at + 15], LR_NO_EXCEPTION);
+    if (sent[at + 7] == LR_MSG_REQUEST) {
+      begin_reply(&reply, 2, LR_ORDER_BIG, (uint32_t)sent[at + 14] << 8 | sent[at + 15], LR_REPLY_NO_EXCEPTION);
       put_number(&reply, 6, 4);
       end_message(&reply);
       put_octets(&all, reply.all, reply.size);
@@ -353,7 +353,7 @@ static void connect_client(void) {
 }
 
 static void call_add(int64_t number) {
-  AGAIN(lr_client_call(&client, NOW, LATER, "c", 1, "add", 3, one_long, 1, LR_BIG, "\0\0\0\5", 4), number);
+  AGAIN(lr_client_call(&client, NOW, LATER, "c", 1, "add", 3, one_long, 1, LR_ORDER_BIG, "\0\0\0\5", 4), number);
 }
 
 static void calls(void) {
@@ -396,10 +396,10 @@ static void goes_on(void) {
   AGAIN(lr_client_open(&client, "A", 1, 2, LIMIT, PARTIALS), LR_OK);
   WANT(lr_client_set(&client, LR_CLIENT_KEEP_FORWARD, 1), LR_OK);
   WANT(lr_client_skip_to(&client, 2), LR_OK);
-  AGAIN(lr_client_recall(&client, 3, NOW, LATER, "c", 1, "add", 3, one_long, 1, LR_BIG, "\0\0\0\5", 4), LR_OK);
+  AGAIN(lr_client_recall(&client, 3, NOW, LATER, "c", 1, "add", 3, one_long, 1, LR_ORDER_BIG, "\0\0\0\5", 4), LR_OK);
   connect_client();
   for (int tries = 0; lr_client_forwarded(&client, &led, room, sizeof room) == 0 && tries < 2; tries++) {
-    begin_reply(&reply, 2, LR_BIG, sent_id(), LR_LOCATION_FORWARD);
+    begin_reply(&reply, 2, LR_ORDER_BIG, sent_id(), LR_REPLY_LOCATION_FORWARD);
     put_octets(&reply, "reference", 9);
     end_message(&reply);
     if (lr_client_feed(&client, reply.all, reply.size) != LR_E_LOST) continue;
@@ -408,7 +408,7 @@ static void goes_on(void) {
   }
   WANT(lr_client_forwarded(&client, &led, room, sizeof room), 1);
   CHECK(led.call == 3 && led.body_size == 9 && memcmp(room, "reference", 9) == 0);
-  AGAIN(lr_client_redirect(&client, 3, "d", 1, "add", 3, one_long, 1, LR_BIG, "\0\0\0\5", 4), LR_OK);
+  AGAIN(lr_client_redirect(&client, 3, "d", 1, "add", 3, one_long, 1, LR_ORDER_BIG, "\0\0\0\5", 4), LR_OK);
   if (lr_client_resend(&client, NOW) == LR_E_LOST) {
     CHECK(tell());
     WANT(lr_client_is_connected(&client), 0);
@@ -442,10 +442,10 @@ static bool assembles(lr_assembler *assembler, const struct octets *octets) {
     at += (size_t)taken;
   }
   WANT(lr_assembler_message(assembler, &head), 1);
-  CHECK(head.type == LR_REQUEST && head.request_id == 6 && head.has_client == 1 && head.contexts == 1);
+  CHECK(head.type == LR_MSG_REQUEST && head.request_id == 6 && head.has_client == 1 && head.contexts == 1);
   AGAIN(lr_assembler_part(assembler, LR_PART_OPERATION, room, sizeof room), (int64_t)head.operation_size);
   AGAIN(lr_assembler_part(assembler, LR_PART_CLIENT, room, sizeof room), 1);
-  CHECK(lr_assembler_context(assembler, 0, &id, room, sizeof room) > 0 && id == LR_FT_REQUEST);
+  CHECK(lr_assembler_context(assembler, 0, &id, room, sizeof room) > 0 && id == LR_CONTEXT_FT_REQUEST);
   return true;
 }
 
@@ -485,25 +485,25 @@ static void refers(void) {
 
 static void writes_messages(void) {
   unsigned char ft[64];
-  AGAIN(lr_write_ft(ft, sizeof ft, LR_BIG, "A", 1, 3, LATER), 24);
+  AGAIN(lr_write_ft(ft, sizeof ft, LR_ORDER_BIG, "A", 1, 3, LATER), 24);
   struct exchange exchange;
   make_exchange(&exchange, 3, "c", "add", "A", returns);
-  AGAIN(lr_write_request(room, sizeof room, 2, LR_BIG, 3, LR_WISH_FULL, "c", 1, "add", 3, LR_FT_REQUEST, ft, 24,
+  AGAIN(lr_write_request(room, sizeof room, 2, LR_ORDER_BIG, 3, LR_WISH_FULL, "c", 1, "add", 3, LR_CONTEXT_FT_REQUEST, ft, 24,
                          "\0\0\0\5", 4),
         (int64_t)exchange.request.size);
   CHECK(equal(room, exchange.request.size, &exchange.request));
-  AGAIN(lr_write_reply(room, sizeof room, 2, LR_BIG, 3, LR_NO_EXCEPTION, "\0\0\0\6", 4), (int64_t)exchange.reply.size);
+  AGAIN(lr_write_reply(room, sizeof room, 2, LR_ORDER_BIG, 3, LR_REPLY_NO_EXCEPTION, "\0\0\0\6", 4), (int64_t)exchange.reply.size);
   CHECK(equal(room, exchange.reply.size, &exchange.reply));
-  AGAIN(lr_write_cancel(room, sizeof room, 2, LR_BIG, 7), 16);
-  AGAIN(lr_write_locate_request(room, sizeof room, 0, LR_BIG, 7, "c", 1), 21);
-  AGAIN(lr_write_locate_reply(room, sizeof room, 2, LR_BIG, 7, 1), 20);
+  AGAIN(lr_write_cancel(room, sizeof room, 2, LR_ORDER_BIG, 7), 16);
+  AGAIN(lr_write_locate_request(room, sizeof room, 0, LR_ORDER_BIG, 7, "c", 1), 21);
+  AGAIN(lr_write_locate_reply(room, sizeof room, 2, LR_ORDER_BIG, 7, 1), 20);
   AGAIN(lr_write_close(room, sizeof room), 12);
   AGAIN(lr_write_error(room, sizeof room), 12);
 }
 
 /* CDR takes no memory. */
 static void values_take_none(void) {
-  lr_place out = {0, 0, LR_BIG, 0}, in = out;
+  lr_place out = {0, 0, LR_ORDER_BIG, 0}, in = out;
   uint64_t start, length;
   int64_t value = 0;
   long before = made;

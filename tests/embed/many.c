@@ -95,7 +95,7 @@ static void scatter(void) {
 static void perform(const struct connection *at) {
   lr_request asked;
   unsigned char body[8], client[24], result[8];
-  lr_place in = {0, 0, LR_BIG, 0}, out = {0, 0, LR_LITTLE, 0};
+  lr_place in = {0, 0, LR_ORDER_BIG, 0}, out = {0, 0, LR_ORDER_LITTLE, 0};
   int64_t request = -1;
   WANT(lr_server_asked(&server, &asked), 1);
   WANT(lr_server_part(&server, LR_PART_BODY, body, sizeof body), sizeof body);
@@ -108,14 +108,14 @@ static void perform(const struct connection *at) {
   asked_of[request]++;
   outcome_of[request] = ++total;
   WANT(lr_put_longlong(result, sizeof result, &out, total), LR_OK);
-  WANT(lr_server_answer(&server, asked.ticket, LR_LITTLE, result, sizeof result), LR_OK);
+  WANT(lr_server_answer(&server, asked.ticket, LR_ORDER_LITTLE, result, sizeof result), LR_OK);
 }
 
 /* Whether the reply to a transmission is all that is due. */
 static bool is_answered(const struct sent *sent) {
   struct octets wanted;
   unsigned char room[256];
-  begin_reply(&wanted, sent->asking.version, LR_BIG, sent->asking.request_id, LR_NO_EXCEPTION);
+  begin_reply(&wanted, sent->asking.version, LR_ORDER_BIG, sent->asking.request_id, LR_REPLY_NO_EXCEPTION);
   put_number(&wanted, (uint64_t)outcome_of[sent->request], 8);
   end_message(&wanted);
   int64_t size = lr_server_output(&server, room, sizeof room);
@@ -151,7 +151,7 @@ static void lose(struct connection *at) {
 }
 
 static void open_server(void) {
-  static const uint8_t number[] = {LR_LONGLONG};
+  static const uint8_t number[] = {LR_TYPE_LONGLONG};
   lr_catalogue catalogue = LR_INIT;
   WANT(lr_catalogue_open(&catalogue), LR_OK);
   WANT(lr_catalogue_object(&catalogue, "c", 1), LR_OK);

@@ -81,7 +81,7 @@ __all__ = [
 Octets = Union[bytes, bytearray, memoryview]
 Text = Union[str, bytes, bytearray, memoryview]
 
-VERSION = (0, 1, 0)
+VERSION = (0, 2, 0)
 """The version of the module. The library is of the same series and not older."""
 LIMIT = 1048576
 """How many octets a message may have where nothing else is said, its header among them: 4096 to 16777216 may be."""
@@ -705,7 +705,7 @@ class _Type:
     """A type of a format."""
 
     def codes(self) -> bytes:
-        """The codes of the type, LR_BOOLEAN and so on."""
+        """The codes of the type, LR_TYPE_BOOLEAN and so on."""
         raise NotImplementedError
 
     def read(self, reader: Reader) -> Any:
@@ -901,7 +901,7 @@ def _parsed(format: str) -> Tuple[_Type, ...]:
 
 
 def type_codes(format: str) -> bytes:
-    """The types of a format as codes, LR_BOOLEAN to LR_STRUCT, by which the library knows them. Raises ValueError."""
+    """The types of a format as codes, LR_TYPE_BOOLEAN to LR_TYPE_STRUCT, by which the library knows them. Raises ValueError."""
     return b"".join(part.codes() for part in _parsed(format))
 
 
