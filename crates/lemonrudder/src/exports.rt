@@ -10,6 +10,7 @@ mod cdr;
 mod client;
 mod ior;
 mod message;
+mod raw_call;
 mod server;
 
 use crate::slot::Slot;

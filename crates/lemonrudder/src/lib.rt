@@ -11,6 +11,7 @@ mod calling;
 mod catalogued;
 mod cataloguing;
 mod cdr;
+mod contexts;
 mod due;
 mod exports;
 mod handle;
