@@ -11,6 +11,7 @@ mod calling;
 mod catalogued;
 mod cataloguing;
 mod cdr;
+mod connections;
 mod due;
 mod exports;
 mod handle;

@@ -1,4 +1,4 @@
-//! What is said of the request that waits.
+//! What is said of the request that waits, and of one that is parked.
 
 ghost use Rattle.std.specs.Prelude.{◌≡◌};
 ghost use Rattle.cdr_core.specs.View.{values_of};
@@ -11,8 +11,16 @@ use crate::serving::Serving;
 use cdr_core::{Order, end_of_list, write_list};
 use ft_objects::{Catalogue, Lookup, boolean_at, octets_at, ulong_at};
 use ft_orb::Asked;
-use giop_core::{FtField, ft_request};
 use giop_link::Inbound;
+
+/// Where the request of a ticket is.
+#[derive(Clone, Copy, Debug)]
+pub(super) enum Found {
+    /// It waits: it has this number, and came on this connection.
+    Waits(u64, u64),
+    /// It is parked under this number.
+    Parked(u64),
+}
 
 impl Serving {
     ghost use Rattle.lemonrudder.specs.Outcomes.{interface_at};
@@ -30,6 +38,20 @@ impl Serving {
             return Err(Refusal::Ticket);
         }
         Ok(asked)
+    }
+
+    /// The request of a ticket, which waits or is parked.
+    pub(super) fn named_by(&self, ticket: u64) -> Result<(Found, Asked<'_>), Refusal> {
+        if let Some(asked) = self.engine.asked() {
+            if ticket_of(asked.number) == ticket {
+                return Ok((Found::Waits(asked.number, asked.connection), asked));
+            }
+        }
+        let number = ticket.checked_sub(1).ok_or(Refusal::Ticket)?;
+        match self.engine.parked(number) {
+            Some(asked) => Ok((Found::Parked(number), asked)),
+            None => Err(Refusal::Ticket),
+        }
     }
 
     /// What the operation is that waits.
@@ -102,37 +124,27 @@ impl Serving {
         Ok(copied(&octets, room))
     }
 
-    /// Copies the client id of the request that waits.
-    fn client(&self, room: &mut [u8]) -> Result<u64, Refusal>
-        ensures { TellsClient room.old room.new self.now result }
+    /// Copies a part of the request of a ticket.
+    pub fn part(&self, ticket: u64, part: u32, room: &mut [u8]) -> Result<u64, Refusal>
+        ensures { OnPart ticket part room.old room.new self.now self.now result }
     {
-        let Some(inbound) = self.engine.message() else {
-            return Err(Refusal::None);
-        };
-        let Inbound::Request(_, request) = inbound else {
-            return Err(Refusal::None);
-        };
-        match ft_request(&request.contexts) {
-            FtField::Present {
-                client_id,
-                retention_id: _,
-                expiration: _,
-            } => Ok(copied(client_id, room)),
-            _ => Err(Refusal::None),
-        }
-    }
-
-    /// Copies a part of the request that waits.
-    pub fn part(&self, part: u32, room: &mut [u8]) -> Result<u64, Refusal>
-        ensures { OnPart part room.old room.new self.now self.now result }
-    {
-        let asked = self.engine.asked().ok_or(Refusal::Idle)?;
+        let (_, asked) = self.named_by(ticket)?;
         match part {
             0 => Ok(copied(asked.object_key, room)),
             1 => Ok(copied(asked.operation, room)),
             2 => self.body(&asked, room),
-            3 => self.client(room),
+            3 => client(&asked, room),
             _ => Err(Refusal::None),
         }
+    }
+}
+
+/// Copies the client id of a request.
+fn client(asked: &Asked<'_>, room: &mut [u8]) -> Result<u64, Refusal>
+    ensures { TellsIfSome (client_of (awaited_lent asked.now).field) room.old room.new result }
+{
+    match &asked.ft_request {
+        Some(ft_request) => Ok(copied(&ft_request.key.client_id, room)),
+        None => Err(Refusal::None),
     }
 }

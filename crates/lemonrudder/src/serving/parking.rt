@@ -1,0 +1,32 @@
+//! Requests that are parked, and the connections on which octets came due for them.
+
+use crate::refusal::Refusal;
+use crate::serving::Serving;
+
+impl Serving {
+    /// Parks the request that waits.
+    pub fn park(&mut self, ticket: u64) -> Result<u64, Refusal> {
+        let number = self.asked_by(ticket)?.number;
+        self.engine.park(number)?;
+        Ok(0)
+    }
+
+    /// How many requests are parked.
+    pub fn parked(&self) -> u64 {
+        self.engine.parked_len() as u64
+    }
+
+    /// How many of the parked requests came on a connection.
+    pub fn parked_of(&self, connection: u64) -> u64 {
+        self.engine.parked_of(connection) as u64
+    }
+
+    /// Names a connection on which octets came due, if there is one, and answers 1; else 0.
+    pub fn next_due(&mut self, connection: &mut u64) -> u64 {
+        let Some(first) = self.ready.pop_first() else {
+            return 0;
+        };
+        *connection = first;
+        1
+    }
+}
