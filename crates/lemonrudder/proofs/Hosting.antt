@@ -1,7 +1,7 @@
 -- A server of the objects of a catalogue, in the words of the slots that hold both.
 use Rattle.std.proofs.Common.{◌≡◌, ℕ, ℤ, Bool, true, not, Option, Some, None, Result, Ok, refl, sym, subst, arith}
 use Rattle.giop_frames.specs.declared.limits.Limits.{Limits}
-use Rattle.ft_objects.specs.declared.interfaces.Interfaces.{Interfaces}
+use Rattle.ft_objects.specs.declared.families.Families.{Families}
 use Rattle.lemonrudder.specs.declared.cataloguing.Cataloguing.{Cataloguing}
 use Rattle.lemonrudder.specs.declared.object.Object.{Object}
 use Rattle.lemonrudder.specs.declared.object.Object.TheVariants.{Catalogue, Server}
@@ -13,9 +13,9 @@ use Rattle.lemonrudder.specs.Openings.{IsNew}
 use Rattle.lemonrudder.specs.Ownership.{is_held}
 
 -- a catalogue became a server of the objects that it had
-pub hosts_new : (limits : Limits) (capacity share : ℕ) (o : Object) (s : Cataloguing) (i : Interfaces) (t : Serving) → o ≡ Catalogue s → i ≡ s.interfaces → IsNew i limits capacity share t
+pub hosts_new : (limits : Limits) (capacity share : ℕ) (o : Object) (s : Cataloguing) (f : Families) (t : Serving) → o ≡ Catalogue s → f ≡ s.families → IsNew f limits capacity share t
     → Hosts limits capacity share o (Server t) (Ok tt)
-hosts_new limits capacity share o s i t is same made =
+hosts_new limits capacity share o s f t is same made =
     subst (λ x. Hosts limits capacity share x (Server t) (Ok tt)) (sym is) (t, refl, subst (λ x. IsNew x limits capacity share t) same made)
 
 pub not_held : (o : Option Object) (b : Bool) → b ≡ not (is_held o) → b ≡ true → o ≡ None

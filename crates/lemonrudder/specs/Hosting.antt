@@ -12,7 +12,7 @@ use Rattle.lemonrudder.specs.Refusals.{error_number}
 
 -- a new server of the objects of a catalogue; where memory is short, or it is no catalogue, the object is as it was
 abbrev pub Hosts : Limits → (capacity share : ℕ) → (before after : Object) → Result (Unit {0}) Refusal → Type 0
-Hosts limits capacity share (Catalogue s) after (Ok x) = (t : Serving) × (after ≡ Server t) × IsNew s.interfaces limits capacity share t
+Hosts limits capacity share (Catalogue s) after (Ok x) = (t : Serving) × (after ≡ Server t) × IsNew s.families limits capacity share t
 Hosts limits capacity share (Catalogue s) after (Err e) = (e ≡ refusal.Memory) × (after ≡ Catalogue s)
 Hosts limits capacity share before after (Ok x) = ⊥
 Hosts limits capacity share before after (Err e) = (e ≡ refusal.Empty) × (after ≡ before)

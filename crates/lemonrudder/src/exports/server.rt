@@ -9,6 +9,7 @@ ghost use Rattle.lemonrudder.specs.Questions.{OnAsked, OnPart};
 ghost use Rattle.lemonrudder.specs.Serves.{HasNoServer, OnConnect, OnFarewell, OnFeed, OnGiveUp, OnIsClosed, OnLost, OnOutput};
 ghost use Rattle.lemonrudder.specs.Slots.{held_in, unboxed};
 
+use crate::cataloguing::no_families;
 use crate::object::Object;
 use crate::refusal::Refusal;
 use crate::request::RequestHead;
@@ -17,7 +18,6 @@ use crate::served;
 use crate::serving::Serving;
 use crate::slot::Slot;
 use crate::terms::Terms;
-use ft_objects::Interfaces;
 use std::alloc::Global;
 use std::hash::RandomState;
 use std::mem;
@@ -30,8 +30,8 @@ fn host(alloc: Global, object: &mut Object, terms: Terms) -> Result<(), Refusal>
         return Err(Refusal::Empty);
     };
     let hasher = RandomState::new(&terms.seed).map_err(|_| Refusal::Memory)?;
-    let interfaces = mem::replace(&mut catalogue.interfaces, Interfaces::new(alloc));
-    *object = Object::Server(Serving::new(alloc, interfaces, terms, hasher));
+    let families = mem::replace(&mut catalogue.families, no_families(alloc));
+    *object = Object::Server(Serving::new(alloc, families, terms, hasher));
     Ok(())
 }
 
