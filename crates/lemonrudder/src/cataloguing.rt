@@ -1,5 +1,7 @@
 //! Which objects and operations a server has, as its owner fills them in.
 
+mod families;
+
 ghost use Rattle.std.specs.Prelude.{◌≡◌};
 ghost use Rattle.lemonrudder.specs.Fills.{no_stock, stock_of};
 ghost use Rattle.lemonrudder.specs.Identifies.{AreIds};
