@@ -4,16 +4,17 @@ ghost use Rattle.std.specs.Prelude.{◌≡◌, ◌↔◌, IsTrue};
 ghost use Rattle.ft_orb.specs.Parking.{parked_count};
 
 mod declining;
+mod offering;
 mod outcomes;
 mod questions;
 mod taken;
 
 use crate::due::Due;
 use crate::refusal::Refusal;
-use crate::terms::Terms;
+use crate::terms::{Setup, Terms};
 use ft_log::Retention;
 use ft_objects::Families;
-use ft_orb::{CloseError, Engine, Places};
+use ft_orb::{CloseError, Engine};
 use std::alloc::Global;
 use std::hash::RandomState;
 use taken::taken_of;
@@ -23,6 +24,7 @@ use taken::taken_of;
 pub struct Serving {
     engine: Engine<Families>,
     alloc: Global,
+    setup: Setup,
     due: Due,
     due_on: u64,
     ghost unparked: { parked_count engine ≡ 0 },
@@ -34,24 +36,28 @@ impl Serving {
 
     /// A server to which nothing has happened.
     pub fn new(alloc: Global, families: Families, terms: Terms, hasher: RandomState) -> Serving
-        ensures { IsNew families terms.limits terms.capacity terms.share result }
+        ensures { IsNew families terms result }
     {
-        let Terms {
-            limits,
-            capacity,
-            share,
-            seed: _,
-        } = terms;
-        Serving {
-            engine: Engine::new(
-                alloc,
-                families,
-                limits,
-                Retention { capacity, share },
-                Places::none(),
-                hasher,
-            ),
+        let retention = Retention {
+            capacity: terms.capacity,
+            share: terms.share,
+        };
+        let mut engine = Engine::new(
             alloc,
+            families,
+            terms.limits,
+            retention,
+            terms.places,
+            hasher,
+        );
+        engine.bound_client_ids(terms.longest);
+        Serving {
+            engine,
+            alloc,
+            setup: Setup {
+                terms,
+                opened: false,
+            },
             due: Due::new(Vec::new(alloc)),
             due_on: 0,
         }
@@ -72,6 +78,7 @@ impl Serving {
             return Err(Refusal::Asking);
         }
         self.engine.connect(connection)?;
+        self.setup.opened = true;
         Ok(0)
     }
 
