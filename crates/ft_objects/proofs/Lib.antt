@@ -1,4 +1,1 @@
-pub mod BasicValues
-pub mod Named
-pub mod Filled
-pub mod Fronts
+mod Emptiness

@@ -42,7 +42,7 @@ OnRefuse ticket name minor s t r = ByName (system_name_named name) s t r (λ n. 
 
 -- memory is short for CloseConnection, and the request waits still
 abbrev pub SaysNothing : Serving → Serving → Result ℕ Refusal → Type 0
-SaysNothing s t r = (r ≡ Err refusal.Memory) × (t.engine ≡ s.engine) × (t.due_on ≡ s.due_on) × OwesNoMore s t
+SaysNothing s t r = (r ≡ Err refusal.Memory) × (t.engine ≡ s.engine) × (t.due_on ≡ s.due_on) × (t.setup ≡ s.setup) × OwesNoMore s t
 
 -- CloseConnection is due after what was (GIOP 9.4.7)
 abbrev pub OwesGoodbye : Serving → Serving → Type 0

@@ -1,5 +1,5 @@
 -- What a call on a server does.
-use Rattle.std.specs.Prelude.{◌≡◌, ℕ, ◌+◌, ◌<◌, Bool, not, min, List, [], ◌∷◌, ◌++◌, length, drop, IsSome, Option, Some, None, Result, Ok, Err}
+use Rattle.std.specs.Prelude.{◌≡◌, ℕ, ◌+◌, ◌<◌, Bool, true, not, min, List, [], ◌∷◌, ◌++◌, length, drop, IsSome, Option, Some, None, Result, Ok, Err}
 use Rattle.std.specs.Int.{from_bool}
 use Rattle.ft_orb.specs.declared.engine.Fed.{Fed}
 use Rattle.ft_orb.specs.declared.engine.Fed.TheVariants as fed
@@ -19,6 +19,7 @@ use Rattle.lemonrudder.specs.declared.object.Object.TheVariants.{Server}
 use Rattle.lemonrudder.specs.declared.refusal.Refusal.{Refusal}
 use Rattle.lemonrudder.specs.declared.refusal.Refusal.TheVariants as refusal
 use Rattle.lemonrudder.specs.declared.serving.Serving.{Serving}
+use Rattle.lemonrudder.specs.declared.terms.Setup.{Setup}
 use Rattle.lemonrudder.specs.Dues.{IsPlaced, owed}
 use Rattle.lemonrudder.specs.Late.{ClosesLate, ForgetsLate, IsClosedLate, LosesLate, OpensLate, TakesLate}
 use Rattle.lemonrudder.specs.Refusals.{filled, refusal_of_connecting, refusal_of_serving}
@@ -48,9 +49,9 @@ WhereFree c s t r Does = WhereIdle s t r ((IsDueElsewhere c s → IsRefused refu
 abbrev pub KeepsDue : Serving → Serving → Type 0
 KeepsDue s t = (t.due ≡ s.due) × (t.due_on ≡ s.due_on)
 
--- no call changes what is on offer: it stays the catalogue that the server was opened with
+-- what is on offer stays, and so do the limits, and whether there was a connection
 abbrev pub KeepsCatalogue : Serving → Serving → Type 0
-KeepsCatalogue s t = t.engine.offering ≡ s.engine.offering
+KeepsCatalogue s t = (t.engine.offering ≡ s.engine.offering) × (t.setup ≡ s.setup)
 
 -- .. nor does it number a request: no ticket is given twice
 abbrev pub KeepsTickets : Serving → Serving → Type 0
@@ -69,9 +70,14 @@ abbrev pub done_of : {A E : Type 0} → ℕ → (E → Refusal) → Result A E �
 done_of n why (Ok x) = Ok n
 done_of n why (Err e) = Err (why e)
 
+-- whether there was a connection, once one is opened, or not for want of memory or a number that is new
+abbrev pub opened_with : Result (Unit {0}) ConnectError → Setup → Setup
+opened_with (Ok x) setup = record setup { opened = true }
+opened_with (Err e) setup = setup
+
 -- a connection is opened: not while a request waits
 abbrev pub OnConnect : ℕ → Serving → Serving → Result ℕ Refusal → Type 0
-OnConnect c s t r = WhereIdle s t r ((o : Result (Unit {0}) ConnectError) × (r ≡ done_of 0 refusal_of_connecting o) × IsIdle t × KeepsDue s t × KeepsCatalogue s t × KeepsTickets s t
+OnConnect c s t r = WhereIdle s t r ((o : Result (Unit {0}) ConnectError) × (r ≡ done_of 0 refusal_of_connecting o) × IsIdle t × KeepsDue s t × (t.engine.offering ≡ s.engine.offering) × (t.setup ≡ opened_with o s.setup) × KeepsTickets s t
     × ((owner : Owner) (calls : List Call) (past : List Event) → Rests families_offer owner calls s.engine past → IsThen families_offer owner calls past (Opened c) (note_of_opening o) t.engine [])
     × OpensLate c s t o)
 
@@ -142,7 +148,7 @@ OnGiveUp ticket s t r = ByTicket ticket s t r (λ w. (r ≡ Ok 0) × IsIdle t ×
 abbrev pub OnOutput : (room new : List ℕ) → Serving → Serving → Result ℕ Refusal → Type 0
 OnOutput room new s t r =
     let n = min (length (owed s.due)) (length room) in
-    (r ≡ Ok n) × (new ≡ filled (owed s.due) room) × (owed t.due ≡ drop n (owed s.due)) × (IsPlaced s.due → IsPlaced t.due) × (t.engine ≡ s.engine) × (t.due_on ≡ s.due_on)
+    (r ≡ Ok n) × (new ≡ filled (owed s.due) room) × (owed t.due ≡ drop n (owed s.due)) × (IsPlaced s.due → IsPlaced t.due) × (t.engine ≡ s.engine) × (t.due_on ≡ s.due_on) × (t.setup ≡ s.setup)
 
 -- there is no server in a slot
 abbrev pub HasNoServer : Option Object → Type 0

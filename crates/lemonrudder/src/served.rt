@@ -3,6 +3,9 @@
 ghost use Rattle.std.specs.Prelude.{◌≡◌, Some};
 ghost use Rattle.lemonrudder.specs.Answers.{OnServer};
 ghost use Rattle.lemonrudder.specs.Declining.{OnGoodbye, OnRefuse};
+ghost use Rattle.lemonrudder.specs.Pairs.{OnServerAndCatalogue};
+ghost use Rattle.lemonrudder.specs.Setting.{OnSet};
+ghost use Rattle.lemonrudder.specs.Swapping.{OnSwap};
 ghost use Rattle.lemonrudder.specs.Outcomes.{OnAnswer, OnAnswerRaw, OnIdentify, OnRaise, OnSystem};
 ghost use Rattle.lemonrudder.specs.Parks.{OnNextDue, OnPark, OnParked, OnParkedOf};
 ghost use Rattle.lemonrudder.specs.Questions.{OnAsked, OnPart};
@@ -11,6 +14,29 @@ ghost use Rattle.lemonrudder.specs.Serves.{HasNoServer, OnConnect, OnFarewell, O
 use crate::object::Object;
 use crate::refusal::{Refusal, number_of};
 use crate::request::RequestHead;
+
+/// Sets the limit of a number, before the first connection.
+pub fn set(object: &mut Object, what: u32, value: u64) -> i64
+    ensures { OnServer (OnSet what value) (Some object.old) (Some object.new) result }
+{
+    let Object::Server(server) = object else {
+        return Refusal::Empty.number();
+    };
+    number_of(server.set(what, value))
+}
+
+/// Exchanges what is on offer and a catalogue.
+pub fn swap(object: &mut Object, other: &mut Object) -> i64
+    ensures { OnServerAndCatalogue OnSwap (Some object.old) (Some object.new) (Some other.old) (Some other.new) result }
+{
+    let Object::Server(server) = object else {
+        return Refusal::Empty.number();
+    };
+    let Object::Catalogue(catalogue) = other else {
+        return Refusal::Empty.number();
+    };
+    number_of(server.swap(catalogue))
+}
 
 /// Opens a connection.
 pub fn connect(object: &mut Object, connection: u64) -> i64

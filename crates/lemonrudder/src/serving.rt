@@ -4,6 +4,7 @@ ghost use Rattle.std.specs.Prelude.{◌≡◌, IsTrue};
 ghost use Rattle.lemonrudder.specs.Serves.{is_asked_there};
 
 mod declining;
+mod offering;
 mod outcomes;
 mod parking;
 mod questions;
@@ -12,10 +13,10 @@ mod taken;
 
 use crate::connections::Connections;
 use crate::refusal::Refusal;
-use crate::terms::Terms;
+use crate::terms::{Setup, Terms};
 use ft_log::Retention;
 use ft_objects::Families;
-use ft_orb::{CloseError, Engine, Places};
+use ft_orb::{CloseError, Engine};
 use std::alloc::Global;
 use std::collections::BTreeSet;
 use std::hash::RandomState;
@@ -26,9 +27,9 @@ use taken::taken_of;
 pub struct Serving {
     engine: Engine<Families>,
     alloc: Global,
+    setup: Setup,
     connections: Connections,
     ready: BTreeSet<u64>,
-    most_due: usize,
     ghost asked: { IsTrue (is_asked_there connections engine) },
 }
 
@@ -38,32 +39,30 @@ impl Serving {
 
     /// A server to which nothing has happened.
     pub fn new(alloc: Global, families: Families, terms: Terms, hasher: RandomState) -> Serving
-        ensures { IsNew families terms.limits terms.capacity terms.share result }
+        ensures { IsNew families terms result }
     {
-        let Terms {
-            limits,
-            capacity,
-            share,
-            seed: _,
-        } = terms;
-        let places = Places {
-            parked: 1024,
-            of_one: 64,
-            joined: 8,
+        let retention = Retention {
+            capacity: terms.capacity,
+            share: terms.share,
         };
-        Serving {
-            engine: Engine::new(
-                alloc,
-                families,
-                limits,
-                Retention { capacity, share },
-                places,
-                hasher,
-            ),
+        let mut engine = Engine::new(
             alloc,
+            families,
+            terms.limits,
+            retention,
+            terms.places,
+            hasher,
+        );
+        engine.bound_client_ids(terms.longest);
+        Serving {
+            engine,
+            alloc,
+            setup: Setup {
+                terms,
+                opened: false,
+            },
             connections: Connections::new(alloc),
             ready: BTreeSet::new(alloc),
-            most_due: 1048576,
         }
     }
 
@@ -82,6 +81,7 @@ impl Serving {
             }
             return Err(Refusal::from(error));
         }
+        self.setup.opened = true;
         Ok(0)
     }
 
@@ -144,17 +144,16 @@ impl Serving {
             self.engine.tick(moment);
             return Ok(octets.len() as u64);
         }
-        if self.connections.due_len(connection) >= self.most_due {
+        if self.connections.due_len(connection) >= self.setup.terms.due {
             return Ok(0);
         }
         self.serve(connection, moment, octets)
     }
 
     /// Takes octets of a connection, until as many are due on it as may be.
-    fn serve(&mut self, connection: u64, moment: u64, octets: &[u8]) -> Result<u64, Refusal>
-    {
+    fn serve(&mut self, connection: u64, moment: u64, octets: &[u8]) -> Result<u64, Refusal> {
         let mut due = self.connections.take(connection);
-        let most = due.most(self.most_due);
+        let most = due.most(self.setup.terms.due);
         let fed = self
             .engine
             .feed_within(connection, moment, octets, most, &mut due.octets);

@@ -5,11 +5,15 @@ ghost use Rattle.lemonrudder.specs.Answers.{OnServer};
 ghost use Rattle.lemonrudder.specs.Declining.{OnGoodbye, OnRefuse};
 ghost use Rattle.lemonrudder.specs.Hosting.{Hosts, Leaves, OpensServer};
 ghost use Rattle.lemonrudder.specs.Outcomes.{OnAnswer, OnAnswerRaw, OnIdentify, OnRaise, OnSystem};
+ghost use Rattle.lemonrudder.specs.Pairs.{OnServerAndCatalogue};
 ghost use Rattle.lemonrudder.specs.Parks.{OnNextDue, OnPark, OnParked, OnParkedOf};
+ghost use Rattle.lemonrudder.specs.Setting.{OnSet};
+ghost use Rattle.lemonrudder.specs.Swapping.{OnSwap};
 ghost use Rattle.lemonrudder.specs.Questions.{OnAsked, OnPart};
 ghost use Rattle.lemonrudder.specs.Serves.{HasNoServer, OnConnect, OnFarewell, OnFeed, OnGiveUp, OnIsClosed, OnLost, OnOutput};
 ghost use Rattle.lemonrudder.specs.Slots.{held_in, unboxed};
 
+use crate::cataloguing::no_families;
 use crate::object::Object;
 use crate::refusal::Refusal;
 use crate::request::RequestHead;
@@ -18,32 +22,31 @@ use crate::served;
 use crate::serving::Serving;
 use crate::slot::Slot;
 use crate::terms::Terms;
-use ft_objects::Interfaces;
 use std::alloc::Global;
 use std::hash::RandomState;
 use std::mem;
 
 /// Makes a catalogue a server of its objects.
-fn host(alloc: Global, object: &mut Object, terms: Terms) -> Result<(), Refusal>
-    ensures { Hosts terms.limits terms.capacity terms.share object.old object.new result }
+fn host(alloc: Global, object: &mut Object, seed: Seed) -> Result<(), Refusal>
+    ensures { Hosts seed object.old object.new result }
 {
     let Object::Catalogue(catalogue) = object else {
         return Err(Refusal::Empty);
     };
-    let hasher = RandomState::new(&terms.seed).map_err(|_| Refusal::Memory)?;
-    let interfaces = mem::replace(&mut catalogue.interfaces, Interfaces::new(alloc));
-    *object = Object::Server(Serving::new(alloc, interfaces, terms, hasher));
+    let hasher = RandomState::new(&seed).map_err(|_| Refusal::Memory)?;
+    let families = mem::replace(&mut catalogue.families, no_families(alloc));
+    *object = Object::Server(Serving::new(alloc, families, Terms::new(seed), hasher));
     Ok(())
 }
 
 /// The server of a catalogue's objects. The catalogue stays where it is refused.
-fn opened(alloc: Global, catalogue: &mut Slot, terms: Terms) -> Result<Box<Object>, Refusal>
-    ensures { Leaves terms.limits terms.capacity terms.share (held_in catalogue.old) (held_in catalogue.new) (unboxed result) }
+fn opened(alloc: Global, catalogue: &mut Slot, seed: Seed) -> Result<Box<Object>, Refusal>
+    ensures { Leaves seed (held_in catalogue.old) (held_in catalogue.new) (unboxed result) }
 {
     let Some(mut object) = catalogue.take(alloc) else {
         return Err(Refusal::Empty);
     };
-    match host(alloc, &mut object, terms) {
+    match host(alloc, &mut object, seed) {
         Ok(()) => Ok(object),
         Err(refusal) => {
             catalogue.put(object);
@@ -58,14 +61,10 @@ pub extern "C" fn lr_server_open(
     alloc: Global,
     slot: &mut Slot,
     catalogue: &mut Slot,
-    message_limit: u32,
-    partials: u32,
-    capacity: u32,
-    share: u32,
     seed_low: u64,
     seed_high: u64,
 ) -> i64
-    ensures { OpensServer message_limit partials capacity share (held_in slot.old) (held_in slot.new) (held_in catalogue.old) (held_in catalogue.new) result }
+    ensures { OpensServer (record { low = seed_low; high = seed_high }) (held_in slot.old) (held_in slot.new) (held_in catalogue.old) (held_in catalogue.new) result }
 {
     if !slot.is_empty() {
         return Refusal::Open.number();
@@ -74,17 +73,51 @@ pub extern "C" fn lr_server_open(
         low: seed_low,
         high: seed_high,
     };
-    let terms = match Terms::new(message_limit, partials, capacity, share, seed) {
-        Ok(terms) => terms,
-        Err(refusal) => return refusal.number(),
-    };
-    match opened(alloc, catalogue, terms) {
+    match opened(alloc, catalogue, seed) {
         Ok(object) => {
             slot.put(object);
             0
         }
         Err(refusal) => refusal.number(),
     }
+}
+
+/// Sets a limit of a server, before its first connection.
+#[unsafe(no_mangle)]
+pub extern "C" fn lr_server_set(alloc: Global, slot: &mut Slot, what: u32, value: u64) -> i64
+    ensures { OnServer (OnSet what value) (held_in slot.old) (held_in slot.new) result }
+{
+    let Some(mut object) = slot.take(alloc) else {
+        return Refusal::Empty.number();
+    };
+    let answer = served::set(&mut object, what, value);
+    slot.put(object);
+    answer
+}
+
+/// Exchanges what a server has on offer and a catalogue that is in a slot.
+fn swapped(alloc: Global, object: &mut Object, catalogue: &mut Slot) -> i64
+    ensures { OnServerAndCatalogue OnSwap (Some object.old) (Some object.new) (held_in catalogue.old) (held_in catalogue.new) result }
+{
+    let Some(mut other) = catalogue.take(alloc) else {
+        return Refusal::Empty.number();
+    };
+    let answer = served::swap(object, &mut other);
+    catalogue.put(other);
+    answer
+}
+
+/// Exchanges what a server has on offer and a catalogue.
+#[unsafe(no_mangle)]
+pub extern "C" fn lr_server_swap(alloc: Global, slot: &mut Slot, catalogue: &mut Slot) -> i64
+    ensures { OnServerAndCatalogue OnSwap (held_in slot.old) (held_in slot.new) (held_in catalogue.old) (held_in catalogue.new) result }
+{
+    let Some(mut object) = slot.take(alloc) else {
+        return Refusal::Empty.number();
+    };
+    let answer = swapped(alloc, &mut object, catalogue);
+    slot.put(object);
+    answer
 }
 
 /// Opens a connection.

@@ -11,8 +11,13 @@ impl Serving {
     ghost use Rattle.lemonrudder.specs.Declining.{OnGoodbye, OnRefuse};
 
     /// Refuses the request that waits, for now.
-    fn decline(&mut self, number: u64, connection: u64, name: SystemName, minor: u32) -> Result<u64, Refusal>
-    {
+    fn decline(
+        &mut self,
+        number: u64,
+        connection: u64,
+        name: SystemName,
+        minor: u32,
+    ) -> Result<u64, Refusal> {
         let mut due = self.connections.take(connection);
         let declined = self.engine.decline(number, name, minor, &mut due.octets);
         self.connections.put(connection, due);
@@ -25,7 +30,7 @@ impl Serving {
         ensures { OnRefuse ticket name minor self.old self.new result }
     {
         let name = system_name_of(name)?;
-        let (found, _) = self.named_by(ticket)?;
+        let (found, _) = self.called_by(ticket)?;
         match found {
             Found::Waits(number, connection) => self.decline(number, connection, name, minor),
             Found::Parked(number) => self.withdraw(number, name, minor),

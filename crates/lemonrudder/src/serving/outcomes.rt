@@ -28,8 +28,7 @@ impl Serving {
         connection: u64,
         outcome: Outcome,
         count: u64,
-    ) -> Result<u64, Refusal>
-    {
+    ) -> Result<u64, Refusal> {
         if !self.engine.can_answer(number, &outcome) {
             return Err(Refusal::Outcome);
         }
@@ -41,10 +40,11 @@ impl Serving {
     }
 
     /// .. of one that waits or is parked.
-    fn hand_in(&mut self, found: Found, outcome: Outcome, count: u64) -> Result<u64, Refusal>
-    {
+    fn hand_in(&mut self, found: Found, outcome: Outcome, count: u64) -> Result<u64, Refusal> {
         match found {
-            Found::Waits(number, connection) => self.answer_asked(number, connection, outcome, count),
+            Found::Waits(number, connection) => self.answer_asked(
+                number, connection, outcome, count,
+            ),
             Found::Parked(number) => self.settle(number, outcome, count),
         }
     }
@@ -88,7 +88,7 @@ impl Serving {
         ensures { OnAnswer ticket order octets.now self.old self.new result }
     {
         let order = order_of(order)?;
-        let (found, asked) = self.named_by(ticket)?;
+        let (found, asked) = self.called_by(ticket)?;
         let results = self.results(&asked, order, octets)?;
         self.hand_in(found, Outcome::Returned(results), 0)
     }
@@ -104,7 +104,7 @@ impl Serving {
         ensures { OnRaise ticket id.now order octets.now self.old self.new result }
     {
         let order = order_of(order)?;
-        let (found, asked) = self.named_by(ticket)?;
+        let (found, asked) = self.called_by(ticket)?;
         let members = self.members(&asked, id, order, octets)?;
         let id = Vec::from_slice(self.alloc, id)?;
         self.hand_in(found, Outcome::Raised(id, members), 0)
@@ -122,7 +122,7 @@ impl Serving {
     {
         let name = system_name_of(name)?;
         let completed = completion_of(completed)?;
-        let (found, _) = self.named_by(ticket)?;
+        let (found, _) = self.called_by(ticket)?;
         self.hand_in(found, Outcome::System(name, minor, completed), 0)
     }
 
@@ -138,7 +138,7 @@ impl Serving {
     {
         let status = raw_status_of(status)?;
         let order = order_of(order)?;
-        let (found, _) = self.named_by(ticket)?;
+        let (found, _) = self.called_by(ticket)?;
         let body = Vec::from_slice(self.alloc, body)?;
         self.hand_in(found, Outcome::Raw(status, order, body), 0)
     }
@@ -165,7 +165,7 @@ impl Serving {
     pub fn identify(&mut self, ticket: u64) -> Result<u64, Refusal>
         ensures { OnIdentify ticket self.old self.new result }
     {
-        let (found, asked) = self.named_by(ticket)?;
+        let (found, asked) = self.called_by(ticket)?;
         let Some(truth) = self.identity(&asked) else {
             return Ok(0);
         };

@@ -54,6 +54,15 @@ impl Serving {
         }
     }
 
+    /// .. of which an outcome may be said: not of one that is parked while another waits.
+    pub(super) fn called_by(&self, ticket: u64) -> Result<(Found, Asked<'_>), Refusal> {
+        let (found, asked) = self.named_by(ticket)?;
+        match found {
+            Found::Parked(_) if self.engine.is_asking() => Err(Refusal::Asking),
+            _ => Ok((found, asked)),
+        }
+    }
+
     /// What the operation is that waits.
     pub(super) fn lookup(&self, asked: &Asked<'_>) -> Lookup<'_>
         ensures { interface_of result ≡ interface_at self.now (awaited_lent asked.now) }

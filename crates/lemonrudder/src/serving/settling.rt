@@ -26,10 +26,12 @@ impl Serving {
     }
 
     /// Takes the outcome of the request that is parked under a number, and answers the count.
-    pub(super) fn settle(&mut self, number: u64, outcome: Outcome, count: u64) -> Result<u64, Refusal> {
-        if self.engine.is_asking() {
-            return Err(Refusal::Asking);
-        }
+    pub(super) fn settle(
+        &mut self,
+        number: u64,
+        outcome: Outcome,
+        count: u64,
+    ) -> Result<u64, Refusal> {
         if !self.engine.can_settle(number, &outcome) {
             return Err(Refusal::Outcome);
         }
@@ -39,11 +41,16 @@ impl Serving {
     }
 
     /// Declines the request that is parked under a number.
-    pub(super) fn withdraw(&mut self, number: u64, name: SystemName, minor: u32) -> Result<u64, Refusal> {
-        if self.engine.is_asking() {
-            return Err(Refusal::Asking);
-        }
-        if !self.engine.can_settle(number, &Outcome::System(name, minor, Completion::No)) {
+    pub(super) fn withdraw(
+        &mut self,
+        number: u64,
+        name: SystemName,
+        minor: u32,
+    ) -> Result<u64, Refusal> {
+        if !self
+            .engine
+            .can_settle(number, &Outcome::System(name, minor, Completion::No))
+        {
             return Err(Refusal::Outcome);
         }
         self.engine.withdraw(number, name, minor);
