@@ -1,1 +1,5 @@
-mod Emptiness
+pub mod BasicValues
+pub mod Named
+pub mod Filled
+pub mod Fronts
+pub mod Emptiness

@@ -18,10 +18,6 @@ is_there k c = is_some (connection_at k c)
 abbrev pub owed_in : Connections → ℕ → List ℕ
 owed_in k c = option_map_or (λ (x : Connection). owed x.due) (connection_at k c) []
 
--- a farewell waits on it
-abbrev pub has_left : Connections → ℕ → Bool
-has_left k c = option_map_or (λ (x : Connection). x.is_leaving) (connection_at k c) false
-
 -- they are the same, and the same is due on each
 abbrev pub AreSame : Connections → Connections → Type 0
 AreSame k l = (q : ℕ) → connection_at l q ≡ connection_at k q
@@ -32,4 +28,4 @@ AreOthers c k l = (q : ℕ) → (c == q) ≡ false → connection_at l q ≡ con
 
 -- .. of which only what is due may be another
 abbrev pub OnlyDue : ℕ → Connections → Connections → Type 0
-OnlyDue c k l = (is_there l c ≡ is_there k c) × (has_left l c ≡ has_left k c) × AreOthers c k l
+OnlyDue c k l = (is_there l c ≡ is_there k c) × AreOthers c k l

@@ -1,7 +1,7 @@
 //! The connections of a server, and what is due on each.
 
-ghost use Rattle.std.specs.Prelude.{◌≡◌, ◌++◌, [], ℕ, List, false, true, drop, length, min, OnErr, OnOk, IfErr};
-ghost use Rattle.lemonrudder.specs.Connected.{AreOthers, AreSame, OnlyDue, has_left, is_there, owed_in};
+ghost use Rattle.std.specs.Prelude.{◌≡◌, [], ℕ, false, true, drop, length, min, OnErr, OnOk, IfErr};
+ghost use Rattle.lemonrudder.specs.Connected.{AreOthers, AreSame, OnlyDue, is_there, owed_in};
 ghost use Rattle.lemonrudder.specs.Dues.{IsPlaced, owed};
 ghost use Rattle.lemonrudder.specs.Refusals.{filled};
 
@@ -15,7 +15,6 @@ use std::mem;
 #[derive(Drop)]
 pub struct Connection {
     due: Due,
-    is_leaving: bool,
     ghost placed: { IsPlaced due },
 }
 
@@ -44,16 +43,6 @@ impl Connections {
         self.entries.contains_key(&connection)
     }
 
-    /// Whether a farewell waits on one.
-    pub fn is_leaving(&self, connection: u64) -> bool
-        ensures { result ≡ has_left self.now connection }
-    {
-        match self.entries.get(&connection) {
-            Some(found) => found.is_leaving,
-            None => false,
-        }
-    }
-
     /// Opens one, on which nothing is due, where there is none of the number.
     pub fn open(&mut self, connection: u64) -> Result<(), Refusal>
         ensures there { OnOk result (is_there self.new connection ≡ true) }
@@ -68,7 +57,6 @@ impl Connections {
         }
         let opened = Connection {
             due: Due::new(Vec::new(self.alloc)),
-            is_leaving: false,
         };
         self.entries.insert(connection, opened)?;
         Ok(())
@@ -80,18 +68,6 @@ impl Connections {
         ensures others { AreOthers connection self.old self.new }
     {
         self.entries.remove(&connection);
-    }
-
-    /// A farewell waits on one.
-    pub fn leave(&mut self, connection: u64)
-        ensures leaves { has_left self.new connection ≡ is_there self.old connection }
-        ensures there { is_there self.new connection ≡ is_there self.old connection }
-        ensures owed { owed_in self.new connection ≡ owed_in self.old connection }
-        ensures others { AreOthers connection self.old self.new }
-    {
-        if let Some(found) = self.entries.get_mut(&connection) {
-            found.is_leaving = true;
-        }
     }
 
     /// How many octets are due on one.

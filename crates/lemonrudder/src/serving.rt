@@ -1,6 +1,6 @@
 //! A server, with the octets that are due on each of its connections: what it takes and writes.
 
-ghost use Rattle.std.specs.Prelude.{◌≡◌, IsTrue};
+ghost use Rattle.std.specs.Prelude.{◌≡◌, IsTrue, true};
 ghost use Rattle.lemonrudder.specs.Serves.{is_asked_there};
 
 mod declining;
@@ -35,7 +35,8 @@ pub struct Serving {
 
 impl Serving {
     ghost use Rattle.lemonrudder.specs.Openings.{IsNew};
-    ghost use Rattle.lemonrudder.specs.Serves.{OnConnect, OnFarewell, OnFeed, OnGiveUp, OnIsClosed, OnLost, OnOutput};
+    ghost use Rattle.lemonrudder.specs.Connected.{is_there};
+    ghost use Rattle.lemonrudder.specs.Serves.{IsIdle, OnConnect, OnFarewell, OnFeed, OnGiveUp, OnIsClosed, OnLost, OnOutput, Serves};
 
     /// A server to which nothing has happened.
     pub fn new(alloc: Global, families: Families, terms: Terms, hasher: RandomState) -> Serving
@@ -98,7 +99,7 @@ impl Serving {
         Ok(0)
     }
 
-    /// Says goodbye on a connection, once nobody waits on it.
+    /// Says goodbye on a connection, on which nobody waits for what is parked.
     pub fn farewell(&mut self, connection: u64) -> Result<u64, Refusal>
         ensures { OnFarewell connection self.old self.new result }
     {
@@ -115,10 +116,7 @@ impl Serving {
             Ok(()) => Ok(0),
             Err(CloseError::NoConnection) => Err(Refusal::Connection),
             Err(CloseError::Memory) => Err(Refusal::Lost),
-            Err(CloseError::Waits) => {
-                self.connections.leave(connection);
-                Ok(0)
-            }
+            Err(CloseError::Waits) => Err(Refusal::Parks),
         }
     }
 
@@ -139,10 +137,6 @@ impl Serving {
         if !self.connections.has(connection) {
             self.engine.tick(moment);
             return Err(Refusal::Connection);
-        }
-        if self.connections.is_leaving(connection) {
-            self.engine.tick(moment);
-            return Ok(octets.len() as u64);
         }
         if self.connections.due_len(connection) >= self.setup.terms.due {
             return Ok(0);

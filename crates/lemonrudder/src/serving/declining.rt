@@ -1,5 +1,8 @@
 //! Requests that are not performed now, and may come again.
 
+ghost use Rattle.ft_orb.specs.Engines.{waits_in};
+ghost use Rattle.ft_orb.specs.Parking.{not_now};
+
 use crate::named::system_name_of;
 use crate::refusal::Refusal;
 use crate::serving::Serving;
@@ -8,7 +11,9 @@ use ft_log::SystemName;
 use ft_orb::CloseError;
 
 impl Serving {
-    ghost use Rattle.lemonrudder.specs.Declining.{OnGoodbye, OnRefuse};
+    ghost use Rattle.lemonrudder.specs.Declining.{DeclinesAsked, OnGoodbye, OnRefuse};
+    ghost use Rattle.lemonrudder.specs.Tickets.{IsFound};
+    ghost use Rattle.lemonrudder.specs.declared.serving.questions.Found.TheVariants.{Waits};
 
     /// Refuses the request that waits, for now.
     fn decline(
@@ -17,7 +22,10 @@ impl Serving {
         connection: u64,
         name: SystemName,
         minor: u32,
-    ) -> Result<u64, Refusal> {
+    ) -> Result<u64, Refusal>
+        requires found { IsFound (waits_in self.old.engine) (Waits number connection) }
+        ensures { DeclinesAsked connection (not_now name minor) self.old self.new result }
+    {
         let mut due = self.connections.take(connection);
         let declined = self.engine.decline(number, name, minor, &mut due.octets);
         self.connections.put(connection, due);

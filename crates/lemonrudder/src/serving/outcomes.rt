@@ -4,7 +4,7 @@ ghost use Rattle.std.specs.Prelude.{◌≡◌, Some, map};
 ghost use Rattle.cdr_core.specs.Fitting.{AreValid};
 ghost use Rattle.cdr_core.specs.View.{forms_of};
 ghost use Rattle.ft_log.specs.View.{performed_in};
-ghost use Rattle.ft_orb.specs.Engines.{awaited_lent};
+ghost use Rattle.ft_orb.specs.Engines.{awaited_lent, waits_in};
 ghost use Rattle.ft_objects.specs.Interfaces.{raise_of};
 ghost use Rattle.lemonrudder.specs.Outcomes.{forms_in, members_in, outcome_read};
 
@@ -19,7 +19,9 @@ use ft_objects::{Catalogue, Lookup, string_at};
 use ft_orb::Asked;
 
 impl Serving {
-    ghost use Rattle.lemonrudder.specs.Outcomes.{AreRead, HandsIn, OnAnswer, OnAnswerRaw, OnIdentify, OnRaise, OnSystem, identity_at, interface_at, member_types, result_types};
+    ghost use Rattle.lemonrudder.specs.Tickets.{IsFound};
+    ghost use Rattle.lemonrudder.specs.declared.serving.questions.Found.TheVariants.{Waits};
+    ghost use Rattle.lemonrudder.specs.Outcomes.{AnswersAsked, AreRead, HandsIn, OnAnswer, OnAnswerRaw, OnIdentify, OnRaise, OnSystem, identity_at, interface_at, member_types, result_types};
 
     /// Hands in the outcome of the request of a number, which waits, and answers the count where it is taken.
     fn answer_asked(
@@ -28,7 +30,10 @@ impl Serving {
         connection: u64,
         outcome: Outcome,
         count: u64,
-    ) -> Result<u64, Refusal> {
+    ) -> Result<u64, Refusal>
+        requires found { IsFound (waits_in self.old.engine) (Waits number connection) }
+        ensures { AnswersAsked number connection count (performed_in outcome) self.old self.new result }
+    {
         if !self.engine.can_answer(number, &outcome) {
             return Err(Refusal::Outcome);
         }
@@ -40,7 +45,10 @@ impl Serving {
     }
 
     /// .. of one that waits or is parked.
-    fn hand_in(&mut self, found: Found, outcome: Outcome, count: u64) -> Result<u64, Refusal> {
+    fn hand_in(&mut self, found: Found, outcome: Outcome, count: u64) -> Result<u64, Refusal>
+        requires found { IsFound (waits_in self.old.engine) found }
+        ensures { HandsIn found count (performed_in outcome) self.old self.new result }
+    {
         match found {
             Found::Waits(number, connection) => self.answer_asked(
                 number, connection, outcome, count,

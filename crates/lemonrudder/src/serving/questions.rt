@@ -1,9 +1,11 @@
 //! What is said of the request that waits, and of one that is parked.
 
-ghost use Rattle.std.specs.Prelude.{◌≡◌};
+ghost use Rattle.std.specs.Prelude.{◌≡◌, IfOk};
 ghost use Rattle.cdr_core.specs.View.{values_of};
 ghost use Rattle.ft_orb.specs.Engines.{awaited_lent, waits_in};
+ghost use Rattle.ft_orb.specs.Parking.{parked_in};
 ghost use Rattle.ft_objects.specs.Interfaces.{interface_of};
+ghost use Rattle.lemonrudder.specs.Questions.{TellsIfSome, client_of};
 
 use crate::refusal::{Refusal, copied, count_of};
 use crate::request::{RequestHead, put_question, ticket_of};
@@ -24,8 +26,8 @@ pub(super) enum Found {
 
 impl Serving {
     ghost use Rattle.lemonrudder.specs.Outcomes.{interface_at};
-    ghost use Rattle.lemonrudder.specs.Questions.{OnAsked, OnPart, TellsBody, TellsClient, is_raw, with_body};
-    ghost use Rattle.lemonrudder.specs.Tickets.{IsAskedBy};
+    ghost use Rattle.lemonrudder.specs.Questions.{OnAsked, OnPart, TellsBody, is_raw, with_body};
+    ghost use Rattle.lemonrudder.specs.Tickets.{IsAskedBy, IsFound, called_by, found_lent, named_by};
 
     /// The request that waits, where it has this ticket.
     pub(super) fn asked_by(&self, ticket: u64) -> Result<Asked<'_>, Refusal>
@@ -41,7 +43,9 @@ impl Serving {
     }
 
     /// The request of a ticket, which waits or is parked.
-    pub(super) fn named_by(&self, ticket: u64) -> Result<(Found, Asked<'_>), Refusal> {
+    pub(super) fn named_by(&self, ticket: u64) -> Result<(Found, Asked<'_>), Refusal>
+        ensures { found_lent result ≡ named_by ticket (waits_in self.now.engine) (parked_in self.now.engine) }
+    {
         if let Some(asked) = self.engine.asked() {
             if ticket_of(asked.number) == ticket {
                 return Ok((Found::Waits(asked.number, asked.connection), asked));
@@ -55,7 +59,10 @@ impl Serving {
     }
 
     /// .. of which an outcome may be said: not of one that is parked while another waits.
-    pub(super) fn called_by(&self, ticket: u64) -> Result<(Found, Asked<'_>), Refusal> {
+    pub(super) fn called_by(&self, ticket: u64) -> Result<(Found, Asked<'_>), Refusal>
+        ensures called { found_lent result ≡ called_by ticket (waits_in self.now.engine) (parked_in self.now.engine) }
+        ensures found { IfOk result (λ x. IsFound (waits_in self.now.engine) x.0) }
+    {
         let (found, asked) = self.named_by(ticket)?;
         match found {
             Found::Parked(_) if self.engine.is_asking() => Err(Refusal::Asking),
