@@ -12,6 +12,7 @@ mod catalogued;
 mod cataloguing;
 mod cdr;
 mod contexts;
+mod connections;
 mod due;
 mod exports;
 mod handle;
