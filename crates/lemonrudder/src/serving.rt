@@ -4,6 +4,7 @@ ghost use Rattle.std.specs.Prelude.{◌≡◌, ◌↔◌, IsTrue};
 ghost use Rattle.ft_orb.specs.Parking.{parked_count};
 
 mod declining;
+mod looking;
 mod offering;
 mod outcomes;
 mod questions;
