@@ -13,7 +13,7 @@ returns c = (
     refl,
     c.tick.ensures.idle,
     (refl, refl),
-    c.tick.ensures.catalogue,
+    (c.tick.ensures.catalogue, refl),
     c.tick.ensures.asks,
     c.tick.ensures.clock,
     c.tick.ensures.forgotten,
