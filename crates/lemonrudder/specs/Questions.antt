@@ -23,6 +23,7 @@ use Rattle.lemonrudder.specs.declared.request.RequestHead.{RequestHead}
 use Rattle.lemonrudder.specs.declared.serving.Serving.{Serving}
 use Rattle.lemonrudder.specs.declared.serving.questions.Found.{Found}
 use Rattle.lemonrudder.specs.Asking.{no_request, with_question}
+use Rattle.lemonrudder.specs.Layouts.{laid, octets_of_request}
 use Rattle.lemonrudder.specs.Outcomes.{interface_at}
 use Rattle.lemonrudder.specs.Refusals.{filled}
 use Rattle.lemonrudder.specs.Serves.{IsIdle}
@@ -43,13 +44,13 @@ with_body _ arguments h = let n = length (octets_of_all Big arguments 0) in reco
 abbrev pub head_of : Interface → Awaited → Question → RequestHead
 head_of i w q = with_body i w.call.arguments (with_question q.version q.id q.wish q.contexts (record no_request { ticket = ticket_of w.number; connection = w.connection; key_size = length w.call.object_key; operation_size = length w.call.operation }))
 
--- the head of what waits is reported, and 1; where nothing waits 0, and the caller's head is as it was
-abbrev pub OnAsked : (head new : RequestHead) → Serving → Serving → Result ℕ Refusal → Type 0
-OnAsked head new s t r = (t ≡ s) × (IsIdle s → (r ≡ Ok 0) × (new ≡ head))
+-- the head of what waits is reported, as much of the struct as the room has, and 1; where nothing waits 0, and the room is as it was
+abbrev pub OnAsked : (room new : List ℕ) → Serving → Serving → Result ℕ Refusal → Type 0
+OnAsked room new s t r = (t ≡ s) × (IsIdle s → (r ≡ Ok 0) × (new ≡ room))
     × ((owner : Owner) (calls : List Call) (past : List Event) (moment : ℕ) (octets written : List ℕ) (w : Awaited) → (a : Asks families_offer owner calls s.engine past moment octets written w)
-    → (r ≡ Ok 1) × (new ≡ head_of (interface_at s w) w a.question))
+    → (r ≡ Ok 1) × (new ≡ laid (octets_of_request (head_of (interface_at s w) w a.question)) room))
     × ((x : Settings) (held : ℕ → Holding) (calls : List Call) (past : List Event) (waiting : ℕ → List Waiter) (moment : ℕ) (octets written : List ℕ) (w : Awaited) → (a : AsksLate families_offer x held calls s.engine past waiting moment octets written w)
-    → (r ≡ Ok 1) × (new ≡ head_of (interface_at s w) w a.asks.question))
+    → (r ≡ Ok 1) × (new ≡ laid (octets_of_request (head_of (interface_at s w) w a.asks.question)) room))
 
 -- octets are copied to the front of a room, as many as it has, and how many they are is returned
 abbrev pub Tells : List ℕ → (room new : List ℕ) → Result ℕ Refusal → Type 0

@@ -9,6 +9,7 @@ mod catalogue;
 mod cdr;
 mod client;
 mod ior;
+mod looking;
 mod message;
 mod raw_call;
 mod server;

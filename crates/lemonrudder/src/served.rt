@@ -1,6 +1,6 @@
 //! The calls on an object that is a server, if it is one.
 
-ghost use Rattle.std.specs.Prelude.{◌≡◌, Some};
+ghost use Rattle.std.specs.Prelude.{◌≡◌, ◌≤ℤ◌, pos, Some};
 ghost use Rattle.lemonrudder.specs.Answers.{OnServer};
 ghost use Rattle.lemonrudder.specs.Declining.{OnGoodbye, OnRefuse};
 ghost use Rattle.lemonrudder.specs.Pairs.{OnServerAndCatalogue};
@@ -12,8 +12,7 @@ ghost use Rattle.lemonrudder.specs.Questions.{OnAsked, OnPart};
 ghost use Rattle.lemonrudder.specs.Serves.{HasNoServer, OnConnect, OnFarewell, OnFeed, OnGiveUp, OnIsClosed, OnLost, OnOutput};
 
 use crate::object::Object;
-use crate::refusal::{Refusal, number_of};
-use crate::request::RequestHead;
+use crate::refusal::{Refusal, number_of, signed};
 
 /// Sets the limit of a number, before the first connection.
 pub fn set(object: &mut Object, what: u32, value: u64) -> i64
@@ -89,14 +88,14 @@ pub fn feed(object: &mut Object, connection: u64, moment: u64, octets: &[u8]) ->
 }
 
 /// Says what waits.
-pub fn asked(object: &Object, request: &mut RequestHead) -> i64
-    ensures does { OnServer (OnAsked request.old request.new) (Some object.now) (Some object.now) result }
-    ensures request { HasNoServer (Some object.now) → request.new ≡ request.old }
+pub fn asked(object: &Object, room: &mut [u8]) -> i64
+    ensures does { OnServer (OnAsked room.old room.new) (Some object.now) (Some object.now) result }
+    ensures none { result ≤ℤ pos 0 → room.new ≡ room.old }
 {
     let Object::Server(server) = object else {
         return Refusal::Empty.number();
     };
-    number_of(Ok(server.asked(request)))
+    signed(server.asked(room))
 }
 
 /// Copies a part of the request of a ticket.

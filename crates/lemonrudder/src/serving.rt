@@ -4,6 +4,7 @@ ghost use Rattle.std.specs.Prelude.{◌≡◌, IsTrue, true};
 ghost use Rattle.lemonrudder.specs.Serves.{is_asked_there};
 
 mod declining;
+mod looking;
 mod offering;
 mod outcomes;
 mod parking;

@@ -1,6 +1,6 @@
 //! A server of requests that may be sent again.
 
-ghost use Rattle.std.specs.Prelude.{◌≡◌};
+ghost use Rattle.std.specs.Prelude.{◌≡◌, ◌≤ℤ◌, pos};
 ghost use Rattle.lemonrudder.specs.Answers.{OnServer};
 ghost use Rattle.lemonrudder.specs.Declining.{OnGoodbye, OnRefuse};
 ghost use Rattle.lemonrudder.specs.Hosting.{Hosts, Leaves, OpensServer};
@@ -16,7 +16,6 @@ ghost use Rattle.lemonrudder.specs.Slots.{held_in, unboxed};
 use crate::cataloguing::no_families;
 use crate::object::Object;
 use crate::refusal::Refusal;
-use crate::request::RequestHead;
 use crate::seed::Seed;
 use crate::served;
 use crate::serving::Serving;
@@ -191,16 +190,16 @@ pub extern "C" fn lr_server_feed(
     answer
 }
 
-/// Says what waits.
+/// Says what waits: `lr_request`.
 #[unsafe(no_mangle)]
-pub extern "C" fn lr_server_asked(alloc: Global, slot: &mut Slot, request: &mut RequestHead) -> i64
-    ensures does { OnServer (OnAsked request.old request.new) (held_in slot.old) (held_in slot.new) result }
-    ensures request { HasNoServer (held_in slot.old) → request.new ≡ request.old }
+pub extern "C" fn lr_server_asked(alloc: Global, slot: &mut Slot, room: &mut [u8]) -> i64
+    ensures does { OnServer (OnAsked room.old room.new) (held_in slot.old) (held_in slot.new) result }
+    ensures none { result ≤ℤ pos 0 → room.new ≡ room.old }
 {
     let Some(object) = slot.take(alloc) else {
         return Refusal::Empty.number();
     };
-    let answer = served::asked(&object, request);
+    let answer = served::asked(&object, room);
     slot.put(object);
     answer
 }

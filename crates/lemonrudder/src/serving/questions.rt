@@ -101,8 +101,9 @@ impl Serving {
     }
 
     /// Says what waits.
-    pub fn asked(&self, head: &mut RequestHead) -> u64
-        ensures { OnAsked head.old head.new self.now self.now (Ok result) }
+    pub fn asked(&self, room: &mut [u8]) -> u64
+        ensures does { OnAsked room.old room.new self.now self.now (Ok result) }
+        ensures none { result ≡ 0 → room.new ≡ room.old }
     {
         let Some(asked) = self.engine.asked() else {
             return 0;
@@ -113,14 +114,14 @@ impl Serving {
         let Inbound::Request(version, request) = inbound else {
             return 0;
         };
-        let mut found = RequestHead::none();
-        found.ticket = ticket_of(asked.number);
-        found.connection = asked.connection;
-        found.key_size = count_of(asked.object_key);
-        found.operation_size = count_of(asked.operation);
-        put_question(&mut found, version, &request);
-        self.put_body(&mut found, &asked);
-        *head = found;
+        let mut head = RequestHead::none();
+        head.ticket = ticket_of(asked.number);
+        head.connection = asked.connection;
+        head.key_size = count_of(asked.object_key);
+        head.operation_size = count_of(asked.operation);
+        put_question(&mut head, version, request);
+        self.put_body(&mut head, &asked);
+        head.tell(room);
         1
     }
 
