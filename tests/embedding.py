@@ -292,11 +292,9 @@ def versions_are_one(kit: Kit) -> None:
         ("bindings/rust/Cargo.lock", r'^name = "lemonrudder-sys"\nversion = "(.*)"$', version),
         ("bindings/rust/Cargo.toml", r'^lemonrudder-sys = .* version = "(.*)" \}$', ".".join(kit.version()[:2])),
         ("bindings/python/pyproject.toml", r'^version = "(.*)"$', version),
-        ("bindings/python/lemonrudder/__init__.py", r"^VERSION = \((\d+, \d+, \d+)\)$", ", ".join(kit.version())),
         ("crates/giop_tool/src/help.rt", r'^pub\(crate\) const VERSION: &str = "(.*)";$', version),
         ("docs/giop.1", r'^\.TH GIOP 1 "" "giop ([^"]*)"', version),
         ("CHANGELOG.md", r"^## (\d\S*)$", version),
-        ("embed/lemonrudder.map", r"^(\w+) \{$", library.node(version)),
     ]
     for path, pattern, wanted in places:
         with open(os.path.join(ROOT, path), encoding="utf-8") as file:

@@ -76,6 +76,7 @@ static inline void lr_ior_close(lr_ior *ior) { lr_close(ior); }
 
 /* ---- errors ---- */
 
+/* What a function answers where it fails. */
 enum {
   LR_OK = 0,
   LR_E_EMPTY = -1,      /* the slot is empty, or holds an object of another kind */
@@ -653,6 +654,7 @@ LR_API int64_t lr_assembler_feed(lr_assembler *assembler, const void *octets, si
 /* The first fault of the stream: 0 where there is none, or LR_FAULT_... LR_E_EMPTY. */
 LR_API int64_t lr_assembler_fault(lr_assembler *assembler);
 
+/* A fault of a stream. */
 enum {
   LR_FAULT_MAGIC = 1,
   LR_FAULT_VERSION = 2,
@@ -785,6 +787,7 @@ typedef struct {
 /* The profile of an index, counted from 0. LR_E_EMPTY, LR_E_NONE, LR_E_MEMORY. */
 LR_API int64_t lr_ior_profile(lr_ior *ior, uint32_t index, lr_profile *profile, size_t size);
 
+/* Parts of a profile. */
 enum { LR_IOR_DATA = 0, LR_IOR_HOST = 1, LR_IOR_KEY = 2 };
 
 /* Copies a part of a profile, as much of it as the room has octets, and answers its size. LR_E_EMPTY, LR_E_NONE,
