@@ -327,8 +327,9 @@ static void accept_peers(void) {
     }
     /* (without a place or descriptors the socket stays ready, and asking again would be in vain) */
     is_full = is_full || errno == EMFILE || errno == ENFILE || errno == ENOBUFS || errno == ENOMEM;
-    if (is_full && !make_place()) listen_for(false);
-    if (!is_full) return;
+    if (is_full && make_place()) continue;
+    if (is_full) listen_for(false);
+    return;
   }
 }
 

@@ -58,9 +58,7 @@ inline namespace v0_2 {
 
 /* The bounds of a loop. */
 struct LoopLimits {
-  std::size_t peers = 1000;    // how many are served at once
-  std::uint32_t due = 65536;   // octets due to a peer from which on it is fed no more
-  std::uint32_t parked = 64;   // requests of a peer that are parked from which on it is fed no more
+  std::size_t peers = 1000;        // how many are served at once
   std::chrono::seconds idle{300};  // how long a peer may send nothing, take nothing, and have nothing parked
   std::chrono::seconds linger{5};  // what a peer has to close once its stream has ended
   std::chrono::seconds drain{30};  // what parked requests have to be answered once the loop is told to stop
@@ -307,8 +305,7 @@ class Asked {
   }
   /* Parks it, to be answered later. LR_E_PARKS, LR_E_MEMORY: it waits still. */
   Result<Later> later() noexcept {
-    const std::int64_t parked = lr_server_park(server_.slot(), ticket());
-    if (parked < 0) return Error(parked);
+    if (const Done parked = server_.park(ticket()); !parked) return parked.error();
     return Later(ticket(), mailbox_);
   }
 
@@ -389,21 +386,18 @@ class Loop {
 
   /* ---- before serve() ---- */
 
-  /* Opens the server. Its limits are set by it, LR_SET_DUE and LR_SET_PARKED_OF to those of the loop. */
-  Done open(Seeds seeds) noexcept {
-    Done done = detail::done(lr_server_open(server_.slot(), catalogue_.slot(), seeds.low, seeds.high));
-    if (done) done = set(LR_SET_DUE, limits_.due);
-    if (done) done = set(LR_SET_PARKED_OF, limits_.parked);
-    return done;
-  }
-  Done open() noexcept {
+  /* Opens the server. A peer is fed no more while so many octets are due to it, 65536 where nothing is given, or so many
+   * of its requests parked. */
+  Done open(Settings settings = {}) noexcept {
     Seeds seeds{};
     if (getentropy(&seeds, sizeof seeds) != 0) return Error(LR_E_RANGE);
-    return open(seeds);
-  }
-  /* Sets a limit of the server, LR_SET_... */
-  Done set(std::uint32_t what, std::uint64_t value) noexcept {
-    return detail::done(lr_server_set(server_.slot(), what, value));
+    if (!settings.due) settings.due = 65536;
+    if (!settings.parked_of_one) settings.parked_of_one = 64;
+    most_parked_ = *settings.parked_of_one;
+    auto opened = Server::open(catalogue_, seeds, settings);
+    if (!opened) return opened.error();
+    server_ = *std::move(opened);
+    return {};
   }
   Server& server() noexcept { return server_; }
 
@@ -487,7 +481,7 @@ class Loop {
 
   /* Whether anybody waits for the outcome of a parked request, on the thread of serve(). Where nobody does, and it does
    * not carry FT_REQUEST, it need not be performed. */
-  bool is_wanted(const Later& later) noexcept { return lr_server_wanted(server_.slot(), later.ticket()) > 0; }
+  bool is_wanted(const Later& later) noexcept { return server_.wanted(later.ticket()).value_or(0) > 0; }
 
  private:
   // what is read and sent at a time, and how much of these a turn has
@@ -521,7 +515,7 @@ class Loop {
 
   std::size_t peer_count() const noexcept { return limits_.peers - unused_.size(); }
   std::size_t slot_of(const Peer& peer) const noexcept { return peer.connection % peers_.size(); }
-  std::int64_t parked_of(const Peer& peer) noexcept { return lr_server_parked_of(server_.slot(), peer.connection); }
+  std::size_t parked_of(const Peer& peer) noexcept { return server_.parked_of(peer.connection).value_or(0); }
 
   void give_turn(Peer& peer) {
     if (!std::exchange(peer.has_turn, true)) turns_.push_back(slot_of(peer));
@@ -563,7 +557,7 @@ class Loop {
   void feed(Peer& peer) {
     const std::uint64_t moment = now();
     while (peer.has_unfed()) {
-      hold(peer, parked_of(peer) >= static_cast<std::int64_t>(limits_.parked));
+      hold(peer, parked_of(peer) >= most_parked_);
       if (peer.is_held) return;
       const auto taken = server_.feed(peer.connection, moment, {peer.came + peer.fed, peer.got - peer.fed});
       perform();
@@ -578,8 +572,7 @@ class Loop {
   /* Takes more of what is due, where all of that which was taken is sent. */
   void collect(Peer& peer) noexcept {
     if (peer.has_unsent()) return;
-    const std::int64_t size = lr_server_output(server_.slot(), peer.connection, peer.due, room);
-    peer.size = size > 0 ? static_cast<std::size_t>(size) : 0;
+    peer.size = server_.output(peer.connection, {peer.due, room}).value_or(0);
     peer.sent = 0;
   }
 
@@ -659,13 +652,10 @@ class Loop {
   /* Gives a turn to each peer to which something became due by the outcome of a parked request, and to those that were
    * not fed since too many were parked. */
   void go_on() {
-    std::uint64_t connection = 0;
-    while (lr_server_next_due(server_.slot(), &connection) == 1)
+    for (const auto connection : server_.due())
       if (auto& peer = peers_[connection % peers_.size()]) give_turn(*peer);
     for (std::size_t slot = first; held_count_ > 0 && slot < peers_.size(); slot++)
-      if (peers_[slot] && peers_[slot]->is_held &&
-          parked_of(*peers_[slot]) < static_cast<std::int64_t>(limits_.parked))
-        give_turn(*peers_[slot]);
+      if (peers_[slot] && peers_[slot]->is_held && parked_of(*peers_[slot]) < most_parked_) give_turn(*peers_[slot]);
   }
 
   /* Takes the turns that were given; what is given meanwhile is for the next round. */
@@ -736,8 +726,9 @@ class Loop {
       }
       // (without a place or descriptors the listener stays ready, and asking again would be in vain)
       is_full = is_full || errno == EMFILE || errno == ENFILE || errno == ENOBUFS || errno == ENOMEM;
-      if (is_full && !make_place()) listen_for(false);
-      if (!is_full) return;
+      if (is_full && make_place()) continue;
+      if (is_full) listen_for(false);
+      return;
     }
   }
 
@@ -767,7 +758,7 @@ class Loop {
       else
         drop(slot);
     }
-    static_cast<void>(lr_server_tick(server_.slot(), now()));
+    static_cast<void>(server_.tick(now()));
     if (listener_.is_open()) listen_for(true);
   }
 
@@ -790,6 +781,7 @@ class Loop {
 
   Catalogue catalogue_;
   Server server_;
+  std::size_t most_parked_ = 0;
   std::map<std::string, std::string, std::less<>> types_;
   std::map<std::string, std::map<std::string, Servant, std::less<>>, std::less<>> servants_;
   Servant otherwise_;
