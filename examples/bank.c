@@ -75,7 +75,8 @@ static void perform(lr_server *server, const lr_request *asked) {
 
 /* Opens a server with the bank as its one object. */
 static int64_t open_server(lr_server *server) {
-  static const uint8_t text[] = {LR_TYPE_STRING}, both[] = {LR_TYPE_STRING, LR_TYPE_LONGLONG}, amount[] = {LR_TYPE_LONGLONG};
+  static const uint8_t text[] = {LR_TYPE_STRING}, amount[] = {LR_TYPE_LONGLONG};
+  static const uint8_t both[] = {LR_TYPE_STRING, LR_TYPE_LONGLONG};
   lr_catalogue bank = LR_INIT;
   uint64_t seeds[2];
   int64_t done = getentropy(seeds, sizeof seeds) == 0 ? lr_catalogue_open(&bank) : LR_E_RANGE;

@@ -33,12 +33,11 @@ class Bank {
  public:
   /* Puts the bank on offer. */
   lr::Done offer(lr::Loop& loop) {
-    for (const lr::Done& done :
-         {loop.object(key, "IDL:Bank:1.0"), loop.exception(overdrawn, {LR_TYPE_LONGLONG}),
-          loop.operation(key, "deposit", {LR_TYPE_STRING, LR_TYPE_LONGLONG}, {LR_TYPE_LONGLONG},
-                         [this](lr::Asked& asked) { return change(asked, true); }),
-          loop.operation(key, "balance", {LR_TYPE_STRING}, {LR_TYPE_LONGLONG},
-                         [this](lr::Asked& asked) { return change(asked, false); })})
+    for (const lr::Done& done : {loop.object(key, "IDL:Bank:1.0"), loop.exception(overdrawn, {LR_TYPE_LONGLONG}),
+                                 loop.operation(key, "deposit", {LR_TYPE_STRING, LR_TYPE_LONGLONG}, {LR_TYPE_LONGLONG},
+                                                [this](lr::Asked& asked) { return change(asked, true); }),
+                                 loop.operation(key, "balance", {LR_TYPE_STRING}, {LR_TYPE_LONGLONG},
+                                                [this](lr::Asked& asked) { return change(asked, false); })})
       if (!done) return done;
     return {};
   }

@@ -30,17 +30,18 @@ struct peer {
   int fd;              /* -1 where there is no peer */
   uint64_t connection; /* its remainder by SLOTS is the slot */
   short events;        /* what is waited for */
-  bool has_turn, is_held, is_shut; /* it is in `turns`; too many are parked to feed it; all is sent, and what comes means nothing */
+  bool has_turn;       /* it is in `turns` */
+  bool is_held;        /* too many of its requests are parked to feed it */
+  bool is_shut;        /* all is sent, and what comes means nothing */
   int64_t until;       /* the second at which it is parted from */
-  unsigned char came[PIECE]; /* `got` octets, of which the first `fed` ones are fed */
-  size_t got, fed;
-  unsigned char due[ROOM]; /* `size` octets, of which the first `sent` ones are sent; none only where none are due */
-  size_t size, sent;
+  size_t got, fed;     /* of what came, `got` octets, the first `fed` ones are fed */
+  size_t size, sent;   /* of what is due, `size` octets, the first `sent` ones are sent; 0 only where none are due */
 };
 
 static struct peer peers[SLOTS];
-static size_t unused[LOOP_PEERS], unused_count; /* slots without a peer */
-static size_t turns[SLOTS], next_turn, turn_count; /* a ring: the slots of peers that have a turn */
+static struct { unsigned char came[PIECE], due[ROOM]; } rooms[SLOTS]; /* of the peers */
+static size_t unused[LOOP_PEERS], unused_count;                       /* slots without a peer */
+static size_t turns[SLOTS], next_turn, turn_count;                    /* a ring: slots of peers that have a turn */
 static size_t held_count;
 static uint64_t last_connection;
 static int listener_fd;
@@ -86,17 +87,17 @@ static bool wait_for(int milliseconds) {
 
 #else
 
+/* (poll() takes no more of them than a process may have descriptors.) */
 static struct pollfd polls[SLOTS];
+static size_t polled;
 
-static bool open_waiter(void) {
-  for (size_t slot = 0; slot < SLOTS; slot++) polls[slot].fd = -1;
-  return true;
-}
+static bool open_waiter(void) { return true; }
 
 static void close_waiter(void) {}
 
 static bool watch(size_t slot, int fd, short events, short before) {
   (void)before;
+  while (polled <= slot) polls[polled++].fd = -1;
   polls[slot] = (struct pollfd){fd, events, 0};
   return true;
 }
@@ -104,10 +105,10 @@ static bool watch(size_t slot, int fd, short events, short before) {
 static void forget(size_t slot) { polls[slot].fd = -1; }
 
 static bool wait_for(int milliseconds) {
-  int count = poll(polls, SLOTS, milliseconds);
-  for (size_t slot = 0; slot < SLOTS && count > 0; slot++)
+  int count = poll(polls, polled, milliseconds);
+  for (size_t slot = 0; slot < polled && count > 0; slot++)
     if (polls[slot].fd >= 0 && polls[slot].revents != 0)
-      on_ready(slot, (polls[slot].revents & (POLLERR | POLLHUP)) != 0), count--;
+      on_ready(slot, (polls[slot].revents & (POLLERR | POLLHUP)) != 0);
   return count >= 0 || errno == EINTR;
 }
 
@@ -157,12 +158,13 @@ static void drop(struct peer *peer) {
 
 /* Feeds what came, until enough is due or parked. */
 static void feed(struct peer *peer) {
+  const unsigned char *came = rooms[slot_of(peer)].came;
   uint64_t now = moment();
   lr_request asked;
   while (peer->fed < peer->got) {
     hold(peer, lr_server_parked_of(served, peer->connection) >= LOOP_PARKED);
     if (peer->is_held) return;
-    int64_t taken = lr_server_feed(served, peer->connection, now, peer->came + peer->fed, peer->got - peer->fed);
+    int64_t taken = lr_server_feed(served, peer->connection, now, came + peer->fed, peer->got - peer->fed);
     if (lr_server_asked(served, &asked, sizeof asked) == 1) performs(served, &asked);
     if (lr_server_asked(served, &asked, sizeof asked) == 1) lr_server_refuse(served, asked.ticket, LR_EX_TRANSIENT, 0);
     if (taken == 0) return;
@@ -173,7 +175,7 @@ static void feed(struct peer *peer) {
 /* Takes more of what is due, where all of that which was taken is sent. */
 static void collect(struct peer *peer) {
   if (peer->sent < peer->size) return;
-  int64_t size = lr_server_output(served, peer->connection, peer->due, sizeof peer->due);
+  int64_t size = lr_server_output(served, peer->connection, rooms[slot_of(peer)].due, ROOM);
   peer->size = size > 0 ? (size_t)size : 0;
   peer->sent = 0;
 }
@@ -181,10 +183,11 @@ static void collect(struct peer *peer) {
 /* Sends of what is due as much as the socket takes, for a turn, and answers how much that was; -1 where the connection
  * is over. */
 static ssize_t send_due(struct peer *peer) {
+  const unsigned char *due = rooms[slot_of(peer)].due;
   ssize_t all = 0;
   collect(peer);
   for (int count = 0; count < SENDS && peer->sent < peer->size; count++) {
-    ssize_t sent = send(peer->fd, peer->due + peer->sent, peer->size - peer->sent, MSG_NOSIGNAL);
+    ssize_t sent = send(peer->fd, due + peer->sent, peer->size - peer->sent, MSG_NOSIGNAL);
     if (sent < 0) return errno == EAGAIN || errno == EINTR ? all : -1;
     peer->sent += (size_t)sent;
     all += sent;
@@ -197,7 +200,7 @@ static ssize_t send_due(struct peer *peer) {
  * over. */
 static ssize_t read_piece(struct peer *peer) {
   if (peer->fed < peer->got || peer->sent < peer->size) return 0;
-  ssize_t got = recv(peer->fd, peer->came, sizeof peer->came, 0);
+  ssize_t got = recv(peer->fd, rooms[slot_of(peer)].came, PIECE, 0);
   if (got < 0 && (errno == EAGAIN || errno == EINTR)) return 0;
   peer->fed = 0;
   peer->got = got > 0 && !peer->is_shut ? (size_t)got : 0;
@@ -244,23 +247,26 @@ static void part_from(struct peer *peer) {
 
 /* Whether a peer waits for nothing of ours: all is fed, nothing is due, parked or ended. */
 static bool is_idle(const struct peer *peer) {
-  return peer->fed == peer->got && peer->sent == peer->size &&
-         lr_server_parked_of(served, peer->connection) == 0 && lr_server_is_closed(served, peer->connection) == 0;
+  return peer->fed == peer->got && peer->sent == peer->size && lr_server_parked_of(served, peer->connection) == 0 &&
+         lr_server_is_closed(served, peer->connection) == 0;
 }
 
 /* Parts from a peer whose time is over, at once where it takes nothing or its stream has ended. One that waits for a
  * parked request has more time. */
 static void part_in_time(struct peer *peer, int64_t second) {
   if (second < peer->until) return;
-  if (is_idle(peer)) part_from(peer);
-  else if (peer->sent == peer->size && lr_server_is_closed(served, peer->connection) == 0) peer->until += LOOP_IDLE;
-  else drop(peer);
+  if (is_idle(peer))
+    part_from(peer);
+  else if (peer->sent == peer->size && lr_server_is_closed(served, peer->connection) == 0)
+    peer->until += LOOP_IDLE;
+  else
+    drop(peer);
 }
 
 /* ---- all peers ---- */
 
-/* Gives a turn to each peer to which something became due by the outcome of a parked request, and to those that were not
- * fed since too many were parked. */
+/* Gives a turn to each peer to which something became due by the outcome of a parked request, and to those that were
+ * not fed since too many were parked. */
 static void go_on(void) {
   uint64_t connection;
   while (lr_server_next_due(served, &connection) == 1) give_turn(&peers[connection % SLOTS]);
@@ -290,8 +296,10 @@ static bool make_place(void) {
     if (peer->until > seconds() + LOOP_IDLE - PAUSE || (idle != NULL && peer->until >= idle->until)) continue;
     if (is_idle(peer)) idle = peer;
   }
-  if (ended != NULL) drop(ended);
-  else if (idle != NULL) part_from(idle);
+  if (ended != NULL)
+    drop(ended);
+  else if (idle != NULL)
+    part_from(idle);
   return ended != NULL || idle != NULL;
 }
 
@@ -341,8 +349,10 @@ static void on_ready(size_t slot, bool is_broken) {
     is_woken = true;
     while (read(wake_pipe[0], octets, sizeof octets) > 0) continue;
   } else if (peers[slot].fd >= 0) {
-    if (is_broken) drop(&peers[slot]);
-    else give_turn(&peers[slot]);
+    if (is_broken)
+      drop(&peers[slot]);
+    else
+      give_turn(&peers[slot]);
   }
 }
 

@@ -1,6 +1,7 @@
 /*
- * A loop that serves an lr_server over TCP to many connections at once. What it keeps is bounded: of a peer 20 KiB here,
- * and in the server what the limits of that allow (lr_server_set), of which it sets two, LR_SET_DUE and LR_SET_PARKED_OF.
+ * A loop that serves an lr_server over TCP to many connections at once. What it keeps is bounded: of a peer 20 KiB
+ * here, and in the server what the limits of that allow (lr_server_set), of which it sets two, LR_SET_DUE and
+ * LR_SET_PARKED_OF.
  */
 #ifndef LOOP_H
 #define LOOP_H
@@ -19,8 +20,8 @@
 #ifndef LOOP_PARKED
 #define LOOP_PARKED 64
 #endif
-/* how many seconds a peer may be idle: it sends nothing, takes nothing of what is due, and nothing of it is parked. Then
- * it is told goodbye, or dropped where something is due: */
+/* how many seconds a peer may be idle: it sends nothing, takes nothing of what is due, and nothing of it is parked.
+ * Then it is told goodbye, or dropped where something is due: */
 #ifndef LOOP_IDLE
 #define LOOP_IDLE 300
 #endif
@@ -43,8 +44,8 @@ int64_t loop_print(const char *type, size_t type_size, uint32_t minor, const cha
  * `settle`, or NULL, answers parked requests whose outcome is there: it is called after loop_wake, and every second.
  * Answers 0, or -1 where errno says why.
  *
- * A peer whose stream has ended has five seconds to close. Where there is no place or descriptor for another one, such a
- * peer is dropped, or the one that is idle longest, for a second at least, is told goodbye; else it waits. */
+ * A peer whose stream has ended has five seconds to close. Where there is no place or descriptor for another one, such
+ * a peer is dropped, or the one that is idle longest, for a second at least, is told goodbye; else it waits. */
 int loop_serve(lr_server *server, int listener, void (*perform)(lr_server *server, const lr_request *asked),
                void (*settle)(lr_server *server));
 

@@ -148,8 +148,10 @@ static void settle(lr_server *server) {
   while ((job = pop(&made)) != NULL) push(&ready, job), working--;
   pthread_mutex_unlock(&lock);
   while ((job = pop(&ready)) != NULL) {
-    if (answer(server, job->ticket, job->end, job->balance) == LR_E_MEMORY) push(&unanswered, job);
-    else free(job);
+    if (answer(server, job->ticket, job->end, job->balance) == LR_E_MEMORY)
+      push(&unanswered, job);
+    else
+      free(job);
   }
   give(server);
 }

@@ -98,12 +98,11 @@ class Bank {
 
   /* Puts the bank on offer. */
   lr::Done offer() {
-    for (const lr::Done& done :
-         {loop_.object(key, "IDL:Bank:1.0"), loop_.exception(overdrawn, {LR_TYPE_LONGLONG}),
-          loop_.operation(key, "deposit", {LR_TYPE_STRING, LR_TYPE_LONGLONG}, {LR_TYPE_LONGLONG},
-                          [this](lr::Asked& asked) { return deposit(asked); }),
-          loop_.operation(key, "balance", {LR_TYPE_STRING}, {LR_TYPE_LONGLONG},
-                          [this](lr::Asked& asked) { return balance(asked); })})
+    for (const lr::Done& done : {loop_.object(key, "IDL:Bank:1.0"), loop_.exception(overdrawn, {LR_TYPE_LONGLONG}),
+                                 loop_.operation(key, "deposit", {LR_TYPE_STRING, LR_TYPE_LONGLONG}, {LR_TYPE_LONGLONG},
+                                                 [this](lr::Asked& asked) { return deposit(asked); }),
+                                 loop_.operation(key, "balance", {LR_TYPE_STRING}, {LR_TYPE_LONGLONG},
+                                                 [this](lr::Asked& asked) { return balance(asked); })})
       if (!done) return done;
     return {};
   }
@@ -144,7 +143,8 @@ class Bank {
     return {};
   }
 
-  /* Gives deposits to workers that are free. What nobody waits for any more, and no repeat can ask for, is not begun. */
+  /* Gives deposits to workers that are free. What nobody waits for any more, and no repeat can ask for, is not begun.
+   */
   void begin() {
     while (working_ < most_workers && !waiting_.empty()) {
       const auto job = std::move(waiting_.front());

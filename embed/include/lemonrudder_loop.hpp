@@ -1,6 +1,6 @@
 /*
- * lemonrudder_loop.hpp: a loop for C++17 that serves a lemonrudder::Server over TCP to many connections at once, in this
- * header alone. It is for systems with POSIX, and stands over epoll where there is epoll; else, or where
+ * lemonrudder_loop.hpp: a loop for C++17 that serves a lemonrudder::Server over TCP to many connections at once, in
+ * this header alone. It is for systems with POSIX, and stands over epoll where there is epoll; else, or where
  * LEMONRUDDER_LOOP_POLL is defined, over poll().
  *
  *     lemonrudder::Loop loop;
@@ -13,10 +13,10 @@
  *     loop.listen("127.0.0.1", 2809);
  *     loop.serve();
  *
- * All runs on the thread of serve(). A servant answers at once, or takes a Later of its request, by which any thread may
- * answer when the outcome is there; others are performed meanwhile. What the loop keeps is bounded: of a peer 20 KiB
- * here, and in the server what its limits allow. Where memory is short for the loop's own, std::bad_alloc is thrown, as
- * by any container.
+ * All runs on the thread of serve(). A servant answers at once, or takes a Later of its request, by which any thread
+ * may answer when the outcome is there; others are performed meanwhile. What the loop keeps is bounded: of a peer 20
+ * KiB here, and in the server what its limits allow. Where memory is short for the loop's own, std::bad_alloc is
+ * thrown, as by any container.
  */
 #ifndef LEMONRUDDER_LOOP_HPP
 #define LEMONRUDDER_LOOP_HPP
@@ -124,9 +124,11 @@ class Waiter {
  private:
   Descriptor epoll_;
 #else
-  explicit Waiter(std::size_t slots) : polls_(slots, pollfd{-1, 0, 0}) {}
+  explicit Waiter(std::size_t slots) { polls_.reserve(slots); }
 
+  // (poll() takes no more of them than a process may have descriptors)
   bool watch(std::size_t slot, int fd, short events, short) noexcept {
+    if (polls_.size() <= slot) polls_.resize(slot + 1, pollfd{-1, 0, 0});
     polls_[slot] = {fd, events, 0};
     return true;
   }
@@ -225,8 +227,10 @@ class Later {
     });
   }
   void answer(const GrowingWriter& results) {
-    if (results.done()) answer(results.order(), results.octets());
-    else system(SystemException::internal, Completed::maybe);
+    if (results.done())
+      answer(results.order(), results.octets());
+    else
+      system(SystemException::internal, Completed::maybe);
   }
   void raise(Octets id, Order order, Octets members) {
     end([order, name = copy_of(id), copy = copy_of(members)](Server& server, std::uint64_t ticket) {
@@ -234,8 +238,10 @@ class Later {
     });
   }
   void raise(Octets id, const GrowingWriter& members) {
-    if (members.done()) raise(id, members.order(), members.octets());
-    else system(SystemException::internal, Completed::maybe);
+    if (members.done())
+      raise(id, members.order(), members.octets());
+    else
+      system(SystemException::internal, Completed::maybe);
   }
   void system(SystemException name, Completed completed, std::uint32_t minor = 0) {
     end([=](Server& server, std::uint64_t ticket) { return server.system(ticket, name, minor, completed); });
@@ -311,9 +317,9 @@ class Asked {
 
   /* Takes the parts that are lent. */
   Done load() noexcept {
-    for (auto [name, size, octets] : {Load{LR_PART_KEY, request_.key_size, &key_},
-                                      Load{LR_PART_OPERATION, request_.operation_size, &operation_},
-                                      Load{LR_PART_BODY, request_.body_size, &body_}}) {
+    for (auto [name, size, octets] :
+         {Load{LR_PART_KEY, request_.key_size, &key_}, Load{LR_PART_OPERATION, request_.operation_size, &operation_},
+          Load{LR_PART_BODY, request_.body_size, &body_}}) {
       auto copied = part(name, size);
       if (!copied) return copied.error();
       *octets = *std::move(copied);
@@ -350,8 +356,7 @@ class Loop {
    * done nothing. */
   using Servant = std::function<Done(Asked&)>;
 
-  explicit Loop(LoopLimits limits = {})
-      : limits_(limits), waiter_(first + limits.peers), peers_(first + limits.peers) {
+  explicit Loop(LoopLimits limits = {}) : limits_(limits), waiter_(first + limits.peers), peers_(first + limits.peers) {
     if (auto opened = Catalogue::open()) catalogue_ = *std::move(opened);
     for (std::size_t slot = peers_.size(); slot-- > first;) unused_.push_back(slot);
   }
@@ -386,8 +391,8 @@ class Loop {
 
   /* ---- before serve() ---- */
 
-  /* Opens the server. A peer is fed no more while so many octets are due to it, 65536 where nothing is given, or so many
-   * of its requests parked. */
+  /* Opens the server. A peer is fed no more while so many octets are due to it, 65536 where nothing is given, or so
+   * many of its requests parked. */
   Done open(Settings settings = {}) noexcept {
     Seeds seeds{};
     if (getentropy(&seeds, sizeof seeds) != 0) return Error(LR_E_RANGE);
@@ -576,8 +581,8 @@ class Loop {
     peer.sent = 0;
   }
 
-  /* Sends of what is due as much as the socket takes, for a turn, and answers how much that was; -1 where the connection
-   * is over. */
+  /* Sends of what is due as much as the socket takes, for a turn, and answers how much that was; -1 where the
+   * connection is over. */
   ssize_t send_due(Peer& peer) noexcept {
     ssize_t all = 0;
     collect(peer);
@@ -680,8 +685,8 @@ class Loop {
       if (task(server_).error() == LR_E_MEMORY) again_.push_back(std::move(task));
   }
 
-  /* Makes a place for another peer: drops the one that stays longest after the end of its stream, or says goodbye to the
-   * one that is idle longest, for a second at least. False where all are busy. */
+  /* Makes a place for another peer: drops the one that stays longest after the end of its stream, or says goodbye to
+   * the one that is idle longest, for a second at least. False where all are busy. */
   bool make_place() {
     Peer* ended = nullptr;
     Peer* idle = nullptr;
@@ -745,8 +750,8 @@ class Loop {
     }
   }
 
-  /* What is done once a second: parts from peers whose time is over, at once where they take nothing or their stream has
-   * ended. One that waits for a parked request has more time. */
+  /* What is done once a second: parts from peers whose time is over, at once where they take nothing or their stream
+   * has ended. One that waits for a parked request has more time. */
   void pass(detail::LoopClock::time_point moment) {
     for (std::size_t slot = first; slot < peers_.size(); slot++) {
       if (!peers_[slot] || moment < peers_[slot]->until) continue;

@@ -32,7 +32,7 @@
  *                              be in 1.0 and 1.1. (An empty body may stand anywhere.) Or the server behind wants the
  *                              client to ask elsewhere, past the gateway, or to address in another way.
  *   IMP_LIMIT, COMPLETED_YES   The request was performed, and it is the body of the reply that has no such place.
- *   TRANSIENT, COMPLETED_NO    The server behind can't be reached, or said goodbye before it began. Nothing is kept, and
+ *   TRANSIENT, COMPLETED_NO    The server behind can't be reached, or said goodbye before it began. Nothing is kept:
  *                              the request is forwarded when it comes again.
  */
 #define _DEFAULT_SOURCE
@@ -170,7 +170,8 @@ static int64_t find(const char *text) {
   lr_profile profile = {0};
   uint32_t index = 0;
   int64_t done = lr_ior_parse(&ior, text, strcspn(text, "\r\n")), type = 0, host = 0, key = 0;
-  while (done == LR_OK && (done = lr_ior_profile(&ior, index, &profile, sizeof profile)) == LR_OK && !profile.is_iiop) index++;
+  while (done == LR_OK && (done = lr_ior_profile(&ior, index, &profile, sizeof profile)) == LR_OK && !profile.is_iiop)
+    index++;
   if (done == LR_OK) type = done = lr_ior_type_id(&ior, behind.type, sizeof behind.type);
   if (done >= 0) host = done = lr_ior_part(&ior, index, LR_IOR_HOST, behind.host, sizeof behind.host - 1);
   if (done >= 0) key = done = lr_ior_part(&ior, index, LR_IOR_KEY, behind.key, sizeof behind.key);
