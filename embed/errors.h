@@ -1,7 +1,7 @@
 /* Made by scripts/header.py of embed/include/lemonrudder.h; not to be edited. The errors: what follows LR_E_ in the name of each, and its text. */
 #define ERRORS(E) \
   E(EMPTY, "the slot is empty, or holds an object of another kind") \
-  E(OPEN, "the slot holds an object already") \
+  E(OPEN, "the slot holds an object already, or it is too late for this") \
   E(MEMORY, "an allocation failed, and nothing has changed") \
   E(RANGE, "a number is none of those that are allowed") \
   E(CONNECTION, "there is no such connection, or the number of a new one is not greater than each before") \

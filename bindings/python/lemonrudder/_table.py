@@ -15,7 +15,7 @@ class Error(enum.IntEnum):
     EMPTY = -1
     """the slot is empty, or holds an object of another kind"""
     OPEN = -2
-    """the slot holds an object already"""
+    """the slot holds an object already, or it is too late for this"""
     MEMORY = -3
     """an allocation failed, and nothing has changed"""
     RANGE = -4
@@ -607,8 +607,8 @@ FUNCTIONS: Dict[str, Tuple[str, Tuple[str, ...]]] = {
     )),
     "lr_catalogue_raw_operation": ("int64_t", ("lr_catalogue *", "const void *", "size_t", "const void *", "size_t")),
     "lr_catalogue_repository_ids": ("int64_t", ("lr_catalogue *", "const void *", "size_t", "const void *", "size_t")),
-    "lr_catalogue_default": ("int64_t", ("lr_catalogue *",)),
     "lr_catalogue_families": ("int64_t", ("lr_catalogue *", "lr_catalogue *")),
+    "lr_catalogue_default": ("int64_t", ("lr_catalogue *",)),
     "lr_catalogue_remove": ("int64_t", ("lr_catalogue *", "const void *", "size_t")),
     "lr_server_open": ("int64_t", ("lr_server *", "lr_catalogue *", "uint64_t", "uint64_t")),
     "lr_server_set": ("int64_t", ("lr_server *", "uint32_t", "uint64_t")),

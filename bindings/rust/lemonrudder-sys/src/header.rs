@@ -334,8 +334,8 @@ unsafe extern "C" {
         ids: *const c_void,
         ids_size: usize,
     ) -> i64;
-    pub safe fn lr_catalogue_default(catalogue: &mut lr_slot) -> i64;
     pub safe fn lr_catalogue_families(catalogue: &mut lr_slot, families: &mut lr_slot) -> i64;
+    pub safe fn lr_catalogue_default(catalogue: &mut lr_slot) -> i64;
     pub fn lr_catalogue_remove(catalogue: &mut lr_slot, key: *const c_void, key_size: usize) -> i64;
     pub safe fn lr_server_open(
         server: &mut lr_slot,
