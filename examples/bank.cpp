@@ -39,9 +39,9 @@ class Bank {
     if (!bank) return bank.error();
     if (getentropy(&seeds, sizeof seeds) != 0) return lr::Error(LR_E_RANGE);
     for (const lr::Done& done :
-         {bank->object(key), bank->repository_id(key, type), bank->exception(overdrawn, {LR_LONGLONG}),
-          bank->operation(key, "deposit", {LR_STRING, LR_LONGLONG}, {LR_LONGLONG}),
-          bank->operation(key, "balance", {LR_STRING}, {LR_LONGLONG})})
+         {bank->object(key), bank->repository_id(key, type), bank->exception(overdrawn, {LR_TYPE_LONGLONG}),
+          bank->operation(key, "deposit", {LR_TYPE_STRING, LR_TYPE_LONGLONG}, {LR_TYPE_LONGLONG}),
+          bank->operation(key, "balance", {LR_TYPE_STRING}, {LR_TYPE_LONGLONG})})
       if (!done) return done.error();
     return lr::Server::open(*bank, {4096, 8}, {1024, 256}, seeds);
   }

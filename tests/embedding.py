@@ -292,11 +292,9 @@ def versions_are_one(kit: Kit) -> None:
         ("bindings/rust/Cargo.lock", r'^name = "lemonrudder-sys"\nversion = "(.*)"$', version),
         ("bindings/rust/Cargo.toml", r'^lemonrudder-sys = .* version = "(.*)" \}$', ".".join(kit.version()[:2])),
         ("bindings/python/pyproject.toml", r'^version = "(.*)"$', version),
-        ("bindings/python/lemonrudder/__init__.py", r"^VERSION = \((\d+, \d+, \d+)\)$", ", ".join(kit.version())),
         ("crates/giop_tool/src/help.rt", r'^pub\(crate\) const VERSION: &str = "(.*)";$', version),
         ("docs/giop.1", r'^\.TH GIOP 1 "" "giop ([^"]*)"', version),
         ("CHANGELOG.md", r"^## (\d\S*)$", version),
-        ("embed/lemonrudder.map", r"^(\w+) \{$", library.node(version)),
     ]
     for path, pattern, wanted in places:
         with open(os.path.join(ROOT, path), encoding="utf-8") as file:
@@ -419,7 +417,7 @@ def header_names_numbers(kit: Kit) -> None:
     """Each number that the header for C names has a name in it too; errors and types have but the one."""
     with open(os.path.join(kit.include, "lemonrudder.h"), encoding="ascii") as file:
         text = file.read()
-    types = re.findall(r"\b(LR_\w+) =", text[text.index("LR_BOOLEAN ="):text.index("/* A moment,")])
+    types = re.findall(r"\b(LR_\w+) =", text[text.index("LR_TYPE_BOOLEAN ="):text.index("/* A moment,")])
     named = set(re.findall(r"\b(LR_\w+) = \d", text)) - {"LR_OK", *types}
     with open(os.path.join(kit.include, "lemonrudder.hpp"), encoding="ascii") as file:
         want(named - set(re.findall(r"\bLR_\w+", file.read())), set())

@@ -111,8 +111,8 @@ static enum fate await(lr_message *reply) {
       if (taken < 0) return LOST;
       at += (ssize_t)taken;
       if (lr_assembler_message(&behind.assembler, reply) != 1) continue;
-      if (reply->type == LR_CLOSE_CONNECTION) return NOT_BEGUN; /* (CORBA 3.3 Part 2, 9.4.7) */
-      if (reply->type != LR_REPLY || reply->request_id != behind.last_id) return LOST;
+      if (reply->type == LR_MSG_CLOSE_CONNECTION) return NOT_BEGUN; /* (CORBA 3.3 Part 2, 9.4.7) */
+      if (reply->type != LR_MSG_REPLY || reply->request_id != behind.last_id) return LOST;
       if (at < got) shutdown(behind.fd, SHUT_RDWR); /* (what follows can only be goodbye) */
       return REPLIED;
     }
@@ -134,9 +134,9 @@ static int64_t write_message(lr_server *server, const lr_request *asked) {
 
 /* Answers by a reply of the server behind. One to a request that wants none is all zero, and never sent. */
 static int64_t answer_by(lr_server *server, uint64_t ticket, const lr_message *reply) {
-  if (reply->status > LR_SYSTEM_EXCEPTION) return lr_server_system(server, ticket, LR_IMP_LIMIT, 0, LR_COMPLETED_NO);
+  if (reply->status > LR_REPLY_SYSTEM_EXCEPTION) return lr_server_system(server, ticket, LR_EX_IMP_LIMIT, 0, LR_COMPLETED_NO);
   if (reply->body_size == 0) return lr_server_answer_raw(server, ticket, reply->status, reply->order, NULL, 0);
-  if (reply->body_at % 8 != 0) return lr_server_system(server, ticket, LR_IMP_LIMIT, 0, LR_COMPLETED_YES);
+  if (reply->body_at % 8 != 0) return lr_server_system(server, ticket, LR_EX_IMP_LIMIT, 0, LR_COMPLETED_YES);
   int64_t size = lr_assembler_part(&behind.assembler, LR_PART_BODY, body, sizeof body);
   if (size < 0) return size;
   return lr_server_answer_raw(server, ticket, reply->status, reply->order, body, (size_t)size);
@@ -149,17 +149,17 @@ static void forward(lr_server *server, const lr_request *asked) {
   uint64_t ticket = asked->ticket;
   int64_t answered, size = write_message(server, asked);
   if (size < 0) {
-    if (size != LR_E_MEMORY) lr_server_system(server, ticket, LR_IMP_LIMIT, 0, LR_COMPLETED_NO);
+    if (size != LR_E_MEMORY) lr_server_system(server, ticket, LR_EX_IMP_LIMIT, 0, LR_COMPLETED_NO);
     return;
   }
   if (reach() && send_all(message, (size_t)size)) fate = asked->wish == LR_WISH_NONE ? REPLIED : await(&reply);
   if (fate != REPLIED) leave();
   if (fate == NOT_BEGUN) {
-    if (!asked->has_client) lr_server_system(server, ticket, LR_TRANSIENT, 0, LR_COMPLETED_NO);
+    if (!asked->has_client) lr_server_system(server, ticket, LR_EX_TRANSIENT, 0, LR_COMPLETED_NO);
     return;
   }
   do { /* (it may have been performed, so without memory for what came of it there is no way on) */
-    answered = fate == LOST ? lr_server_system(server, ticket, LR_UNKNOWN, 0, LR_COMPLETED_MAYBE)
+    answered = fate == LOST ? lr_server_system(server, ticket, LR_EX_UNKNOWN, 0, LR_COMPLETED_MAYBE)
                             : answer_by(server, ticket, &reply);
   } while (answered == LR_E_MEMORY && poll(NULL, 0, 100) == 0);
 }

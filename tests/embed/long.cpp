@@ -15,7 +15,7 @@ int main(int count, char** words) {
   const loop::Socket stop = loop::stop_at_sigterm();
   auto catalogue = lr::Catalogue::open();
   if (listener.fd() < 0 || stop.fd() < 0 || !catalogue || !catalogue->object("long") ||
-      !catalogue->operation("long", "get", {}, {LR_OCTETS}))
+      !catalogue->operation("long", "get", {}, {LR_TYPE_OCTETS}))
     return 1;
   auto server = lr::Server::open(*catalogue, {4096, 8}, {100, 100}, {1, 2});
   auto reference = lr::Ior::iiop("IDL:Long:1.0", 2, words[1], port, "long");

@@ -1803,7 +1803,7 @@ class Header(Case):
                 known = [enum[name[len(prefix):]] for prefix, enum in ENUMS
                          if name.startswith(prefix) and name[len(prefix):] in enum.__members__]
                 self.assertEqual(known[:1], [int(number)] if name not in UNUSED else [])
-        self.assertEqual(re.findall(r"#define LR_FT_REQUEST (\d+)", self.text), [str(lr.FT_REQUEST)])
+        self.assertEqual(re.findall(r"#define LR_CONTEXT_FT_REQUEST (\d+)", self.text), [str(lr.FT_REQUEST)])
 
     def test_structs(self):
         for name, struct_type in STRUCTS.items():

@@ -47,7 +47,7 @@ pub enum Type<'a> {
 }
 
 impl Type<'_> {
-    /// Appends the codes of the type (`LR_BOOLEAN` to `LR_STRUCT` of `lemonrudder.h`).
+    /// Appends the codes of the type (`LR_TYPE_BOOLEAN` to `LR_TYPE_STRUCT` of `lemonrudder.h`).
     fn put(&self, codes: &mut Vec<u8>) -> Result<(), Error> {
         match self {
             Type::Boolean => codes.push(1),

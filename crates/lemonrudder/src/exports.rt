@@ -19,9 +19,9 @@ use std::alloc::Global;
 /// The version of the library: major * 65536 + minor * 256 + patch.
 #[unsafe(no_mangle)]
 pub extern "C" fn lr_version() -> u32
-    ensures { result ≡ 256 }
+    ensures { result ≡ 512 }
 {
-    256
+    512
 }
 
 /// Empties a slot of any kind, and frees what it held.
