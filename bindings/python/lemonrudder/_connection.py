@@ -45,8 +45,8 @@ class Connection(asyncio.BufferedProtocol):
         # what came, when, where it lies, and the index of what was not taken yet
         self._came, self._moment, self._address, self._at = b"", 0, 0, 0
         # whether a turn is to come; what was written is not taken; a place for a request is waited for; all that comes
-        # means nothing; the peer has ended its stream
-        self._has_turn = self._is_full = self._waits = self._is_over = self._is_ended = False
+        # means nothing
+        self._has_turn = self._is_full = self._waits = self._is_over = False
         self._watch: Optional[asyncio.TimerHandle] = None
 
     def __str__(self) -> str:
@@ -77,12 +77,9 @@ class Connection(asyncio.BufferedProtocol):
             self._turn()
 
     def eof_received(self) -> bool:
-        """The peer sends no more. What it waits for is sent yet, where the transport goes on one way."""
-        self._is_ended, self.reason = True, self.reason or "its peer ended it"
-        if self.server.is_closed or self.transport.get_extra_info("sslcontext") is not None:
-            return False
-        self.farewell()
-        return not self.transport.is_closing()
+        """The peer has ended its stream, and with it the connection: what is parked is answered for its repeats."""
+        self.reason = self.reason or "its peer ended it"
+        return False
 
     def pause_writing(self) -> None:
         self._is_full = True
@@ -188,8 +185,7 @@ class Connection(asyncio.BufferedProtocol):
                 self._loop.call_soon(self._turn)
         elif not self._is_full:
             self._drop()
-            if not self._is_ended:
-                self.transport.resume_reading()
+            self.transport.resume_reading()
 
     def _drop(self) -> None:
         """Drops what came and is left."""
