@@ -2,7 +2,8 @@
 
     <!-- made of: PATH -->                  the file
     <!-- made of: PATH NAME -->             what declares NAME, with the comment before it: a function, a type, a
-                                            definition, a `ghost` line; or `impl ..`, in these words
+                                            definition, a `ghost` line; or `impl ..`, in these words; in C and C++ a
+                                            function
     <!-- made of: PATH NAME to NAME -->     from the first of these to the end of the last
 
 Such a mark stands before a block of code, and `<!-- end -->` after it. What stands between them is written by
@@ -14,6 +15,8 @@ from collections.abc import Callable
 from scripts.sources import Missing
 
 LANGUAGES = {"antt": "antt", "c": "c", "cpp": "cpp", "idl": "idl", "py": "python", "rs": "rust", "rt": "rust"}
+# in C and C++, what stands before the name of a function
+TYPE = r"[\w:]+(?:<[\w:<>, ]*>)?[ *&]+"
 MARK = "<!-- made of: "
 PART = re.compile(rf"^({MARK}(\S+\.\w+)(?: (.+?))? -->\n)(?:```\w+\n(?:(?!```).*\n)*```\n)?(<!-- end -->)$", re.M)
 DECLARING = r"pub|pub\(crate\)|abbrev|unfoldable|data|record|fn|struct|enum|trait|const|ghost"
@@ -22,7 +25,7 @@ DECLARING = r"pub|pub\(crate\)|abbrev|unfoldable|data|record|fn|struct|enum|trai
 def head_of(lines: list[str], name: str) -> int:
     """The index of the one line that declares a name."""
     word = re.escape(name)
-    head = re.compile(rf"^ *(?:(?:{DECLARING}) )+{word}(?![\w'])|^{word} [:{{]")
+    head = re.compile(rf"^ *(?:(?:{DECLARING}) )+{word}(?![\w'])|^{word} [:{{]|^ *(?!return)(?:{TYPE})+{word}\(.*{{$")
     found = [index for index, line in enumerate(lines) if head.match(line)]
     if len(found) != 1:
         raise Missing(f"{len(found)} lines declare {name}, and not one")
@@ -32,7 +35,7 @@ def head_of(lines: list[str], name: str) -> int:
 def first_of(lines: list[str], head: int) -> int:
     """Where the comment and the attributes before a head begin."""
     first = head
-    while first and lines[first - 1].lstrip().startswith(("//", "#[", "--")):
+    while first and lines[first - 1].lstrip().startswith(("//", "#[", "--", "/* ", "* ")):
         first -= 1
     return first
 
