@@ -1,8 +1,8 @@
 """Compiles C and C++ against liblemonrudder and runs it: the programs of tests/embed, and the examples over sockets.
 
 Each program of tests/embed is run with the archive, with the shared library, with the sanitizers for addresses and for
-undefined behaviour, and under valgrind. The two banks are called by a client of tests/giop_peers.py, and the gateway
-stands before a server of it, and before one of omniORB.
+undefined behaviour, and under valgrind. The banks are called by clients of tests/giop_peers.py, and the gateway stands
+before a server of it, and before one of omniORB.
 """
 from __future__ import annotations
 
