@@ -129,6 +129,22 @@ static void give(lr_server *server) {
   }
 }
 
+/* Parks a deposit. Where too many are parked, or there is no memory, it is refused for now: nothing is kept, and its
+ * client may send it again. */
+static void park(lr_server *server, const lr_request *asked, const char *name, int64_t amount) {
+  struct job *job = malloc(sizeof *job);
+  if (job == NULL || lr_server_park(server, asked->ticket) != LR_OK) {
+    free(job);
+    lr_server_refuse(server, asked->ticket, LR_EX_TRANSIENT, 0);
+    return;
+  }
+  *job = (struct job){.ticket = asked->ticket, .amount = amount};
+  job->may_lapse = !asked->has_client && asked->wish != LR_WISH_NONE;
+  memcpy(job->name, name, NAME);
+  push(&waiting, job);
+  give(server);
+}
+
 /* Answers by a balance, or by an exception that has it. */
 static int64_t answer(lr_server *server, uint64_t ticket, int end, int64_t balance) {
   unsigned char result[8];
@@ -153,22 +169,6 @@ static void settle(lr_server *server) {
     else
       free(job);
   }
-  give(server);
-}
-
-/* Parks a deposit. Where too many are parked, or there is no memory, it is refused for now: nothing is kept, and its
- * client may send it again. */
-static void park(lr_server *server, const lr_request *asked, const char *name, int64_t amount) {
-  struct job *job = malloc(sizeof *job);
-  if (job == NULL || lr_server_park(server, asked->ticket) != LR_OK) {
-    free(job);
-    lr_server_refuse(server, asked->ticket, LR_EX_TRANSIENT, 0);
-    return;
-  }
-  *job = (struct job){.ticket = asked->ticket, .amount = amount};
-  job->may_lapse = !asked->has_client && asked->wish != LR_WISH_NONE;
-  memcpy(job->name, name, NAME);
-  push(&waiting, job);
   give(server);
 }
 

@@ -1,8 +1,8 @@
 """Compiles C and C++ against liblemonrudder and runs it: the programs of tests/embed, and the examples over sockets.
 
 Each program of tests/embed is run with the archive, with the shared library, with the sanitizers for addresses and for
-undefined behaviour, and under valgrind. The two banks are called by a client of tests/giop_peers.py, and the gateway
-stands before a server of it, and before one of omniORB.
+undefined behaviour, and under valgrind. The banks are called by clients of tests/giop_peers.py, and the gateway stands
+before a server of it, and before one of omniORB.
 """
 from __future__ import annotations
 
@@ -278,7 +278,8 @@ def packages_are_made_below_a_root(kit: Kit) -> None:
         want(os.listdir(root), ["opt"])
         want(all_of(made), sorted([
             "include/lemonrudder.h", "include/lemonrudder.hpp", "include/lemonrudder_loop.hpp",
-            "lib/liblemonrudder.a", "lib/liblemonrudder.so", f"lib/{library.SONAME}", f"lib/liblemonrudder.so.{library.VERSION}", "lib/pkgconfig/lemonrudder.pc",
+            "lib/liblemonrudder.a", "lib/liblemonrudder.so", f"lib/{library.SONAME}",
+            f"lib/liblemonrudder.so.{library.VERSION}", "lib/pkgconfig/lemonrudder.pc",
             *(f"lib/cmake/lemonrudder/lemonrudder-{name}.cmake" for name in ("config", "config-version"))]))
         for name in all_of(made):
             with open(os.path.join(made, name), "rb") as file:
@@ -776,9 +777,13 @@ def bank_serves_beside_silent_peers(bank: str) -> None:
 
 def flood(port: int) -> None:
     """Sends requests as fast as they are answered, until it is ended."""
+    def take() -> None:
+        while peer.socket.recv(1 << 16):
+            pass
+
     octets = balance(1, "ann") * 500
     with Peer(port) as peer:
-        threading.Thread(target=lambda: [None for _ in iter(lambda: peer.socket.recv(1 << 16), b"")], daemon=True).start()
+        threading.Thread(target=take, daemon=True).start()
         while True:
             peer.tell(octets)
 
@@ -886,7 +891,7 @@ def slow_deposits_are_refused_for_now(bank: str) -> None:
 
 
 def slow_deposits_lapse(bank: str) -> None:
-    """While all workers are busy: a deposit that nobody waits for any more is not begun, but where it has FT_REQUEST."""
+    """While all workers are busy: what nobody waits for any more is not begun, but where it has FT_REQUEST."""
     with slow(bank, 500) as serving, Peer(serving.port) as stays, contextlib.ExitStack() as stack:
         busy = [stack.enter_context(Peer(serving.port)) for _ in range(2)]
         for peer in busy:
