@@ -42,12 +42,12 @@ def soname(version):
 
 
 def node(version):
-    """The first node of the symbols of a series. That of 0.1 is named otherwise."""
-    return "LEMONRUDDER_0" if series(version) == "0.1" else f"LEMONRUDDER_{series(version)}".replace(".", "_")
+    """The first node of the symbols of a series."""
+    return f"LEMONRUDDER_{series(version)}".replace(".", "_")
 
 
 # the version of the interface
-VERSION = "0.1.0"
+VERSION = "0.2.0"
 SONAME = soname(VERSION)
 
 

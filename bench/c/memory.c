@@ -81,22 +81,25 @@ static int64_t sure(int64_t answer) {
 
 /* Opens a server of one object: `add` takes a long and returns a long long, and `give` is raw. */
 static void open_server(void) {
-  static const uint8_t number[] = {LR_LONG}, result[] = {LR_LONGLONG};
+  static const uint8_t number[] = {LR_TYPE_LONG}, result[] = {LR_TYPE_LONGLONG};
   lr_catalogue counter = LR_INIT;
   sure(lr_catalogue_open(&counter));
   sure(lr_catalogue_object(&counter, "c", 1));
   sure(lr_catalogue_operation(&counter, "c", 1, "add", 3, number, 1, result, 1));
   sure(lr_catalogue_raw_operation(&counter, "c", 1, "give", 4));
-  sure(lr_server_open(&server, &counter, LIMIT, 8, MOST + 1, MOST + 1, 1, 2));
+  sure(lr_server_open(&server, &counter, 1, 2));
+  sure(lr_server_set(&server, LR_SET_MESSAGE, LIMIT));
+  sure(lr_server_set(&server, LR_SET_PARTIALS, 8));
+  sure(lr_server_set(&server, LR_SET_CAPACITY, MOST + 1));
 }
 
 /* A request of a client's number, which expires at a moment. Answers its size. */
 static size_t request(unsigned char *room, const char *operation, const char *client, int32_t number, uint64_t expiration) {
   static const unsigned char seven[] = {0, 0, 0, 7};
   unsigned char context[64];
-  int64_t size = sure(lr_write_ft(context, sizeof context, LR_BIG, client, strlen(client), number, expiration));
-  return (size_t)sure(lr_write_request(room, ROOM, 2, LR_BIG, 1, LR_WISH_FULL, "c", 1, operation, strlen(operation),
-                                       LR_FT_REQUEST, context, (size_t)size, seven, sizeof seven));
+  int64_t size = sure(lr_write_ft(context, sizeof context, LR_ORDER_BIG, client, strlen(client), number, expiration));
+  return (size_t)sure(lr_write_request(room, ROOM, 2, LR_ORDER_BIG, 1, LR_WISH_FULL, "c", 1, operation, strlen(operation),
+                                       LR_CONTEXT_FT_REQUEST, context, (size_t)size, seven, sizeof seven));
 }
 
 /* Takes octets of a connection to their end, answers what is asked by so many octets, and drops what is due. */
@@ -107,11 +110,11 @@ static void take(uint64_t connection, uint64_t now, const unsigned char *octets,
     int64_t taken = sure(lr_server_feed(&server, connection, now, octets, size));
     octets += taken;
     size -= (size_t)taken;
-    bool is_asking = sure(lr_server_asked(&server, &asked)) == 1;
+    bool is_asking = sure(lr_server_asked(&server, &asked, sizeof asked)) == 1;
     uint64_t ticket = asked.ticket;
-    if (is_asking && asked.is_raw) sure(lr_server_answer_raw(&server, ticket, LR_NO_EXCEPTION, LR_BIG, room, result));
-    if (is_asking && !asked.is_raw) sure(lr_server_answer(&server, ticket, LR_BIG, room, result));
-    while (sure(lr_server_output(&server, room, sizeof room)) > 0) continue;
+    if (is_asking && asked.is_raw) sure(lr_server_answer_raw(&server, ticket, LR_REPLY_NO_EXCEPTION, LR_ORDER_BIG, room, result));
+    if (is_asking && !asked.is_raw) sure(lr_server_answer(&server, ticket, LR_ORDER_BIG, room, result));
+    while (sure(lr_server_output(&server, connection, room, sizeof room)) > 0) continue;
   }
 }
 

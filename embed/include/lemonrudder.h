@@ -19,7 +19,9 @@
  *
  * Results.  Each function answers an int64_t: 0 or more, a count where the function says so and else LR_OK, which is
  * 0; below 0, an error LR_E_.., and then nothing has changed, unless the function says otherwise. lr_strerror gives
- * its text.
+ * its text. Where a function fills a struct, `size` is that of yours, as `sizeof *request`: the front of the struct is
+ * filled, as much of it as there is, and what yours has behind all that the library knows becomes 0. So a struct may
+ * grow at its end: a program works with the library of a header that is older or newer than its own.
  *
  * Numbers.  Connections are your numbers. A moment counts 100 ns since 15 October 1582, 00:00 UTC, as an expiration
  * of FT_REQUEST does; lr_moment makes one of seconds and nanoseconds since 1970. A version is its minor number: 0, 1
@@ -30,6 +32,7 @@
 
 #include <stddef.h>
 #include <stdint.h>
+#include <string.h>
 
 #ifdef __cplusplus
 extern "C" {
@@ -42,7 +45,7 @@ extern "C" {
 
 /* The version of this header: major, minor and patch, and all three as one number, which #if can compare. */
 #define LR_VERSION_MAJOR 0
-#define LR_VERSION_MINOR 1
+#define LR_VERSION_MINOR 2
 #define LR_VERSION_PATCH 0
 #define LR_VERSION_NUMBER (LR_VERSION_MAJOR * 65536 + LR_VERSION_MINOR * 256 + LR_VERSION_PATCH)
 
@@ -73,16 +76,17 @@ static inline void lr_ior_close(lr_ior *ior) { lr_close(ior); }
 
 /* ---- errors ---- */
 
+/* What a function answers where it fails. */
 enum {
   LR_OK = 0,
   LR_E_EMPTY = -1,      /* the slot is empty, or holds an object of another kind */
-  LR_E_OPEN = -2,       /* the slot holds an object already */
+  LR_E_OPEN = -2,       /* the slot holds an object already, or it is too late for this */
   LR_E_MEMORY = -3,     /* an allocation failed, and nothing has changed */
   LR_E_RANGE = -4,      /* a number is none of those that are allowed */
   LR_E_CONNECTION = -5, /* there is no such connection, or the number of a new one is not greater than each before */
   LR_E_ASKING = -6,     /* a request waits for its outcome */
   LR_E_IDLE = -7,       /* no request waits */
-  LR_E_DUE = -8,        /* octets are due that were not taken */
+  LR_E_PARKS = -8,      /* as many requests are parked as may be, in all or of the connection */
   LR_E_OUTCOME = -9,    /* no outcome of the operation, or one that can't be sent */
   LR_E_ROOM = -10,      /* the room is too small */
   LR_E_SHORT = -11,     /* octets are missing at the end */
@@ -100,7 +104,7 @@ enum {
   LR_E_LONG = -23,      /* the message would be longer than its size can say */
   LR_E_LOST = -24,      /* an allocation failed, and the connection is gone */
   LR_E_PLACE = -25,     /* the body would stand at a place that is not divisible by 8 */
-  LR_E_TICKET = -26,    /* no request of that ticket waits */
+  LR_E_TICKET = -26,    /* no request of that ticket waits or is parked */
   LR_E_FORWARD = -27    /* no pending call of that number is led elsewhere */
 };
 
@@ -114,44 +118,73 @@ LR_API const char *lr_error_name(int64_t error);
 /* ---- names of numbers ---- */
 
 /* The order of the octets of a number. */
-enum { LR_BIG = 0, LR_LITTLE = 1 };
+enum { LR_ORDER_BIG = 0, LR_ORDER_LITTLE = 1 };
 
 /* Which reply a request asks for: none, one without results, or a whole one. */
 enum { LR_WISH_NONE = 0, LR_WISH_EMPTY = 1, LR_WISH_FULL = 2 };
 
 /* The status of a Reply (CORBA 3.3 Part 2, 9.4.3.1). */
 enum {
-  LR_NO_EXCEPTION = 0,
-  LR_USER_EXCEPTION = 1,
-  LR_SYSTEM_EXCEPTION = 2,
-  LR_LOCATION_FORWARD = 3,
-  LR_LOCATION_FORWARD_PERM = 4,
-  LR_NEEDS_ADDRESSING_MODE = 5
+  LR_REPLY_NO_EXCEPTION = 0,
+  LR_REPLY_USER_EXCEPTION = 1,
+  LR_REPLY_SYSTEM_EXCEPTION = 2,
+  LR_REPLY_LOCATION_FORWARD = 3,
+  LR_REPLY_LOCATION_FORWARD_PERM = 4,
+  LR_REPLY_NEEDS_ADDRESSING_MODE = 5
 };
 
 /* The status of a LocateReply (CORBA 3.3 Part 2, 9.4.6.1). */
 enum {
-  LR_UNKNOWN_OBJECT = 0,
-  LR_OBJECT_HERE = 1,
-  LR_OBJECT_FORWARD = 2,
-  LR_OBJECT_FORWARD_PERM = 3,
-  LR_LOC_SYSTEM_EXCEPTION = 4,
-  LR_LOC_NEEDS_ADDRESSING_MODE = 5
+  LR_LOCATE_UNKNOWN_OBJECT = 0,
+  LR_LOCATE_OBJECT_HERE = 1,
+  LR_LOCATE_OBJECT_FORWARD = 2,
+  LR_LOCATE_OBJECT_FORWARD_PERM = 3,
+  LR_LOCATE_SYSTEM_EXCEPTION = 4,
+  LR_LOCATE_NEEDS_ADDRESSING_MODE = 5
 };
 
-/* The system exceptions that a server raises (CORBA 3.3 Part 2, A.5). */
+/* The system exceptions (CORBA 3.3 Part 2, A.5). */
 enum {
-  LR_MARSHAL = 0,
-  LR_BAD_CONTEXT = 1,
-  LR_NO_RESOURCES = 2,
-  LR_BAD_OPERATION = 3,
-  LR_OBJECT_NOT_EXIST = 4,
-  LR_UNKNOWN = 5,
-  LR_BAD_PARAM = 6,
-  LR_NO_PERMISSION = 7,
-  LR_IMP_LIMIT = 8,
-  LR_INTERNAL = 9,
-  LR_TRANSIENT = 10
+  LR_EX_MARSHAL = 0,
+  LR_EX_BAD_CONTEXT = 1,
+  LR_EX_NO_RESOURCES = 2,
+  LR_EX_BAD_OPERATION = 3,
+  LR_EX_OBJECT_NOT_EXIST = 4,
+  LR_EX_UNKNOWN = 5,
+  LR_EX_BAD_PARAM = 6,
+  LR_EX_NO_PERMISSION = 7,
+  LR_EX_IMP_LIMIT = 8,
+  LR_EX_INTERNAL = 9,
+  LR_EX_TRANSIENT = 10,
+  LR_EX_NO_MEMORY = 11,
+  LR_EX_COMM_FAILURE = 12,
+  LR_EX_INV_OBJREF = 13,
+  LR_EX_INITIALIZE = 14,
+  LR_EX_NO_IMPLEMENT = 15,
+  LR_EX_BAD_TYPECODE = 16,
+  LR_EX_NO_RESPONSE = 17,
+  LR_EX_PERSIST_STORE = 18,
+  LR_EX_BAD_INV_ORDER = 19,
+  LR_EX_FREE_MEM = 20,
+  LR_EX_INV_IDENT = 21,
+  LR_EX_INV_FLAG = 22,
+  LR_EX_INTF_REPOS = 23,
+  LR_EX_OBJ_ADAPTER = 24,
+  LR_EX_DATA_CONVERSION = 25,
+  LR_EX_TRANSACTION_REQUIRED = 26,
+  LR_EX_TRANSACTION_ROLLEDBACK = 27,
+  LR_EX_INVALID_TRANSACTION = 28,
+  LR_EX_INV_POLICY = 29,
+  LR_EX_CODESET_INCOMPATIBLE = 30,
+  LR_EX_REBIND = 31,
+  LR_EX_TIMEOUT = 32,
+  LR_EX_TRANSACTION_UNAVAILABLE = 33,
+  LR_EX_TRANSACTION_MODE = 34,
+  LR_EX_BAD_QOS = 35,
+  LR_EX_INVALID_ACTIVITY = 36,
+  LR_EX_ACTIVITY_COMPLETED = 37,
+  LR_EX_ACTIVITY_REQUIRED = 38,
+  LR_EX_THREAD_CANCELLED = 39
 };
 
 /* Whether an operation was completed before its exception. */
@@ -166,27 +199,34 @@ enum {
   LR_PART_PAYLOAD = 4    /* what a Fragment carries */
 };
 
+/* The ids of some service contexts (CORBA 3.3 Part 2, 7.7.1): of a transaction, of code sets, of FT_REQUEST, and of the
+ * security attributes of a request. */
+enum { LR_CONTEXT_TRANSACTION = 0, LR_CONTEXT_CODE_SETS = 1, LR_CONTEXT_FT_REQUEST = 13, LR_CONTEXT_SECURITY = 15 };
+
 /*
  * Types, as octets.  Each code stands for a type; a code of several parts takes the types before it. So a string, and
- * then a sequence of longs, are {LR_STRING, LR_LONG, LR_SEQUENCE}, and a struct of these two members {LR_STRING,
- * LR_LONG, LR_SEQUENCE, LR_STRUCT, 2}. Strings and sequences have no bounds. A sequence of octets is LR_OCTETS. What
- * has no code, as a union, can be had by raw operations.
+ * then a sequence of longs, are {LR_TYPE_STRING, LR_TYPE_LONG, LR_TYPE_SEQUENCE}, and a struct of these two members
+ * {LR_TYPE_STRING, LR_TYPE_LONG, LR_TYPE_SEQUENCE, LR_TYPE_STRUCT, 2}. Strings and sequences have no bounds. A sequence
+ * of octets is LR_TYPE_OCTETS. A float has the octets of an unsigned long, and a double those of an unsigned long long
+ * (CORBA 3.3 Part 2, 9.3.1.3), so they have their codes. What has no code, as a union, can be had by raw operations.
  */
 enum {
-  LR_BOOLEAN = 1,
-  LR_CHAR = 2,
-  LR_OCTET = 3,
-  LR_SHORT = 4,
-  LR_USHORT = 5,
-  LR_LONG = 6,
-  LR_ULONG = 7,
-  LR_LONGLONG = 8,
-  LR_ULONGLONG = 9,
-  LR_STRING = 10,
-  LR_OCTETS = 11,
-  LR_SEQUENCE = 12, /* of the type before it */
-  LR_ENUM = 13,     /* of so many names as the next octet says, 1 to 255 */
-  LR_STRUCT = 14    /* of so many types before it as the next octet says, 1 to 255 */
+  LR_TYPE_BOOLEAN = 1,
+  LR_TYPE_CHAR = 2,
+  LR_TYPE_OCTET = 3,
+  LR_TYPE_SHORT = 4,
+  LR_TYPE_USHORT = 5,
+  LR_TYPE_LONG = 6,
+  LR_TYPE_ULONG = 7,
+  LR_TYPE_LONGLONG = 8,
+  LR_TYPE_ULONGLONG = 9,
+  LR_TYPE_STRING = 10,
+  LR_TYPE_OCTETS = 11,
+  LR_TYPE_SEQUENCE = 12, /* of the type before it */
+  LR_TYPE_ENUM = 13,     /* of so many names as the next octet says, 1 to 255 */
+  LR_TYPE_STRUCT = 14,   /* of so many types before it as the next octet says, 1 to 255 */
+  LR_TYPE_FLOAT = LR_TYPE_ULONG,
+  LR_TYPE_DOUBLE = LR_TYPE_ULONGLONG
 };
 
 /* A moment, of seconds and nanoseconds since 1970-01-01 00:00 UTC. The greatest, where it lies beyond. */
@@ -230,6 +270,20 @@ LR_API int64_t lr_catalogue_raw_operation(lr_catalogue *catalogue, const void *k
 LR_API int64_t lr_catalogue_repository_ids(lr_catalogue *catalogue, const void *key, size_t key_size,
                                            const void *ids, size_t ids_size);
 
+/* Takes the objects of `families`, which is empty afterwards. Each key that is no object's own, and begins with the key
+ * of one of these, leads to that object: to the one of the longest such key. So one object stands for many, as for
+ * each account; LR_PART_KEY says for which. Exceptions that were declared in `families` for an operation to come are
+ * forgotten. LR_E_EMPTY, LR_E_TAKEN (one of the two has families already, or a default object). */
+LR_API int64_t lr_catalogue_families(lr_catalogue *catalogue, lr_catalogue *families);
+
+/* Adds an object whose every operation is raw, to which each key leads that leads to no other object: the family of the
+ * empty key. So it comes after lr_catalogue_families.
+ * LR_E_EMPTY, LR_E_TAKEN (it was called before, or a family has the empty key), LR_E_MEMORY. */
+LR_API int64_t lr_catalogue_default(lr_catalogue *catalogue);
+
+/* Takes an object away, with its operations. LR_E_EMPTY, LR_E_OBJECT. */
+LR_API int64_t lr_catalogue_remove(lr_catalogue *catalogue, const void *key, size_t key_size);
+
 /* ---- a server of requests that may be sent again ---- */
 
 /*
@@ -239,41 +293,66 @@ LR_API int64_t lr_catalogue_repository_ids(lr_catalogue *catalogue, const void *
  * of these that holds decides what a request is answered: FT_REQUEST not valid, expired, repeated (by what was kept),
  * nothing of that name, arguments not valid, no room. Else it comes to you.
  *
- * One request waits at a time. While it does, lr_server_feed, lr_server_connect, lr_server_lost and
- * lr_server_farewell answer LR_E_ASKING. Each call that answers it, or gives it up, takes its ticket, which a server
- * gives to no other request: so an outcome that comes late is not taken for that of another. Such a call answers the
- * first of these that holds: LR_E_EMPTY, LR_E_RANGE, LR_E_IDLE (no request waits), LR_E_TICKET (another one does), and
- * then what else its comment names; but for LR_E_LOST it waits still, and nothing has changed. What is due belongs to
- * one connection; until it is taken, lr_server_feed and lr_server_farewell of another answer LR_E_DUE.
+ * One request waits at a time. While it does, lr_server_feed, lr_server_connect, lr_server_lost, lr_server_farewell,
+ * lr_server_tick and lr_server_swap answer LR_E_ASKING. What takes its time is parked by lr_server_park: it waits no
+ * more, others are fed, and once its outcome is there it is answered as one that waits, by its ticket. Parked requests
+ * are answered in any order. A repeat of one joins those who wait for its outcome; where so many wait already as
+ * LR_SET_JOINED says, it is answered TRANSIENT and LR_COMPLETED_MAYBE. The replies become due on each connection where
+ * somebody waits for them: lr_server_next_due names these. A parked request whose connection is lost, or whose
+ * expiration passes, is answered all the same.
+ *
+ * Each call that answers a request, parks it or gives it up takes its ticket, which a server gives to no other request:
+ * so an outcome that comes late is not taken for that of another. Such a call answers the first of these that holds:
+ * LR_E_EMPTY, LR_E_RANGE, LR_E_TICKET (no request of that ticket waits or is parked), LR_E_ASKING (it is parked, and
+ * another one waits), and then what else its comment names; but for LR_E_LOST it waits or is parked still, and nothing
+ * has changed. Those of a request that waits alone (lr_server_park, lr_server_give_up, lr_server_goodbye) answer
+ * LR_E_IDLE where none does, and LR_E_TICKET where another one does.
  */
 
-/* Opens a server of the objects of a catalogue, which is empty afterwards. A message has at most message_limit octets,
- * 4096 to 16777216; on each connection at most so many messages may be partial at a time, 1 to 16. At most `capacity`
- * outcomes are kept for repeats, at most `share` of each client. The seeds are random numbers of yours, which no
- * client can guess. LR_E_OPEN, LR_E_EMPTY (the catalogue), LR_E_RANGE, LR_E_MEMORY; the catalogue is as it was then. */
-LR_API int64_t lr_server_open(lr_server *server, lr_catalogue *catalogue, uint32_t message_limit, uint32_t partials,
-                              uint32_t capacity, uint32_t share, uint64_t seed_low, uint64_t seed_high);
+/* Opens a server of the objects of a catalogue, which is empty afterwards. The seeds are random numbers of yours, which
+ * no client can guess. LR_E_OPEN, LR_E_EMPTY (the catalogue), LR_E_MEMORY; the catalogue is as it was then. */
+LR_API int64_t lr_server_open(lr_server *server, lr_catalogue *catalogue, uint64_t seed_low, uint64_t seed_high);
+
+/* What lr_server_set sets, and what it is where nothing is set. */
+enum {
+  LR_SET_MESSAGE = 1,   /* octets of a message at most, 4096 to 16777216: 1048576 */
+  LR_SET_PARTIALS = 2,  /* messages of a connection that may be partial at a time, 1 to 16: 4 */
+  LR_SET_CAPACITY = 3,  /* outcomes that are kept for repeats at most: 65536 */
+  LR_SET_SHARE = 4,     /* .. of each client: 4294967295, so all of the capacity */
+  LR_SET_PARKED = 5,    /* requests that may be parked at a time: 1024 */
+  LR_SET_PARKED_OF = 6, /* .. of those that came on one connection: 64 */
+  LR_SET_JOINED = 7,    /* who may wait for the outcome of a parked one, beside the last who came: 8 */
+  LR_SET_DUE = 8,       /* octets due on a connection from which on it is fed no more: 1048576 */
+  LR_SET_CLIENT_ID = 9  /* octets of a client's id at most; FT_REQUEST with a longer one is not valid: 256 */
+};
+
+/* Sets a limit of a server of which no connection was opened: a number of the range above; where none is given, of 32
+ * bits, and of LR_SET_DUE and LR_SET_CLIENT_ID of 64. The first of these that holds: LR_E_EMPTY, LR_E_RANGE, LR_E_OPEN
+ * (a connection was opened), LR_E_MEMORY. */
+LR_API int64_t lr_server_set(lr_server *server, uint32_t what, uint64_t value);
 
 /* Opens a connection, whose number is greater than each before.
  * LR_E_EMPTY, LR_E_ASKING, LR_E_CONNECTION, LR_E_MEMORY. */
 LR_API int64_t lr_server_connect(lr_server *server, uint64_t connection);
 
-/* Forgets a connection that is gone, if there is one, and the octets that are due on it. LR_E_EMPTY, LR_E_ASKING. */
+/* Forgets a connection that is gone, if there is one, the octets that are due on it, and who waits there for an
+ * outcome. LR_E_EMPTY, LR_E_ASKING. */
 LR_API int64_t lr_server_lost(lr_server *server, uint64_t connection);
 
-/* Says goodbye: CloseConnection is due (CORBA 3.3 Part 2, 9.4.7), unless the connection's stream has ended. What
- * comes on it afterwards has no meaning. LR_E_EMPTY, LR_E_ASKING, LR_E_DUE, LR_E_CONNECTION, LR_E_LOST. */
+/* Says goodbye: CloseConnection is due (CORBA 3.3 Part 2, 9.4.7), unless the connection's stream has ended. It is due
+ * at once where nobody waits there for the outcome of a parked request, else behind the last of these replies. What
+ * comes on it from now on means nothing. LR_E_EMPTY, LR_E_ASKING, LR_E_CONNECTION, LR_E_LOST. */
 LR_API int64_t lr_server_farewell(lr_server *server, uint64_t connection);
 
 /* 1 where the connection was never opened, is gone, has ended or was said goodbye to, so that its socket is to be
- * closed once what is due is sent; else 0. LR_E_EMPTY. */
+ * closed once what is due is sent; else 0, as while a goodbye waits for replies. LR_E_EMPTY. */
 LR_API int64_t lr_server_is_closed(lr_server *server, uint64_t connection);
 
-/* Takes octets of a connection that came at a moment, and answers how many it took: all of them, or those up to a
- * request that waits for its outcome. Feed the rest after it is answered, at the same moment.
- * Of a connection that has ended, or was said goodbye to, it takes all, which mean nothing.
- * LR_E_EMPTY, LR_E_ASKING, LR_E_DUE, LR_E_CONNECTION (nothing is taken, but the clock has moved to the moment), and
- * LR_E_LOST, where what was answered before is due. */
+/* Takes octets of a connection that came at a moment, and answers how many it took: all of them; those up to a request
+ * that waits for its outcome; or fewer where LR_SET_DUE octets are due on it. Feed the rest at the same moment, when it
+ * is answered, or less is due. Of a connection that has ended, or was said goodbye to, it takes all: they mean nothing.
+ * LR_E_EMPTY, LR_E_ASKING, LR_E_CONNECTION (nothing is taken, but the clock has moved to the moment), and LR_E_LOST,
+ * where what was answered before is due. */
 LR_API int64_t lr_server_feed(lr_server *server, uint64_t connection, uint64_t moment, const void *octets, size_t size);
 
 /* A request that waits for its outcome. */
@@ -284,30 +363,47 @@ typedef struct {
   uint64_t operation_size; /* of LR_PART_OPERATION */
   uint64_t body_size;      /* of LR_PART_BODY */
   uint64_t body_at;        /* where is_raw is: the place of the body's first octet, from which it is aligned; else 0 */
-  uint32_t body_order;     /* where is_raw is: LR_BIG or LR_LITTLE; else LR_BIG */
+  uint32_t body_order;     /* where is_raw is: LR_ORDER_..; else LR_ORDER_BIG */
   uint32_t is_raw;         /* 1 where the operation is raw */
   uint32_t request_id;
   uint32_t version;
   uint32_t wish;           /* LR_WISH_.. */
-  uint32_t has_client;     /* 1 where it carries FT_REQUEST: what follows is of it, else 0 */
+  uint32_t has_client;     /* 1 where it carries FT_REQUEST: what follows but for `contexts` is of it, else 0 */
   int32_t retention_id;
-  uint32_t reserved;
+  uint32_t contexts;       /* how many service contexts it has */
   uint64_t client_size;    /* of LR_PART_CLIENT */
   uint64_t expiration;
 } lr_request;
 
 /* Says what waits: 1, or 0 where nothing does, and `request` is as it was. LR_E_EMPTY. */
-LR_API int64_t lr_server_asked(lr_server *server, lr_request *request);
+LR_API int64_t lr_server_asked(lr_server *server, lr_request *request, size_t size);
 
-/* Copies a part of the request that waits, as much of it as the room has octets, and answers its size. The body of an
- * operation with types is its arguments, in big order and aligned from place 0; of a raw one the octets as they came.
- * LR_E_EMPTY, LR_E_IDLE, LR_E_NONE, LR_E_MEMORY. */
-LR_API int64_t lr_server_part(lr_server *server, uint32_t part, void *room, size_t size);
+/* Copies a part of the request of a ticket, which waits or is parked, as much of it as the room has octets, and answers
+ * its size. The body of an operation with types is its arguments, in big order and aligned from place 0; of a raw one
+ * the octets as they came. LR_E_EMPTY, LR_E_TICKET, LR_E_NONE, LR_E_MEMORY. */
+LR_API int64_t lr_server_part(lr_server *server, uint64_t ticket, uint32_t part, void *room, size_t size);
 
-/* Answers the request of a ticket, which waits, by its results: octets of an order, aligned from place 0, and none left
- * over. They are kept as its outcome, where it carries FT_REQUEST. A request that wishes no reply is answered all the
- * same. LR_E_EMPTY, LR_E_RANGE, LR_E_IDLE, LR_E_TICKET, LR_E_OUTCOME, LR_E_MEMORY (it waits still), and LR_E_LOST: the
- * outcome counts and is kept, and its reply is lost. */
+/* Copies the data of a service context of the request that waits, counted from 0, as much of it as the room has octets,
+ * gives its id (LR_CONTEXT_.. or another), and answers its size. LR_E_EMPTY, LR_E_IDLE, LR_E_NONE. */
+LR_API int64_t lr_server_context(lr_server *server, uint32_t index, uint32_t *id, void *room, size_t size);
+
+/* Parks the request of a ticket, which waits: it waits no more, and is answered later by the same ticket.
+ * LR_E_EMPTY, LR_E_IDLE, LR_E_TICKET, LR_E_PARKS, LR_E_MEMORY: it waits still. */
+LR_API int64_t lr_server_park(lr_server *server, uint64_t ticket);
+
+/* How many requests are parked, and how many of those that came on a connection. LR_E_EMPTY. */
+LR_API int64_t lr_server_parked(lr_server *server);
+LR_API int64_t lr_server_parked_of(lr_server *server, uint64_t connection);
+
+/* How many wait for the outcome of a parked request, on connections that go on: 0 where nobody would hear it. One that
+ * carries FT_REQUEST is kept all the same. LR_E_EMPTY, LR_E_TICKET (none of that ticket is parked). */
+LR_API int64_t lr_server_wanted(lr_server *server, uint64_t ticket);
+
+/* Answers the request of a ticket, which waits or is parked, by its results: octets of an order, aligned from place 0,
+ * and none left over. They are kept as its outcome, where it carries FT_REQUEST. A request that wishes no reply is
+ * answered all the same. LR_E_EMPTY, LR_E_RANGE, LR_E_TICKET, LR_E_ASKING, LR_E_OUTCOME, LR_E_MEMORY (it waits or is
+ * parked still), and of one that waits LR_E_LOST: the outcome counts and is kept, and its reply is lost. Of a parked
+ * one a reply for which memory is short loses its own connection alone, and LR_OK is answered. */
 LR_API int64_t lr_server_answer(lr_server *server, uint64_t ticket, uint32_t order, const void *results, size_t size);
 
 /* Answers by an exception that the operation declares: its repository id, and its members as of lr_server_answer. It is
@@ -316,19 +412,19 @@ LR_API int64_t lr_server_answer(lr_server *server, uint64_t ticket, uint32_t ord
 LR_API int64_t lr_server_raise(lr_server *server, uint64_t ticket, const void *id, size_t id_size, uint32_t order,
                                const void *members, size_t size);
 
-/* Answers by a system exception, LR_MARSHAL to LR_TRANSIENT, with a minor code and LR_COMPLETED_... It is an outcome as
- * results are: kept until the request expires, and what each repeat gets; where it may be performed later, refuse.
+/* Answers by a system exception, LR_EX_.., with a minor code and LR_COMPLETED_... It is an outcome as results are: kept
+ * until the request expires, and what each repeat gets; where it may be performed later, refuse.
  * Errors as of lr_server_answer. */
 LR_API int64_t lr_server_system(lr_server *server, uint64_t ticket, uint32_t name, uint32_t minor, uint32_t completed);
 
-/* Answers a raw operation by the body of a Reply: its status, LR_NO_EXCEPTION to LR_LOCATION_FORWARD, its order, and
- * at most 1048576 octets, written for a place divisible by 8. Errors as of lr_server_answer. */
+/* Answers a raw operation by the body of a Reply: its status, LR_REPLY_NO_EXCEPTION to LR_REPLY_LOCATION_FORWARD, its
+ * order, and at most 1048576 octets, written for a place divisible by 8. Errors as of lr_server_answer. */
 LR_API int64_t lr_server_answer_raw(lr_server *server, uint64_t ticket, uint32_t status, uint32_t order,
                                     const void *body, size_t size);
 
-/* Answers _is_a and _non_existent of an object that names its repository ids: 1 where that is what waits, and it is
- * answered; 0 where it is another operation. Every object is a CORBA::Object. Errors as of lr_server_answer, but for
- * LR_E_RANGE. */
+/* Answers _is_a and _non_existent of an object that names its repository ids: 1 where that is what waits or is parked,
+ * and it is answered; 0 where it is another operation. Every object is a CORBA::Object. Errors as of lr_server_answer,
+ * but for LR_E_RANGE. */
 LR_API int64_t lr_server_identify(lr_server *server, uint64_t ticket);
 
 /* Gives up the request of a ticket, which waits: you can't perform it now, and have done nothing. Nothing is kept, and
@@ -336,21 +432,82 @@ LR_API int64_t lr_server_identify(lr_server *server, uint64_t ticket);
  * LR_E_EMPTY, LR_E_IDLE, LR_E_TICKET. */
 LR_API int64_t lr_server_give_up(lr_server *server, uint64_t ticket);
 
-/* Refuses the request of a ticket, which waits, for now: you have done nothing. A system exception, LR_MARSHAL to
- * LR_TRANSIENT, with a minor code and LR_COMPLETED_NO is due, where it wishes a reply; nothing is kept, and it is asked
- * again when it comes again. Its connection stays. LR_E_EMPTY, LR_E_RANGE, LR_E_IDLE, LR_E_TICKET, and LR_E_LOST: for
- * want of memory it is given up, and its connection is gone. */
+/* Refuses the request of a ticket, which waits or is parked, for now: you have done nothing. A system exception,
+ * LR_EX_.., with a minor code and LR_COMPLETED_NO is due to each who waits for it and wishes a reply; nothing is kept,
+ * and it is asked again when it comes again. Its connection stays. LR_E_EMPTY, LR_E_RANGE, LR_E_TICKET, LR_E_ASKING,
+ * and of one that waits LR_E_LOST: for want of memory it is given up, and its connection is gone. */
 LR_API int64_t lr_server_refuse(lr_server *server, uint64_t ticket, uint32_t name, uint32_t minor);
 
 /* Gives up the request of a ticket, as lr_server_give_up does, and says goodbye first: CloseConnection is due (CORBA
  * 3.3 Part 2, 9.4.7), by which its client knows that nothing was done. An ORB connects again at once, and sends it
  * again: so this is for draining and restarts alone, and while you are short of something you refuse.
- * LR_E_EMPTY, LR_E_IDLE, LR_E_TICKET, LR_E_MEMORY (it waits still). */
+ * LR_E_EMPTY, LR_E_IDLE, LR_E_TICKET, LR_E_MEMORY and LR_E_PARKS: it waits still, as somebody else waits on its
+ * connection for the outcome of a parked request. */
 LR_API int64_t lr_server_goodbye(lr_server *server, uint64_t ticket);
 
-/* Moves octets that are due into the room, as many as it has, and answers how many: 0 where none are left. They
- * belong to the connection of the last lr_server_feed or lr_server_farewell. LR_E_EMPTY. */
-LR_API int64_t lr_server_output(lr_server *server, void *room, size_t size);
+/* A connection on which octets became due by the outcome of a parked request, or by a goodbye that waited: 1, and it is
+ * named no more for these; 0 where none is left, and `connection` is as it was. LR_E_EMPTY. Use it after each call that
+ * answers or refuses a parked request: while (lr_server_next_due(&server, &connection) == 1) flush(connection); */
+LR_API int64_t lr_server_next_due(lr_server *server, uint64_t *connection);
+
+/* Moves octets that are due on a connection into the room, as many as it has, and answers how many: 0 where none are
+ * left. They are kept for each connection until they are taken or it is lost. LR_E_EMPTY. */
+LR_API int64_t lr_server_output(lr_server *server, uint64_t connection, void *room, size_t size);
+
+/* What lr_server_count counts: as it is now, and what became of requests since the server was opened. */
+enum {
+  LR_COUNT_CONNECTIONS = 0, /* connections that are open */
+  LR_COUNT_KEPT = 1,        /* outcomes that are kept */
+  LR_COUNT_PARKED_NOW = 2,  /* requests that are parked */
+  LR_COUNT_ASKED = 3,       /* came to you */
+  LR_COUNT_REPEATED = 4,    /* were answered by what was kept */
+  LR_COUNT_JOINED = 5,      /* repeats of a parked one */
+  LR_COUNT_EXPIRED = 6,     /* were past their expiration */
+  LR_COUNT_MALFORMED = 7,   /* FT_REQUEST was not valid */
+  LR_COUNT_INVALID = 8,     /* nothing of that name, or arguments not valid */
+  LR_COUNT_LOG_FULL = 9,    /* no room: the capacity is used up */
+  LR_COUNT_SHARE_FULL = 10, /* no room: the client's share is used up */
+  LR_COUNT_LOCATED = 11,    /* LocateRequests */
+  LR_COUNT_DROPPED = 12,    /* what a memory that was short cut off */
+  LR_COUNT_ANSWERED = 13,   /* you answered at once */
+  LR_COUNT_PARKED = 14,     /* you parked */
+  LR_COUNT_SETTLED = 15,    /* you answered while they were parked */
+  LR_COUNT_GIVEN_UP = 16,   /* you gave up */
+  LR_COUNT_DECLINED = 17,   /* you refused while they waited */
+  LR_COUNT_WITHDRAWN = 18   /* you refused while they were parked */
+};
+
+/* One of these numbers. LR_E_EMPTY, LR_E_RANGE. */
+LR_API int64_t lr_server_count(lr_server *server, uint32_t what);
+
+/* How many outcomes are kept of a client, by its id: so much of its share it holds. LR_E_EMPTY. */
+LR_API int64_t lr_server_held_by(lr_server *server, const void *client, size_t size);
+
+/* The first expiration of what is kept: 1, or 0 where nothing is, and `moment` is as it was. LR_E_EMPTY. */
+LR_API int64_t lr_server_next_expiry(lr_server *server, uint64_t *moment);
+
+/* A moment has come: what expired before it is forgotten. So does each request that carries FT_REQUEST; where none come
+ * for long, this gives memory back. LR_E_EMPTY, LR_E_ASKING. */
+LR_API int64_t lr_server_tick(lr_server *server, uint64_t moment);
+
+/* Why nothing more is heard of a connection: LR_FAULT_.. of its stream, or one of these. */
+enum {
+  LR_WHY_OPEN = 0,       /* it goes on */
+  LR_WHY_DIRECTION = 32, /* its peer sent a message that only a server sends */
+  LR_WHY_GOODBYE = 33,   /* its peer sent CloseConnection */
+  LR_WHY_ERROR = 34,     /* its peer sent MessageError */
+  LR_WHY_FAREWELL = 35,  /* you said goodbye on it */
+  LR_WHY_GIVEN_UP = 36,  /* you gave up a request that came on it */
+  LR_WHY_MEMORY = 37     /* an allocation failed */
+};
+
+/* Which of these, until lr_server_lost. LR_E_EMPTY, LR_E_CONNECTION. */
+LR_API int64_t lr_server_why(lr_server *server, uint64_t connection);
+
+/* Exchanges what the server has on offer and a catalogue: so objects are added and taken away while it serves. What is
+ * kept stays, and is what repeats get. A parked request is answered by an outcome of its operation as that is on offer
+ * then, or by a system exception. LR_E_EMPTY, LR_E_ASKING. */
+LR_API int64_t lr_server_swap(lr_server *server, lr_catalogue *catalogue);
 
 /* ---- a client that sends its calls again ---- */
 
@@ -363,10 +520,23 @@ LR_API int64_t lr_server_output(lr_server *server, void *room, size_t size);
 /* Opens a client that is not connected. Its id, 1 to 256 octets without a NUL, names it to each server. It numbers its
  * calls from 1: a client that is opened with an id that was used before, by a program that was started again say, is
  * given the outcomes of calls of before, unless lr_client_recall and lr_client_skip_to say which numbers were used.
- * Limits as of lr_server_open.
- * LR_E_OPEN, LR_E_RANGE, LR_E_TEXT, LR_E_MEMORY. */
-LR_API int64_t lr_client_open(lr_client *client, const void *id, size_t id_size, uint32_t version,
-                              uint32_t message_limit, uint32_t partials);
+ * LR_E_OPEN, LR_E_TEXT, LR_E_MEMORY. */
+LR_API int64_t lr_client_open(lr_client *client, const void *id, size_t id_size);
+
+/* What lr_client_set sets, and what it is where nothing is set. */
+enum {
+  LR_CLIENT_KEEP_TRANSIENT = 1, /* 1: TRANSIENT leaves its call pending, unless the operation was completed; 0 */
+  LR_CLIENT_KEEP_FORWARD = 2,   /* 1: a forward leaves its call pending: lr_client_forwarded; 0 */
+  LR_CLIENT_VERSION = 3,        /* the version of its messages, 0 to 2: 2 */
+  LR_CLIENT_MESSAGE = 4,        /* octets of a message that comes at most, 4096 to 16777216: 1048576 */
+  LR_CLIENT_PARTIALS = 5        /* messages that may be partial at a time, 1 to 16: 4 */
+};
+
+/* Sets one of these. The first two say of the replies that come from then on whether such a one leaves its call
+ * pending, until it expires or is cancelled, or ends it. The others are set while it is not connected and has no number
+ * of a call: none was given, taken up or skipped.
+ * LR_E_EMPTY, LR_E_RANGE, LR_E_OPEN (it is connected, or has a number). */
+LR_API int64_t lr_client_set(lr_client *client, uint32_t what, uint64_t value);
 
 /* The client is connected anew: what is pending, is not led elsewhere and not past its expiration is due. Octets that
  * were due for the connection before are dropped. LR_E_EMPTY, LR_E_LOST. */
@@ -377,16 +547,6 @@ LR_API int64_t lr_client_lost(lr_client *client);
 
 /* 1 where it is connected, else 0. LR_E_EMPTY. */
 LR_API int64_t lr_client_is_connected(lr_client *client);
-
-/* What lr_client_set says of the replies that come from then on. */
-enum {
-  LR_CLIENT_KEEP_TRANSIENT = 1, /* TRANSIENT leaves its call pending, unless the operation was completed */
-  LR_CLIENT_KEEP_FORWARD = 2    /* a forward leaves its call pending: lr_client_forwarded */
-};
-
-/* 1: such a reply leaves its call pending, until it expires or is cancelled; 0, as in a new client: it ends it.
- * LR_E_EMPTY, LR_E_RANGE. */
-LR_API int64_t lr_client_set(lr_client *client, uint32_t what, uint64_t value);
 
 /* Calls an operation of an object, and answers the number of the call: 1, 2 and so on. `types` are those of the
  * arguments, which are octets of an order, aligned from place 0, and none left over. LR_E_EMPTY, LR_E_RANGE,
@@ -402,6 +562,25 @@ LR_API int64_t lr_client_call(lr_client *client, uint64_t now, uint64_t expirati
 LR_API int64_t lr_client_recall(lr_client *client, int64_t call, uint64_t now, uint64_t expiration, const void *key,
                                 size_t key_size, const void *operation, size_t operation_size, const uint8_t *types,
                                 size_t types_size, uint32_t order, const void *arguments, size_t arguments_size);
+
+/* Calls an operation by a body of octets, as it is, which is in an order and written for a place divisible by 8, with
+ * service contexts: an IOP::ServiceContextList (CORBA 3.3 Part 2, 7.7), in CDR of that order and aligned from place 0,
+ * or none where contexts_size is 0. FT_REQUEST is written by the client. `wish` is LR_WISH_..: of LR_WISH_NONE nothing
+ * comes back, and the call ends by LR_ENDED_SENT when it is sent. The first of these that holds: LR_E_EMPTY, LR_E_RANGE
+ * (the order, the wish, or LR_WISH_EMPTY in 1.0 and 1.1), LR_E_TEXT (a NUL in the operation), LR_E_SHORT and LR_E_VALUE
+ * (the contexts are none; LR_E_VALUE also where one is FT_REQUEST), LR_E_EXPIRED, LR_E_CALLS, LR_E_LONG, LR_E_MEMORY,
+ * LR_E_PLACE (in 1.0 and 1.1 the body would stand at a place that is not divisible by 8). */
+LR_API int64_t lr_client_call_raw(lr_client *client, uint64_t now, uint64_t expiration, uint32_t wish,
+                                  const void *key, size_t key_size, const void *operation, size_t operation_size,
+                                  uint32_t order, const void *contexts, size_t contexts_size,
+                                  const void *body, size_t body_size);
+
+/* Takes a raw call of before up again under its number, as lr_client_recall does. Errors as of lr_client_call_raw, and
+ * LR_E_TAKEN. */
+LR_API int64_t lr_client_recall_raw(lr_client *client, int64_t call, uint64_t now, uint64_t expiration, uint32_t wish,
+                                    const void *key, size_t key_size, const void *operation, size_t operation_size,
+                                    uint32_t order, const void *contexts, size_t contexts_size,
+                                    const void *body, size_t body_size);
 
 /* Numbers up to this one were used before: the next call gets a greater one. Where this client has given or taken up
  * it or a greater one, nothing changes. LR_E_EMPTY, LR_E_RANGE (it is below 0, or over 2147483647). */
@@ -430,7 +609,8 @@ enum {
   LR_ENDED_FORWARDED = 3,        /* the body has a reference to ask in place of this one */
   LR_ENDED_NEEDS_ADDRESSING = 4, /* the server wants another addressing */
   LR_ENDED_EXPIRED = 5,
-  LR_ENDED_CANCELLED = 6
+  LR_ENDED_CANCELLED = 6,
+  LR_ENDED_SENT = 7              /* it was sent, and wished no reply */
 };
 
 typedef struct {
@@ -438,13 +618,13 @@ typedef struct {
   uint64_t body_at;    /* the place of the body's first octet, from which it is aligned */
   int32_t call;        /* the number of the call */
   uint32_t how;        /* LR_ENDED_.. */
-  uint32_t body_order; /* LR_BIG or LR_LITTLE */
+  uint32_t body_order; /* LR_ORDER_.. */
   uint32_t reserved;
 } lr_completion;
 
 /* Takes the next completion: 1, or 0 where there is none, and `completion` is as it was. Its body is lent by
  * lr_client_body until the next is taken. LR_E_EMPTY. */
-LR_API int64_t lr_client_completed(lr_client *client, lr_completion *completion);
+LR_API int64_t lr_client_completed(lr_client *client, lr_completion *completion, size_t size);
 
 /* Copies the body of the completion taken last, as much of it as the room has octets, and answers its size. LR_E_EMPTY,
  * LR_E_NONE. */
@@ -453,7 +633,8 @@ LR_API int64_t lr_client_body(lr_client *client, void *room, size_t size);
 /* The first pending call, by its number, that is led elsewhere: 1, or 0 where none is, and `completion` is as it was.
  * It is said as one that ended by LR_ENDED_FORWARDED, and its body, the reference, is copied, as much of it as the room
  * has octets; it is not sent again until lr_client_redirect. LR_E_EMPTY. */
-LR_API int64_t lr_client_forwarded(lr_client *client, lr_completion *completion, void *room, size_t size);
+LR_API int64_t lr_client_forwarded(lr_client *client, lr_completion *completion, size_t size, void *room,
+                                   size_t room_size);
 
 /* Asks for a call that is led elsewhere by another key, with its number and its expiration: lr_client_resend sends it,
  * or the next lr_client_connected. What is pending is sent on one connection: that it leads there is up to you. The
@@ -469,8 +650,8 @@ LR_API int64_t lr_client_output(lr_client *client, void *room, size_t size);
 
 /* ---- the messages of a stream ---- */
 
-/* Opens an assembler of a stream of which nothing has come. Limits as of lr_server_open. LR_E_OPEN, LR_E_RANGE,
- * LR_E_MEMORY. */
+/* Opens an assembler of a stream of which nothing has come. A message has at most message_limit octets,
+ * 4096 to 16777216; at most so many may be partial at a time, 1 to 16. LR_E_OPEN, LR_E_RANGE, LR_E_MEMORY. */
 LR_API int64_t lr_assembler_open(lr_assembler *assembler, uint32_t message_limit, uint32_t partials);
 
 /* Takes octets up to and with the end of the next message, or all of them, and answers how many. Fragments are
@@ -480,6 +661,7 @@ LR_API int64_t lr_assembler_feed(lr_assembler *assembler, const void *octets, si
 /* The first fault of the stream: 0 where there is none, or LR_FAULT_... LR_E_EMPTY. */
 LR_API int64_t lr_assembler_fault(lr_assembler *assembler);
 
+/* A fault of a stream. */
 enum {
   LR_FAULT_MAGIC = 1,
   LR_FAULT_VERSION = 2,
@@ -498,14 +680,14 @@ enum {
 
 /* The type of a message (CORBA 3.3 Part 2, 9.4.1). */
 enum {
-  LR_REQUEST = 0,
-  LR_REPLY = 1,
-  LR_CANCEL_REQUEST = 2,
-  LR_LOCATE_REQUEST = 3,
-  LR_LOCATE_REPLY = 4,
-  LR_CLOSE_CONNECTION = 5,
-  LR_MESSAGE_ERROR = 6,
-  LR_FRAGMENT = 7
+  LR_MSG_REQUEST = 0,
+  LR_MSG_REPLY = 1,
+  LR_MSG_CANCEL_REQUEST = 2,
+  LR_MSG_LOCATE_REQUEST = 3,
+  LR_MSG_LOCATE_REPLY = 4,
+  LR_MSG_CLOSE_CONNECTION = 5,
+  LR_MSG_ERROR = 6,
+  LR_MSG_FRAGMENT = 7
 };
 
 /* A message. What a message of its type does not have is 0. */
@@ -515,9 +697,9 @@ typedef struct {
   uint64_t body_size;      /* of LR_PART_BODY: of a Request, Reply or LocateReply */
   uint64_t body_at;        /* the place of the body's first octet, from which it is aligned */
   uint64_t payload_size;   /* of LR_PART_PAYLOAD: of a Fragment */
-  uint32_t type;           /* LR_REQUEST to LR_FRAGMENT */
+  uint32_t type;           /* LR_MSG_.. */
   uint32_t version;
-  uint32_t order;          /* LR_BIG or LR_LITTLE */
+  uint32_t order;          /* LR_ORDER_.. */
   uint32_t request_id;
   uint32_t status;         /* of a Reply or LocateReply */
   uint32_t wish;           /* of a Request: LR_WISH_.. */
@@ -531,7 +713,7 @@ typedef struct {
 
 /* The message that the last lr_assembler_feed completed: 1, or 0 where it completed none, and `message` is as it was.
  * LR_E_EMPTY. */
-LR_API int64_t lr_assembler_message(lr_assembler *assembler, lr_message *message);
+LR_API int64_t lr_assembler_message(lr_assembler *assembler, lr_message *message, size_t size);
 
 /* Copies a part of that message, as much of it as the room has octets, and answers its size. LR_E_EMPTY, LR_E_NONE. */
 LR_API int64_t lr_assembler_part(lr_assembler *assembler, uint32_t part, void *room, size_t size);
@@ -565,7 +747,7 @@ LR_API int64_t lr_write_cancel(void *room, size_t size, uint32_t version, uint32
 LR_API int64_t lr_write_locate_request(void *room, size_t size, uint32_t version, uint32_t order, uint32_t request_id,
                                        const void *key, size_t key_size);
 
-/* Without a body, so LR_UNKNOWN_OBJECT or LR_OBJECT_HERE. */
+/* Without a body, so LR_LOCATE_UNKNOWN_OBJECT or LR_LOCATE_OBJECT_HERE. */
 LR_API int64_t lr_write_locate_reply(void *room, size_t size, uint32_t version, uint32_t order, uint32_t request_id,
                                      uint32_t status);
 
@@ -573,8 +755,7 @@ LR_API int64_t lr_write_close(void *room, size_t size); /* CloseConnection */
 
 LR_API int64_t lr_write_error(void *room, size_t size); /* MessageError */
 
-/* The data of an FT_REQUEST context, whose id is LR_FT_REQUEST. The client id has no NUL. */
-#define LR_FT_REQUEST 13
+/* The data of an FT_REQUEST context, whose id is LR_CONTEXT_FT_REQUEST. The client id has no NUL. */
 LR_API int64_t lr_write_ft(void *room, size_t size, uint32_t order, const void *client, size_t client_size,
                            int32_t retention_id, uint64_t expiration);
 
@@ -611,8 +792,9 @@ typedef struct {
 } lr_profile;
 
 /* The profile of an index, counted from 0. LR_E_EMPTY, LR_E_NONE, LR_E_MEMORY. */
-LR_API int64_t lr_ior_profile(lr_ior *ior, uint32_t index, lr_profile *profile);
+LR_API int64_t lr_ior_profile(lr_ior *ior, uint32_t index, lr_profile *profile, size_t size);
 
+/* Parts of a profile. */
 enum { LR_IOR_DATA = 0, LR_IOR_HOST = 1, LR_IOR_KEY = 2 };
 
 /* Copies a part of a profile, as much of it as the room has octets, and answers its size. LR_E_EMPTY, LR_E_NONE,
@@ -672,6 +854,33 @@ LR_API int64_t lr_put_longlong(void *room, size_t size, lr_place *place, int64_t
 LR_API int64_t lr_put_ulonglong(void *room, size_t size, lr_place *place, uint64_t value);
 LR_API int64_t lr_put_string(void *room, size_t size, lr_place *place, const void *text, size_t length);
 LR_API int64_t lr_put_octets(void *room, size_t size, lr_place *place, const void *data, size_t length);
+
+/* A float and a double, of IEEE 754, by their octets. */
+static inline int64_t lr_get_float(const void *octets, size_t size, lr_place *place, float *value) {
+  uint32_t bits;
+  int64_t answer = lr_get_ulong(octets, size, place, &bits);
+  if (answer == LR_OK) memcpy(value, &bits, sizeof bits);
+  return answer;
+}
+
+static inline int64_t lr_get_double(const void *octets, size_t size, lr_place *place, double *value) {
+  uint64_t bits;
+  int64_t answer = lr_get_ulonglong(octets, size, place, &bits);
+  if (answer == LR_OK) memcpy(value, &bits, sizeof bits);
+  return answer;
+}
+
+static inline int64_t lr_put_float(void *room, size_t size, lr_place *place, float value) {
+  uint32_t bits;
+  memcpy(&bits, &value, sizeof bits);
+  return lr_put_ulong(room, size, place, bits);
+}
+
+static inline int64_t lr_put_double(void *room, size_t size, lr_place *place, double value) {
+  uint64_t bits;
+  memcpy(&bits, &value, sizeof bits);
+  return lr_put_ulonglong(room, size, place, bits);
+}
 
 /* ---- memory ---- */
 

@@ -7,22 +7,20 @@
 enum { LIMIT = 4096, PARTIALS = 2, NOW = 1000, LATER = 2000 };
 
 #define TRANSIENT "IDL:omg.org/CORBA/TRANSIENT:1.0"
-#define ADD(argument) "add", 3, one_long, 1, LR_BIG, (argument), 4
+#define ADD(argument) "add", 3, one_long, 1, LR_ORDER_BIG, (argument), 4
 
-static const uint8_t one_long[] = {LR_LONG}, no_type[] = {0};
+static const uint8_t one_long[] = {LR_TYPE_LONG}, no_type[] = {0};
 static unsigned char room[4096];
 static lr_client client;
 
 static void open_client(void) {
   client = (lr_client)LR_INIT;
-  WANT(lr_client_open(&client, "A", 1, 2, LIMIT, PARTIALS), LR_OK);
+  WANT(lr_client_open(&client, "A", 1), LR_OK);
 }
 
 static int64_t call_add(void) { return lr_client_call(&client, NOW, LATER, "c", 1, ADD("\0\0\0\5")); }
 
-static int64_t recall_add(int64_t call) {
-  return lr_client_recall(&client, call, NOW, LATER, "c", 1, ADD("\0\0\0\5"));
-}
+static int64_t recall_add(int64_t call) { return lr_client_recall(&client, call, NOW, LATER, "c", 1, ADD("\0\0\0\5")); }
 
 static int64_t redirect_add(int64_t call) { return lr_client_redirect(&client, call, "other", 5, ADD("\0\0\0\5")); }
 
@@ -34,8 +32,8 @@ static uint32_t sent(int32_t call, const char *key) {
   if (size == 0) return 0;
   WANT(lr_assembler_open(&assembler, LIMIT, PARTIALS), LR_OK);
   WANT(lr_assembler_feed(&assembler, room, (size_t)size), size);
-  WANT(lr_assembler_message(&assembler, &said), 1);
-  CHECK(said.type == LR_REQUEST && said.has_client == 1 && said.retention_id == call && said.expiration == LATER);
+  WANT(lr_assembler_message(&assembler, &said, sizeof said), 1);
+  CHECK(said.type == LR_MSG_REQUEST && said.has_client == 1 && said.retention_id == call && said.expiration == LATER);
   WANT(lr_assembler_part(&assembler, LR_PART_KEY, room, sizeof room), (int64_t)strlen(key));
   CHECK(memcmp(room, key, strlen(key)) == 0);
   WANT(lr_assembler_part(&assembler, LR_PART_BODY, room, sizeof room), 4);
@@ -56,7 +54,7 @@ static void raise_transient(uint32_t request_id, uint32_t completed) {
 
 static void answer(uint32_t request_id) {
   struct octets reply;
-  begin_reply(&reply, 2, LR_BIG, request_id, LR_NO_EXCEPTION);
+  begin_reply(&reply, 2, LR_ORDER_BIG, request_id, LR_REPLY_NO_EXCEPTION);
   put_number(&reply, 6, 4);
   end_message(&reply);
   feed(&reply);
@@ -65,12 +63,13 @@ static void answer(uint32_t request_id) {
 /* The next completion is of a call, that ended so. */
 static void ends(int32_t call, uint32_t how) {
   lr_completion completion;
-  if (WANT(lr_client_completed(&client, &completion), 1)) CHECK(completion.call == call && completion.how == how);
+  if (WANT(lr_client_completed(&client, &completion, sizeof completion), 1))
+    CHECK(completion.call == call && completion.how == how);
 }
 
 static void nothing_ends(void) {
   lr_completion completion;
-  WANT(lr_client_completed(&client, &completion), 0);
+  WANT(lr_client_completed(&client, &completion, sizeof completion), 0);
 }
 
 /* ---- TRANSIENT ---- */
@@ -127,7 +126,7 @@ static void transient_leaves_a_call_pending(void) {
 static void settings_are_refused(void) {
   open_client();
   WANT(lr_client_set(&client, 0, 1), LR_E_RANGE);
-  WANT(lr_client_set(&client, 3, 0), LR_E_RANGE);
+  WANT(lr_client_set(&client, LR_CLIENT_PARTIALS + 1, 0), LR_E_RANGE);
   WANT(lr_client_set(&client, UINT32_MAX, 1), LR_E_RANGE);
   WANT(lr_client_set(&client, LR_CLIENT_KEEP_TRANSIENT, 2), LR_E_RANGE);
   WANT(lr_client_set(&client, LR_CLIENT_KEEP_FORWARD, UINT64_MAX), LR_E_RANGE);
@@ -143,7 +142,7 @@ static void open_server(lr_server *server) {
   WANT(lr_catalogue_open(&catalogue), LR_OK);
   WANT(lr_catalogue_object(&catalogue, "c", 1), LR_OK);
   WANT(lr_catalogue_operation(&catalogue, "c", 1, "add", 3, one_long, 1, one_long, 1), LR_OK);
-  WANT(lr_server_open(server, &catalogue, LIMIT, PARTIALS, 100, 100, 1, 2), LR_OK);
+  WANT(lr_server_open(server, &catalogue, 1, 2), LR_OK);
 }
 
 /* Brings what the client sends to a server, on a new connection, and back what is due there. How often it was asked. */
@@ -156,11 +155,11 @@ static int carry(lr_server *server, uint64_t connection) {
     int64_t taken = lr_server_feed(server, connection, NOW, room + at, (size_t)(size - at));
     if (!CHECK(taken > 0)) break;
     at += taken;
-    if (lr_server_asked(server, &request) != 1) continue;
+    if (lr_server_asked(server, &request, sizeof request) != 1) continue;
     asked++;
-    WANT(lr_server_answer(server, request.ticket, LR_BIG, "\0\0\0\6", 4), LR_OK);
+    WANT(lr_server_answer(server, request.ticket, LR_ORDER_BIG, "\0\0\0\6", 4), LR_OK);
   }
-  size = lr_server_output(server, room, sizeof room);
+  size = lr_server_output(server, connection, room, sizeof room);
   WANT(lr_client_feed(&client, room, (size_t)size), size);
   return asked;
 }
@@ -199,11 +198,11 @@ static void numbers_of_before_are_refused(void) {
   WANT(recall_add((INT64_C(1) << 32) + 1), LR_E_RANGE);
   WANT(recall_add(0), LR_E_TAKEN);
   WANT(lr_client_recall(&client, 1, NOW, NOW - 1, "c", 1, ADD("\0\0\0\5")), LR_E_EXPIRED);
-  WANT(lr_client_recall(&client, 1, NOW, LATER, "c", 1, "a\0", 2, one_long, 1, LR_BIG, "\0\0\0\5", 4), LR_E_TEXT);
+  WANT(lr_client_recall(&client, 1, NOW, LATER, "c", 1, "a\0", 2, one_long, 1, LR_ORDER_BIG, "\0\0\0\5", 4), LR_E_TEXT);
   WANT(lr_client_recall(&client, 1, NOW, LATER, "c", 1, "add", 3, one_long, 1, 2, "\0\0\0\5", 4), LR_E_RANGE);
-  WANT(lr_client_recall(&client, 1, NOW, LATER, "c", 1, "add", 3, one_long, 1, LR_BIG, "\0\0\0", 3), LR_E_SHORT);
-  WANT(lr_client_recall(&client, 1, NOW, LATER, "c", 1, "add", 3, NULL, 0, LR_BIG, "\0\0\0\5", 4), LR_E_VALUE);
-  WANT(lr_client_recall(&client, 1, NOW, LATER, "c", 1, "add", 3, no_type, 1, LR_BIG, NULL, 0), LR_E_TYPES);
+  WANT(lr_client_recall(&client, 1, NOW, LATER, "c", 1, "add", 3, one_long, 1, LR_ORDER_BIG, "\0\0\0", 3), LR_E_SHORT);
+  WANT(lr_client_recall(&client, 1, NOW, LATER, "c", 1, "add", 3, NULL, 0, LR_ORDER_BIG, "\0\0\0\5", 4), LR_E_VALUE);
+  WANT(lr_client_recall(&client, 1, NOW, LATER, "c", 1, "add", 3, no_type, 1, LR_ORDER_BIG, NULL, 0), LR_E_TYPES);
   WANT(call_add(), 1);
   WANT(lr_client_skip_to(&client, -1), LR_E_RANGE);
   WANT(lr_client_skip_to(&client, INT64_C(1) << 31), LR_E_RANGE);
@@ -231,7 +230,7 @@ static void numbers_of_before_are_refused(void) {
 
 static void forward(uint32_t request_id, uint32_t status) {
   struct octets reply;
-  begin_reply(&reply, 2, LR_LITTLE, request_id, status);
+  begin_reply(&reply, 2, LR_ORDER_LITTLE, request_id, status);
   align(&reply, 8);
   put_octets(&reply, "a reference", 11);
   end_message(&reply);
@@ -243,14 +242,14 @@ static void is_led(int32_t call) {
   lr_completion completion;
   unsigned char body[12];
   memset(body, 0xee, sizeof body);
-  if (!WANT(lr_client_forwarded(&client, &completion, body, sizeof body), 1)) return;
+  if (!WANT(lr_client_forwarded(&client, &completion, sizeof completion, body, sizeof body), 1)) return;
   CHECK(completion.call == call && completion.how == LR_ENDED_FORWARDED && completion.body_size == 11);
-  CHECK(completion.body_at == 24 && completion.body_order == LR_LITTLE && completion.reserved == 0);
+  CHECK(completion.body_at == 24 && completion.body_order == LR_ORDER_LITTLE && completion.reserved == 0);
   CHECK(memcmp(body, "a reference\xee", 12) == 0);
   memset(body, 0xee, sizeof body);
-  WANT(lr_client_forwarded(&client, &completion, body, 3), 1);
+  WANT(lr_client_forwarded(&client, &completion, sizeof completion, body, 3), 1);
   CHECK(completion.body_size == 11 && memcmp(body, "a r\xee", 4) == 0);
-  WANT(lr_client_forwarded(&client, &completion, NULL, 0), 1);
+  WANT(lr_client_forwarded(&client, &completion, sizeof completion, NULL, 0), 1);
 }
 
 static void nothing_is_led(void) {
@@ -258,7 +257,7 @@ static void nothing_is_led(void) {
   memset(&completion, 0xee, sizeof completion);
   before = completion;
   room[0] = 0xee;
-  WANT(lr_client_forwarded(&client, &completion, room, sizeof room), 0);
+  WANT(lr_client_forwarded(&client, &completion, sizeof completion, room, sizeof room), 0);
   CHECK(memcmp(&completion, &before, sizeof before) == 0 && room[0] == 0xee);
 }
 
@@ -266,7 +265,7 @@ static void a_forward_ends_a_call(void) {
   open_client();
   WANT(lr_client_connected(&client, NOW), LR_OK);
   WANT(call_add(), 1);
-  forward(sent(1, "c"), LR_LOCATION_FORWARD);
+  forward(sent(1, "c"), LR_REPLY_LOCATION_FORWARD);
   nothing_is_led();
   WANT(redirect_add(1), LR_E_FORWARD);
   ends(1, LR_ENDED_FORWARDED);
@@ -281,7 +280,7 @@ static void a_forward_leaves_a_call_pending(void) {
     WANT(call_add(), call);
     nothing_is_led();
     WANT(redirect_add(call), LR_E_FORWARD);
-    forward(sent(call, "c"), call == 1 ? LR_LOCATION_FORWARD : LR_LOCATION_FORWARD_PERM);
+    forward(sent(call, "c"), call == 1 ? LR_REPLY_LOCATION_FORWARD : LR_REPLY_LOCATION_FORWARD_PERM);
     nothing_ends();
     is_led(call);
     WANT(lr_client_resend(&client, NOW), LR_OK);
@@ -312,9 +311,9 @@ static void the_first_is_told_of(void) {
     WANT(call_add(), call);
     ids[call] = sent(call, "c");
   }
-  forward(ids[3], LR_LOCATION_FORWARD);
+  forward(ids[3], LR_REPLY_LOCATION_FORWARD);
   is_led(3);
-  forward(ids[2], LR_LOCATION_FORWARD);
+  forward(ids[2], LR_REPLY_LOCATION_FORWARD);
   is_led(2);
   WANT(redirect_add(3), LR_OK);
   is_led(2);
@@ -322,7 +321,7 @@ static void the_first_is_told_of(void) {
   ends(2, LR_ENDED_CANCELLED);
   nothing_is_led();
   lr_client_output(&client, room, sizeof room);
-  forward(ids[1], LR_LOCATION_FORWARD);
+  forward(ids[1], LR_REPLY_LOCATION_FORWARD);
   is_led(1);
   WANT(lr_client_tick(&client, LATER + 1), LR_OK);
   ends(1, LR_ENDED_EXPIRED);
@@ -336,17 +335,17 @@ static void redirects_are_refused(void) {
   WANT(lr_client_set(&client, LR_CLIENT_KEEP_FORWARD, 1), LR_OK);
   WANT(lr_client_connected(&client, NOW), LR_OK);
   WANT(call_add(), 1);
-  forward(sent(1, "c"), LR_LOCATION_FORWARD);
+  forward(sent(1, "c"), LR_REPLY_LOCATION_FORWARD);
   WANT(redirect_add(0), LR_E_FORWARD);
   WANT(redirect_add(2), LR_E_FORWARD);
   WANT(redirect_add(-1), LR_E_FORWARD);
   WANT(redirect_add(INT64_MAX), LR_E_RANGE);
   WANT(redirect_add((INT64_C(1) << 32) + 1), LR_E_RANGE);
-  WANT(lr_client_redirect(&client, 1, "d", 1, "a\0", 2, one_long, 1, LR_BIG, "\0\0\0\5", 4), LR_E_TEXT);
+  WANT(lr_client_redirect(&client, 1, "d", 1, "a\0", 2, one_long, 1, LR_ORDER_BIG, "\0\0\0\5", 4), LR_E_TEXT);
   WANT(lr_client_redirect(&client, 1, "d", 1, "add", 3, one_long, 1, 2, "\0\0\0\5", 4), LR_E_RANGE);
-  WANT(lr_client_redirect(&client, 1, "d", 1, "add", 3, one_long, 1, LR_BIG, "\0\0\0", 3), LR_E_SHORT);
-  WANT(lr_client_redirect(&client, 1, "d", 1, "add", 3, NULL, 0, LR_BIG, "\0\0\0\5", 4), LR_E_VALUE);
-  WANT(lr_client_redirect(&client, 1, "d", 1, "add", 3, no_type, 1, LR_BIG, NULL, 0), LR_E_TYPES);
+  WANT(lr_client_redirect(&client, 1, "d", 1, "add", 3, one_long, 1, LR_ORDER_BIG, "\0\0\0", 3), LR_E_SHORT);
+  WANT(lr_client_redirect(&client, 1, "d", 1, "add", 3, NULL, 0, LR_ORDER_BIG, "\0\0\0\5", 4), LR_E_VALUE);
+  WANT(lr_client_redirect(&client, 1, "d", 1, "add", 3, no_type, 1, LR_ORDER_BIG, NULL, 0), LR_E_TYPES);
   is_led(1);
   WANT(redirect_add(1), LR_OK);
   lr_close(&client);

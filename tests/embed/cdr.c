@@ -129,11 +129,11 @@ static bool writes(const struct row *row, const char *spelled, lr_place from, si
 /* Each number, in both orders, where the first octet stands at 0 to 8, and after 0 to 3 octets. */
 static void numbers(void) {
   for (size_t index = 0; index < sizeof rows / sizeof *rows; index++)
-    for (uint32_t order = LR_BIG; order <= LR_LITTLE; order++)
+    for (uint32_t order = LR_ORDER_BIG; order <= LR_ORDER_LITTLE; order++)
       for (uint64_t at = 0; at < PLACES; at++)
         for (uint64_t next = 0; next < 4; next++) {
           const struct row *row = &rows[index];
-          const char *spelled = order == LR_BIG ? row->big : row->little;
+          const char *spelled = order == LR_ORDER_BIG ? row->big : row->little;
           size_t padding = padding_of(row->width, (at + next) % 8);
           bool is_read = reads(row, spelled, place_of(at, next, order), padding);
           bool is_written = writes(row, spelled, place_of(at, next, order), padding);
@@ -165,9 +165,9 @@ static int64_t put_text_of(bool is_string, void *room, size_t size, lr_place *pl
 
 static void strings_and_octets(void) {
   for (size_t index = 0; index < 2; index++)
-    for (uint32_t order = LR_BIG; order <= LR_LITTLE; order++)
+    for (uint32_t order = LR_ORDER_BIG; order <= LR_ORDER_LITTLE; order++)
       for (uint64_t at = 0; at < PLACES; at++) {
-        const unsigned char *spelled = order == LR_BIG ? texts[index].big : texts[index].little;
+        const unsigned char *spelled = order == LR_ORDER_BIG ? texts[index].big : texts[index].little;
         bool is_string = texts[index].is_string;
         size_t padding = padding_of(4, at), end = padding + texts[index].size;
         unsigned char octets[ROOM], room[ROOM];
@@ -198,13 +198,13 @@ static void encapsulations(void) {
   for (uint64_t at = 0; at < PLACES; at++) {
     unsigned char octets[ROOM] = {0};
     size_t padding = padding_of(4, at), end = padding + sizeof spelled;
-    lr_place from = place_of(at, 0, LR_BIG), place = from, inner = {0};
+    lr_place from = place_of(at, 0, LR_ORDER_BIG), place = from, inner = {0};
     uint64_t start = 0, length = 0;
     uint16_t value = 0;
     memcpy(octets + padding, spelled, sizeof spelled);
     WANT(lr_get_encapsulation(octets, end, &place, &start, &length, &inner), LR_OK);
-    CHECK(is_place(place, place_of(at, end, LR_BIG)) && start == padding + 4 && length == 4);
-    CHECK(inner.next == 1 && inner.order == LR_LITTLE);
+    CHECK(is_place(place, place_of(at, end, LR_ORDER_BIG)) && start == padding + 4 && length == 4);
+    CHECK(inner.next == 1 && inner.order == LR_ORDER_LITTLE);
     WANT(lr_get_ushort(octets + start, length, &inner, &value), LR_OK);
     CHECK(value == 0x0102 && inner.next == 4);
     for (size_t size = 0; size < end; size++) {
@@ -213,11 +213,11 @@ static void encapsulations(void) {
       CHECK(is_place(place, from));
     }
   }
-  lr_place place = place_of(0, 0, LR_BIG), inner = {9, 9, 9, 9};
+  lr_place place = place_of(0, 0, LR_ORDER_BIG), inner = {9, 9, 9, 9};
   uint64_t start = 77, length = 77;
   WANT(lr_get_encapsulation(none, sizeof none, &place, &start, &length, &inner), LR_E_SHORT);
   WANT(lr_get_encapsulation(bad, sizeof bad, &place, &start, &length, &inner), LR_E_VALUE);
-  CHECK(is_place(place, place_of(0, 0, LR_BIG)) && start == 77 && length == 77);
+  CHECK(is_place(place, place_of(0, 0, LR_ORDER_BIG)) && start == 77 && length == 77);
   CHECK(is_place(inner, (lr_place){9, 9, 9, 9}));
 }
 
@@ -226,7 +226,7 @@ static void no_values(void) {
   static const unsigned char two[] = {2}, no_nul[] = {0, 0, 0, 2, 'a', 'b'}, nul_within[] = {0, 0, 0, 3, 'a', 0, 0},
                              long_one[] = {0xff, 0xff, 0xff, 0xff, 'a', 0}, nothing[] = {0, 0, 0, 0};
   unsigned char room[ROOM];
-  lr_place place = place_of(0, 0, LR_BIG);
+  lr_place place = place_of(0, 0, LR_ORDER_BIG);
   uint64_t start = 77, length = 77;
   uint8_t truth = 7;
   WANT(lr_get_boolean(two, sizeof two, &place, &truth), LR_E_VALUE);
@@ -236,7 +236,7 @@ static void no_values(void) {
   WANT(lr_put_string(room, sizeof room, &place, "a\0b", 3), LR_E_TEXT);
   WANT(lr_get_string(long_one, sizeof long_one, &place, &start, &length), LR_E_SHORT);
   WANT(lr_get_octets(long_one, sizeof long_one, &place, &start, &length), LR_E_SHORT);
-  CHECK(is_place(place, place_of(0, 0, LR_BIG)) && start == 77 && length == 77 && truth == 7);
+  CHECK(is_place(place, place_of(0, 0, LR_ORDER_BIG)) && start == 77 && length == 77 && truth == 7);
   WANT(lr_get_octets(nothing, sizeof nothing, &place, &start, &length), LR_OK);
   CHECK(place.next == 4 && start == 4 && length == 0);
   place.next = 0;
@@ -248,7 +248,7 @@ static void no_values(void) {
 /* The empty string, and no octets, lent as NULL. */
 static void nothing_is_written(void) {
   unsigned char room[ROOM];
-  lr_place place = place_of(0, 0, LR_BIG);
+  lr_place place = place_of(0, 0, LR_ORDER_BIG);
   WANT(lr_put_string(room, sizeof room, &place, NULL, 0), LR_OK);
   CHECK(place.next == 5 && memcmp(room, "\0\0\0\1\0", 5) == 0);
   WANT(lr_put_octets(room, sizeof room, &place, NULL, 0), LR_OK);
@@ -276,7 +276,7 @@ static void no_places(void) {
     CHECK(is_place(place, wrong[index]) && is_all(room, sizeof room, 0));
   }
   for (size_t row = 0; row < sizeof rows / sizeof *rows; row++) {
-    lr_place place = place_of(0, 0, LR_BIG);
+    lr_place place = place_of(0, 0, LR_ORDER_BIG);
     WANT(rows[row].get(NULL, 0, &place, &value), LR_E_SHORT);
     WANT(rows[row].put(NULL, 0, &place, rows[row].value), LR_E_ROOM);
   }

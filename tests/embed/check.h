@@ -67,7 +67,7 @@ static inline void align(struct octets *out, size_t to) { put_zeros(out, (to - o
 static inline void put_number(struct octets *out, uint64_t number, size_t width) {
   align(out, width);
   for (size_t index = 0; index < width; index++) {
-    size_t shift = 8 * (out->order == LR_BIG ? width - 1 - index : index);
+    size_t shift = 8 * (out->order == LR_ORDER_BIG ? width - 1 - index : index);
     out->all[out->size++] = (unsigned char)(number >> shift);
   }
 }
@@ -112,14 +112,14 @@ static inline void put_contexts(struct octets *out, const struct asking *asking)
   put_text(&context, asking->client);
   put_number(&context, (uint32_t)asking->retention_id, 4);
   put_number(&context, asking->expiration, 8);
-  put_number(out, LR_FT_REQUEST, 4);
+  put_number(out, LR_CONTEXT_FT_REQUEST, 4);
   put_sequence(out, context.all, context.size);
 }
 
 /* Begins a Request, up to its arguments, which in 1.2 are aligned to 8 where there are any. */
 static inline void begin_request(struct octets *out, const struct asking *asking, bool has_arguments) {
   static const unsigned char flags[] = {0, 1, 3};
-  begin_message(out, asking->version, asking->order, LR_REQUEST);
+  begin_message(out, asking->version, asking->order, LR_MSG_REQUEST);
   if (asking->version < 2) {
     put_contexts(out, asking);
     put_number(out, asking->request_id, 4);
@@ -144,7 +144,7 @@ static inline void begin_request(struct octets *out, const struct asking *asking
 /* Begins a Reply without service contexts, up to its body. */
 static inline void begin_reply(struct octets *out, uint32_t version, uint32_t order, uint32_t request_id,
                                uint32_t status) {
-  begin_message(out, version, order, LR_REPLY);
+  begin_message(out, version, order, LR_MSG_REPLY);
   if (version < 2) put_number(out, 0, 4);
   put_number(out, request_id, 4);
   put_number(out, status, 4);
@@ -154,7 +154,7 @@ static inline void begin_reply(struct octets *out, uint32_t version, uint32_t or
 /* A Reply with a system exception, of minor code 0. */
 static inline void system_reply(struct octets *out, uint32_t version, uint32_t request_id, const char *id,
                                 uint32_t completed) {
-  begin_reply(out, version, LR_BIG, request_id, LR_SYSTEM_EXCEPTION);
+  begin_reply(out, version, LR_ORDER_BIG, request_id, LR_REPLY_SYSTEM_EXCEPTION);
   put_text(out, id);
   put_number(out, 0, 4);
   put_number(out, completed, 4);

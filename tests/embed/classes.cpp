@@ -33,7 +33,7 @@ namespace {
 constexpr lr::Limits limits{4096, 2};
 constexpr std::uint64_t now = 1000;
 constexpr std::uint64_t later = 2000;
-constexpr std::uint8_t one_long[] = {LR_LONG};
+constexpr std::uint8_t one_long[] = {LR_TYPE_LONG};
 
 long passed = 0;
 long failed = 0;
@@ -104,14 +104,14 @@ lr::Result<lr::Server> open_server() {
   auto catalogue = lr::Catalogue::open();
   if (!catalogue) return catalogue.error();
   CHECK(catalogue->object("c"));
-  CHECK(catalogue->exception("IDL:C/Wrong:1.0", {LR_STRING}));
-  CHECK(catalogue->operation("c", "add", {LR_LONG}, {LR_LONG}));
+  CHECK(catalogue->exception("IDL:C/Wrong:1.0", {LR_TYPE_STRING}));
+  CHECK(catalogue->operation("c", "add", {LR_TYPE_LONG}, {LR_TYPE_LONG}));
   CHECK(catalogue->operation("c", "none", {}, {}));
   CHECK(catalogue->raw_operation("c", "any"));
   CHECK(catalogue->repository_id("c", "IDL:C:1.0"));
   CHECK(catalogue->raw_object("raw"));
   CHECK(catalogue->object("c").error() == LR_E_TAKEN);
-  CHECK(catalogue->operation("c", "bad", {LR_SEQUENCE}, {}).error() == LR_E_TYPES);
+  CHECK(catalogue->operation("c", "bad", {LR_TYPE_SEQUENCE}, {}).error() == LR_E_TYPES);
   CHECK(lr::Server::open(*catalogue, {1, 1}, {}, {1, 2}).error() == LR_E_RANGE);
   CHECK(catalogue->is_open());
   auto server = lr::Server::open(*catalogue, limits, {100, 100}, {1, 2});
@@ -259,25 +259,25 @@ void requests_are_answered() {
     return due.size() < 24 ? -1 : static_cast<int>(due[19]);
   };
   ask("c", "none", {});
-  CHECK(server->answer(ticket, lr::Order::big, {}) && status() == LR_NO_EXCEPTION);
+  CHECK(server->answer(ticket, lr::Order::big, {}) && status() == LR_REPLY_NO_EXCEPTION);
   ask("c", "add", lr::Octets("\0\0\0\5", 4));
   std::array<std::uint8_t, 16> members;
   lr::Writer out(members);
   CHECK(out.put_string("why"));
-  CHECK(server->raise(ticket, "IDL:C/Wrong:1.0", lr::Order::big, out.octets()) && status() == LR_USER_EXCEPTION);
+  CHECK(server->raise(ticket, "IDL:C/Wrong:1.0", lr::Order::big, out.octets()) && status() == LR_REPLY_USER_EXCEPTION);
   ask("c", "any", "abc");
   CHECK(server->system(ticket + 1, lr::SystemException::unknown, 7, lr::Completed::maybe).error() == LR_E_TICKET);
   CHECK(server->system(ticket, lr::SystemException::unknown, 7, lr::Completed::maybe) &&
-        status() == LR_SYSTEM_EXCEPTION);
+        status() == LR_REPLY_SYSTEM_EXCEPTION);
   ask("raw", "any", "abc");
   CHECK(server->answer_raw(ticket, lr::ReplyStatus::location_forward, lr::Order::big, "abc") &&
-        status() == LR_LOCATION_FORWARD);
+        status() == LR_REPLY_LOCATION_FORWARD);
   ask("c", "_non_existent", {});
   const auto is_identified = server->identify(ticket);
-  CHECK(is_identified.ok() && *is_identified && status() == LR_NO_EXCEPTION);
+  CHECK(is_identified.ok() && *is_identified && status() == LR_REPLY_NO_EXCEPTION);
   CHECK(server->identify(ticket).error() == LR_E_IDLE);
   ask("raw", "any", "abc");
-  CHECK(server->refuse(ticket, lr::SystemException::transient, 0) && status() == LR_SYSTEM_EXCEPTION);
+  CHECK(server->refuse(ticket, lr::SystemException::transient, 0) && status() == LR_REPLY_SYSTEM_EXCEPTION);
   CHECK(!server->is_closed(1));
   ask("raw", "any", "abc");
   CHECK(server->goodbye(ticket) && due_of(*server).size() == 12 && server->is_closed(1));
@@ -294,7 +294,7 @@ void messages_are_read() {
   const auto context = lr::write_ft(ft, lr::Order::big, "A", 3, later);
   if (!assembler || !context) return CHECK(false);
   const auto size = lr::write_request(room, {2, lr::Order::little, 7}, lr::Wish::full, "c", "add", "abcd",
-                                      {LR_FT_REQUEST, lr::Octets(ft).first(*context)});
+                                      {LR_CONTEXT_FT_REQUEST, lr::Octets(ft).first(*context)});
   CHECK(size);
   const auto taken = assembler->feed(lr::Octets(room).first(*size));
   CHECK(taken && *taken == *size);
@@ -305,7 +305,7 @@ void messages_are_read() {
   const auto operation = assembler->part(lr::Part::operation);
   CHECK(operation && lr::Octets(*operation).text() == "add");
   const auto found = assembler->context(0);
-  CHECK(found && found->id == LR_FT_REQUEST && found->data.size() == 24);
+  CHECK(found && found->id == LR_CONTEXT_FT_REQUEST && found->data.size() == 24);
   CHECK(assembler->context(1).error() == LR_E_NONE);
   const auto fault = assembler->fault();
   CHECK(fault && *fault == lr::Fault::none);

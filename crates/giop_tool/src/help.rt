@@ -7,7 +7,7 @@ use giop_run::{
 use std::alloc::{AllocError, Global};
 
 /// The version that `giop --version` prints.
-pub(crate) const VERSION: &str = "0.1.0";
+pub(crate) const VERSION: &str = "0.2.0";
 
 /// What the help of `giop` begins with.
 pub(crate) const BASE: &str =

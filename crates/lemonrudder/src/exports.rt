@@ -9,7 +9,9 @@ mod catalogue;
 mod cdr;
 mod client;
 mod ior;
+mod looking;
 mod message;
+mod raw_call;
 mod server;
 
 use crate::slot::Slot;
@@ -19,9 +21,9 @@ use std::alloc::Global;
 /// The version of the library: major * 65536 + minor * 256 + patch.
 #[unsafe(no_mangle)]
 pub extern "C" fn lr_version() -> u32
-    ensures { result ≡ 256 }
+    ensures { result ≡ 512 }
 {
-    256
+    512
 }
 
 /// Empties a slot of any kind, and frees what it held.
