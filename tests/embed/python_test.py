@@ -820,7 +820,6 @@ class Engines(Case):
         with self.assertRaises(TypeError):
             engine.answer("7")
         self.fails(Error.OUTCOME, engine.raise_user, "IDL:Other:1.0")
-        self.fails(Error.OUTCOME, engine.answer_raw, bytes(8))
         self.fails(Error.RANGE, engine.answer_octets, bytes(8), 2)
         self.fails(Error.RANGE, engine.raise_system, 40)
         self.fails(Error.RANGE, engine.raise_system, "UNKNOWN", 0, 3)
