@@ -2,7 +2,7 @@ mod Assemblers
 mod Catalogues
 mod Clients
 mod Coding
-mod Contexts
+mod ContextLists
 mod Counts
 mod Declaring
 mod Ended
