@@ -15,6 +15,7 @@ mod Lending
 mod Machine
 mod Owing
 mod OwingLate
+mod Pairs
 mod Putting
 mod Raising
 mod Reading
