@@ -27,8 +27,8 @@ static void perform(lr_server *server, const lr_request *asked) {
   int32_t n = 0;
   int64_t sum;
   if (lr_server_identify(server, asked->ticket) != 0) return;
-  if (lr_server_part(server, LR_PART_OPERATION, operation, sizeof operation) < 0) return;
-  if (lr_server_part(server, LR_PART_BODY, body, sizeof body) < 0) return;
+  if (lr_server_part(server, asked->ticket, LR_PART_OPERATION, operation, sizeof operation) < 0) return;
+  if (lr_server_part(server, asked->ticket, LR_PART_BODY, body, sizeof body) < 0) return;
   if (operation[0] == 'a') lr_get_long(body, asked->body_size, &in, &n);
   if (__builtin_add_overflow(total, n, &sum)) {
     lr_server_raise(server, asked->ticket, OVERFLOWS, SIZE(OVERFLOWS), LR_ORDER_BIG, NULL, 0);
@@ -50,7 +50,10 @@ static int64_t open_server(lr_server *server, const void *key, size_t size) {
   if (done == LR_OK) done = lr_catalogue_exception(&counter, OVERFLOWS, SIZE(OVERFLOWS), NULL, 0);
   if (done == LR_OK) done = lr_catalogue_operation(&counter, key, size, "add", 3, number, 1, result, 1);
   if (done == LR_OK) done = lr_catalogue_operation(&counter, key, size, "get", 3, NULL, 0, result, 1);
-  if (done == LR_OK) done = lr_server_open(server, &counter, LIMIT, 8, OUTCOMES, OUTCOMES, seeds[0], seeds[1]);
+  if (done == LR_OK) done = lr_server_open(server, &counter, seeds[0], seeds[1]);
+  if (done == LR_OK) done = lr_server_set(server, LR_SET_MESSAGE, LIMIT);
+  if (done == LR_OK) done = lr_server_set(server, LR_SET_PARTIALS, 8);
+  if (done == LR_OK) done = lr_server_set(server, LR_SET_CAPACITY, OUTCOMES);
   lr_close(&counter);
   return done;
 }
@@ -74,7 +77,7 @@ int main(int count, char **words) {
   int64_t done = open_server(&server, key, size);
   if (done == LR_OK) done = loop_print(TYPE, SIZE(TYPE), 2, "127.0.0.1", port, key, size);
   if (done < 0) return fprintf(stderr, "counter: %s\n", lr_strerror(done)), 1;
-  int served = loop_serve(&server, listener, perform);
+  int served = loop_serve(&server, listener, perform, NULL);
   if (served != 0) perror("counter");
   lr_close(&server);
   return served == 0 ? 0 : 1;

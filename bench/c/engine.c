@@ -53,7 +53,7 @@ static void perform(uint64_t ticket, const char *operation) {
   unsigned char body[16], result[8];
   lr_place in = {0, 0, LR_ORDER_BIG, 0}, out = {0, 0, LR_ORDER_BIG, 0};
   int32_t n = 0;
-  int64_t size = sure(lr_server_part(&server, LR_PART_BODY, body, sizeof body));
+  int64_t size = sure(lr_server_part(&server, ticket, LR_PART_BODY, body, sizeof body));
   if (operation[0] == 'a') sure(lr_get_long(body, (size_t)size, &in, &n));
   total += n;
   sure(lr_put_longlong(result, sizeof result, &out, total));
@@ -62,7 +62,7 @@ static void perform(uint64_t ticket, const char *operation) {
 
 /* Moves what is due to the answers. */
 static int64_t collect(void) {
-  int64_t size = sure(lr_server_output(&server, answers + answered, sizeof answers - answered));
+  int64_t size = sure(lr_server_output(&server, 1, answers + answered, sizeof answers - answered));
   answered += (size_t)size;
   if (answered == sizeof answers) sure(LR_E_ROOM);
   return size;
@@ -72,9 +72,9 @@ static int64_t collect(void) {
 static void attend(void) {
   char operation[8];
   lr_request asked;
-  if (sure(lr_server_asked(&server, &asked)) == 0) return;
+  if (sure(lr_server_asked(&server, &asked, sizeof asked)) == 0) return;
   if (calls == LOOP && sure(lr_server_identify(&server, asked.ticket)) != 0) return;
-  sure(lr_server_part(&server, LR_PART_OPERATION, operation, sizeof operation));
+  sure(lr_server_part(&server, asked.ticket, LR_PART_OPERATION, operation, sizeof operation));
   perform(asked.ticket, operation);
 }
 
@@ -146,7 +146,9 @@ static void open_server(uint32_t entries) {
   sure(lr_catalogue_exception(&counter, overflow, sizeof overflow - 1, NULL, 0));
   sure(lr_catalogue_operation(&counter, "c", 1, "add", 3, number, 1, result, 1));
   sure(lr_catalogue_operation(&counter, "c", 1, "get", 3, NULL, 0, result, 1));
-  sure(lr_server_open(&server, &counter, 1048576, 8, entries, entries, 1, 2));
+  sure(lr_server_open(&server, &counter, 1, 2));
+  sure(lr_server_set(&server, LR_SET_PARTIALS, 8));
+  sure(lr_server_set(&server, LR_SET_CAPACITY, entries));
   lr_close(&counter);
   sure(lr_server_connect(&server, 1));
 }

@@ -87,7 +87,10 @@ static void open_server(void) {
   sure(lr_catalogue_object(&counter, "c", 1));
   sure(lr_catalogue_operation(&counter, "c", 1, "add", 3, number, 1, result, 1));
   sure(lr_catalogue_raw_operation(&counter, "c", 1, "give", 4));
-  sure(lr_server_open(&server, &counter, LIMIT, 8, MOST + 1, MOST + 1, 1, 2));
+  sure(lr_server_open(&server, &counter, 1, 2));
+  sure(lr_server_set(&server, LR_SET_MESSAGE, LIMIT));
+  sure(lr_server_set(&server, LR_SET_PARTIALS, 8));
+  sure(lr_server_set(&server, LR_SET_CAPACITY, MOST + 1));
 }
 
 /* A request of a client's number, which expires at a moment. Answers its size. */
@@ -107,11 +110,11 @@ static void take(uint64_t connection, uint64_t now, const unsigned char *octets,
     int64_t taken = sure(lr_server_feed(&server, connection, now, octets, size));
     octets += taken;
     size -= (size_t)taken;
-    bool is_asking = sure(lr_server_asked(&server, &asked)) == 1;
+    bool is_asking = sure(lr_server_asked(&server, &asked, sizeof asked)) == 1;
     uint64_t ticket = asked.ticket;
     if (is_asking && asked.is_raw) sure(lr_server_answer_raw(&server, ticket, LR_REPLY_NO_EXCEPTION, LR_ORDER_BIG, room, result));
     if (is_asking && !asked.is_raw) sure(lr_server_answer(&server, ticket, LR_ORDER_BIG, room, result));
-    while (sure(lr_server_output(&server, room, sizeof room)) > 0) continue;
+    while (sure(lr_server_output(&server, connection, room, sizeof room)) > 0) continue;
   }
 }
 

@@ -76,10 +76,11 @@ static inline void lr_ior_close(lr_ior *ior) { lr_close(ior); }
 
 /* ---- errors ---- */
 
+/* What a function answers where it fails. */
 enum {
   LR_OK = 0,
   LR_E_EMPTY = -1,      /* the slot is empty, or holds an object of another kind */
-  LR_E_OPEN = -2,       /* the slot holds an object already */
+  LR_E_OPEN = -2,       /* the slot holds an object already, or it is too late for this */
   LR_E_MEMORY = -3,     /* an allocation failed, and nothing has changed */
   LR_E_RANGE = -4,      /* a number is none of those that are allowed */
   LR_E_CONNECTION = -5, /* there is no such connection, or the number of a new one is not greater than each before */
@@ -269,14 +270,16 @@ LR_API int64_t lr_catalogue_raw_operation(lr_catalogue *catalogue, const void *k
 LR_API int64_t lr_catalogue_repository_ids(lr_catalogue *catalogue, const void *key, size_t key_size,
                                            const void *ids, size_t ids_size);
 
-/* Adds an object whose every operation is raw, to which each key leads that leads to no other object.
- * LR_E_EMPTY, LR_E_TAKEN (it was called before), LR_E_MEMORY. */
-LR_API int64_t lr_catalogue_default(lr_catalogue *catalogue);
-
 /* Takes the objects of `families`, which is empty afterwards. Each key that is no object's own, and begins with the key
  * of one of these, leads to that object: to the one of the longest such key. So one object stands for many, as for
- * each account; LR_PART_KEY says for which. LR_E_EMPTY, LR_E_TAKEN (it has families already). */
+ * each account; LR_PART_KEY says for which. Exceptions that were declared in `families` for an operation to come are
+ * forgotten. LR_E_EMPTY, LR_E_TAKEN (one of the two has families already, or a default object). */
 LR_API int64_t lr_catalogue_families(lr_catalogue *catalogue, lr_catalogue *families);
+
+/* Adds an object whose every operation is raw, to which each key leads that leads to no other object: the family of the
+ * empty key. So it comes after lr_catalogue_families.
+ * LR_E_EMPTY, LR_E_TAKEN (it was called before, or a family has the empty key), LR_E_MEMORY. */
+LR_API int64_t lr_catalogue_default(lr_catalogue *catalogue);
 
 /* Takes an object away, with its operations. LR_E_EMPTY, LR_E_OBJECT. */
 LR_API int64_t lr_catalogue_remove(lr_catalogue *catalogue, const void *key, size_t key_size);
@@ -323,8 +326,9 @@ enum {
   LR_SET_CLIENT_ID = 9  /* octets of a client's id at most; FT_REQUEST with a longer one is not valid: 256 */
 };
 
-/* Sets a limit of a server that no connection was opened of: a number up to 4294967295, or of the range above.
- * LR_E_EMPTY, LR_E_RANGE, LR_E_OPEN (a connection was opened), LR_E_MEMORY. */
+/* Sets a limit of a server of which no connection was opened: a number of the range above; where none is given, of 32
+ * bits, and of LR_SET_DUE and LR_SET_CLIENT_ID of 64. The first of these that holds: LR_E_EMPTY, LR_E_RANGE, LR_E_OPEN
+ * (a connection was opened), LR_E_MEMORY. */
 LR_API int64_t lr_server_set(lr_server *server, uint32_t what, uint64_t value);
 
 /* Opens a connection, whose number is greater than each before.
@@ -437,7 +441,8 @@ LR_API int64_t lr_server_refuse(lr_server *server, uint64_t ticket, uint32_t nam
 /* Gives up the request of a ticket, as lr_server_give_up does, and says goodbye first: CloseConnection is due (CORBA
  * 3.3 Part 2, 9.4.7), by which its client knows that nothing was done. An ORB connects again at once, and sends it
  * again: so this is for draining and restarts alone, and while you are short of something you refuse.
- * LR_E_EMPTY, LR_E_IDLE, LR_E_TICKET, LR_E_MEMORY (it waits still). */
+ * LR_E_EMPTY, LR_E_IDLE, LR_E_TICKET, LR_E_MEMORY and LR_E_PARKS: it waits still, as somebody else waits on its
+ * connection for the outcome of a parked request. */
 LR_API int64_t lr_server_goodbye(lr_server *server, uint64_t ticket);
 
 /* A connection on which octets became due by the outcome of a parked request, or by a goodbye that waited: 1, and it is
@@ -528,8 +533,9 @@ enum {
 };
 
 /* Sets one of these. The first two say of the replies that come from then on whether such a one leaves its call
- * pending, until it expires or is cancelled, or ends it. The others are set before it is connected or makes a call.
- * LR_E_EMPTY, LR_E_RANGE, LR_E_OPEN (it was connected, or has made a call). */
+ * pending, until it expires or is cancelled, or ends it. The others are set while it is not connected and has no number
+ * of a call: none was given, taken up or skipped.
+ * LR_E_EMPTY, LR_E_RANGE, LR_E_OPEN (it is connected, or has a number). */
 LR_API int64_t lr_client_set(lr_client *client, uint32_t what, uint64_t value);
 
 /* The client is connected anew: what is pending, is not led elsewhere and not past its expiration is due. Octets that
@@ -559,9 +565,11 @@ LR_API int64_t lr_client_recall(lr_client *client, int64_t call, uint64_t now, u
 
 /* Calls an operation by a body of octets, as it is, which is in an order and written for a place divisible by 8, with
  * service contexts: an IOP::ServiceContextList (CORBA 3.3 Part 2, 7.7), in CDR of that order and aligned from place 0,
- * or none where contexts_size is 0. FT_REQUEST is written by the client, so none of these is one. `wish` is LR_WISH_..:
- * of LR_WISH_NONE nothing comes back, and the call ends by LR_ENDED_SENT when it is sent. Errors as of lr_client_call,
- * but for LR_E_TYPES; LR_E_SHORT and LR_E_VALUE are of the contexts. */
+ * or none where contexts_size is 0. FT_REQUEST is written by the client. `wish` is LR_WISH_..: of LR_WISH_NONE nothing
+ * comes back, and the call ends by LR_ENDED_SENT when it is sent. The first of these that holds: LR_E_EMPTY, LR_E_RANGE
+ * (the order, the wish, or LR_WISH_EMPTY in 1.0 and 1.1), LR_E_TEXT (a NUL in the operation), LR_E_SHORT and LR_E_VALUE
+ * (the contexts are none; LR_E_VALUE also where one is FT_REQUEST), LR_E_EXPIRED, LR_E_CALLS, LR_E_LONG, LR_E_MEMORY,
+ * LR_E_PLACE (in 1.0 and 1.1 the body would stand at a place that is not divisible by 8). */
 LR_API int64_t lr_client_call_raw(lr_client *client, uint64_t now, uint64_t expiration, uint32_t wish,
                                   const void *key, size_t key_size, const void *operation, size_t operation_size,
                                   uint32_t order, const void *contexts, size_t contexts_size,
@@ -653,6 +661,7 @@ LR_API int64_t lr_assembler_feed(lr_assembler *assembler, const void *octets, si
 /* The first fault of the stream: 0 where there is none, or LR_FAULT_... LR_E_EMPTY. */
 LR_API int64_t lr_assembler_fault(lr_assembler *assembler);
 
+/* A fault of a stream. */
 enum {
   LR_FAULT_MAGIC = 1,
   LR_FAULT_VERSION = 2,
@@ -785,6 +794,7 @@ typedef struct {
 /* The profile of an index, counted from 0. LR_E_EMPTY, LR_E_NONE, LR_E_MEMORY. */
 LR_API int64_t lr_ior_profile(lr_ior *ior, uint32_t index, lr_profile *profile, size_t size);
 
+/* Parts of a profile. */
 enum { LR_IOR_DATA = 0, LR_IOR_HOST = 1, LR_IOR_KEY = 2 };
 
 /* Copies a part of a profile, as much of it as the room has octets, and answers its size. LR_E_EMPTY, LR_E_NONE,

@@ -18,6 +18,7 @@
 #include <cstddef>
 #include <cstdint>
 #include <initializer_list>
+#include <iterator>
 #include <new>
 #include <optional>
 #include <string>
@@ -170,7 +171,7 @@ class Room {
   std::size_t size_ = 0;
 };
 
-/* Types, as octets: LR_TYPE_STRING, LR_TYPE_LONG and so on. They may be written in place: {LR_TYPE_STRING, LR_TYPE_LONG}. */
+/* Types, as octets, which may be written in place: {LR_TYPE_STRING, LR_TYPE_LONG}. */
 using Types = std::initializer_list<std::uint8_t>;
 
 /* ---- results ---- */
@@ -433,7 +434,36 @@ enum class SystemException : std::uint32_t {
   no_permission = LR_EX_NO_PERMISSION,
   imp_limit = LR_EX_IMP_LIMIT,
   internal = LR_EX_INTERNAL,
-  transient = LR_EX_TRANSIENT
+  transient = LR_EX_TRANSIENT,
+  no_memory = LR_EX_NO_MEMORY,
+  comm_failure = LR_EX_COMM_FAILURE,
+  inv_objref = LR_EX_INV_OBJREF,
+  initialize = LR_EX_INITIALIZE,
+  no_implement = LR_EX_NO_IMPLEMENT,
+  bad_typecode = LR_EX_BAD_TYPECODE,
+  no_response = LR_EX_NO_RESPONSE,
+  persist_store = LR_EX_PERSIST_STORE,
+  bad_inv_order = LR_EX_BAD_INV_ORDER,
+  free_mem = LR_EX_FREE_MEM,
+  inv_ident = LR_EX_INV_IDENT,
+  inv_flag = LR_EX_INV_FLAG,
+  intf_repos = LR_EX_INTF_REPOS,
+  obj_adapter = LR_EX_OBJ_ADAPTER,
+  data_conversion = LR_EX_DATA_CONVERSION,
+  transaction_required = LR_EX_TRANSACTION_REQUIRED,
+  transaction_rolledback = LR_EX_TRANSACTION_ROLLEDBACK,
+  invalid_transaction = LR_EX_INVALID_TRANSACTION,
+  inv_policy = LR_EX_INV_POLICY,
+  codeset_incompatible = LR_EX_CODESET_INCOMPATIBLE,
+  rebind = LR_EX_REBIND,
+  timeout = LR_EX_TIMEOUT,
+  transaction_unavailable = LR_EX_TRANSACTION_UNAVAILABLE,
+  transaction_mode = LR_EX_TRANSACTION_MODE,
+  bad_qos = LR_EX_BAD_QOS,
+  invalid_activity = LR_EX_INVALID_ACTIVITY,
+  activity_completed = LR_EX_ACTIVITY_COMPLETED,
+  activity_required = LR_EX_ACTIVITY_REQUIRED,
+  thread_cancelled = LR_EX_THREAD_CANCELLED
 };
 
 enum class Completed : std::uint32_t { yes = LR_COMPLETED_YES, no = LR_COMPLETED_NO, maybe = LR_COMPLETED_MAYBE };
@@ -445,7 +475,8 @@ enum class Ended : std::uint32_t {
   forwarded = LR_ENDED_FORWARDED,
   needs_addressing = LR_ENDED_NEEDS_ADDRESSING,
   expired = LR_ENDED_EXPIRED,
-  cancelled = LR_ENDED_CANCELLED
+  cancelled = LR_ENDED_CANCELLED,
+  sent = LR_ENDED_SENT
 };
 
 enum class Fault : std::uint32_t {
@@ -465,6 +496,43 @@ enum class Fault : std::uint32_t {
   memory = LR_FAULT_MEMORY
 };
 
+/* Why nothing more is heard of a connection: one of these, or a Fault of its stream, which fault_of gives. */
+enum class Why : std::uint32_t {
+  open = LR_WHY_OPEN,
+  direction = LR_WHY_DIRECTION,
+  goodbye = LR_WHY_GOODBYE,
+  error = LR_WHY_ERROR,
+  farewell = LR_WHY_FAREWELL,
+  given_up = LR_WHY_GIVEN_UP,
+  memory = LR_WHY_MEMORY
+};
+
+/* The fault that this is, or `none`. */
+constexpr Fault fault_of(Why why) noexcept { return why < Why::direction ? static_cast<Fault>(why) : Fault::none; }
+
+/* What a server counts. */
+enum class Counted : std::uint32_t {
+  connections = LR_COUNT_CONNECTIONS,
+  kept = LR_COUNT_KEPT,
+  parked_now = LR_COUNT_PARKED_NOW,
+  asked = LR_COUNT_ASKED,
+  repeated = LR_COUNT_REPEATED,
+  joined = LR_COUNT_JOINED,
+  expired = LR_COUNT_EXPIRED,
+  malformed = LR_COUNT_MALFORMED,
+  invalid = LR_COUNT_INVALID,
+  log_full = LR_COUNT_LOG_FULL,
+  share_full = LR_COUNT_SHARE_FULL,
+  located = LR_COUNT_LOCATED,
+  dropped = LR_COUNT_DROPPED,
+  answered = LR_COUNT_ANSWERED,
+  parked = LR_COUNT_PARKED,
+  settled = LR_COUNT_SETTLED,
+  given_up = LR_COUNT_GIVEN_UP,
+  declined = LR_COUNT_DECLINED,
+  withdrawn = LR_COUNT_WITHDRAWN
+};
+
 enum class MessageType : std::uint32_t {
   request = LR_MSG_REQUEST,
   reply = LR_MSG_REPLY,
@@ -474,6 +542,14 @@ enum class MessageType : std::uint32_t {
   close_connection = LR_MSG_CLOSE_CONNECTION,
   message_error = LR_MSG_ERROR,
   fragment = LR_MSG_FRAGMENT
+};
+
+/* The ids of some service contexts. */
+enum class ContextId : std::uint32_t {
+  transaction = LR_CONTEXT_TRANSACTION,
+  code_sets = LR_CONTEXT_CODE_SETS,
+  ft_request = LR_CONTEXT_FT_REQUEST,
+  security = LR_CONTEXT_SECURITY
 };
 
 /* Three structs of lemonrudder.h, with functions that answer what some of their numbers are called above. */
@@ -503,7 +579,7 @@ struct Message : lr_message {
 /* How long a message may be, and how many may be partial at a time. */
 struct Limits {
   std::uint32_t message = 1 << 20;
-  std::uint32_t partials = 8;
+  std::uint32_t partials = 4;
 };
 
 /* The moment of a time of the system's clock. */
@@ -555,6 +631,25 @@ class Slot {
   Raw slot_ = LR_INIT;
 };
 
+/* A service context, or a tagged component: its id or tag, and its data. */
+struct Tagged {
+  std::uint32_t id = 0;
+  std::vector<std::uint8_t> data;
+};
+
+namespace detail {
+
+/* What `copy(id, room, size)` gives. */
+template <class Copy>
+Result<Tagged> tagged(Copy copy) noexcept {
+  std::uint32_t id = 0;
+  auto data = copied([&](std::uint8_t* room, std::size_t size) { return copy(&id, room, size); });
+  if (!data) return data.error();
+  return Tagged{id, std::move(*data)};
+}
+
+}  // namespace detail
+
 /* Which objects and operations a server has. */
 class Catalogue : public Slot<lr_catalogue> {
  public:
@@ -594,14 +689,27 @@ class Catalogue : public Slot<lr_catalogue> {
     return detail::done(lr_catalogue_repository_ids(slot(), key.data(), key.size(), ids.data(), ids.size()));
   }
 
+  /* Adds an object whose every operation is raw, to which each key leads that leads to no other object. */
+  Done default_object() noexcept { return detail::done(lr_catalogue_default(slot())); }
+  /* Takes the objects of another catalogue, to which each key leads that begins with theirs. */
+  Done families(Catalogue& families) noexcept { return detail::done(lr_catalogue_families(slot(), families.slot())); }
+  Done remove(Octets key) noexcept { return detail::done(lr_catalogue_remove(slot(), key.data(), key.size())); }
+
  private:
   static Octets lent(Types types) noexcept { return {types.begin(), types.size()}; }
 };
 
-/* How many outcomes a server keeps for repeats, and how many of each client. */
-struct Keeping {
-  std::uint32_t capacity = 1024;
-  std::uint32_t share = 256;
+/* The limits of a server. What is not given is as LR_SET_.. says. */
+struct Settings {
+  std::optional<std::uint32_t> message = {};
+  std::optional<std::uint32_t> partials = {};
+  std::optional<std::uint32_t> capacity = {};
+  std::optional<std::uint32_t> share = {};
+  std::optional<std::uint32_t> parked = {};
+  std::optional<std::uint32_t> parked_of_one = {};
+  std::optional<std::uint32_t> joined = {};
+  std::optional<std::uint64_t> due = {};
+  std::optional<std::uint64_t> client_id = {};
 };
 
 /* Two random numbers, which no client can guess. */
@@ -610,15 +718,59 @@ struct Seeds {
   std::uint64_t high;
 };
 
+/* The connections on which octets became due by the outcomes of parked requests, each named once:
+ * `for (auto connection : server.due())`. */
+class Due {
+ public:
+  explicit Due(lr_server* server) noexcept : server_(server) {}
+
+  struct End {};
+
+  class Iterator {
+   public:
+    using iterator_category = std::input_iterator_tag;
+    using value_type = std::uint64_t;
+    using difference_type = std::ptrdiff_t;
+    using pointer = const std::uint64_t*;
+    using reference = const std::uint64_t&;
+
+    explicit Iterator(lr_server* server) noexcept : server_(server) { ++*this; }
+    const std::uint64_t& operator*() const noexcept { return connection_; }
+    Iterator& operator++() noexcept {
+      is_there_ = lr_server_next_due(server_, &connection_) == 1;
+      return *this;
+    }
+    void operator++(int) noexcept { ++*this; }
+    friend bool operator==(const Iterator& at, End) noexcept { return !at.is_there_; }
+    friend bool operator!=(const Iterator& at, End) noexcept { return at.is_there_; }
+
+   private:
+    lr_server* server_;
+    std::uint64_t connection_ = 0;
+    bool is_there_ = false;
+  };
+
+  Iterator begin() const noexcept { return Iterator(server_); }
+  End end() const noexcept { return {}; }
+
+ private:
+  lr_server* server_;
+};
+
 /* A server of requests that may be sent again. */
 class Server : public Slot<lr_server> {
  public:
-  /* Opens a server of the objects of a catalogue, which is empty afterwards; at an error it is as it was. */
-  static Result<Server> open(Catalogue& catalogue, Limits limits, Keeping keeping, Seeds seeds) noexcept {
+  /* Opens a server of the objects of a catalogue, which is empty afterwards. */
+  static Result<Server> open(Catalogue& catalogue, Seeds seeds, const Settings& settings = {}) noexcept {
     Server made;
-    return opened(lr_server_open(made.slot(), catalogue.slot(), limits.message, limits.partials, keeping.capacity,
-                                 keeping.share, seeds.low, seeds.high),
-                  made);
+    std::int64_t answer = lr_server_open(made.slot(), catalogue.slot(), seeds.low, seeds.high);
+    if (answer == LR_OK) answer = made.set_all(settings);
+    return opened(answer, made);
+  }
+
+  /* Sets one limit, LR_SET_.., before the first connection. */
+  Done set(std::uint32_t what, std::uint64_t value) noexcept {
+    return detail::done(lr_server_set(slot(), what, value));
   }
 
   Done connect(std::uint64_t connection) noexcept { return detail::done(lr_server_connect(slot(), connection)); }
@@ -635,24 +787,42 @@ class Server : public Slot<lr_server> {
   /* The request that waits for its outcome, if one does. */
   Result<std::optional<Request>> asked() noexcept {
     Request request{};
-    const std::int64_t answer = lr_server_asked(slot(), &request);
+    const std::int64_t answer = lr_server_asked(slot(), &request, sizeof(lr_request));
     return detail::found(answer, request);
   }
 
-  Count part(Part part, Room room) noexcept {
-    return detail::count(lr_server_part(slot(), static_cast<std::uint32_t>(part), room.data(), room.size()));
+  /* A part of the request of a ticket, which waits or is parked. */
+  Count part(std::uint64_t ticket, Part part, Room room) noexcept {
+    return detail::count(
+        lr_server_part(slot(), ticket, static_cast<std::uint32_t>(part), room.data(), room.size()));
   }
-  /* A part of the request that waits. The library makes the body of its values, so it is asked for once. */
-  Result<std::vector<std::uint8_t>> part(Part part) noexcept {
+  /* The library makes the body of one that waits of its values, so it is asked for once. */
+  Result<std::vector<std::uint8_t>> part(std::uint64_t ticket, Part part) noexcept {
     lr_request request{};
-    if (part == Part::body) lr_server_asked(slot(), &request);
+    if (part == Part::body) lr_server_asked(slot(), &request, sizeof request);
     const auto copy = [&](std::uint8_t* room, std::size_t size) {
-      return lr_server_part(slot(), static_cast<std::uint32_t>(part), room, size);
+      return lr_server_part(slot(), ticket, static_cast<std::uint32_t>(part), room, size);
     };
-    return detail::copied(copy, part == Part::body ? request.body_size : detail::small_room);
+    return detail::copied(copy, request.ticket == ticket ? request.body_size : detail::small_room);
+  }
+  /* A service context of the request that waits, counted from 0. */
+  Result<Tagged> context(std::uint32_t index) noexcept {
+    return detail::tagged([&](std::uint32_t* id, std::uint8_t* room, std::size_t size) {
+      return lr_server_context(slot(), index, id, room, size);
+    });
   }
 
-  /* Each call that answers takes the ticket of the request that waits. */
+  /* Parks the request that waits: it is answered later, by the same ticket. */
+  Done park(std::uint64_t ticket) noexcept { return detail::done(lr_server_park(slot(), ticket)); }
+  /* How many are parked, and of those that came on a connection. */
+  Count parked() noexcept { return detail::count(lr_server_parked(slot())); }
+  Count parked_of(std::uint64_t connection) noexcept {
+    return detail::count(lr_server_parked_of(slot(), connection));
+  }
+  /* How many wait for the outcome of a parked request. */
+  Count wanted(std::uint64_t ticket) noexcept { return detail::count(lr_server_wanted(slot(), ticket)); }
+
+  /* Each call that answers takes the ticket of a request that waits or is parked. */
   Done answer(std::uint64_t ticket, Order order, Octets results) noexcept {
     return detail::done(
         lr_server_answer(slot(), ticket, static_cast<std::uint32_t>(order), results.data(), results.size()));
@@ -671,7 +841,7 @@ class Server : public Slot<lr_server> {
     return detail::done(lr_server_answer_raw(slot(), ticket, static_cast<std::uint32_t>(status),
                                              static_cast<std::uint32_t>(order), body.data(), body.size()));
   }
-  /* Answers _is_a and _non_existent: true where that is what waits. */
+  /* Answers _is_a and _non_existent: true where that is what it asks. */
   Result<bool> identify(std::uint64_t ticket) noexcept { return detail::truth(lr_server_identify(slot(), ticket)); }
   Done give_up(std::uint64_t ticket) noexcept { return detail::done(lr_server_give_up(slot(), ticket)); }
   /* Refuses it for now, by a system exception with Completed::no; nothing is kept, and its connection stays. */
@@ -681,8 +851,57 @@ class Server : public Slot<lr_server> {
   /* Gives it up, and says goodbye first: for draining and restarts alone. */
   Done goodbye(std::uint64_t ticket) noexcept { return detail::done(lr_server_goodbye(slot(), ticket)); }
 
-  /* Moves octets that are due into the room, and answers how many. */
-  Count output(Room room) noexcept { return detail::count(lr_server_output(slot(), room.data(), room.size())); }
+  /* The connections on which octets became due by the outcomes of parked requests; and the next of them, if there is
+   * one. */
+  Due due() noexcept { return Due(slot()); }
+  Result<std::optional<std::uint64_t>> next_due() noexcept {
+    std::uint64_t connection = 0;
+    const std::int64_t answer = lr_server_next_due(slot(), &connection);
+    return detail::found(answer, connection);
+  }
+  /* Moves octets that are due on a connection into the room, and answers how many. */
+  Count output(std::uint64_t connection, Room room) noexcept {
+    return detail::count(lr_server_output(slot(), connection, room.data(), room.size()));
+  }
+
+  Result<std::int64_t> count(Counted what) noexcept {
+    return detail::number(lr_server_count(slot(), static_cast<std::uint32_t>(what)));
+  }
+  /* How many outcomes are kept of a client. */
+  Count held_by(Octets client) noexcept {
+    return detail::count(lr_server_held_by(slot(), client.data(), client.size()));
+  }
+  /* The first expiration of what is kept, if anything is. */
+  Result<std::optional<std::uint64_t>> next_expiry() noexcept {
+    std::uint64_t moment = 0;
+    const std::int64_t answer = lr_server_next_expiry(slot(), &moment);
+    return detail::found(answer, moment);
+  }
+  /* Forgets what expired before a moment. */
+  Done tick(std::uint64_t moment) noexcept { return detail::done(lr_server_tick(slot(), moment)); }
+  /* Why nothing more is heard of a connection. */
+  Result<Why> why(std::uint64_t connection) noexcept {
+    const std::int64_t answer = lr_server_why(slot(), connection);
+    if (answer < 0) return Error(answer);
+    return static_cast<Why>(answer);
+  }
+  /* Exchanges what is on offer and a catalogue. */
+  Done swap(Catalogue& catalogue) noexcept { return detail::done(lr_server_swap(slot(), catalogue.slot())); }
+
+ private:
+  std::int64_t set_all(const Settings& settings) noexcept {
+    const std::pair<std::uint32_t, std::optional<std::uint64_t>> all[] = {
+        {LR_SET_MESSAGE, settings.message},     {LR_SET_PARTIALS, settings.partials},
+        {LR_SET_CAPACITY, settings.capacity},   {LR_SET_SHARE, settings.share},
+        {LR_SET_PARKED, settings.parked},       {LR_SET_PARKED_OF, settings.parked_of_one},
+        {LR_SET_JOINED, settings.joined},       {LR_SET_DUE, settings.due},
+        {LR_SET_CLIENT_ID, settings.client_id},
+    };
+    std::int64_t answer = LR_OK;
+    for (const auto& [what, value] : all)
+      if (answer == LR_OK && value) answer = lr_server_set(slot(), what, *value);
+    return answer;
+  }
 };
 
 /* A call of a client. What it names lives until it is handed in. */
@@ -695,17 +914,44 @@ struct Call {
   Order order = Order::big;
 };
 
+/* A call by a body of octets, written for a place divisible by 8, as GrowingWriter writes it. `contexts` is a list of
+ * service contexts in the same order: their count, and of each its id and its octets; or nothing. */
+struct RawCall {
+  Octets key;
+  Octets operation;
+  std::uint64_t expiration;
+  Octets body = {};
+  Order order = Order::big;
+  Wish wish = Wish::full;
+  Octets contexts = {};
+};
+
+/* What a client is set to. What is not given is as LR_CLIENT_.. says. */
+struct ClientSettings {
+  std::optional<bool> keep_transient = {};
+  std::optional<bool> keep_forward = {};
+  std::optional<std::uint32_t> version = {};
+  std::optional<std::uint32_t> message = {};
+  std::optional<std::uint32_t> partials = {};
+};
+
 /* A client that sends its calls again. */
 class Client : public Slot<lr_client> {
  public:
-  static Result<Client> open(Octets id, std::uint32_t version, Limits limits) noexcept {
+  static Result<Client> open(Octets id, const ClientSettings& settings = {}) noexcept {
     Client made;
-    return opened(lr_client_open(made.slot(), id.data(), id.size(), version, limits.message, limits.partials), made);
+    std::int64_t answer = lr_client_open(made.slot(), id.data(), id.size());
+    if (answer == LR_OK) answer = made.set_all(settings);
+    return opened(answer, made);
   }
 
   Done connected(std::uint64_t now) noexcept { return detail::done(lr_client_connected(slot(), now)); }
   Done lost() noexcept { return detail::done(lr_client_lost(slot())); }
   bool is_connected() noexcept { return lr_client_is_connected(slot()) == 1; }
+  /* Sets LR_CLIENT_... */
+  Done set(std::uint32_t what, std::uint64_t value) noexcept {
+    return detail::done(lr_client_set(slot(), what, value));
+  }
   /* Whether TRANSIENT leaves calls pending from now on, or a forward. */
   Done keep_transient(bool keeps) noexcept {
     return detail::done(lr_client_set(slot(), LR_CLIENT_KEEP_TRANSIENT, keeps));
@@ -726,6 +972,19 @@ class Client : public Slot<lr_client> {
                                          call.types.size(), static_cast<std::uint32_t>(call.order),
                                          call.arguments.data(), call.arguments.size()));
   }
+  /* Calls an operation by a body of octets; and takes such a call of before up again. */
+  Result<std::int64_t> call_raw(std::uint64_t now, const RawCall& call) noexcept {
+    return detail::number(lr_client_call_raw(
+        slot(), now, call.expiration, static_cast<std::uint32_t>(call.wish), call.key.data(), call.key.size(),
+        call.operation.data(), call.operation.size(), static_cast<std::uint32_t>(call.order), call.contexts.data(),
+        call.contexts.size(), call.body.data(), call.body.size()));
+  }
+  Done recall_raw(std::int64_t number, std::uint64_t now, const RawCall& call) noexcept {
+    return detail::done(lr_client_recall_raw(
+        slot(), number, now, call.expiration, static_cast<std::uint32_t>(call.wish), call.key.data(), call.key.size(),
+        call.operation.data(), call.operation.size(), static_cast<std::uint32_t>(call.order), call.contexts.data(),
+        call.contexts.size(), call.body.data(), call.body.size()));
+  }
   /* Numbers up to this one were used before. */
   Done skip_to(std::int64_t number) noexcept { return detail::done(lr_client_skip_to(slot(), number)); }
   /* Sends what is pending and was not sent on this connection. */
@@ -734,7 +993,8 @@ class Client : public Slot<lr_client> {
   /* The first call that is led elsewhere, if there is one, and as much of the reference to which as the room has. */
   Result<std::optional<Completion>> forwarded(Room room) noexcept {
     Completion completion{};
-    const std::int64_t answer = lr_client_forwarded(slot(), &completion, room.data(), room.size());
+    const std::int64_t answer =
+        lr_client_forwarded(slot(), &completion, sizeof(lr_completion), room.data(), room.size());
     return detail::found(answer, completion);
   }
   /* Asks for it by the key of a call that asks the same, whose expiration counts for nothing here. */
@@ -753,7 +1013,7 @@ class Client : public Slot<lr_client> {
   /* The next completion, if there is one. */
   Result<std::optional<Completion>> completed() noexcept {
     Completion completion{};
-    const std::int64_t answer = lr_client_completed(slot(), &completion);
+    const std::int64_t answer = lr_client_completed(slot(), &completion, sizeof(lr_completion));
     if (answer == 1) body_size_ = completion.body_size;
     return detail::found(answer, completion);
   }
@@ -767,27 +1027,20 @@ class Client : public Slot<lr_client> {
   Count output(Room room) noexcept { return detail::count(lr_client_output(slot(), room.data(), room.size())); }
 
  private:
+  std::int64_t set_all(const ClientSettings& settings) noexcept {
+    const std::pair<std::uint32_t, std::optional<std::uint64_t>> all[] = {
+        {LR_CLIENT_KEEP_TRANSIENT, settings.keep_transient}, {LR_CLIENT_KEEP_FORWARD, settings.keep_forward},
+        {LR_CLIENT_VERSION, settings.version},               {LR_CLIENT_MESSAGE, settings.message},
+        {LR_CLIENT_PARTIALS, settings.partials},
+    };
+    std::int64_t answer = LR_OK;
+    for (const auto& [what, value] : all)
+      if (answer == LR_OK && value) answer = lr_client_set(slot(), what, *value);
+    return answer;
+  }
+
   std::uint64_t body_size_ = 0;  // of the completion that was taken last
 };
-
-/* A service context, or a tagged component: its id or tag, and its data. */
-struct Tagged {
-  std::uint32_t id = 0;
-  std::vector<std::uint8_t> data;
-};
-
-namespace detail {
-
-/* What `copy(id, room, size)` gives. */
-template <class Copy>
-Result<Tagged> tagged(Copy copy) noexcept {
-  std::uint32_t id = 0;
-  auto data = copied([&](std::uint8_t* room, std::size_t size) { return copy(&id, room, size); });
-  if (!data) return data.error();
-  return Tagged{id, std::move(*data)};
-}
-
-}  // namespace detail
 
 /* The messages of a stream. */
 class Assembler : public Slot<lr_assembler> {
@@ -809,7 +1062,7 @@ class Assembler : public Slot<lr_assembler> {
   /* The message that was completed last, if one was. */
   Result<std::optional<Message>> message() noexcept {
     Message message{};
-    const std::int64_t answer = lr_assembler_message(slot(), &message);
+    const std::int64_t answer = lr_assembler_message(slot(), &message, sizeof(lr_message));
     return detail::found(answer, message);
   }
 
@@ -818,7 +1071,7 @@ class Assembler : public Slot<lr_assembler> {
   }
   Result<std::vector<std::uint8_t>> part(Part part) noexcept {
     lr_message message{};
-    lr_assembler_message(slot(), &message);
+    lr_assembler_message(slot(), &message, sizeof message);
     const auto copy = [&](std::uint8_t* room, std::size_t size) {
       return lr_assembler_part(slot(), static_cast<std::uint32_t>(part), room, size);
     };
@@ -870,7 +1123,7 @@ class Ior : public Slot<lr_ior> {
 
   Result<lr_profile> profile(std::uint32_t index) noexcept {
     lr_profile profile{};
-    const std::int64_t answer = lr_ior_profile(slot(), index, &profile);
+    const std::int64_t answer = lr_ior_profile(slot(), index, &profile, sizeof profile);
     if (answer < 0) return Error(answer);
     return profile;
   }
@@ -906,13 +1159,15 @@ class Reader {
   Result<std::uint32_t> get_ulong() noexcept { return get<std::uint32_t>(lr_get_ulong); }
   Result<std::int64_t> get_longlong() noexcept { return get<std::int64_t>(lr_get_longlong); }
   Result<std::uint64_t> get_ulonglong() noexcept { return get<std::uint64_t>(lr_get_ulonglong); }
+  Result<float> get_float() noexcept { return get<float>(lr_get_float); }
+  Result<double> get_double() noexcept { return get<double>(lr_get_double); }
   Result<bool> get_boolean() noexcept {
     const auto value = get<std::uint8_t>(lr_get_boolean);
     return value ? Result<bool>(*value != 0) : value.error();
   }
 
   /* One of so many names of an enum, counted from 0. LR_E_VALUE. */
-  Result<std::uint32_t> get_enumerator(std::uint32_t names) noexcept {
+  Result<std::uint32_t> get_enum(std::uint32_t names) noexcept {
     const lr_place before = place_;
     const auto number = get_ulong();
     if (!number || *number < names) return number;
@@ -995,10 +1250,12 @@ class Writer {
   Done put_ulong(std::uint32_t value) noexcept { return put(lr_put_ulong, value); }
   Done put_longlong(std::int64_t value) noexcept { return put(lr_put_longlong, value); }
   Done put_ulonglong(std::uint64_t value) noexcept { return put(lr_put_ulonglong, value); }
+  Done put_float(float value) noexcept { return put(lr_put_float, value); }
+  Done put_double(double value) noexcept { return put(lr_put_double, value); }
   /* The name of an enum, counted from 0. */
-  Done put_enumerator(std::uint32_t number) noexcept { return put_ulong(number); }
+  Done put_enum(std::uint32_t number) noexcept { return put_ulong(number); }
   template <class Enum, std::enable_if_t<std::is_enum_v<Enum>, int> = 0>
-  Done put_enumerator(Enum name) noexcept {
+  Done put_enum(Enum name) noexcept {
     return put_ulong(static_cast<std::uint32_t>(name));
   }
   /* How many elements of a sequence follow. */
@@ -1056,10 +1313,12 @@ class GrowingWriter {
   GrowingWriter& put_ulong(std::uint32_t value) noexcept { return put(lr_put_ulong, value); }
   GrowingWriter& put_longlong(std::int64_t value) noexcept { return put(lr_put_longlong, value); }
   GrowingWriter& put_ulonglong(std::uint64_t value) noexcept { return put(lr_put_ulonglong, value); }
+  GrowingWriter& put_float(float value) noexcept { return put(lr_put_float, value); }
+  GrowingWriter& put_double(double value) noexcept { return put(lr_put_double, value); }
   /* The name of an enum, counted from 0. */
-  GrowingWriter& put_enumerator(std::uint32_t number) noexcept { return put_ulong(number); }
+  GrowingWriter& put_enum(std::uint32_t number) noexcept { return put_ulong(number); }
   template <class Enum, std::enable_if_t<std::is_enum_v<Enum>, int> = 0>
-  GrowingWriter& put_enumerator(Enum name) noexcept {
+  GrowingWriter& put_enum(Enum name) noexcept {
     return put_ulong(static_cast<std::uint32_t>(name));
   }
   /* How many elements of a sequence follow. */

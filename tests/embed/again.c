@@ -15,14 +15,12 @@ static lr_client client;
 
 static void open_client(void) {
   client = (lr_client)LR_INIT;
-  WANT(lr_client_open(&client, "A", 1, 2, LIMIT, PARTIALS), LR_OK);
+  WANT(lr_client_open(&client, "A", 1), LR_OK);
 }
 
 static int64_t call_add(void) { return lr_client_call(&client, NOW, LATER, "c", 1, ADD("\0\0\0\5")); }
 
-static int64_t recall_add(int64_t call) {
-  return lr_client_recall(&client, call, NOW, LATER, "c", 1, ADD("\0\0\0\5"));
-}
+static int64_t recall_add(int64_t call) { return lr_client_recall(&client, call, NOW, LATER, "c", 1, ADD("\0\0\0\5")); }
 
 static int64_t redirect_add(int64_t call) { return lr_client_redirect(&client, call, "other", 5, ADD("\0\0\0\5")); }
 
@@ -34,7 +32,7 @@ static uint32_t sent(int32_t call, const char *key) {
   if (size == 0) return 0;
   WANT(lr_assembler_open(&assembler, LIMIT, PARTIALS), LR_OK);
   WANT(lr_assembler_feed(&assembler, room, (size_t)size), size);
-  WANT(lr_assembler_message(&assembler, &said), 1);
+  WANT(lr_assembler_message(&assembler, &said, sizeof said), 1);
   CHECK(said.type == LR_MSG_REQUEST && said.has_client == 1 && said.retention_id == call && said.expiration == LATER);
   WANT(lr_assembler_part(&assembler, LR_PART_KEY, room, sizeof room), (int64_t)strlen(key));
   CHECK(memcmp(room, key, strlen(key)) == 0);
@@ -65,12 +63,13 @@ static void answer(uint32_t request_id) {
 /* The next completion is of a call, that ended so. */
 static void ends(int32_t call, uint32_t how) {
   lr_completion completion;
-  if (WANT(lr_client_completed(&client, &completion), 1)) CHECK(completion.call == call && completion.how == how);
+  if (WANT(lr_client_completed(&client, &completion, sizeof completion), 1))
+    CHECK(completion.call == call && completion.how == how);
 }
 
 static void nothing_ends(void) {
   lr_completion completion;
-  WANT(lr_client_completed(&client, &completion), 0);
+  WANT(lr_client_completed(&client, &completion, sizeof completion), 0);
 }
 
 /* ---- TRANSIENT ---- */
@@ -127,7 +126,7 @@ static void transient_leaves_a_call_pending(void) {
 static void settings_are_refused(void) {
   open_client();
   WANT(lr_client_set(&client, 0, 1), LR_E_RANGE);
-  WANT(lr_client_set(&client, 3, 0), LR_E_RANGE);
+  WANT(lr_client_set(&client, LR_CLIENT_PARTIALS + 1, 0), LR_E_RANGE);
   WANT(lr_client_set(&client, UINT32_MAX, 1), LR_E_RANGE);
   WANT(lr_client_set(&client, LR_CLIENT_KEEP_TRANSIENT, 2), LR_E_RANGE);
   WANT(lr_client_set(&client, LR_CLIENT_KEEP_FORWARD, UINT64_MAX), LR_E_RANGE);
@@ -143,7 +142,7 @@ static void open_server(lr_server *server) {
   WANT(lr_catalogue_open(&catalogue), LR_OK);
   WANT(lr_catalogue_object(&catalogue, "c", 1), LR_OK);
   WANT(lr_catalogue_operation(&catalogue, "c", 1, "add", 3, one_long, 1, one_long, 1), LR_OK);
-  WANT(lr_server_open(server, &catalogue, LIMIT, PARTIALS, 100, 100, 1, 2), LR_OK);
+  WANT(lr_server_open(server, &catalogue, 1, 2), LR_OK);
 }
 
 /* Brings what the client sends to a server, on a new connection, and back what is due there. How often it was asked. */
@@ -156,11 +155,11 @@ static int carry(lr_server *server, uint64_t connection) {
     int64_t taken = lr_server_feed(server, connection, NOW, room + at, (size_t)(size - at));
     if (!CHECK(taken > 0)) break;
     at += taken;
-    if (lr_server_asked(server, &request) != 1) continue;
+    if (lr_server_asked(server, &request, sizeof request) != 1) continue;
     asked++;
     WANT(lr_server_answer(server, request.ticket, LR_ORDER_BIG, "\0\0\0\6", 4), LR_OK);
   }
-  size = lr_server_output(server, room, sizeof room);
+  size = lr_server_output(server, connection, room, sizeof room);
   WANT(lr_client_feed(&client, room, (size_t)size), size);
   return asked;
 }
@@ -243,14 +242,14 @@ static void is_led(int32_t call) {
   lr_completion completion;
   unsigned char body[12];
   memset(body, 0xee, sizeof body);
-  if (!WANT(lr_client_forwarded(&client, &completion, body, sizeof body), 1)) return;
+  if (!WANT(lr_client_forwarded(&client, &completion, sizeof completion, body, sizeof body), 1)) return;
   CHECK(completion.call == call && completion.how == LR_ENDED_FORWARDED && completion.body_size == 11);
   CHECK(completion.body_at == 24 && completion.body_order == LR_ORDER_LITTLE && completion.reserved == 0);
   CHECK(memcmp(body, "a reference\xee", 12) == 0);
   memset(body, 0xee, sizeof body);
-  WANT(lr_client_forwarded(&client, &completion, body, 3), 1);
+  WANT(lr_client_forwarded(&client, &completion, sizeof completion, body, 3), 1);
   CHECK(completion.body_size == 11 && memcmp(body, "a r\xee", 4) == 0);
-  WANT(lr_client_forwarded(&client, &completion, NULL, 0), 1);
+  WANT(lr_client_forwarded(&client, &completion, sizeof completion, NULL, 0), 1);
 }
 
 static void nothing_is_led(void) {
@@ -258,7 +257,7 @@ static void nothing_is_led(void) {
   memset(&completion, 0xee, sizeof completion);
   before = completion;
   room[0] = 0xee;
-  WANT(lr_client_forwarded(&client, &completion, room, sizeof room), 0);
+  WANT(lr_client_forwarded(&client, &completion, sizeof completion, room, sizeof room), 0);
   CHECK(memcmp(&completion, &before, sizeof before) == 0 && room[0] == 0xee);
 }
 

@@ -33,7 +33,7 @@ static void open_catalogue(lr_catalogue *catalogue) {
 static void open_server(lr_server *server) {
   lr_catalogue catalogue = LR_INIT;
   open_catalogue(&catalogue);
-  WANT(lr_server_open(server, &catalogue, LIMIT, PARTIALS, 100, 100, 1, 2), LR_OK);
+  WANT(lr_server_open(server, &catalogue, 1, 2), LR_OK);
   CHECK(catalogue.kind == 0);
 }
 
@@ -52,19 +52,25 @@ static void make_reply(uint32_t request_id, uint32_t result) {
   end_message(&wanted);
 }
 
-/* Whether exactly the octets that are wanted are due. */
-static bool is_due(lr_server *server) {
-  return equal(room, (size_t)lr_server_output(server, room, sizeof room), &wanted);
+/* The connection on which was fed last, and the ticket of the request that was asked last. */
+static uint64_t fed, ticket = 1;
+
+/* Feeds the message. */
+static void feed(lr_server *server, uint64_t connection) {
+  WANT(lr_server_feed(server, connection, NOW, message.all, message.size), (int64_t)message.size);
+  fed = connection;
 }
 
-/* The ticket of the request that was asked last. */
-static uint64_t ticket = 1;
+/* Whether exactly the octets that are wanted are due, on the connection on which was fed last. */
+static bool is_due(lr_server *server) {
+  return equal(room, (size_t)lr_server_output(server, fed, room, sizeof room), &wanted);
+}
 
 /* Feeds the message, which is to be asked. */
 static void ask(lr_server *server, uint64_t connection) {
   lr_request request;
-  WANT(lr_server_feed(server, connection, NOW, message.all, message.size), (int64_t)message.size);
-  WANT(lr_server_asked(server, &request), 1);
+  feed(server, connection);
+  WANT(lr_server_asked(server, &request, sizeof request), 1);
   CHECK(request.ticket != 0);
   ticket = request.ticket;
 }
@@ -75,12 +81,12 @@ static void server_works(lr_server *server, uint64_t connection) {
   WANT(lr_server_connect(server, connection), LR_OK);
   make_request(7, "c", "add", NULL, 0, 5);
   ask(server, connection);
-  WANT(lr_server_asked(server, &request), 1);
+  WANT(lr_server_asked(server, &request, sizeof request), 1);
   CHECK(request.connection == connection && request.key_size == 1 && request.operation_size == 3);
   CHECK(request.body_size == 4 && request.body_at == 0 && request.body_order == LR_ORDER_BIG && request.is_raw == 0);
   CHECK(request.request_id == 7 && request.version == 2 && request.wish == LR_WISH_FULL && request.has_client == 0);
   CHECK(request.retention_id == 0 && request.client_size == 0 && request.expiration == 0);
-  WANT(lr_server_part(server, LR_PART_BODY, room, sizeof room), 4);
+  WANT(lr_server_part(server, ticket, LR_PART_BODY, room, sizeof room), 4);
   CHECK(memcmp(room, "\0\0\0\5", 4) == 0);
   WANT(lr_server_answer(server, ticket, LR_ORDER_BIG, "\0\0\0\6", 4), LR_OK);
   make_reply(7, 6);
@@ -89,7 +95,7 @@ static void server_works(lr_server *server, uint64_t connection) {
 
 static void catalogue_works(lr_catalogue *catalogue) {
   lr_server server = LR_INIT;
-  WANT(lr_server_open(&server, catalogue, LIMIT, PARTIALS, 100, 100, 1, 2), LR_OK);
+  WANT(lr_server_open(&server, catalogue, 1, 2), LR_OK);
   server_works(&server, 1);
   lr_close(&server);
 }
@@ -100,6 +106,15 @@ static int64_t call_add(lr_client *client) {
 
 static int64_t recall_add(lr_client *client, int64_t call) {
   return lr_client_recall(client, call, NOW, LATER, "c", 1, "add", 3, one_long, 1, LR_ORDER_BIG, "\0\0\0\5", 4);
+}
+
+static int64_t call_raw(lr_client *client) {
+  return lr_client_call_raw(client, NOW, LATER, LR_WISH_FULL, "c", 1, "add", 3, LR_ORDER_BIG, NULL, 0, "\0\0\0\5", 4);
+}
+
+static int64_t recall_raw(lr_client *client, int64_t call) {
+  return lr_client_recall_raw(client, call, NOW, LATER, LR_WISH_FULL, "c", 1, "add", 3, LR_ORDER_BIG, NULL, 0,
+                              "\0\0\0\5", 4);
 }
 
 static int64_t redirect_add(lr_client *client, int64_t call) {
@@ -116,7 +131,7 @@ static void client_works(lr_client *client, int64_t calls) {
   uint32_t id = (uint32_t)room[12] << 24 | (uint32_t)room[13] << 16 | (uint32_t)room[14] << 8 | room[15];
   make_reply(id, 6);
   CHECK(lr_client_feed(client, wanted.all, wanted.size) >= 0);
-  WANT(lr_client_completed(client, &completion), 1);
+  WANT(lr_client_completed(client, &completion, sizeof completion), 1);
   CHECK(completion.call == calls + 1 && completion.how == LR_ENDED_RETURNED && completion.body_size == 4);
   WANT(lr_client_body(client, room, sizeof room), 4);
   CHECK(memcmp(room, "\0\0\0\6", 4) == 0);
@@ -126,7 +141,7 @@ static void assembler_works(lr_assembler *assembler) {
   lr_message head;
   make_request(7, "c", "add", "A", 3, 5);
   WANT(lr_assembler_feed(assembler, message.all, message.size), (int64_t)message.size);
-  WANT(lr_assembler_message(assembler, &head), 1);
+  WANT(lr_assembler_message(assembler, &head, sizeof head), 1);
   CHECK(head.type == LR_MSG_REQUEST && head.version == 2 && head.order == LR_ORDER_BIG && head.request_id == 7);
   CHECK(head.wish == LR_WISH_FULL && head.contexts == 1 && head.has_key == 1 && head.key_size == 1);
   CHECK(head.operation_size == 3 && head.body_size == 4 && head.body_at % 8 == 0 && head.has_client == 1);
@@ -140,7 +155,7 @@ static void open_ior(lr_ior *ior) { WANT(lr_ior_iiop(ior, "IDL:C:1.0", 9, 2, "ho
 static void ior_works(lr_ior *ior) {
   lr_profile profile;
   WANT(lr_ior_profiles(ior), 1);
-  WANT(lr_ior_profile(ior, 0, &profile), LR_OK);
+  WANT(lr_ior_profile(ior, 0, &profile, sizeof profile), LR_OK);
   CHECK(profile.is_iiop == 1 && profile.minor == 2 && profile.port == 2809 && profile.tag == 0);
   CHECK(profile.host_size == 4 && profile.key_size == 1 && profile.components == 0);
   WANT(lr_ior_part(ior, 0, LR_IOR_HOST, room, sizeof room), 4);
@@ -156,67 +171,86 @@ static lr_completion got_completion;
 static lr_message got_message;
 static lr_profile got_profile;
 static uint32_t got_id;
+static uint64_t got_number;
 static lr_catalogue given;
 
 /* Every function that takes an object: its name, the kind, and a call that would be right. */
-#define CALLS(CALL)                                                                                     \
-  CALL(catalogue_object, CATALOGUE, lr_catalogue_object(slot, "k", 1))                                  \
-  CALL(catalogue_raw_object, CATALOGUE, lr_catalogue_raw_object(slot, "k", 1))                          \
-  CALL(catalogue_exception, CATALOGUE, lr_catalogue_exception(slot, "IDL:E:1.0", 9, one_long, 1))       \
-  CALL(catalogue_operation, CATALOGUE, lr_catalogue_operation(slot, "c", 1, "o", 1, NULL, 0, NULL, 0))  \
-  CALL(catalogue_raw_operation, CATALOGUE, lr_catalogue_raw_operation(slot, "c", 1, "o", 1))            \
-  CALL(catalogue_repository_ids, CATALOGUE, lr_catalogue_repository_ids(slot, "c", 1, "IDL:C:1.0", 10)) \
-  CALL(server_connect, SERVER, lr_server_connect(slot, 1))                                              \
-  CALL(server_lost, SERVER, lr_server_lost(slot, 1))                                                    \
-  CALL(server_farewell, SERVER, lr_server_farewell(slot, 1))                                            \
-  CALL(server_is_closed, SERVER, lr_server_is_closed(slot, 1))                                          \
-  CALL(server_feed, SERVER, lr_server_feed(slot, 1, NOW, "G", 1))                                       \
-  CALL(server_asked, SERVER, lr_server_asked(slot, &got_request))                                       \
-  CALL(server_part, SERVER, lr_server_part(slot, LR_PART_KEY, room, sizeof room))                       \
-  CALL(server_answer, SERVER, lr_server_answer(slot, ticket, LR_ORDER_BIG, "\0\0\0\1", 4))                    \
-  CALL(server_raise, SERVER, lr_server_raise(slot, ticket, "IDL:E:1.0", 9, LR_ORDER_BIG, NULL, 0))            \
-  CALL(server_system, SERVER, lr_server_system(slot, ticket, LR_EX_UNKNOWN, 0, LR_COMPLETED_NO))           \
-  CALL(server_answer_raw, SERVER, lr_server_answer_raw(slot, ticket, LR_REPLY_NO_EXCEPTION, LR_ORDER_BIG, NULL, 0)) \
-  CALL(server_identify, SERVER, lr_server_identify(slot, ticket))                                       \
-  CALL(server_give_up, SERVER, lr_server_give_up(slot, ticket))                                         \
-  CALL(server_refuse, SERVER, lr_server_refuse(slot, ticket, LR_EX_TRANSIENT, 0))                          \
-  CALL(server_goodbye, SERVER, lr_server_goodbye(slot, ticket))                                         \
-  CALL(server_output, SERVER, lr_server_output(slot, room, sizeof room))                                \
-  CALL(client_connected, CLIENT, lr_client_connected(slot, NOW))                                        \
-  CALL(client_lost, CLIENT, lr_client_lost(slot))                                                       \
-  CALL(client_is_connected, CLIENT, lr_client_is_connected(slot))                                       \
-  CALL(client_call, CLIENT, call_add(slot))                                                             \
-  CALL(client_set, CLIENT, lr_client_set(slot, LR_CLIENT_KEEP_FORWARD, 1))                              \
-  CALL(client_recall, CLIENT, recall_add(slot, 9))                                                      \
-  CALL(client_skip_to, CLIENT, lr_client_skip_to(slot, 9))                                              \
-  CALL(client_resend, CLIENT, lr_client_resend(slot, NOW))                                              \
-  CALL(client_forwarded, CLIENT, lr_client_forwarded(slot, &got_completion, room, sizeof room))         \
-  CALL(client_redirect, CLIENT, redirect_add(slot, 1))                                                  \
-  CALL(client_cancel, CLIENT, lr_client_cancel(slot, 1))                                                \
-  CALL(client_tick, CLIENT, lr_client_tick(slot, NOW))                                                  \
-  CALL(client_feed, CLIENT, lr_client_feed(slot, "G", 1))                                               \
-  CALL(client_completed, CLIENT, lr_client_completed(slot, &got_completion))                            \
-  CALL(client_body, CLIENT, lr_client_body(slot, room, sizeof room))                                    \
-  CALL(client_output, CLIENT, lr_client_output(slot, room, sizeof room))                                \
-  CALL(assembler_feed, ASSEMBLER, lr_assembler_feed(slot, "G", 1))                                      \
-  CALL(assembler_fault, ASSEMBLER, lr_assembler_fault(slot))                                            \
-  CALL(assembler_message, ASSEMBLER, lr_assembler_message(slot, &got_message))                          \
-  CALL(assembler_part, ASSEMBLER, lr_assembler_part(slot, LR_PART_KEY, room, sizeof room))              \
-  CALL(assembler_context, ASSEMBLER, lr_assembler_context(slot, 0, &got_id, room, sizeof room))         \
-  CALL(ior_print, IOR, lr_ior_print(slot, room, sizeof room))                                           \
-  CALL(ior_type_id, IOR, lr_ior_type_id(slot, room, sizeof room))                                       \
-  CALL(ior_profiles, IOR, lr_ior_profiles(slot))                                                        \
-  CALL(ior_profile, IOR, lr_ior_profile(slot, 0, &got_profile))                                         \
-  CALL(ior_part, IOR, lr_ior_part(slot, 0, LR_IOR_KEY, room, sizeof room))                              \
+#define CALLS(CALL)                                                                                                    \
+  CALL(catalogue_object, CATALOGUE, lr_catalogue_object(slot, "k", 1))                                                 \
+  CALL(catalogue_raw_object, CATALOGUE, lr_catalogue_raw_object(slot, "k", 1))                                         \
+  CALL(catalogue_exception, CATALOGUE, lr_catalogue_exception(slot, "IDL:E:1.0", 9, one_long, 1))                      \
+  CALL(catalogue_operation, CATALOGUE, lr_catalogue_operation(slot, "c", 1, "o", 1, NULL, 0, NULL, 0))                 \
+  CALL(catalogue_raw_operation, CATALOGUE, lr_catalogue_raw_operation(slot, "c", 1, "o", 1))                           \
+  CALL(catalogue_repository_ids, CATALOGUE, lr_catalogue_repository_ids(slot, "c", 1, "IDL:C:1.0", 10))                \
+  CALL(catalogue_default, CATALOGUE, lr_catalogue_default(slot))                                                       \
+  CALL(catalogue_families, CATALOGUE, lr_catalogue_families(slot, &given))                                             \
+  CALL(catalogue_remove, CATALOGUE, lr_catalogue_remove(slot, "c", 1))                                                 \
+  CALL(server_connect, SERVER, lr_server_connect(slot, 1))                                                             \
+  CALL(server_lost, SERVER, lr_server_lost(slot, 1))                                                                   \
+  CALL(server_farewell, SERVER, lr_server_farewell(slot, 1))                                                           \
+  CALL(server_is_closed, SERVER, lr_server_is_closed(slot, 1))                                                         \
+  CALL(server_feed, SERVER, lr_server_feed(slot, 1, NOW, "G", 1))                                                      \
+  CALL(server_asked, SERVER, lr_server_asked(slot, &got_request, sizeof got_request))                                  \
+  CALL(server_part, SERVER, lr_server_part(slot, ticket, LR_PART_KEY, room, sizeof room))                              \
+  CALL(server_answer, SERVER, lr_server_answer(slot, ticket, LR_ORDER_BIG, "\0\0\0\1", 4))                             \
+  CALL(server_raise, SERVER, lr_server_raise(slot, ticket, "IDL:E:1.0", 9, LR_ORDER_BIG, NULL, 0))                     \
+  CALL(server_system, SERVER, lr_server_system(slot, ticket, LR_EX_UNKNOWN, 0, LR_COMPLETED_NO))                       \
+  CALL(server_answer_raw, SERVER, lr_server_answer_raw(slot, ticket, LR_REPLY_NO_EXCEPTION, LR_ORDER_BIG, NULL, 0))    \
+  CALL(server_identify, SERVER, lr_server_identify(slot, ticket))                                                      \
+  CALL(server_give_up, SERVER, lr_server_give_up(slot, ticket))                                                        \
+  CALL(server_refuse, SERVER, lr_server_refuse(slot, ticket, LR_EX_TRANSIENT, 0))                                      \
+  CALL(server_goodbye, SERVER, lr_server_goodbye(slot, ticket))                                                        \
+  CALL(server_output, SERVER, lr_server_output(slot, 1, room, sizeof room))                                            \
+  CALL(server_set, SERVER, lr_server_set(slot, LR_SET_DUE, 1000))                                                      \
+  CALL(server_context, SERVER, lr_server_context(slot, 0, &got_id, room, sizeof room))                                 \
+  CALL(server_park, SERVER, lr_server_park(slot, ticket))                                                              \
+  CALL(server_parked, SERVER, lr_server_parked(slot))                                                                  \
+  CALL(server_parked_of, SERVER, lr_server_parked_of(slot, 1))                                                         \
+  CALL(server_wanted, SERVER, lr_server_wanted(slot, ticket))                                                          \
+  CALL(server_next_due, SERVER, lr_server_next_due(slot, &got_number))                                                 \
+  CALL(server_count, SERVER, lr_server_count(slot, LR_COUNT_KEPT))                                                     \
+  CALL(server_held_by, SERVER, lr_server_held_by(slot, "A", 1))                                                        \
+  CALL(server_next_expiry, SERVER, lr_server_next_expiry(slot, &got_number))                                           \
+  CALL(server_tick, SERVER, lr_server_tick(slot, NOW))                                                                 \
+  CALL(server_why, SERVER, lr_server_why(slot, 1))                                                                     \
+  CALL(server_swap, SERVER, lr_server_swap(slot, &given))                                                              \
+  CALL(client_connected, CLIENT, lr_client_connected(slot, NOW))                                                       \
+  CALL(client_lost, CLIENT, lr_client_lost(slot))                                                                      \
+  CALL(client_is_connected, CLIENT, lr_client_is_connected(slot))                                                      \
+  CALL(client_call, CLIENT, call_add(slot))                                                                            \
+  CALL(client_set, CLIENT, lr_client_set(slot, LR_CLIENT_KEEP_FORWARD, 1))                                             \
+  CALL(client_recall, CLIENT, recall_add(slot, 9))                                                                     \
+  CALL(client_call_raw, CLIENT, call_raw(slot))                                                                        \
+  CALL(client_recall_raw, CLIENT, recall_raw(slot, 9))                                                                 \
+  CALL(client_skip_to, CLIENT, lr_client_skip_to(slot, 9))                                                             \
+  CALL(client_resend, CLIENT, lr_client_resend(slot, NOW))                                                             \
+  CALL(client_forwarded, CLIENT, lr_client_forwarded(slot, &got_completion, sizeof got_completion, room, sizeof room)) \
+  CALL(client_redirect, CLIENT, redirect_add(slot, 1))                                                                 \
+  CALL(client_cancel, CLIENT, lr_client_cancel(slot, 1))                                                               \
+  CALL(client_tick, CLIENT, lr_client_tick(slot, NOW))                                                                 \
+  CALL(client_feed, CLIENT, lr_client_feed(slot, "G", 1))                                                              \
+  CALL(client_completed, CLIENT, lr_client_completed(slot, &got_completion, sizeof got_completion))                    \
+  CALL(client_body, CLIENT, lr_client_body(slot, room, sizeof room))                                                   \
+  CALL(client_output, CLIENT, lr_client_output(slot, room, sizeof room))                                               \
+  CALL(assembler_feed, ASSEMBLER, lr_assembler_feed(slot, "G", 1))                                                     \
+  CALL(assembler_fault, ASSEMBLER, lr_assembler_fault(slot))                                                           \
+  CALL(assembler_message, ASSEMBLER, lr_assembler_message(slot, &got_message, sizeof got_message))                     \
+  CALL(assembler_part, ASSEMBLER, lr_assembler_part(slot, LR_PART_KEY, room, sizeof room))                             \
+  CALL(assembler_context, ASSEMBLER, lr_assembler_context(slot, 0, &got_id, room, sizeof room))                        \
+  CALL(ior_print, IOR, lr_ior_print(slot, room, sizeof room))                                                          \
+  CALL(ior_type_id, IOR, lr_ior_type_id(slot, room, sizeof room))                                                      \
+  CALL(ior_profiles, IOR, lr_ior_profiles(slot))                                                                       \
+  CALL(ior_profile, IOR, lr_ior_profile(slot, 0, &got_profile, sizeof got_profile))                                    \
+  CALL(ior_part, IOR, lr_ior_part(slot, 0, LR_IOR_KEY, room, sizeof room))                                             \
   CALL(ior_component, IOR, lr_ior_component(slot, 0, 0, &got_id, room, sizeof room))
 
 /* Every function that opens a slot. */
-#define OPENINGS(CALL)                                                                     \
-  CALL(catalogue_open, CATALOGUE, lr_catalogue_open(slot))                                 \
-  CALL(server_open, SERVER, lr_server_open(slot, &given, LIMIT, PARTIALS, 100, 100, 1, 2)) \
-  CALL(client_open, CLIENT, lr_client_open(slot, "A", 1, 2, LIMIT, PARTIALS))              \
-  CALL(assembler_open, ASSEMBLER, lr_assembler_open(slot, LIMIT, PARTIALS))                \
-  CALL(ior_parse, IOR, lr_ior_parse(slot, REFERENCE, SIZE(REFERENCE)))                     \
+#define OPENINGS(CALL)                                                      \
+  CALL(catalogue_open, CATALOGUE, lr_catalogue_open(slot))                  \
+  CALL(server_open, SERVER, lr_server_open(slot, &given, 1, 2))             \
+  CALL(client_open, CLIENT, lr_client_open(slot, "A", 1))                   \
+  CALL(assembler_open, ASSEMBLER, lr_assembler_open(slot, LIMIT, PARTIALS)) \
+  CALL(ior_parse, IOR, lr_ior_parse(slot, REFERENCE, SIZE(REFERENCE)))      \
   CALL(ior_iiop, IOR, lr_ior_iiop(slot, "IDL:C:1.0", 9, 2, "host", 4, 2809, "c", 1))
 
 #define FUNCTION(name, kind, call) \
@@ -242,7 +276,7 @@ struct any_slot {
 static void open_each(struct any_slot slots[KINDS]) {
   open_catalogue((void *)&slots[CATALOGUE]);
   open_server((void *)&slots[SERVER]);
-  WANT(lr_client_open((void *)&slots[CLIENT], "A", 1, 2, LIMIT, PARTIALS), LR_OK);
+  WANT(lr_client_open((void *)&slots[CLIENT], "A", 1), LR_OK);
   WANT(lr_assembler_open((void *)&slots[ASSEMBLER], LIMIT, PARTIALS), LR_OK);
   open_ior((void *)&slots[IOR]);
 }
@@ -290,8 +324,8 @@ static void servers_want_a_catalogue(void) {
   lr_catalogue empty = LR_INIT;
   lr_ior ior = LR_INIT;
   open_ior(&ior);
-  WANT(lr_server_open(&server, &empty, LIMIT, PARTIALS, 100, 100, 1, 2), LR_E_EMPTY);
-  WANT(lr_server_open(&server, (void *)&ior, LIMIT, PARTIALS, 100, 100, 1, 2), LR_E_EMPTY);
+  WANT(lr_server_open(&server, &empty, 1, 2), LR_E_EMPTY);
+  WANT(lr_server_open(&server, (void *)&ior, 1, 2), LR_E_EMPTY);
   CHECK(server.kind == 0);
   ior_works(&ior);
   lr_close(&ior);
@@ -301,30 +335,76 @@ static void servers_want_a_catalogue(void) {
 
 /* Limits that are none, and the nearest that are. */
 static const struct {
-  uint32_t message, partials;
-  bool is_right;
-} limits[] = {
-    {4096, 1, true},        {16777216, 16, true}, {4095, 8, false},  {16777217, 8, false}, {0, 8, false},
-    {UINT32_MAX, 8, false}, {4096, 0, false},     {4096, 17, false}, {4096, 257, false},   {4096, UINT32_MAX, false},
-};
+  uint64_t number;
+  int64_t answer;
+} messages[] =
+    {{4096, LR_OK},   {16777216, LR_OK},        {4095, LR_E_RANGE},       {16777217, LR_E_RANGE},
+     {0, LR_E_RANGE}, {UINT32_MAX, LR_E_RANGE}, {UINT64_MAX, LR_E_RANGE}, {(UINT64_C(1) << 32) + 4096, LR_E_RANGE}},
+  partials[] = {{1, LR_OK},
+                {16, LR_OK},
+                {0, LR_E_RANGE},
+                {17, LR_E_RANGE},
+                {257, LR_E_RANGE},
+                {UINT32_MAX, LR_E_RANGE},
+                {UINT64_MAX, LR_E_RANGE},
+                {(UINT64_C(1) << 32) + 1, LR_E_RANGE}},
+  counts[] = {{0, LR_OK}, {1, LR_OK}, {UINT32_MAX, LR_OK}, {UINT64_C(1) << 32, LR_E_RANGE}, {UINT64_MAX, LR_E_RANGE}},
+  versions[] =
+      {{0, LR_OK}, {1, LR_OK}, {2, LR_OK}, {3, LR_E_RANGE}, {UINT64_MAX, LR_E_RANGE}, {UINT64_C(1) << 32, LR_E_RANGE}},
+  truths[] = {{0, LR_OK}, {1, LR_OK}, {2, LR_E_RANGE}, {UINT64_MAX, LR_E_RANGE}, {UINT64_C(1) << 32, LR_E_RANGE}};
+
+/* Sets each of these numbers. */
+#define SETS(set, slot, what, numbers)                    \
+  for (size_t index = 0; index < COUNT(numbers); index++) \
+  WANT(set(slot, what, numbers[index].number), numbers[index].answer)
 
 static void limits_are_refused(void) {
-  for (size_t index = 0; index < COUNT(limits); index++) {
-    lr_catalogue catalogue = LR_INIT;
-    lr_server server = LR_INIT;
-    lr_client client = LR_INIT;
-    lr_assembler assembler = LR_INIT;
-    uint32_t most = limits[index].message, partials = limits[index].partials;
-    int64_t answer = limits[index].is_right ? LR_OK : LR_E_RANGE;
-    open_catalogue(&catalogue);
-    WANT(lr_server_open(&server, &catalogue, most, partials, 1, 1, 1, 2), answer);
-    WANT(lr_client_open(&client, "A", 1, 2, most, partials), answer);
-    WANT(lr_assembler_open(&assembler, most, partials), answer);
-    CHECK((server.kind == 0) == (answer != LR_OK) && (catalogue.kind == 0) == (answer == LR_OK));
-    if (answer != LR_OK) catalogue_works(&catalogue);
-    lr_close(&server);
-    lr_close(&client);
-    lr_close(&assembler);
+  lr_server server = LR_INIT;
+  lr_client client = LR_INIT;
+  open_server(&server);
+  SETS(lr_server_set, &server, LR_SET_MESSAGE, messages);
+  SETS(lr_server_set, &server, LR_SET_PARTIALS, partials);
+  for (uint32_t what = LR_SET_CAPACITY; what <= LR_SET_JOINED; what++) SETS(lr_server_set, &server, what, counts);
+  for (uint32_t what = LR_SET_DUE; what <= LR_SET_CLIENT_ID; what++) WANT(lr_server_set(&server, what, 1000), LR_OK);
+  WANT(lr_server_set(&server, 0, 1), LR_E_RANGE);
+  WANT(lr_server_set(&server, LR_SET_CLIENT_ID + 1, 1), LR_E_RANGE);
+  WANT(lr_server_set(&server, UINT32_MAX, 1), LR_E_RANGE);
+  server_works(&server, 1);
+  for (uint32_t what = LR_SET_MESSAGE; what <= LR_SET_CLIENT_ID; what++)
+    WANT(lr_server_set(&server, what, what == LR_SET_PARTIALS ? 4 : 4096), LR_E_OPEN);
+  WANT(lr_server_lost(&server, 1), LR_OK);
+  WANT(lr_server_set(&server, LR_SET_DUE, 1000), LR_E_OPEN);
+  server_works(&server, 2);
+  lr_close(&server);
+
+  WANT(lr_client_open(&client, "A", 1), LR_OK);
+  SETS(lr_client_set, &client, LR_CLIENT_KEEP_TRANSIENT, truths);
+  SETS(lr_client_set, &client, LR_CLIENT_KEEP_FORWARD, truths);
+  SETS(lr_client_set, &client, LR_CLIENT_VERSION, versions);
+  SETS(lr_client_set, &client, LR_CLIENT_MESSAGE, messages);
+  SETS(lr_client_set, &client, LR_CLIENT_PARTIALS, partials);
+  WANT(lr_client_set(&client, 0, 1), LR_E_RANGE);
+  WANT(lr_client_set(&client, LR_CLIENT_PARTIALS + 1, 1), LR_E_RANGE);
+  WANT(lr_client_set(&client, UINT32_MAX, 1), LR_E_RANGE);
+  WANT(lr_client_set(&client, LR_CLIENT_KEEP_TRANSIENT, 0), LR_OK);
+  WANT(lr_client_set(&client, LR_CLIENT_KEEP_FORWARD, 0), LR_OK);
+  client_works(&client, 0);
+  WANT(lr_client_set(&client, LR_CLIENT_VERSION, 2), LR_E_OPEN);
+  WANT(lr_client_set(&client, LR_CLIENT_MESSAGE, 4096), LR_E_OPEN);
+  WANT(lr_client_set(&client, LR_CLIENT_PARTIALS, 4), LR_E_OPEN);
+  WANT(lr_client_set(&client, LR_CLIENT_KEEP_FORWARD, 1), LR_OK);
+  client_works(&client, 1);
+  lr_close(&client);
+
+  for (size_t one = 0; one < COUNT(messages); one++) {
+    for (size_t other = 0; other < COUNT(partials); other++) {
+      lr_assembler assembler = LR_INIT;
+      bool is_right = messages[one].answer == LR_OK && partials[other].answer == LR_OK;
+      if (messages[one].number > UINT32_MAX || partials[other].number > UINT32_MAX) continue;
+      WANT(lr_assembler_open(&assembler, (uint32_t)messages[one].number, (uint32_t)partials[other].number),
+           is_right ? LR_OK : LR_E_RANGE);
+      lr_close(&assembler);
+    }
   }
 }
 
@@ -360,7 +440,7 @@ static void types_are_refused(void) {
   lr_catalogue catalogue = LR_INIT;
   lr_client client = LR_INIT;
   open_catalogue(&catalogue);
-  WANT(lr_client_open(&client, "A", 1, 2, LIMIT, PARTIALS), LR_OK);
+  WANT(lr_client_open(&client, "A", 1), LR_OK);
   for (size_t index = 0; index < COUNT(types); index++) {
     const uint8_t *codes = types[index].codes;
     size_t size = types[index].size;
@@ -369,7 +449,8 @@ static void types_are_refused(void) {
     WANT(lr_catalogue_operation(&catalogue, "c", 1, one, 2, codes, size, NULL, 0), is_right ? LR_OK : LR_E_TYPES);
     WANT(lr_catalogue_operation(&catalogue, "c", 1, other, 2, NULL, 0, codes, size), is_right ? LR_OK : LR_E_TYPES);
     WANT(lr_catalogue_exception(&catalogue, "IDL:E:1.0", 9, codes, size), is_right ? LR_OK : LR_E_TYPES);
-    if (!is_right) WANT(lr_client_call(&client, NOW, LATER, "c", 1, "x", 1, codes, size, LR_ORDER_BIG, NULL, 0), LR_E_TYPES);
+    if (!is_right)
+      WANT(lr_client_call(&client, NOW, LATER, "c", 1, "x", 1, codes, size, LR_ORDER_BIG, NULL, 0), LR_E_TYPES);
   }
   catalogue_works(&catalogue);
   client_works(&client, 0);
@@ -417,7 +498,7 @@ static void exceptions_are_of_the_next_operation(void) {
   WANT(lr_catalogue_exception(&catalogue, id, SIZE(id), NULL, 0), LR_OK);
   WANT(lr_catalogue_operation(&catalogue, "c", 1, "raises", 6, one_long, 1, NULL, 0), LR_OK);
   WANT(lr_catalogue_operation(&catalogue, "c", 1, "quiet", 5, one_long, 1, NULL, 0), LR_OK);
-  WANT(lr_server_open(&server, &catalogue, LIMIT, PARTIALS, 100, 100, 1, 2), LR_OK);
+  WANT(lr_server_open(&server, &catalogue, 1, 2), LR_OK);
   WANT(lr_server_connect(&server, 1), LR_OK);
   make_request(1, "c", "after", NULL, 0, 5);
   ask(&server, 1);
@@ -427,7 +508,7 @@ static void exceptions_are_of_the_next_operation(void) {
   ask(&server, 1);
   WANT(lr_server_raise(&server, ticket, id, SIZE(id), LR_ORDER_BIG, NULL, 0), LR_E_OUTCOME);
   WANT(lr_server_answer(&server, ticket, LR_ORDER_BIG, NULL, 0), LR_OK);
-  lr_server_output(&server, room, sizeof room);
+  lr_server_output(&server, 1, room, sizeof room);
   make_request(3, "c", "raises", NULL, 0, 5);
   ask(&server, 1);
   WANT(lr_server_raise(&server, ticket, id, SIZE(id), LR_ORDER_BIG, NULL, 0), LR_OK);
@@ -445,19 +526,30 @@ static void idle_servers_refuse(lr_server *server) {
   lr_request request;
   memset(&request, 0xee, sizeof request);
   lr_request before = request;
-  WANT(lr_server_asked(server, &request), 0);
+  WANT(lr_server_asked(server, &request, sizeof request), 0);
   CHECK(memcmp(&request, &before, sizeof request) == 0);
   for (uint32_t part = LR_PART_KEY; part <= LR_PART_CLIENT; part++)
-    WANT(lr_server_part(server, part, room, sizeof room), LR_E_IDLE);
-  WANT(lr_server_answer(server, ticket, LR_ORDER_BIG, "\0\0\0\1", 4), LR_E_IDLE);
-  WANT(lr_server_raise(server, ticket, OVERFLOW_ID, SIZE(OVERFLOW_ID), LR_ORDER_BIG, "\0\0\0\1", 4), LR_E_IDLE);
-  WANT(lr_server_system(server, ticket, LR_EX_UNKNOWN, 0, LR_COMPLETED_NO), LR_E_IDLE);
-  WANT(lr_server_answer_raw(server, ticket, LR_REPLY_NO_EXCEPTION, LR_ORDER_BIG, NULL, 0), LR_E_IDLE);
-  WANT(lr_server_identify(server, ticket), LR_E_IDLE);
+    WANT(lr_server_part(server, ticket, part, room, sizeof room), LR_E_TICKET);
+  WANT(lr_server_context(server, 0, &got_id, room, sizeof room), LR_E_IDLE);
+  WANT(lr_server_answer(server, ticket, LR_ORDER_BIG, "\0\0\0\1", 4), LR_E_TICKET);
+  WANT(lr_server_raise(server, ticket, OVERFLOW_ID, SIZE(OVERFLOW_ID), LR_ORDER_BIG, "\0\0\0\1", 4), LR_E_TICKET);
+  WANT(lr_server_system(server, ticket, LR_EX_UNKNOWN, 0, LR_COMPLETED_NO), LR_E_TICKET);
+  WANT(lr_server_answer_raw(server, ticket, LR_REPLY_NO_EXCEPTION, LR_ORDER_BIG, NULL, 0), LR_E_TICKET);
+  WANT(lr_server_identify(server, ticket), LR_E_TICKET);
+  WANT(lr_server_refuse(server, ticket, LR_EX_TRANSIENT, 0), LR_E_TICKET);
+  WANT(lr_server_refuse(server, ticket, LR_EX_THREAD_CANCELLED + 1, 0), LR_E_RANGE);
+  WANT(lr_server_wanted(server, ticket), LR_E_TICKET);
   WANT(lr_server_give_up(server, ticket), LR_E_IDLE);
-  WANT(lr_server_refuse(server, ticket, LR_EX_TRANSIENT, 0), LR_E_IDLE);
-  WANT(lr_server_refuse(server, ticket, LR_EX_TRANSIENT + 1, 0), LR_E_RANGE);
   WANT(lr_server_goodbye(server, ticket), LR_E_IDLE);
+  WANT(lr_server_park(server, ticket), LR_E_IDLE);
+  WANT(lr_server_parked(server), 0);
+  WANT(lr_server_parked_of(server, fed), 0);
+  WANT(lr_server_count(server, LR_COUNT_WITHDRAWN + 1), LR_E_RANGE);
+  WANT(lr_server_count(server, UINT32_MAX), LR_E_RANGE);
+  WANT(lr_server_why(server, UINT64_MAX), LR_E_CONNECTION);
+  got_number = 77;
+  WANT(lr_server_next_due(server, &got_number), 0);
+  CHECK(got_number == 77);
 }
 
 /* A request waits: nothing else is taken, and no outcome that is none. */
@@ -467,15 +559,23 @@ static void asking_servers_refuse(lr_server *server) {
   WANT(lr_server_connect(server, 99), LR_E_ASKING);
   WANT(lr_server_lost(server, 1), LR_E_ASKING);
   WANT(lr_server_farewell(server, 1), LR_E_ASKING);
+  WANT(lr_server_tick(server, NOW), LR_E_ASKING);
+  WANT(lr_server_swap(server, &given), LR_E_EMPTY);
+  open_catalogue(&given);
+  WANT(lr_server_swap(server, &given), LR_E_ASKING);
+  lr_close(&given);
+  WANT(lr_server_wanted(server, ticket), LR_E_TICKET); /* (none of it is parked) */
   WANT(lr_server_is_closed(server, 1), 0);
-  WANT(lr_server_part(server, LR_PART_CLIENT, room, sizeof room), LR_E_NONE);
-  WANT(lr_server_part(server, LR_PART_PAYLOAD, room, sizeof room), LR_E_NONE);
-  WANT(lr_server_part(server, 5, room, sizeof room), LR_E_NONE);
-  WANT(lr_server_part(server, UINT32_MAX, room, sizeof room), LR_E_NONE);
-  WANT(lr_server_system(server, ticket, LR_EX_TRANSIENT + 1, 0, LR_COMPLETED_NO), LR_E_RANGE);
+  WANT(lr_server_part(server, ticket, LR_PART_CLIENT, room, sizeof room), LR_E_NONE);
+  WANT(lr_server_part(server, ticket, LR_PART_PAYLOAD, room, sizeof room), LR_E_NONE);
+  WANT(lr_server_context(server, 0, &got_id, room, sizeof room), LR_E_NONE);
+  WANT(lr_server_context(server, UINT32_MAX, &got_id, room, sizeof room), LR_E_NONE);
+  WANT(lr_server_part(server, ticket, 5, room, sizeof room), LR_E_NONE);
+  WANT(lr_server_part(server, ticket, UINT32_MAX, room, sizeof room), LR_E_NONE);
+  WANT(lr_server_system(server, ticket, LR_EX_THREAD_CANCELLED + 1, 0, LR_COMPLETED_NO), LR_E_RANGE);
   WANT(lr_server_system(server, ticket, UINT32_MAX, 0, LR_COMPLETED_NO), LR_E_RANGE);
   WANT(lr_server_system(server, ticket, LR_EX_UNKNOWN, 0, 3), LR_E_RANGE);
-  WANT(lr_server_refuse(server, ticket, LR_EX_TRANSIENT + 1, 0), LR_E_RANGE);
+  WANT(lr_server_refuse(server, ticket, LR_EX_THREAD_CANCELLED + 1, 0), LR_E_RANGE);
   WANT(lr_server_refuse(server, ticket, UINT32_MAX, 0), LR_E_RANGE);
   WANT(lr_server_identify(server, ticket), 0);
 }
@@ -489,13 +589,17 @@ static void other_tickets_are_refused(lr_server *server, uint64_t other) {
   WANT(lr_server_raise(server, other, OVERFLOW_ID, SIZE(OVERFLOW_ID), 2, "\0\0\0\1", 4), LR_E_RANGE);
   WANT(lr_server_raise(server, other, OVERFLOW_ID, SIZE(OVERFLOW_ID), LR_ORDER_BIG, "\0\0\0\1", 4), LR_E_TICKET);
   WANT(lr_server_raise(server, other, NULL, 0, LR_ORDER_BIG, NULL, 0), LR_E_TICKET);
-  WANT(lr_server_system(server, other, LR_EX_TRANSIENT + 1, 0, LR_COMPLETED_NO), LR_E_RANGE);
+  WANT(lr_server_system(server, other, LR_EX_THREAD_CANCELLED + 1, 0, LR_COMPLETED_NO), LR_E_RANGE);
   WANT(lr_server_system(server, other, LR_EX_UNKNOWN, 0, LR_COMPLETED_NO), LR_E_TICKET);
   WANT(lr_server_answer_raw(server, other, LR_REPLY_NO_EXCEPTION, 2, NULL, 0), LR_E_RANGE);
   WANT(lr_server_answer_raw(server, other, LR_REPLY_NO_EXCEPTION, LR_ORDER_BIG, NULL, 0), LR_E_TICKET);
   WANT(lr_server_identify(server, other), LR_E_TICKET);
+  for (uint32_t part = LR_PART_KEY; part <= LR_PART_PAYLOAD; part++)
+    WANT(lr_server_part(server, other, part, room, sizeof room), LR_E_TICKET);
+  WANT(lr_server_wanted(server, other), LR_E_TICKET);
+  WANT(lr_server_park(server, other), LR_E_TICKET);
   WANT(lr_server_give_up(server, other), LR_E_TICKET);
-  WANT(lr_server_refuse(server, other, LR_EX_TRANSIENT + 1, 0), LR_E_RANGE);
+  WANT(lr_server_refuse(server, other, LR_EX_THREAD_CANCELLED + 1, 0), LR_E_RANGE);
   WANT(lr_server_refuse(server, other, LR_EX_TRANSIENT, 0), LR_E_TICKET);
   WANT(lr_server_goodbye(server, other), LR_E_TICKET);
 }
@@ -534,7 +638,7 @@ static void refused_requests_come_again(void) {
   for (uint64_t times = 1; times <= 2; times++) {
     ask(&server, 1);
     WANT(lr_server_refuse(&server, ticket, times == 1 ? LR_EX_TRANSIENT : LR_EX_NO_RESOURCES, 9), LR_OK);
-    WANT(lr_server_refuse(&server, ticket, LR_EX_TRANSIENT, 9), LR_E_IDLE);
+    WANT(lr_server_refuse(&server, ticket, LR_EX_TRANSIENT, 9), LR_E_TICKET);
     system_reply(&wanted, 2, 7, times == 1 ? "IDL:omg.org/CORBA/TRANSIENT:1.0" : "IDL:omg.org/CORBA/NO_RESOURCES:1.0",
                  LR_COMPLETED_NO);
     wanted.all[wanted.size - 5] = 9; /* (the minor code) */
@@ -545,7 +649,7 @@ static void refused_requests_come_again(void) {
   WANT(lr_server_answer(&server, ticket, LR_ORDER_BIG, "\0\0\0\6", 4), LR_OK);
   make_reply(7, 6);
   CHECK(is_due(&server));
-  WANT(lr_server_feed(&server, 1, NOW, message.all, message.size), (int64_t)message.size);
+  feed(&server, 1);
   CHECK(is_due(&server)); /* (now it is kept) */
   idle_servers_refuse(&server);
   server_works(&server, 2);
@@ -638,7 +742,7 @@ static void servers_refuse(void) {
   asking_servers_refuse(&server);
   raw_outcomes_are_refused(&server);
   WANT(lr_server_answer_raw(&server, ticket, LR_REPLY_LOCATION_FORWARD, LR_ORDER_LITTLE, body, sizeof body), LR_OK);
-  CHECK(lr_server_output(&server, room, sizeof room) == 24 + (int64_t)sizeof body && room[6] == LR_ORDER_LITTLE);
+  CHECK(lr_server_output(&server, 1, room, sizeof room) == 24 + (int64_t)sizeof body && room[6] == LR_ORDER_LITTLE);
   make_request(5, "raw", "anything", NULL, 0, 5);
   ask(&server, 1);
   raw_outcomes_are_refused(&server);
@@ -661,23 +765,23 @@ static void raw_requests_are_as_they_came(void) {
   put_octets(&message, "\1\2\3", 3);
   end_message(&message);
   ask(&server, 3);
-  WANT(lr_server_asked(&server, &request), 1);
+  WANT(lr_server_asked(&server, &request, sizeof request), 1);
   CHECK(request.connection == 3 && request.key_size == 3 && request.operation_size == 3 && request.is_raw == 1);
   CHECK(request.body_size == 3 && request.body_order == LR_ORDER_LITTLE && request.body_at == message.size - 3);
   CHECK(request.request_id == 9 && request.version == 2 && request.wish == LR_WISH_EMPTY);
   CHECK(request.has_client == 1 && request.retention_id == -5 && request.client_size == 6);
   CHECK(request.expiration == LATER);
   memset(room, 0xee, 16);
-  WANT(lr_server_part(&server, LR_PART_BODY, room, 2), 3); /* as much as the room has */
+  WANT(lr_server_part(&server, ticket, LR_PART_BODY, room, 2), 3); /* as much as the room has */
   CHECK(memcmp(room, "\1\2\xee", 3) == 0);
-  WANT(lr_server_part(&server, LR_PART_KEY, NULL, 0), 3);
-  WANT(lr_server_part(&server, LR_PART_OPERATION, room, sizeof room), 3);
+  WANT(lr_server_part(&server, ticket, LR_PART_KEY, NULL, 0), 3);
+  WANT(lr_server_part(&server, ticket, LR_PART_OPERATION, room, sizeof room), 3);
   CHECK(memcmp(room, "any", 3) == 0);
-  WANT(lr_server_part(&server, LR_PART_CLIENT, room, sizeof room), 6);
+  WANT(lr_server_part(&server, ticket, LR_PART_CLIENT, room, sizeof room), 6);
   CHECK(memcmp(room, "client", 6) == 0);
   WANT(lr_server_give_up(&server, ticket), LR_OK);
   WANT(lr_server_is_closed(&server, 3), 1);
-  WANT(lr_server_output(&server, room, sizeof room), 0);
+  WANT(lr_server_output(&server, 3, room, sizeof room), 0);
   WANT(lr_server_connect(&server, 4), LR_OK); /* it was given up, so it is asked again */
   ask(&server, 4);
   WANT(lr_server_answer_raw(&server, ticket, LR_REPLY_NO_EXCEPTION, LR_ORDER_BIG, "\1", 1), LR_OK);
@@ -707,24 +811,23 @@ static void connections_are_refused(void) {
   WANT(lr_server_connect(&server, UINT64_MAX), LR_E_CONNECTION);
   WANT(lr_server_feed(&server, 5, NOW, NULL, 0), 0);
   WANT(lr_server_feed(&server, 5, NOW, locate, sizeof locate), sizeof locate);
-  WANT(lr_server_feed(&server, UINT64_MAX, NOW, locate, sizeof locate), LR_E_DUE);
-  WANT(lr_server_farewell(&server, UINT64_MAX), LR_E_DUE);
-  WANT(lr_server_output(&server, NULL, 0), 0);
+  WANT(lr_server_feed(&server, UINT64_MAX, NOW, locate, sizeof locate), sizeof locate); /* (each has its own) */
+  WANT(lr_server_output(&server, 5, NULL, 0), 0);
   for (size_t index = 0; index < sizeof here; index++) {
-    WANT(lr_server_output(&server, room, 1), 1);
+    WANT(lr_server_output(&server, 5, room, 1), 1);
     CHECK(room[0] == here[index]);
   }
-  WANT(lr_server_output(&server, room, sizeof room), 0);
-  WANT(lr_server_feed(&server, UINT64_MAX, NOW, locate, sizeof locate), sizeof locate);
+  WANT(lr_server_output(&server, 5, room, sizeof room), 0);
+  WANT(lr_server_output(&server, 6, room, sizeof room), 0);
   WANT(lr_server_lost(&server, UINT64_MAX), LR_OK); /* what is due goes with it */
-  WANT(lr_server_output(&server, room, sizeof room), 0);
+  WANT(lr_server_output(&server, UINT64_MAX, room, sizeof room), 0);
   WANT(lr_server_feed(&server, 5, NOW, locate, sizeof locate), sizeof locate);
-  WANT(lr_server_farewell(&server, 5), LR_OK); /* of the same connection, and after what is due */
+  WANT(lr_server_farewell(&server, 5), LR_OK); /* after what is due */
   WANT(lr_server_is_closed(&server, 5), 1);
-  WANT(lr_server_output(&server, room, sizeof room), sizeof here + sizeof goodbye);
+  WANT(lr_server_output(&server, 5, room, sizeof room), sizeof here + sizeof goodbye);
   CHECK(memcmp(room, here, sizeof here) == 0 && memcmp(room + sizeof here, goodbye, sizeof goodbye) == 0);
   WANT(lr_server_farewell(&server, 5), LR_OK); /* once only */
-  WANT(lr_server_output(&server, room, sizeof room), 0);
+  WANT(lr_server_output(&server, 5, room, sizeof room), 0);
   lr_close(&server);
 }
 
@@ -742,7 +845,7 @@ static void objects_are_identified(void) {
   lr_server server = LR_INIT;
   open_catalogue(&catalogue);
   WANT(lr_catalogue_repository_ids(&catalogue, "c", 1, "IDL:C:1.0\0IDL:D:1.0", 20), LR_OK);
-  WANT(lr_server_open(&server, &catalogue, LIMIT, PARTIALS, 100, 100, 1, 2), LR_OK);
+  WANT(lr_server_open(&server, &catalogue, 1, 2), LR_OK);
   WANT(lr_server_connect(&server, 1), LR_OK);
   for (uint32_t index = 0; index < COUNT(asked); index++) {
     struct asking asking = {2, LR_ORDER_BIG, index, LR_WISH_FULL, "c", asked[index].operation, NULL, 0, 0};
@@ -751,7 +854,7 @@ static void objects_are_identified(void) {
     end_message(&message);
     ask(&server, 1);
     WANT(lr_server_identify(&server, ticket), 1);
-    WANT(lr_server_identify(&server, ticket), LR_E_IDLE);
+    WANT(lr_server_identify(&server, ticket), LR_E_TICKET);
     begin_reply(&wanted, 2, LR_ORDER_BIG, index, LR_REPLY_NO_EXCEPTION);
     put_number(&wanted, asked[index].answer, 1);
     end_message(&wanted);
@@ -766,13 +869,11 @@ static void client_names_are_refused(void) {
   char name[257];
   lr_client client = LR_INIT;
   memset(name, 'x', sizeof name);
-  WANT(lr_client_open(&client, NULL, 0, 2, LIMIT, PARTIALS), LR_E_TEXT);
-  WANT(lr_client_open(&client, name, 257, 2, LIMIT, PARTIALS), LR_E_TEXT);
-  WANT(lr_client_open(&client, "a\0b", 3, 2, LIMIT, PARTIALS), LR_E_TEXT);
-  WANT(lr_client_open(&client, "A", 1, 3, LIMIT, PARTIALS), LR_E_RANGE);
-  WANT(lr_client_open(&client, "A", 1, UINT32_MAX, LIMIT, PARTIALS), LR_E_RANGE);
+  WANT(lr_client_open(&client, NULL, 0), LR_E_TEXT);
+  WANT(lr_client_open(&client, name, 257), LR_E_TEXT);
+  WANT(lr_client_open(&client, "a\0b", 3), LR_E_TEXT);
   CHECK(client.kind == 0);
-  WANT(lr_client_open(&client, name, 256, 0, LIMIT, PARTIALS), LR_OK);
+  WANT(lr_client_open(&client, name, 256), LR_OK);
   lr_close(&client);
 }
 
@@ -798,11 +899,11 @@ static void clients_refuse(void) {
   lr_completion completion;
   memset(&completion, 0xee, sizeof completion);
   lr_completion before = completion;
-  WANT(lr_client_open(&client, "A", 1, 2, LIMIT, PARTIALS), LR_OK);
+  WANT(lr_client_open(&client, "A", 1), LR_OK);
   calls_are_refused(&client);
   WANT(lr_client_is_connected(&client), 0);
   WANT(lr_client_output(&client, room, sizeof room), 0);
-  WANT(lr_client_completed(&client, &completion), 0);
+  WANT(lr_client_completed(&client, &completion, sizeof completion), 0);
   CHECK(memcmp(&completion, &before, sizeof completion) == 0);
   WANT(lr_client_body(&client, room, sizeof room), LR_E_NONE);
   client_works(&client, 0);
@@ -817,15 +918,15 @@ static void clients_refuse(void) {
   WANT(call_add(&client), LR_E_CALLS);
   WANT(lr_client_cancel(&client, 3), 1);
   WANT(lr_client_cancel(&client, 3), 0);
-  WANT(lr_client_completed(&client, &completion), 1);
+  WANT(lr_client_completed(&client, &completion, sizeof completion), 1);
   CHECK(completion.call == 3 && completion.how == LR_ENDED_CANCELLED && completion.body_size == 0);
   WANT(lr_client_body(&client, room, sizeof room), LR_E_NONE);
   client_works(&client, 66);
   WANT(lr_client_tick(&client, LATER), LR_OK);
-  WANT(lr_client_completed(&client, &completion), 0);
+  WANT(lr_client_completed(&client, &completion, sizeof completion), 0);
   WANT(lr_client_tick(&client, LATER + 1), LR_OK);
   for (int64_t call = 4; call < 3 + 64; call++) {
-    WANT(lr_client_completed(&client, &completion), 1);
+    WANT(lr_client_completed(&client, &completion, sizeof completion), 1);
     CHECK(completion.call == call && completion.how == LR_ENDED_EXPIRED);
   }
   client_works(&client, 67);
@@ -847,7 +948,7 @@ static void assemblers_refuse(void) {
   lr_message before = head;
   uint32_t id = 77;
   WANT(lr_assembler_open(&assembler, LIMIT, PARTIALS), LR_OK);
-  WANT(lr_assembler_message(&assembler, &head), 0);
+  WANT(lr_assembler_message(&assembler, &head, sizeof head), 0);
   CHECK(memcmp(&head, &before, sizeof head) == 0);
   WANT(lr_assembler_part(&assembler, LR_PART_KEY, room, sizeof room), LR_E_NONE);
   WANT(lr_assembler_context(&assembler, 0, &id, room, sizeof room), LR_E_NONE);
@@ -862,7 +963,7 @@ static void assemblers_refuse(void) {
   CHECK(id == 77);
   CHECK(lr_assembler_context(&assembler, 0, &id, NULL, 0) > 0 && id == LR_CONTEXT_FT_REQUEST);
   WANT(lr_assembler_feed(&assembler, goodbye, sizeof goodbye), sizeof goodbye);
-  WANT(lr_assembler_message(&assembler, &head), 1);
+  WANT(lr_assembler_message(&assembler, &head, sizeof head), 1);
   CHECK(head.type == LR_MSG_CLOSE_CONNECTION && head.key_size == 0 && head.body_size == 0 && head.has_key == 0);
   for (uint32_t part = LR_PART_KEY; part <= LR_PART_PAYLOAD; part++)
     WANT(lr_assembler_part(&assembler, part, room, sizeof room), LR_E_NONE);
@@ -926,7 +1027,8 @@ static void messages_are_refused(void) {
   WANT(lr_write_reply(room, sizeof room, 2, LR_ORDER_BIG, 7, LR_REPLY_NEEDS_ADDRESSING_MODE + 1, NULL, 0), LR_E_RANGE);
   WANT(lr_write_reply(room, sizeof room, 0, LR_ORDER_BIG, 7, LR_REPLY_LOCATION_FORWARD_PERM, NULL, 0), LR_E_RANGE);
   WANT(lr_write_reply(room, wanted.size - 1, 2, LR_ORDER_BIG, 7, LR_REPLY_NO_EXCEPTION, "\0\0\0\6", 4), LR_E_ROOM);
-  WANT(lr_write_reply(room, wanted.size, 2, LR_ORDER_BIG, 7, LR_REPLY_NO_EXCEPTION, "\0\0\0\6", 4), (int64_t)wanted.size);
+  WANT(lr_write_reply(room, wanted.size, 2, LR_ORDER_BIG, 7, LR_REPLY_NO_EXCEPTION, "\0\0\0\6", 4),
+       (int64_t)wanted.size);
   CHECK(equal(room, wanted.size, &wanted));
   WANT(lr_write_cancel(room, sizeof room, 3, LR_ORDER_BIG, 7), LR_E_RANGE);
   WANT(lr_write_cancel(room, sizeof room, 2, 2, 7), LR_E_RANGE);
@@ -997,8 +1099,8 @@ static void references_are_refused(void) {
   WANT(lr_ior_iiop(&ior, "IDL:C:1.0", 9, 2, "a\0b", 3, 2809, "c", 1), LR_E_TEXT);
   CHECK(ior.kind == 0);
   open_ior(&ior);
-  WANT(lr_ior_profile(&ior, 1, &profile), LR_E_NONE);
-  WANT(lr_ior_profile(&ior, UINT32_MAX, &profile), LR_E_NONE);
+  WANT(lr_ior_profile(&ior, 1, &profile, sizeof profile), LR_E_NONE);
+  WANT(lr_ior_profile(&ior, UINT32_MAX, &profile, sizeof profile), LR_E_NONE);
   CHECK(memcmp(&profile, &before, sizeof profile) == 0);
   WANT(lr_ior_part(&ior, 1, LR_IOR_DATA, room, sizeof room), LR_E_NONE);
   WANT(lr_ior_part(&ior, 0, 3, room, sizeof room), LR_E_NONE);
@@ -1017,7 +1119,7 @@ static void references_are_refused(void) {
   ior_works(&ior);
   lr_close(&other);
   WANT(lr_ior_parse(&other, REFERENCE, SIZE(REFERENCE)), LR_OK);
-  WANT(lr_ior_profile(&other, 0, &profile), LR_OK);
+  WANT(lr_ior_profile(&other, 0, &profile, sizeof profile), LR_OK);
   CHECK(profile.tag == 0 && profile.is_iiop == 1 && profile.minor == 2 && profile.port == 2809);
   CHECK(profile.data_size == 40 && profile.host_size == 4 && profile.key_size == 1 && profile.components == 1);
   WANT(lr_ior_component(&other, 0, 0, &tag, room, sizeof room), 4);
@@ -1106,8 +1208,8 @@ static void slots_are_closed_by_kind(void) {
   lr_ior ior = LR_INIT;
   WANT(lr_catalogue_open(&catalogue), LR_OK);
   WANT(lr_catalogue_open(&other), LR_OK);
-  WANT(lr_server_open(&server, &other, LIMIT, PARTIALS, 1, 1, 1, 2), LR_OK);
-  WANT(lr_client_open(&client, "A", 1, 2, LIMIT, PARTIALS), LR_OK);
+  WANT(lr_server_open(&server, &other, 1, 2), LR_OK);
+  WANT(lr_client_open(&client, "A", 1), LR_OK);
   WANT(lr_assembler_open(&assembler, LIMIT, PARTIALS), LR_OK);
   WANT(lr_ior_iiop(&ior, "IDL:C:1.0", 9, 2, "host", 4, 2809, "c", 1), LR_OK);
   for (int times = 0; times < 2; times++) {

@@ -78,11 +78,15 @@ struct exchange {
 
 static int64_t returns(void) { return lr_server_answer(&server, ticket, LR_ORDER_BIG, "\0\0\0\6", 4); }
 
-static int64_t raises(void) { return lr_server_raise(&server, ticket, RAISED, SIZE(RAISED), LR_ORDER_BIG, "\0\0\0\7", 4); }
+static int64_t raises(void) {
+  return lr_server_raise(&server, ticket, RAISED, SIZE(RAISED), LR_ORDER_BIG, "\0\0\0\7", 4);
+}
 
 static int64_t fails(void) { return lr_server_system(&server, ticket, LR_EX_UNKNOWN, 0, LR_COMPLETED_MAYBE); }
 
-static int64_t writes(void) { return lr_server_answer_raw(&server, ticket, LR_REPLY_NO_EXCEPTION, LR_ORDER_BIG, "\1\2\3", 3); }
+static int64_t writes(void) {
+  return lr_server_answer_raw(&server, ticket, LR_REPLY_NO_EXCEPTION, LR_ORDER_BIG, "\1\2\3", 3);
+}
 
 static int64_t identifies(void) {
   int64_t answer = lr_server_identify(&server, ticket);
@@ -103,14 +107,14 @@ static void open_server(void) {
   AGAIN(lr_catalogue_raw_operation(&catalogue, "c", 1, "raw", 3), LR_OK);
   AGAIN(lr_catalogue_raw_object(&catalogue, "r", 1), LR_OK);
   AGAIN(lr_catalogue_repository_ids(&catalogue, "c", 1, "IDL:C:1.0\0IDL:D:1.0", 20), LR_OK);
-  AGAIN(lr_server_open(&server, &catalogue, LIMIT, PARTIALS, 100, 100, 1, 2), LR_OK);
+  AGAIN(lr_server_open(&server, &catalogue, 1, 2), LR_OK);
   CHECK(catalogue.kind == 0);
 }
 
 /* The connection is gone, and nothing was answered on it. */
 static void reconnect(void) {
   WANT(lr_server_is_closed(&server, connection), 1);
-  WANT(lr_server_output(&server, room, sizeof room), 0);
+  WANT(lr_server_output(&server, connection, room, sizeof room), 0);
   connection++;
   AGAIN(lr_server_connect(&server, connection), LR_OK);
 }
@@ -119,18 +123,18 @@ static void reconnect(void) {
 static bool perform(struct exchange *exchange) {
   unsigned char part[64];
   lr_request asked;
-  WANT(lr_server_asked(&server, &asked), 1);
+  WANT(lr_server_asked(&server, &asked, sizeof asked), 1);
   ticket = asked.ticket;
   for (uint32_t index = LR_PART_KEY; index <= LR_PART_CLIENT; index++) {
     int64_t sizes[] = {(int64_t)asked.key_size, (int64_t)asked.operation_size, (int64_t)asked.body_size,
                        (int64_t)asked.client_size};
-    AGAIN(lr_server_part(&server, index, part, sizeof part), sizes[index]);
+    AGAIN(lr_server_part(&server, ticket, index, part, sizeof part), sizes[index]);
   }
   exchange->asked++;
   int64_t answer = exchange->answer();
   if (answer == LR_E_MEMORY) {
     CHECK(tell());
-    WANT(lr_server_asked(&server, &asked), 1); /* it waits still */
+    WANT(lr_server_asked(&server, &asked, sizeof asked), 1); /* it waits still */
     answer = exchange->answer();
   }
   if (answer != LR_E_LOST) return WANT(answer, LR_OK);
@@ -149,13 +153,13 @@ static bool send(struct exchange *exchange) {
     return false;
   }
   WANT(taken, (int64_t)exchange->request.size);
-  return lr_server_asked(&server, &asked) != 1 || perform(exchange);
+  return lr_server_asked(&server, &asked, sizeof asked) != 1 || perform(exchange);
 }
 
 /* Sends the request until its reply is due, which is once more where an allocation was refused. */
 static void send_until_answered(struct exchange *exchange) {
   for (int tries = 0; tries < 2 && !send(exchange); tries++) reconnect();
-  int64_t size = lr_server_output(&server, room, sizeof room);
+  int64_t size = lr_server_output(&server, connection, room, sizeof room);
   CHECK(size >= 0 && equal(room, (size_t)size, &exchange->reply));
 }
 
@@ -171,7 +175,8 @@ static void make_exchange(struct exchange *exchange, uint32_t id, const char *ke
     put_number(&exchange->request, 5, 4);
   }
   end_message(&exchange->request);
-  begin_reply(&exchange->reply, 2, LR_ORDER_BIG, id, answer == raises ? LR_REPLY_USER_EXCEPTION : LR_REPLY_NO_EXCEPTION);
+  begin_reply(&exchange->reply, 2, LR_ORDER_BIG, id,
+              answer == raises ? LR_REPLY_USER_EXCEPTION : LR_REPLY_NO_EXCEPTION);
   if (answer == returns) put_number(&exchange->reply, 6, 4);
   if (answer == raises) put_text(&exchange->reply, RAISED);
   if (answer == raises) put_number(&exchange->reply, 7, 4);
@@ -218,7 +223,7 @@ static void ask(struct exchange *exchange) {
     }
   }
   WANT(taken, (int64_t)exchange->request.size);
-  WANT(lr_server_asked(&server, &asked), 1);
+  WANT(lr_server_asked(&server, &asked, sizeof asked), 1);
   ticket = asked.ticket;
 }
 
@@ -241,7 +246,7 @@ static void is_turned_down(struct exchange *exchange, uint32_t id) {
   } else {
     WANT(answer, LR_OK);
     system_reply(&refusal, 2, id, "IDL:omg.org/CORBA/TRANSIENT:1.0", LR_COMPLETED_NO);
-    int64_t size = lr_server_output(&server, room, sizeof room);
+    int64_t size = lr_server_output(&server, connection, room, sizeof room);
     CHECK(size >= 0 && equal(room, (size_t)size, &refusal));
   }
   acts_once(exchange);
@@ -251,7 +256,7 @@ static void is_turned_down(struct exchange *exchange, uint32_t id) {
 static void is_sent_away(struct exchange *exchange) {
   ask(exchange);
   AGAIN(lr_server_goodbye(&server, ticket), LR_OK);
-  WANT(lr_server_output(&server, room, sizeof room), sizeof goodbye);
+  WANT(lr_server_output(&server, connection, room, sizeof room), sizeof goodbye);
   CHECK(memcmp(room, goodbye, sizeof goodbye) == 0);
   reconnect();
   acts_once(exchange);
@@ -262,10 +267,10 @@ static void says_goodbye(void) {
   int64_t answer = lr_server_farewell(&server, connection);
   if (answer == LR_E_LOST) {
     CHECK(tell());
-    WANT(lr_server_output(&server, room, sizeof room), 0);
+    WANT(lr_server_output(&server, connection, room, sizeof room), 0);
   } else {
     WANT(answer, LR_OK);
-    WANT(lr_server_output(&server, room, sizeof room), sizeof goodbye);
+    WANT(lr_server_output(&server, connection, room, sizeof room), sizeof goodbye);
     CHECK(memcmp(room, goodbye, sizeof goodbye) == 0);
   }
   WANT(lr_server_is_closed(&server, connection), 1);
@@ -330,7 +335,7 @@ static bool reply_to_all(const unsigned char *sent, size_t size) {
 
 static void take_completions(void) {
   lr_completion completion;
-  while (lr_client_completed(&client, &completion) == 1) {
+  while (lr_client_completed(&client, &completion, sizeof completion) == 1) {
     unsigned char body[8];
     if (!CHECK(completion.call > 0 && completion.call < 8)) return;
     completed[completion.call]++;
@@ -359,7 +364,7 @@ static void call_add(int64_t number) {
 static void calls(void) {
   client = (lr_client)LR_INIT;
   memset(completed, 0, sizeof completed);
-  AGAIN(lr_client_open(&client, "A", 1, 2, LIMIT, PARTIALS), LR_OK);
+  AGAIN(lr_client_open(&client, "A", 1), LR_OK);
   call_add(1);
   call_add(2);
   connect_client();
@@ -393,12 +398,12 @@ static void goes_on(void) {
   struct octets reply;
   client = (lr_client)LR_INIT;
   memset(completed, 0, sizeof completed);
-  AGAIN(lr_client_open(&client, "A", 1, 2, LIMIT, PARTIALS), LR_OK);
+  AGAIN(lr_client_open(&client, "A", 1), LR_OK);
   WANT(lr_client_set(&client, LR_CLIENT_KEEP_FORWARD, 1), LR_OK);
   WANT(lr_client_skip_to(&client, 2), LR_OK);
   AGAIN(lr_client_recall(&client, 3, NOW, LATER, "c", 1, "add", 3, one_long, 1, LR_ORDER_BIG, "\0\0\0\5", 4), LR_OK);
   connect_client();
-  for (int tries = 0; lr_client_forwarded(&client, &led, room, sizeof room) == 0 && tries < 2; tries++) {
+  for (int tries = 0; lr_client_forwarded(&client, &led, sizeof led, room, sizeof room) == 0 && tries < 2; tries++) {
     begin_reply(&reply, 2, LR_ORDER_BIG, sent_id(), LR_REPLY_LOCATION_FORWARD);
     put_octets(&reply, "reference", 9);
     end_message(&reply);
@@ -406,7 +411,7 @@ static void goes_on(void) {
     CHECK(tell());
     connect_client();
   }
-  WANT(lr_client_forwarded(&client, &led, room, sizeof room), 1);
+  WANT(lr_client_forwarded(&client, &led, sizeof led, room, sizeof room), 1);
   CHECK(led.call == 3 && led.body_size == 9 && memcmp(room, "reference", 9) == 0);
   AGAIN(lr_client_redirect(&client, 3, "d", 1, "add", 3, one_long, 1, LR_ORDER_BIG, "\0\0\0\5", 4), LR_OK);
   if (lr_client_resend(&client, NOW) == LR_E_LOST) {
@@ -441,7 +446,7 @@ static bool assembles(lr_assembler *assembler, const struct octets *octets) {
     if (!CHECK(taken > 0)) return true;
     at += (size_t)taken;
   }
-  WANT(lr_assembler_message(assembler, &head), 1);
+  WANT(lr_assembler_message(assembler, &head, sizeof head), 1);
   CHECK(head.type == LR_MSG_REQUEST && head.request_id == 6 && head.has_client == 1 && head.contexts == 1);
   AGAIN(lr_assembler_part(assembler, LR_PART_OPERATION, room, sizeof room), (int64_t)head.operation_size);
   AGAIN(lr_assembler_part(assembler, LR_PART_CLIENT, room, sizeof room), 1);
@@ -471,7 +476,7 @@ static void refers(void) {
   AGAIN(lr_ior_print(&ior, room, sizeof room), (int64_t)SIZE(REFERENCE));
   CHECK(memcmp(room, REFERENCE, SIZE(REFERENCE)) == 0);
   AGAIN(lr_ior_profiles(&ior), 1);
-  AGAIN(lr_ior_profile(&ior, 0, &profile), LR_OK);
+  AGAIN(lr_ior_profile(&ior, 0, &profile, sizeof profile), LR_OK);
   CHECK(profile.is_iiop == 1 && profile.port == 2809 && profile.host_size == 4 && profile.key_size == 1);
   AGAIN(lr_ior_part(&ior, 0, LR_IOR_HOST, room, sizeof room), 4);
   AGAIN(lr_ior_part(&ior, 0, LR_IOR_KEY, room, sizeof room), 1);
@@ -488,11 +493,12 @@ static void writes_messages(void) {
   AGAIN(lr_write_ft(ft, sizeof ft, LR_ORDER_BIG, "A", 1, 3, LATER), 24);
   struct exchange exchange;
   make_exchange(&exchange, 3, "c", "add", "A", returns);
-  AGAIN(lr_write_request(room, sizeof room, 2, LR_ORDER_BIG, 3, LR_WISH_FULL, "c", 1, "add", 3, LR_CONTEXT_FT_REQUEST, ft, 24,
-                         "\0\0\0\5", 4),
+  AGAIN(lr_write_request(room, sizeof room, 2, LR_ORDER_BIG, 3, LR_WISH_FULL, "c", 1, "add", 3, LR_CONTEXT_FT_REQUEST,
+                         ft, 24, "\0\0\0\5", 4),
         (int64_t)exchange.request.size);
   CHECK(equal(room, exchange.request.size, &exchange.request));
-  AGAIN(lr_write_reply(room, sizeof room, 2, LR_ORDER_BIG, 3, LR_REPLY_NO_EXCEPTION, "\0\0\0\6", 4), (int64_t)exchange.reply.size);
+  AGAIN(lr_write_reply(room, sizeof room, 2, LR_ORDER_BIG, 3, LR_REPLY_NO_EXCEPTION, "\0\0\0\6", 4),
+        (int64_t)exchange.reply.size);
   CHECK(equal(room, exchange.reply.size, &exchange.reply));
   AGAIN(lr_write_cancel(room, sizeof room, 2, LR_ORDER_BIG, 7), 16);
   AGAIN(lr_write_locate_request(room, sizeof room, 0, LR_ORDER_BIG, 7, "c", 1), 21);

@@ -7,7 +7,7 @@
 
 #include "loop.h"
 
-enum { LIMIT = 4096, LONG = 1000000 };
+enum { LONG = 1000000 };
 
 static const unsigned char zeros[LONG];
 static unsigned char result[4 + LONG];
@@ -26,10 +26,10 @@ int main(int count, char **words) {
   int listener = loop_listen(words[1], &port);
   if (listener < 0 || lr_catalogue_open(&catalogue) != LR_OK || lr_catalogue_object(&catalogue, "long", 4) != LR_OK ||
       lr_catalogue_operation(&catalogue, "long", 4, "get", 3, NULL, 0, octets, 1) != LR_OK ||
-      lr_server_open(&server, &catalogue, LIMIT, 8, 100, 100, 1, 2) != LR_OK ||
+      lr_server_open(&server, &catalogue, 1, 2) != LR_OK ||
       loop_print("IDL:Long:1.0", 12, 2, words[1], port, "long", 4) < 0)
     return 1;
-  int served = loop_serve(&server, listener, perform);
+  int served = loop_serve(&server, listener, perform, NULL);
   lr_close(&server);
   return served == 0 ? 0 : 1;
 }

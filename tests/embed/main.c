@@ -7,7 +7,7 @@ int main(void) {
   lr_server server = LR_INIT;
   int64_t done = lr_catalogue_open(&catalogue);
   if (done == LR_OK) done = lr_catalogue_object(&catalogue, "c", 1);
-  if (done == LR_OK) done = lr_server_open(&server, &catalogue, 4096, 1, 1, 1, 1, 2);
+  if (done == LR_OK) done = lr_server_open(&server, &catalogue, 1, 2);
   lr_close(&server);
   printf("%s\n", lr_strerror(done));
   return done != LR_OK;

@@ -97,12 +97,12 @@ static void perform(const struct connection *at) {
   unsigned char body[8], client[24], result[8];
   lr_place in = {0, 0, LR_ORDER_BIG, 0}, out = {0, 0, LR_ORDER_LITTLE, 0};
   int64_t request = -1;
-  WANT(lr_server_asked(&server, &asked), 1);
-  WANT(lr_server_part(&server, LR_PART_BODY, body, sizeof body), sizeof body);
+  WANT(lr_server_asked(&server, &asked, sizeof asked), 1);
+  WANT(lr_server_part(&server, asked.ticket, LR_PART_BODY, body, sizeof body), sizeof body);
   WANT(lr_get_longlong(body, sizeof body, &in, &request), LR_OK);
   if (!CHECK(request >= 0 && request < REQUESTS)) exit(check_end());
   const char *name = client_of[request % CLIENTS];
-  WANT(lr_server_part(&server, LR_PART_CLIENT, client, sizeof client), (int64_t)strlen(name));
+  WANT(lr_server_part(&server, asked.ticket, LR_PART_CLIENT, client, sizeof client), (int64_t)strlen(name));
   CHECK(memcmp(client, name, strlen(name)) == 0 && asked.retention_id == request && asked.expiration == LATER);
   CHECK(asked.connection == at->number && asked.request_id == at->sent->asking.request_id);
   asked_of[request]++;
@@ -111,15 +111,16 @@ static void perform(const struct connection *at) {
   WANT(lr_server_answer(&server, asked.ticket, LR_ORDER_LITTLE, result, sizeof result), LR_OK);
 }
 
-/* Whether the reply to a transmission is all that is due. */
-static bool is_answered(const struct sent *sent) {
+/* Whether the reply to a transmission is all that is due on its connection. */
+static bool is_answered(const struct connection *at, const struct sent *sent) {
   struct octets wanted;
   unsigned char room[256];
   begin_reply(&wanted, sent->asking.version, LR_ORDER_BIG, sent->asking.request_id, LR_REPLY_NO_EXCEPTION);
   put_number(&wanted, (uint64_t)outcome_of[sent->request], 8);
   end_message(&wanted);
-  int64_t size = lr_server_output(&server, room, sizeof room);
-  return size >= 0 && equal(room, (size_t)size, &wanted) && lr_server_output(&server, room, sizeof room) == 0;
+  int64_t size = lr_server_output(&server, at->number, room, sizeof room);
+  return size >= 0 && equal(room, (size_t)size, &wanted) &&
+         lr_server_output(&server, at->number, room, sizeof room) == 0;
 }
 
 /* A piece comes: within one transmission, so that what is due after it is known. */
@@ -132,13 +133,13 @@ static void come(struct connection *at) {
   WANT(lr_server_feed(&server, at->number, NOW, sent->octets + at->came, size), (int64_t)size);
   at->came += size;
   bool is_first = at->came == sent->size && asked_of[sent->request] == 0;
-  WANT(lr_server_asked(&server, &asked), is_first);
+  WANT(lr_server_asked(&server, &asked, sizeof asked), is_first);
   if (is_first) perform(at);
   if (at->came < sent->size) {
-    WANT(lr_server_output(&server, room, sizeof room), 0);
+    WANT(lr_server_output(&server, at->number, room, sizeof room), 0);
     return;
   }
-  CHECK(is_answered(sent));
+  CHECK(is_answered(at, sent));
   at->sent = sent->next;
   at->came = 0;
 }
@@ -156,7 +157,7 @@ static void open_server(void) {
   WANT(lr_catalogue_open(&catalogue), LR_OK);
   WANT(lr_catalogue_object(&catalogue, "c", 1), LR_OK);
   WANT(lr_catalogue_operation(&catalogue, "c", 1, "give", 4, number, 1, number, 1), LR_OK);
-  WANT(lr_server_open(&server, &catalogue, 4096, 1, REQUESTS, REQUESTS, 1, 2), LR_OK);
+  WANT(lr_server_open(&server, &catalogue, 1, 2), LR_OK);
 }
 
 int main(void) {

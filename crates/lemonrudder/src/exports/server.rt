@@ -1,11 +1,12 @@
 //! A server of requests that may be sent again.
 
-ghost use Rattle.std.specs.Prelude.{◌≡◌};
+ghost use Rattle.std.specs.Prelude.{◌≡◌, ◌≤ℤ◌, pos};
 ghost use Rattle.lemonrudder.specs.Answers.{OnServer};
 ghost use Rattle.lemonrudder.specs.Declining.{OnGoodbye, OnRefuse};
 ghost use Rattle.lemonrudder.specs.Hosting.{Hosts, Leaves, OpensServer};
 ghost use Rattle.lemonrudder.specs.Outcomes.{OnAnswer, OnAnswerRaw, OnIdentify, OnRaise, OnSystem};
 ghost use Rattle.lemonrudder.specs.Pairs.{OnServerAndCatalogue};
+ghost use Rattle.lemonrudder.specs.Parks.{OnNextDue, OnPark, OnParked, OnParkedOf};
 ghost use Rattle.lemonrudder.specs.Setting.{OnSet};
 ghost use Rattle.lemonrudder.specs.Swapping.{OnSwap};
 ghost use Rattle.lemonrudder.specs.Questions.{OnAsked, OnPart};
@@ -15,7 +16,6 @@ ghost use Rattle.lemonrudder.specs.Slots.{held_in, unboxed};
 use crate::cataloguing::no_families;
 use crate::object::Object;
 use crate::refusal::Refusal;
-use crate::request::RequestHead;
 use crate::seed::Seed;
 use crate::served;
 use crate::serving::Serving;
@@ -190,30 +190,36 @@ pub extern "C" fn lr_server_feed(
     answer
 }
 
-/// Says what waits.
+/// Says what waits: `lr_request`.
 #[unsafe(no_mangle)]
-pub extern "C" fn lr_server_asked(alloc: Global, slot: &mut Slot, request: &mut RequestHead) -> i64
-    ensures does { OnServer (OnAsked request.old request.new) (held_in slot.old) (held_in slot.new) result }
-    ensures request { HasNoServer (held_in slot.old) → request.new ≡ request.old }
+pub extern "C" fn lr_server_asked(alloc: Global, slot: &mut Slot, room: &mut [u8]) -> i64
+    ensures does { OnServer (OnAsked room.old room.new) (held_in slot.old) (held_in slot.new) result }
+    ensures none { result ≤ℤ pos 0 → room.new ≡ room.old }
 {
     let Some(object) = slot.take(alloc) else {
         return Refusal::Empty.number();
     };
-    let answer = served::asked(&object, request);
+    let answer = served::asked(&object, room);
     slot.put(object);
     answer
 }
 
-/// Copies a part of the request that waits.
+/// Copies a part of the request of a ticket, which waits or is parked.
 #[unsafe(no_mangle)]
-pub extern "C" fn lr_server_part(alloc: Global, slot: &mut Slot, part: u32, room: &mut [u8]) -> i64
-    ensures does { OnServer (OnPart part room.old room.new) (held_in slot.old) (held_in slot.new) result }
+pub extern "C" fn lr_server_part(
+    alloc: Global,
+    slot: &mut Slot,
+    ticket: u64,
+    part: u32,
+    room: &mut [u8],
+) -> i64
+    ensures does { OnServer (OnPart ticket part room.old room.new) (held_in slot.old) (held_in slot.new) result }
     ensures room { HasNoServer (held_in slot.old) → room.new ≡ room.old }
 {
     let Some(object) = slot.take(alloc) else {
         return Refusal::Empty.number();
     };
-    let answer = served::part(&object, part, room);
+    let answer = served::part(&object, ticket, part, room);
     slot.put(object);
     answer
 }
@@ -323,7 +329,7 @@ pub extern "C" fn lr_server_give_up(alloc: Global, slot: &mut Slot, ticket: u64)
     answer
 }
 
-/// Refuses the request that waits, for now.
+/// Refuses the request of a ticket, for now.
 #[unsafe(no_mangle)]
 pub extern "C" fn lr_server_refuse(
     alloc: Global,
@@ -355,16 +361,74 @@ pub extern "C" fn lr_server_goodbye(alloc: Global, slot: &mut Slot, ticket: u64)
     answer
 }
 
-/// Moves octets that are due into a room.
+/// Moves octets that are due on a connection into a room.
 #[unsafe(no_mangle)]
-pub extern "C" fn lr_server_output(alloc: Global, slot: &mut Slot, room: &mut [u8]) -> i64
-    ensures does { OnServer (OnOutput room.old room.new) (held_in slot.old) (held_in slot.new) result }
+pub extern "C" fn lr_server_output(
+    alloc: Global,
+    slot: &mut Slot,
+    connection: u64,
+    room: &mut [u8],
+) -> i64
+    ensures does { OnServer (OnOutput connection room.old room.new) (held_in slot.old) (held_in slot.new) result }
     ensures room { HasNoServer (held_in slot.old) → room.new ≡ room.old }
 {
     let Some(mut object) = slot.take(alloc) else {
         return Refusal::Empty.number();
     };
-    let answer = served::output(&mut object, room);
+    let answer = served::output(&mut object, connection, room);
+    slot.put(object);
+    answer
+}
+
+/// Parks the request that waits.
+#[unsafe(no_mangle)]
+pub extern "C" fn lr_server_park(alloc: Global, slot: &mut Slot, ticket: u64) -> i64
+    ensures { OnServer (OnPark ticket) (held_in slot.old) (held_in slot.new) result }
+{
+    let Some(mut object) = slot.take(alloc) else {
+        return Refusal::Empty.number();
+    };
+    let answer = served::park(&mut object, ticket);
+    slot.put(object);
+    answer
+}
+
+/// How many requests are parked.
+#[unsafe(no_mangle)]
+pub extern "C" fn lr_server_parked(alloc: Global, slot: &mut Slot) -> i64
+    ensures { OnServer OnParked (held_in slot.old) (held_in slot.new) result }
+{
+    let Some(object) = slot.take(alloc) else {
+        return Refusal::Empty.number();
+    };
+    let answer = served::parked(&object);
+    slot.put(object);
+    answer
+}
+
+/// How many of the parked requests came on a connection.
+#[unsafe(no_mangle)]
+pub extern "C" fn lr_server_parked_of(alloc: Global, slot: &mut Slot, connection: u64) -> i64
+    ensures { OnServer (OnParkedOf connection) (held_in slot.old) (held_in slot.new) result }
+{
+    let Some(object) = slot.take(alloc) else {
+        return Refusal::Empty.number();
+    };
+    let answer = served::parked_of(&object, connection);
+    slot.put(object);
+    answer
+}
+
+/// Names a connection on which octets came due that no call on it brought.
+#[unsafe(no_mangle)]
+pub extern "C" fn lr_server_next_due(alloc: Global, slot: &mut Slot, connection: &mut u64) -> i64
+    ensures does { OnServer (OnNextDue connection.old connection.new) (held_in slot.old) (held_in slot.new) result }
+    ensures connection { HasNoServer (held_in slot.old) → connection.new ≡ connection.old }
+{
+    let Some(mut object) = slot.take(alloc) else {
+        return Refusal::Empty.number();
+    };
+    let answer = served::next_due(&mut object, connection);
     slot.put(object);
     answer
 }
