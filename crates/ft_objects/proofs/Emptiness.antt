@@ -28,6 +28,6 @@ module _ (m : BTreeMap (Vec ℕ Global) Object) where
   pub none_there : offer_in (at m) ≡ nothing → btree_map_len m ≡ 0
   none_there h = by m.entries (ap (λ (o : Offer). o.knows) h)
     where
-      by : (es : List (Vec ℕ Global × Object)) → (λ (key : List ℕ). is_some (under es key)) ≡ (λ key. false) → length es ≡ 0
+      by : (es : List (Vec ℕ Global × Object)) → ◌≡◌ {A = List ℕ → Bool} (λ key. is_some (under es key)) (λ key. false) → length es ≡ 0
       by [] h = refl
       by (x ∷ es) h = absurd (true≢false (sym (ap (λ b. is_some (cond b (Some x.1) (under es x.0.items))) (at-itself x.0.items)) ∙ ap (λ (f : List ℕ → Bool). f x.0.items) h))
