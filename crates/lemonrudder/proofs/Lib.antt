@@ -14,6 +14,7 @@ mod Idling
 mod Invoking
 mod Lending
 mod Machine
+mod Offered
 mod Owing
 mod OwingLate
 mod Pairs

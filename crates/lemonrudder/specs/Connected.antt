@@ -1,8 +1,10 @@
 -- The connections of a server: words of `Serves`, and so of what the exports promise.
-use Rattle.std.specs.Prelude.{◌≡◌, ◌==◌, ℕ, Bool, false, List, [], Option, is_some}
+use Rattle.std.specs.Prelude.{◌≡◌, ◌==◌, ℕ, Bool, true, false, List, [], Option, is_some}
 use Rattle.std.specs.Option.{option_map_or}
 use Rattle.std.specs.Ordering.{nat_cmp}
 use Rattle.std.specs.BTreeMap.{get}
+use Rattle.ft_orb.specs.declared.engine.Engine.{Engine}
+use Rattle.ft_orb.specs.Engines.{Awaited, waits_in}
 use Rattle.lemonrudder.specs.declared.connections.Connection.{Connection}
 use Rattle.lemonrudder.specs.declared.connections.Connections.{Connections}
 use Rattle.lemonrudder.specs.Dues.{owed}
@@ -29,3 +31,9 @@ AreOthers c k l = (q : ℕ) → (c == q) ≡ false → connection_at l q ≡ con
 -- .. of which only what is due may be another
 abbrev pub OnlyDue : ℕ → Connections → Connections → Type 0
 OnlyDue c k l = (is_there l c ≡ is_there k c) × AreOthers c k l
+
+-- Words of private functions.
+
+-- the connection of what waits is there, if something waits
+abbrev pub is_asked_there : {C : Type 0} → Connections → Engine C → Bool
+is_asked_there k e = option_map_or (λ (w : Awaited). is_there k w.connection) (waits_in e) true

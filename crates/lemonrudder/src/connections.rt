@@ -1,9 +1,7 @@
 //! The connections of a server, and what is due on each.
 
 ghost use Rattle.std.specs.Prelude.{◌≡◌, [], ℕ, false, true, drop, length, min, OnErr, OnOk, IfErr};
-ghost use Rattle.lemonrudder.specs.Connected.{AreOthers, AreSame, OnlyDue, is_there, owed_in};
 ghost use Rattle.lemonrudder.specs.Dues.{IsPlaced, owed};
-ghost use Rattle.lemonrudder.specs.Refusals.{filled};
 
 use crate::due::Due;
 use crate::refusal::Refusal;
@@ -26,6 +24,9 @@ pub struct Connections {
 }
 
 impl Connections {
+    ghost use Rattle.lemonrudder.specs.Connected.{AreOthers, AreSame, OnlyDue, is_there, owed_in};
+    ghost use Rattle.lemonrudder.specs.Refusals.{filled};
+
     /// None.
     pub fn new(alloc: Global) -> Connections
         ensures { (c : ℕ) → is_there result c ≡ false }

@@ -1,7 +1,7 @@
 //! A server, with the octets that are due on each of its connections: what it takes and writes.
 
 ghost use Rattle.std.specs.Prelude.{◌≡◌, IsTrue, true};
-ghost use Rattle.lemonrudder.specs.Serves.{is_asked_there};
+ghost use Rattle.lemonrudder.specs.Connected.{is_asked_there};
 
 mod declining;
 mod looking;
