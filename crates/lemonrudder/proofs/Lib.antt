@@ -1,9 +1,12 @@
+mod Asked
 mod Assemblers
+mod Bounded
 mod Catalogues
 mod Clients
 mod Coding
 mod Counts
 mod Declaring
+mod Declined
 mod Ended
 mod Finding
 mod Handing
@@ -16,6 +19,7 @@ mod Machine
 mod Owing
 mod OwingLate
 mod Pairs
+mod Parking
 mod Putting
 mod Raising
 mod Reading
@@ -24,6 +28,6 @@ mod Refusing
 mod Resuming
 mod Servers
 mod Telling
-mod Unparked
+mod Tellings
 mod Values
 mod Written

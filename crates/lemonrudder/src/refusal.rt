@@ -2,12 +2,12 @@
 
 ghost use Rattle.std.specs.Prelude.{◌≡◌, ◌<◌, ◌≤◌, length};
 ghost use Rattle.lemonrudder.specs.declared.refusal.Refusal.TheVariants.{Memory};
-ghost use Rattle.lemonrudder.specs.Refusals.{error_number, filled, number_in, refusal_of_calling, refusal_of_connecting, refusal_of_fault, refusal_of_offering, refusal_of_parking, refusal_of_reading, refusal_of_recalling, refusal_of_redirecting, refusal_of_referring, refusal_of_serving, refusal_of_writing, signed_of};
+ghost use Rattle.lemonrudder.specs.Refusals.{error_number, filled, number_in, refusal_of_calling, refusal_of_connecting, refusal_of_fault, refusal_of_offering, refusal_of_reading, refusal_of_recalling, refusal_of_redirecting, refusal_of_referring, refusal_of_serving, refusal_of_writing, signed_of};
 
 use cdr_core::{CdrError, Fault, Kind};
 use ft_client::{CallError, RecallError, RedirectError};
 use ft_objects::InterfacesError;
-use ft_orb::{ConnectError, ParkError, ServeError};
+use ft_orb::{ConnectError, ServeError};
 use giop_core::WriteError;
 use ior_core::IorError;
 use std::alloc::{AllocError, AllocFailed};
@@ -204,18 +204,6 @@ impl From<ConnectError> for Refusal {
         match error {
             ConnectError::NotNew => Refusal::Connection,
             ConnectError::Memory => Refusal::Memory,
-        }
-    }
-}
-
-impl From<ParkError> for Refusal {
-    ghost from_gives = { λ e r. r ≡ refusal_of_parking e };
-
-    fn from(error: ParkError) -> Refusal {
-        match error {
-            ParkError::Full => Refusal::Parks,
-            ParkError::Share => Refusal::Parks,
-            ParkError::Memory => Refusal::Memory,
         }
     }
 }
