@@ -71,6 +71,17 @@ impl Connections {
         self.entries.remove(&connection);
     }
 
+    /// Forgets one, unless it was there.
+    pub fn undo(&mut self, connection: u64, was: bool)
+        ensures gone { was ≡ false → is_there self.new connection ≡ false }
+        ensures stays { was ≡ true → AreSame self.old self.new }
+        ensures others { AreOthers connection self.old self.new }
+    {
+        if !was {
+            self.remove(connection);
+        }
+    }
+
     /// How many octets are due on one.
     pub fn due_len(&self, connection: u64) -> usize
         ensures { result ≡ length (owed_in self.now connection) }
