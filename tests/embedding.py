@@ -827,7 +827,7 @@ def slow(bank: str, milliseconds: int) -> Iterator[Serving]:
 
 def slow_deposits_are_made_at_once(bank: str) -> None:
     """Deposits of 64 clients at once take little more than one; meanwhile balances are told at once."""
-    with slow(bank, 500) as serving, contextlib.ExitStack() as stack:
+    with slow(bank, 1000) as serving, contextlib.ExitStack() as stack:
         peers = [stack.enter_context(Peer(serving.port)) for _ in range(64)]
         began = time.monotonic()
         for index, peer in enumerate(peers):
@@ -838,7 +838,7 @@ def slow_deposits_are_made_at_once(bank: str) -> None:
         balances = sorted(int.from_bytes(peer.message().body, "big") for peer in peers)
         took = time.monotonic() - began
         want(balances, list(range(1, 65)))
-        if not (told < 0.5 <= took < 1.2):
+        if not told < 1 <= took < 2:
             raise Wrong(f"ten balances took {told} s, 64 deposits {took} s")
 
 
@@ -892,7 +892,7 @@ def slow_deposits_are_refused_for_now(bank: str) -> None:
 
 def slow_deposits_lapse(bank: str) -> None:
     """While all workers are busy: what nobody waits for any more is not begun, but where it has FT_REQUEST."""
-    with slow(bank, 500) as serving, Peer(serving.port) as stays, contextlib.ExitStack() as stack:
+    with slow(bank, 1000) as serving, Peer(serving.port) as stays, contextlib.ExitStack() as stack:
         busy = [stack.enter_context(Peer(serving.port)) for _ in range(2)]
         for peer in busy:
             peer.tell(b"".join(deposit(index, "ann", 1) for index in range(32)) + locate_bank())
@@ -917,7 +917,7 @@ def locate_bank() -> bytes:
 
 def slow_bank_says_goodbye(bank: str) -> None:
     """At SIGTERM each deposit that is parked is answered, and then CloseConnection comes; at once where none is."""
-    with slow(bank, 1000) as serving, Peer(serving.port) as idle, contextlib.ExitStack() as stack:
+    with slow(bank, 2000) as serving, Peer(serving.port) as idle, contextlib.ExitStack() as stack:
         peers = [stack.enter_context(Peer(serving.port)) for _ in range(20)]
         for index, peer in enumerate(peers):
             peer.tell(deposit(1, f"account {index}", 5) + deposit(2, f"account {index}", 5) + locate_bank())
@@ -928,7 +928,7 @@ def slow_bank_says_goodbye(bank: str) -> None:
         idle.ended()
         for peer in peers:
             peer.tell(deposit(3, "nobody", 5))  # (it comes after the goodbye, and means nothing)
-        if time.monotonic() - began > 0.8:
+        if time.monotonic() - began > 1:
             raise Wrong("the goodbye to a peer that waits for nothing came late")
         for peer in peers:
             want(sorted((it.request_id, it.status) for it in (peer.message(), peer.message())), [(1, 0), (2, 0)])
