@@ -966,6 +966,30 @@ def long_replies_are_bounded(server: str) -> None:
             peers[0].wants(reply(index, body))
 
 
+# ---- the loop for C++ ----
+
+def servants_answer_in_each_way(server: str) -> None:
+    """By another thread, by what their name says, and not; what is let go of is INTERNAL, and what waits TRANSIENT."""
+    with Serving(server, "127.0.0.1", "0") as serving, Peer(serving.port) as peer:
+        def asks(key: bytes, operation: str, answer: bytes, body: bytes = b"", number: int | None = None) -> None:
+            peer.tell(request(1, key, operation, body, number=number))
+            peer.wants(answer, operation)
+
+        asks(b"desk", "echo", reply(1, b"some octets"), b"some octets")
+        asks(b"any", "that", reply(1, b"that"))
+        for number, operation in enumerate(("forget", "misfit", "overflow")):
+            for _ in range(2):  # (it is kept)
+                asks(b"desk", operation, system_exception(1, "INTERNAL", MAYBE), number=number)
+        refused = giop.reply(1, giop.system_body("NO_PERMISSION", NO, 7), status=giop.SYSTEM_EXCEPTION)
+        for _ in range(2):
+            asks(b"desk", "withdraw", refused, number=10)
+            asks(b"desk", "nothing", system_exception(1, "TRANSIENT", NO), number=11)
+        asks(b"desk", "_is_a", reply(1, b"\1"), b"\0\0\0\x0dIDL:Desk:1.0\0")
+        serving.is_stopped = True
+        asks(b"desk", "stop", reply(1) + CLOSE_CONNECTION)
+        peer.ended()
+
+
 # ---- the gateway ----
 
 @contextlib.contextmanager
@@ -1372,6 +1396,13 @@ class LongCpp(Plain, unittest.TestCase):
 
     NAME, SOURCES = "long_cpp", ["long.cpp"]
     FOLDER, FLAGS = EMBED, [f"-I{EXAMPLES}"]
+
+
+@of_functions([servants_answer_in_each_way])
+class ServantsCpp(Example, unittest.TestCase):
+    """A server in C++ whose servants answer in each way."""
+
+    NAME, SOURCES, FLAGS = "servants_cpp", ["../tests/embed/servants.cpp"], ["-pthread"]
 
 
 @of_functions(GATEWAYS)

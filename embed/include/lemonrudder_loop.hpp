@@ -132,7 +132,9 @@ class Waiter {
     polls_[slot] = {fd, events, 0};
     return true;
   }
-  void forget(std::size_t slot) noexcept { polls_[slot].fd = -1; }
+  void forget(std::size_t slot) noexcept {
+    if (slot < polls_.size()) polls_[slot].fd = -1;
+  }
   template <class Ready>
   bool wait(int milliseconds, Ready ready) {
     const int count = poll(polls_.data(), static_cast<nfds_t>(polls_.size()), milliseconds);
