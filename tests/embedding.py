@@ -1068,20 +1068,16 @@ def gateway_says_maybe(gateway: str) -> None:
             ask(serving.port, request(5, key, "add", number=100 + number), reply(5, number_body(2 * number + 2)))
 
 
-def gateway_gives_up_what_was_not_begun(gateway: str) -> None:
-    """The server behind says goodbye, or is not there: nothing is kept, and the repeat is forwarded."""
+def gateway_refuses_what_was_not_begun(gateway: str) -> None:
+    """The server behind says goodbye, or is not there: TRANSIENT, of which nothing is kept: the repeat is forwarded."""
     with gateway_before(gateway) as (behind, serving, key):
         behind.manners = ["closes"]
-        with Peer(serving.port) as peer:
-            peer.tell(request(1, key, "add", number=1))
-            peer.ended()
+        ask(serving.port, request(1, key, "add", number=1), system_exception(1, "TRANSIENT", NO))
         ask(serving.port, request(2, key, "add", number=1), reply(2, number_body(1)))
         behind.manners = ["closes"]
         ask(serving.port, request(3, key, "add"), system_exception(3, "TRANSIENT", NO))
         behind.hush()
-        with Peer(serving.port) as peer:
-            peer.tell(request(4, key, "add", number=2))
-            peer.ended()
+        ask(serving.port, request(4, key, "add", number=2), system_exception(4, "TRANSIENT", NO))
         ask(serving.port, request(5, key, "add"), system_exception(5, "TRANSIENT", NO))
         ask(serving.port, request(6, key, "add", number=1), reply(6, number_body(1)))
 
@@ -1214,7 +1210,7 @@ IDLE_BANKS = [bank_tells_idle_peers_goodbye, bank_drops_peers_that_take_nothing]
 FAIR_BANKS = [bank_is_fair]
 LONGS = [long_replies_are_bounded]
 GATEWAYS = [gateway_leads_to_itself, gateway_forwards_as_it_came, gateway_retries_act_once, gateway_keeps_exceptions,
-            gateway_says_maybe, gateway_gives_up_what_was_not_begun, gateway_comes_back,
+            gateway_says_maybe, gateway_refuses_what_was_not_begun, gateway_comes_back,
             gateway_refuses_what_it_cannot, gateway_takes_long_replies, gateway_forwards_without_a_reply,
             gateway_forwards_one_at_a_time, gateway_wants_a_reference]
 LIBRARY = [headers_stand_alone, declarations_can_be_marked, slots_are_closed_by_kind, programs_link, two_archives_link,
