@@ -317,6 +317,15 @@ class Asked {
     return Later(ticket(), mailbox_);
   }
 
+ private:
+  friend class Loop;
+
+  struct Load {
+    std::uint32_t name;
+    std::uint64_t size;
+    std::vector<std::uint8_t>* octets;
+  };
+
   /* Takes the parts that are lent. */
   Done load() noexcept {
     for (auto [name, size, octets] :
@@ -328,13 +337,6 @@ class Asked {
     }
     return {};
   }
-
- private:
-  struct Load {
-    std::uint32_t name;
-    std::uint64_t size;
-    std::vector<std::uint8_t>* octets;
-  };
 
   Result<std::vector<std::uint8_t>> part(std::uint32_t name, std::uint64_t size) noexcept {
     const auto copy = [&](std::uint8_t* room, std::size_t room_size) {
@@ -373,18 +375,17 @@ class Loop {
 
   /* An object, and the repository id of its type. */
   Done object(Octets key, const char* type) {
-    types_[std::string(key.text())] = type;
-    return catalogue_.object(key).and_then([&] { return catalogue_.repository_id(key, type); });
+    return catalogue_.object(key).and_then([&] { return catalogue_.repository_id(key, type); }).transform([&] {
+      types_[std::string(key.text())] = type;
+    });
   }
   /* An exception of the operation that is added next. */
   Done exception(Octets id, Types members) { return catalogue_.exception(id, members); }
   Done operation(Octets key, std::string_view name, Types arguments, Types results, Servant servant) {
-    servants_[std::string(key.text())][std::string(name)] = std::move(servant);
-    return catalogue_.operation(key, name, arguments, results);
+    return catalogue_.operation(key, name, arguments, results).transform([&] { employ(key, name, servant); });
   }
   Done raw_operation(Octets key, std::string_view name, Servant servant) {
-    servants_[std::string(key.text())][std::string(name)] = std::move(servant);
-    return catalogue_.raw_operation(key, name);
+    return catalogue_.raw_operation(key, name).transform([&] { employ(key, name, servant); });
   }
   /* Who performs what no servant above is named for. */
   void otherwise(Servant servant) { otherwise_ = std::move(servant); }
@@ -519,6 +520,10 @@ class Loop {
     bool has_unfed() const noexcept { return fed < got; }
     bool has_unsent() const noexcept { return sent < size; }
   };
+
+  void employ(Octets key, std::string_view name, Servant& servant) {
+    servants_[std::string(key.text())][std::string(name)] = std::move(servant);
+  }
 
   std::size_t peer_count() const noexcept { return limits_.peers - unused_.size(); }
   std::size_t slot_of(const Peer& peer) const noexcept { return peer.connection % peers_.size(); }
