@@ -507,8 +507,9 @@ class Loop {
     std::uint64_t connection = 0;  // its remainder by the number of slots is the slot
     short events = -1;             // what is waited for
     bool has_turn = false;
-    bool is_held = false;  // too many of its requests are parked to feed it
-    bool is_shut = false;  // all is sent, and what comes means nothing
+    bool is_held = false;     // too many of its requests are parked to feed it
+    bool is_leaving = false;  // it is said goodbye to, where nobody waits for an outcome any more, and fed no more
+    bool is_shut = false;     // all is sent, and what comes means nothing
     detail::LoopClock::time_point until;
     std::size_t got = 0;  // of what came, of which the first `fed` octets are fed
     std::size_t fed = 0;
@@ -563,6 +564,13 @@ class Loop {
       if (named != object->second.end()) servant = &named->second;
     }
     if (*servant) static_cast<void>((*servant)(asked));
+  }
+
+  /* Says goodbye to a peer, and lets go of what came. */
+  void leave(Peer& peer) noexcept {
+    hold(peer, false);
+    peer.fed = peer.got;
+    if (!server_.is_closed(peer.connection)) static_cast<void>(server_.farewell(peer.connection));
   }
 
   /* Feeds what came, until enough is due or parked. */
@@ -634,7 +642,10 @@ class Loop {
   bool attend(Peer& peer) {
     const ssize_t got = read_piece(peer);
     if (got < 0) return false;
-    feed(peer);
+    if (peer.is_leaving)
+      leave(peer);
+    else
+      feed(peer);
     const ssize_t sent = send_due(peer);
     if (sent < 0) return false;
     const bool is_closed = server_.is_closed(peer.connection);
@@ -652,7 +663,7 @@ class Loop {
 
   /* Says goodbye to a peer. */
   void part_from(Peer& peer) {
-    static_cast<void>(server_.farewell(peer.connection));
+    peer.is_leaving = true;
     if (!attend(peer)) drop(slot_of(peer));
   }
 
@@ -761,6 +772,7 @@ class Loop {
    * has ended. One that waits for a parked request has more time. */
   void pass(detail::LoopClock::time_point moment) {
     for (std::size_t slot = first; slot < peers_.size(); slot++) {
+      if (peers_[slot] && peers_[slot]->is_leaving) give_turn(*peers_[slot]);
       if (!peers_[slot] || moment < peers_[slot]->until) continue;
       Peer& peer = *peers_[slot];
       if (is_idle(peer))
