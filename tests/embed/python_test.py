@@ -1349,6 +1349,7 @@ class Ends(Case):
 
         async def main():
             server, client = await self.pair({"forward": forward, "twice": twice, "wrong": lambda body: 5})
+            client = lr.Client(client.host, client.port, keep_forward=False)
             async with server, client:
                 self.assertEqual(await client.call("k", "twice", "l", [21], "l"), 42)
                 with self.assertRaises(lr.ForwardRequest) as caught:
@@ -1843,7 +1844,8 @@ class Waits(Case):
                     peers.append((reader, writer))
                 while server.stats().get("joined") != 2:
                     await asyncio.sleep(0.01)
-                peers.pop(0)[1].transport.abort()
+                gone = peers.pop(0)[1]
+                gone.transport.abort()
                 await self.drained(server, 2)
                 go.set()
                 reader, writer = await asyncio.open_connection(client.host, client.port)
@@ -2080,6 +2082,20 @@ class Waits(Case):
             self.run_async(main())
 
 
+# a peer that sends the same octets without end, and reads what comes
+FLOOD = """
+import socket, sys, threading
+octets = sys.stdin.buffer.read()
+peer = socket.create_connection(("127.0.0.1", int(sys.argv[1])))
+def drop():
+    while peer.recv(65536):
+        pass
+threading.Thread(target=drop, daemon=True).start()
+while True:
+    peer.sendall(octets)
+"""
+
+
 class Bounds(Case):
     """What each peer may take of a server, and what is told of it."""
 
@@ -2095,43 +2111,39 @@ class Bounds(Case):
     def test_a_flood_leaves_a_calm_one(self):
         """A calm peer's calls take at most 5 times as long beside one that floods."""
         async def main():
-            server, client = await self.pair({"get": ("", "l", lambda: 1), "slow": ("", "", asyncio.sleep)})
+            server, client = await self.pair({"get": ("", "l", lambda: 1)})
             server.add("s", "IDL:S:1.0", {"slow": ("", "", lambda: asyncio.sleep(0.001))})
 
             async def calm():
+                # (the time of this process, whatever else the machine does)
                 times = []
                 for _ in range(40):
-                    began = time.perf_counter()
+                    began = time.process_time()
                     await client.call("k", "get", results="l")
-                    times.append(time.perf_counter() - began)
+                    times.append(time.process_time() - began)
                 return sorted(times)[20]
 
-            async def flood(key, operation):
-                reader, writer = await asyncio.open_connection(client.host, client.port)
+            async def flooded(key, operation):
+                """The time of a call beside a peer that sends such requests without end."""
                 requests = b"".join(lr.write_request(number, key, operation) for number in range(2000))
-
-                async def drop():
-                    while await reader.read(65536):
-                        pass
-                dropping = asyncio.ensure_future(drop())
-                try:
-                    while True:
-                        writer.write(requests)
-                        await writer.drain()
-                finally:
-                    dropping.cancel()
-                    writer.transport.abort()
+                words = [sys.executable, "-c", FLOOD, str(client.port)]
+                with subprocess.Popen(words, stdin=subprocess.PIPE) as peer:
+                    peer.stdin.write(requests)
+                    peer.stdin.close()
+                    while server.connections < 2:
+                        await asyncio.sleep(0.01)
+                    await asyncio.sleep(0.2)
+                    try:
+                        return await calm()
+                    finally:
+                        peer.kill()
+                        await self.drained(server, 1)
 
             async with server, client:
                 await calm()
                 for key, operation in (("k", "get"), ("s", "slow"), ("none", "get")):
                     for _ in range(5):
-                        alone = await calm()
-                        flooding = asyncio.ensure_future(flood(key, operation))
-                        await asyncio.sleep(0.2)
-                        beside = await calm()
-                        flooding.cancel()
-                        await asyncio.wait([flooding])
+                        alone, beside = await calm(), await flooded(key, operation)
                         if beside < 5 * alone:
                             break
                     with self.subTest(key):

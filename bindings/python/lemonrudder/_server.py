@@ -4,7 +4,8 @@ from __future__ import annotations
 import asyncio
 import inspect
 import logging
-from collections import deque
+import time
+from collections import OrderedDict, deque
 from functools import partial
 from typing import Any, Awaitable, Callable, Deque, Dict, List, Mapping, Optional, Sequence, Tuple, Union
 
@@ -19,6 +20,9 @@ from ._references import Ior
 from ._servants import Offer, Operation, Performer, RawReply, Servant, described
 from ._table import Completed, Counted, Error, Fault, SystemName, Why
 
+# how long a turn lasts, in seconds: after that no further message of a connection is taken, nor outcome told. The first
+# counts where others were heard lately, which is so many seconds ago at most
+_TURN, _LONG_TURN, _LATELY = 0.0001, 0.001, 0.1
 # how many seconds an operation that is cut off has to end before it is answered without it
 _GRACE = 1.0
 # how often, in seconds, idle connections and outcomes that expired are looked for at least
@@ -107,9 +111,14 @@ class Server:
         self._offer, self._trial = Offer(), Catalogue()
         self._connections: Dict[int, Connection] = {}
         self._works: Dict[int, _Work] = {}
+        # those whose tasks have ended, of each connection
+        self._done_of: OrderedDict[Connection, Deque[_Work]] = OrderedDict()
         self._waiting: Deque[Connection] = deque()
         self._refused = dict.fromkeys(_REFUSED, 0)
         self._last = self._turned_away = 0
+        # who was heard last, and since when it was always that one
+        self._heard: Optional[Connection] = None
+        self._heard_at = 0.0
         # from listen on
         self._engine: Any = None
         self._loop: Any = None
@@ -299,6 +308,15 @@ class Server:
         if not self._connections and not self._emptied.done():
             self._emptied.set_result(None)
 
+    def _hear(self, connection: Connection) -> None:
+        """Octets came on a connection."""
+        if connection is not self._heard:
+            self._heard, self._heard_at = connection, connection.heard
+
+    def _turn(self) -> float:
+        """How long a turn lasts now."""
+        return _TURN if self._loop.time() - self._heard_at < _LATELY else _LONG_TURN
+
     def _note(self, connection: Connection) -> None:
         """Writes a line for each request that was refused since this was called."""
         for what, before in self._refused.items():
@@ -414,7 +432,32 @@ class Server:
         work.task.add_done_callback(partial(self._done, work))
 
     def _done(self, work: _Work, task: asyncio.Future[Any]) -> None:
-        """A task has ended: answers the request by what came of it."""
+        """A task has ended: its request is answered in the turn of its connection."""
+        if not self._done_of:
+            self._loop.call_soon(self._settle_some)
+        self._done_of.setdefault(work.connection, deque()).append(work)
+
+    def _settle_some(self) -> None:
+        """Answers requests whose tasks have ended for a turn, of one connection after another."""
+        until = time.monotonic() + self._turn()
+        try:
+            while self._done_of:
+                connection, works = next(iter(self._done_of.items()))
+                work = works.popleft()
+                if works:
+                    self._done_of.move_to_end(connection)
+                else:
+                    del self._done_of[connection]
+                self._settle(work)
+                if time.monotonic() >= until:
+                    return
+        finally:
+            if self._done_of:
+                self._loop.call_soon(self._settle_some)
+
+    def _settle(self, work: _Work) -> None:
+        """Answers a request by what came of its task."""
+        task = work.task
         del self._works[work.asked.ticket]
         work.connection.works -= 1
         if work.timer is not None:
@@ -455,7 +498,7 @@ class Server:
 
     def _abandon(self, work: _Work) -> None:
         """Answers the request of an operation that was cut off and does not end."""
-        if not (work.is_answered or self.is_closed):
+        if not (work.is_answered or work.task.done() or self.is_closed):
             work.is_answered = True
             self._cut_off(work)
             self._tell()
