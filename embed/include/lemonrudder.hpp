@@ -708,8 +708,8 @@ struct Settings {
   std::optional<std::uint32_t> parked = {};
   std::optional<std::uint32_t> parked_of_one = {};
   std::optional<std::uint32_t> joined = {};
-  std::optional<std::uint32_t> due = {};
-  std::optional<std::uint32_t> client_id = {};
+  std::optional<std::uint64_t> due = {};
+  std::optional<std::uint64_t> client_id = {};
 };
 
 /* Two random numbers, which no client can guess. */
@@ -766,6 +766,11 @@ class Server : public Slot<lr_server> {
     std::int64_t answer = lr_server_open(made.slot(), catalogue.slot(), seeds.low, seeds.high);
     if (answer == LR_OK) answer = made.set_all(settings);
     return opened(answer, made);
+  }
+
+  /* Sets one limit, LR_SET_.., before the first connection. */
+  Done set(std::uint32_t what, std::uint64_t value) noexcept {
+    return detail::done(lr_server_set(slot(), what, value));
   }
 
   Done connect(std::uint64_t connection) noexcept { return detail::done(lr_server_connect(slot(), connection)); }
@@ -846,8 +851,14 @@ class Server : public Slot<lr_server> {
   /* Gives it up, and says goodbye first: for draining and restarts alone. */
   Done goodbye(std::uint64_t ticket) noexcept { return detail::done(lr_server_goodbye(slot(), ticket)); }
 
-  /* The connections on which octets became due by the outcomes of parked requests. */
+  /* The connections on which octets became due by the outcomes of parked requests; and the next of them, if there is
+   * one. */
   Due due() noexcept { return Due(slot()); }
+  Result<std::optional<std::uint64_t>> next_due() noexcept {
+    std::uint64_t connection = 0;
+    const std::int64_t answer = lr_server_next_due(slot(), &connection);
+    return detail::found(answer, connection);
+  }
   /* Moves octets that are due on a connection into the room, and answers how many. */
   Count output(std::uint64_t connection, Room room) noexcept {
     return detail::count(lr_server_output(slot(), connection, room.data(), room.size()));
@@ -879,7 +890,7 @@ class Server : public Slot<lr_server> {
 
  private:
   std::int64_t set_all(const Settings& settings) noexcept {
-    const std::pair<std::uint32_t, std::optional<std::uint32_t>> all[] = {
+    const std::pair<std::uint32_t, std::optional<std::uint64_t>> all[] = {
         {LR_SET_MESSAGE, settings.message},     {LR_SET_PARTIALS, settings.partials},
         {LR_SET_CAPACITY, settings.capacity},   {LR_SET_SHARE, settings.share},
         {LR_SET_PARKED, settings.parked},       {LR_SET_PARKED_OF, settings.parked_of_one},
@@ -937,6 +948,10 @@ class Client : public Slot<lr_client> {
   Done connected(std::uint64_t now) noexcept { return detail::done(lr_client_connected(slot(), now)); }
   Done lost() noexcept { return detail::done(lr_client_lost(slot())); }
   bool is_connected() noexcept { return lr_client_is_connected(slot()) == 1; }
+  /* Sets LR_CLIENT_... */
+  Done set(std::uint32_t what, std::uint64_t value) noexcept {
+    return detail::done(lr_client_set(slot(), what, value));
+  }
   /* Whether TRANSIENT leaves calls pending from now on, or a forward. */
   Done keep_transient(bool keeps) noexcept {
     return detail::done(lr_client_set(slot(), LR_CLIENT_KEEP_TRANSIENT, keeps));
@@ -1013,7 +1028,7 @@ class Client : public Slot<lr_client> {
 
  private:
   std::int64_t set_all(const ClientSettings& settings) noexcept {
-    const std::pair<std::uint32_t, std::optional<std::uint32_t>> all[] = {
+    const std::pair<std::uint32_t, std::optional<std::uint64_t>> all[] = {
         {LR_CLIENT_KEEP_TRANSIENT, settings.keep_transient}, {LR_CLIENT_KEEP_FORWARD, settings.keep_forward},
         {LR_CLIENT_VERSION, settings.version},               {LR_CLIENT_MESSAGE, settings.message},
         {LR_CLIENT_PARTIALS, settings.partials},

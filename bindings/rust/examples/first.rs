@@ -13,7 +13,7 @@ fn main() -> Result<(), Error> {
     let mut server = Server::open(catalogue, &Settings::default())?;
 
     let now = Moment::now();
-    let mut client = Client::open("client 1", Version::V12, Limits::default())?;
+    let mut client = Client::open("client 1")?;
     let mut arguments = Writer::new(Order::Big);
     let call = Call {
         key: b"counter",
@@ -34,7 +34,7 @@ fn main() -> Result<(), Error> {
             total = after;
             Ok(())
         })?;
-        let reply = server.take_output();
+        let reply = server.take_output(connection);
         if connection == 1 {
             client.lost();
             server.lost(connection)?;

@@ -13,9 +13,7 @@
 //! ```
 
 use lemonrudder::cdr::Writer;
-use lemonrudder::{
-    Call, Client, Completion, Ended, Error, Ior, Limits, Moment, Order, Type, Version,
-};
+use lemonrudder::{Call, Client, Completion, Ended, Error, Ior, Moment, Order, Type};
 use std::io::{Read, Write};
 use std::net::TcpStream;
 use std::time::Duration;
@@ -44,7 +42,7 @@ impl Teller {
     fn new(key: Vec<u8>) -> Result<Teller, Error> {
         // no other client has this name, nor has had it
         let account = format!("{} {}", process::id(), Moment::now().0);
-        let client = Client::open(&account, Version::V12, Limits::default())?;
+        let client = Client::open(&account)?;
         Ok(Teller { client, key, account, called: 0, ended: 0 })
     }
 

@@ -1,14 +1,15 @@
 //! The messages of a stream.
 
 use crate::cdr::Reader;
-use crate::error::{self, copied, count, done, sure};
+use crate::contexts::Contexts;
+use crate::error::{self, count, done, sure};
 use crate::sys::{self, lr_message, lr_slot};
 use crate::{
     Error, Fault, FtRequest, Limits, LocateStatus, MessageType, Moment, Order, Status, Version,
     Wish,
 };
 use alloc::vec::Vec;
-use core::ops::Range;
+use core::mem::size_of;
 
 /// Takes the octets of a stream in pieces of any size, joins fragments, and lends each message that
 /// completes.
@@ -73,7 +74,11 @@ impl Assembler {
     /// `Range`, where it has a number that this version of the crate has no name for.
     pub fn message(&mut self) -> Result<Option<Message<'_>>, Error> {
         let mut said = lr_message::default();
-        if count(sys::lr_assembler_message(&mut self.slot, &mut said))? == 0 {
+        // SAFETY: it is as large as is said.
+        let found = unsafe {
+            sys::lr_assembler_message(&mut self.slot, &mut said, size_of::<lr_message>())
+        };
+        if count(found)? == 0 {
             return Ok(None);
         }
         self.copy(sys::LR_PART_KEY, said.key_size)?;
@@ -202,7 +207,7 @@ impl Message<'_> {
 
     /// The service contexts of a Request or Reply, in order.
     pub fn contexts(&mut self) -> Contexts<'_> {
-        Contexts { slot: &mut self.assembler.slot, left: 0..self.said.contexts }
+        Contexts::of(&mut self.assembler.slot, self.said.contexts, sys::lr_assembler_context)
     }
 
     /// The buffer of a part.
@@ -210,31 +215,3 @@ impl Message<'_> {
         &self.assembler.parts[part as usize]
     }
 }
-
-/// The service contexts of a message, in order: the id and the data of each, or `Memory`.
-#[derive(Debug)]
-pub struct Contexts<'m> {
-    slot: &'m mut lr_slot,
-    /// Those that come, counted from 0.
-    left: Range<u32>,
-}
-
-impl Iterator for Contexts<'_> {
-    type Item = Result<(u32, Vec<u8>), Error>;
-
-    fn next(&mut self) -> Option<Self::Item> {
-        let (index, mut id) = (self.left.next()?, 0);
-        let slot = &mut *self.slot;
-        // SAFETY: the room is lent.
-        let data = copied(64, |room| unsafe {
-            sys::lr_assembler_context(slot, index, &mut id, room.as_mut_ptr().cast(), room.len())
-        });
-        Some(data.map(|data| (id, data)))
-    }
-
-    fn size_hint(&self) -> (usize, Option<usize>) {
-        self.left.size_hint()
-    }
-}
-
-impl ExactSizeIterator for Contexts<'_> {}

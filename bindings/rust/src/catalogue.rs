@@ -172,7 +172,7 @@ impl Catalogue {
 
     /// Names the repository ids of an object, as `IDL:Bank:1.0`. It has the operations `_is_a` and
     /// `_non_existent` then, as a checked narrow of an ORB asks for;
-    /// [`Server::identify`](crate::Server::identify) answers them.
+    /// [`Server::serve`](crate::Server::serve) answers them.
     ///
     /// # Errors
     ///
@@ -193,5 +193,39 @@ impl Catalogue {
                 ids.len(),
             )
         })
+    }
+
+    /// Takes the objects of another catalogue. Each key that is no object's own, and begins with the
+    /// key of one of these, leads to that object: to the one of the longest such key. So one object
+    /// stands for many, as for each account. Exceptions that were declared there for an operation to
+    /// come are forgotten.
+    ///
+    /// # Errors
+    ///
+    /// `Taken`, where one of the two has families already, or a default object; the other one is
+    /// gone then.
+    pub fn families(&mut self, mut families: Catalogue) -> Result<(), Error> {
+        done(sys::lr_catalogue_families(&mut self.slot, &mut families.slot))
+    }
+
+    /// Adds an object whose every operation is raw, to which each key leads that leads to no other
+    /// object: the family of the empty key. So it comes after [`families`](Catalogue::families).
+    ///
+    /// # Errors
+    ///
+    /// `Taken`, where it was called before, or a family has the empty key, and `Memory`.
+    pub fn default_object(&mut self) -> Result<(), Error> {
+        done(sys::lr_catalogue_default(&mut self.slot))
+    }
+
+    /// Takes an object away, with its operations.
+    ///
+    /// # Errors
+    ///
+    /// `Object`.
+    pub fn remove(&mut self, key: impl AsRef<[u8]>) -> Result<(), Error> {
+        let key = key.as_ref();
+        // SAFETY: the key is lent.
+        done(unsafe { sys::lr_catalogue_remove(&mut self.slot, key.as_ptr().cast(), key.len()) })
     }
 }

@@ -79,6 +79,24 @@ impl<'a> Reader<'a> {
         ulonglong: u64 = lr_get_ulonglong;
     }
 
+    /// A `float`.
+    ///
+    /// # Errors
+    ///
+    /// `Short`, where octets are missing.
+    pub fn float(&mut self) -> Result<f32, Error> {
+        self.ulong().map(f32::from_bits)
+    }
+
+    /// A `double`.
+    ///
+    /// # Errors
+    ///
+    /// `Short`, where octets are missing.
+    pub fn double(&mut self) -> Result<f64, Error> {
+        self.ulonglong().map(f64::from_bits)
+    }
+
     /// A `boolean`.
     ///
     /// # Errors
@@ -271,6 +289,24 @@ impl Writer {
         longlong: i64 = lr_put_longlong;
         /// An `unsigned long long`.
         ulonglong: u64 = lr_put_ulonglong;
+    }
+
+    /// A `float`.
+    ///
+    /// # Errors
+    ///
+    /// `Range`: more was written than a message can have.
+    pub fn float(&mut self, value: f32) -> Result<&mut Writer, Error> {
+        self.ulong(value.to_bits())
+    }
+
+    /// A `double`.
+    ///
+    /// # Errors
+    ///
+    /// `Range`: more was written than a message can have.
+    pub fn double(&mut self, value: f64) -> Result<&mut Writer, Error> {
+        self.ulonglong(value.to_bits())
     }
 
     /// A `boolean`.

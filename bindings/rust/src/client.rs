@@ -4,8 +4,9 @@ use crate::cdr::{Reader, Writer};
 use crate::error::{self, count, done, sure};
 use crate::sys::{self, lr_completion, lr_slot};
 use crate::types::codes_of;
-use crate::{Completed, Ended, Error, Ior, Limits, Moment, Order, Type, Version};
+use crate::{Completed, Ended, Error, Ior, Limits, Moment, Order, Type, Version, Wish};
 use alloc::vec::Vec;
+use core::mem::size_of;
 
 /// A call of an operation.
 #[derive(Clone, Copy, Debug)]
@@ -22,15 +23,34 @@ pub struct Call<'a> {
     pub expiration: Moment,
 }
 
+/// A call by a body of octets, written for a place divisible by 8, as a [`Writer`] writes it. A
+/// oneway has [`Wish::None`]: it ends by [`Ended::Sent`].
+#[derive(Clone, Copy, Debug)]
+pub struct RawCall<'a> {
+    /// The key of the object.
+    pub key: &'a [u8],
+    /// The name of the operation.
+    pub operation: &'a str,
+    /// Which reply it asks for.
+    pub wish: Wish,
+    /// The body.
+    pub body: &'a Writer,
+    /// Service contexts, as [`contexts`](crate::write::contexts) writes them in the order of the
+    /// body; none where it is empty. FT_REQUEST is written by the client.
+    pub contexts: &'a [u8],
+    /// Up to when it may be sent again.
+    pub expiration: Moment,
+}
+
 /// A client that sends its calls again. Each is sent with FT_REQUEST, once on each connection until
 /// it is answered or its expiration is past, so that a server that keeps outcomes performs it once.
 ///
 /// ```
 /// use lemonrudder::cdr::Writer;
-/// use lemonrudder::{Call, Client, Limits, Moment, Order, Type, Version};
+/// use lemonrudder::{Call, Client, Moment, Order, Type};
 /// use std::time::Duration;
 ///
-/// let mut client = Client::open("a name of its own", Version::V12, Limits::default())?;
+/// let mut client = Client::open("a name of its own")?;
 /// let now = Moment::now();
 /// let number = client.call(now, &Call {
 ///     key: b"c",
@@ -54,25 +74,40 @@ pub struct Client {
 
 impl Client {
     /// Opens a client that is not connected. Its id, 1 to 256 octets without a NUL, names it to
-    /// each server.
+    /// each server. It writes GIOP 1.2, takes messages of a mebibyte, and joins four at a time.
     ///
     /// # Errors
     ///
-    /// `Range`, `Text`, `Memory`.
-    pub fn open(id: impl AsRef<[u8]>, version: Version, limits: Limits) -> Result<Client, Error> {
+    /// `Text`, `Memory`.
+    pub fn open(id: impl AsRef<[u8]>) -> Result<Client, Error> {
         let (mut slot, id) = (lr_slot::empty(), id.as_ref());
         // SAFETY: the id is lent.
-        done(unsafe {
-            sys::lr_client_open(
-                &mut slot,
-                id.as_ptr().cast(),
-                id.len(),
-                version.number(),
-                limits.message,
-                limits.partials,
-            )
-        })?;
+        done(unsafe { sys::lr_client_open(&mut slot, id.as_ptr().cast(), id.len()) })?;
         Ok(Client { slot, body: Vec::new() })
+    }
+
+    /// Sets the version of its messages. This and the limits are set while it is not connected, and
+    /// has no number of a call.
+    ///
+    /// # Errors
+    ///
+    /// `Open`: it is too late.
+    pub fn set_version(&mut self, version: Version) -> Result<(), Error> {
+        self.set(sys::LR_CLIENT_VERSION, version.number())
+    }
+
+    /// Sets the limits of what comes.
+    ///
+    /// # Errors
+    ///
+    /// `Range`, and `Open`: it is too late.
+    pub fn set_limits(&mut self, limits: Limits) -> Result<(), Error> {
+        self.set(sys::LR_CLIENT_MESSAGE, limits.message)?;
+        self.set(sys::LR_CLIENT_PARTIALS, limits.partials)
+    }
+
+    fn set(&mut self, what: u32, number: u32) -> Result<(), Error> {
+        done(sys::lr_client_set(&mut self.slot, what, number.into()))
     }
 
     /// It is connected anew: what is pending, not led elsewhere and not past its expiration is due.
@@ -154,6 +189,69 @@ impl Client {
         })
     }
 
+    /// Calls an operation by a body of octets, and answers the number of the call.
+    ///
+    /// # Errors
+    ///
+    /// `Range`, where 1.0 and 1.1 lack the wish; `Text`; `Short` and `Value`, where the contexts are
+    /// none, or one is FT_REQUEST; `Expired`, `Calls`, `Long`, `Memory`; and `Place`, where in 1.0
+    /// and 1.1 the body would stand at a place that is not divisible by 8.
+    pub fn call_raw(&mut self, now: Moment, call: &RawCall<'_>) -> Result<i32, Error> {
+        let body = call.body.as_octets();
+        // SAFETY: the key, the name, the contexts and the body are lent.
+        let number = count(unsafe {
+            sys::lr_client_call_raw(
+                &mut self.slot,
+                now.0,
+                call.expiration.0,
+                call.wish.number(),
+                call.key.as_ptr().cast(),
+                call.key.len(),
+                call.operation.as_ptr().cast(),
+                call.operation.len(),
+                call.body.order().number(),
+                call.contexts.as_ptr().cast(),
+                call.contexts.len(),
+                body.as_ptr().cast(),
+                body.len(),
+            )
+        })?;
+        i32::try_from(number).map_err(|_| Error::Range)
+    }
+
+    /// Takes such a call of before up again under its number, as [`recall`](Client::recall) does.
+    ///
+    /// # Errors
+    ///
+    /// As of [`Client::call_raw`], and `Taken`.
+    pub fn recall_raw(
+        &mut self,
+        number: i32,
+        now: Moment,
+        call: &RawCall<'_>,
+    ) -> Result<(), Error> {
+        let body = call.body.as_octets();
+        // SAFETY: the key, the name, the contexts and the body are lent.
+        done(unsafe {
+            sys::lr_client_recall_raw(
+                &mut self.slot,
+                number.into(),
+                now.0,
+                call.expiration.0,
+                call.wish.number(),
+                call.key.as_ptr().cast(),
+                call.key.len(),
+                call.operation.as_ptr().cast(),
+                call.operation.len(),
+                call.body.order().number(),
+                call.contexts.as_ptr().cast(),
+                call.contexts.len(),
+                body.as_ptr().cast(),
+                body.len(),
+            )
+        })
+    }
+
     /// Numbers up to this one were used before: the next call gets a greater one.
     ///
     /// # Errors
@@ -195,8 +293,11 @@ impl Client {
         let mut said = lr_completion::default();
         loop {
             let (room, size) = (self.body.as_mut_ptr().cast(), self.body.len());
-            // SAFETY: the room is lent.
-            let found = unsafe { sys::lr_client_forwarded(&mut self.slot, &mut said, room, size) };
+            // SAFETY: the room is lent, and what is said is as large as is said.
+            let found = unsafe {
+                let whole = size_of::<lr_completion>();
+                sys::lr_client_forwarded(&mut self.slot, &mut said, whole, room, size)
+            };
             if count(found)? == 0 {
                 return Ok(None);
             }
@@ -271,7 +372,11 @@ impl Client {
     /// `Range`, where it has a number that this version of the crate has no name for.
     pub fn completed(&mut self) -> Result<Option<Completion<'_>>, Error> {
         let mut said = lr_completion::default();
-        if count(sys::lr_client_completed(&mut self.slot, &mut said))? == 0 {
+        // SAFETY: it is as large as is said.
+        let found = unsafe {
+            sys::lr_client_completed(&mut self.slot, &mut said, size_of::<lr_completion>())
+        };
+        if count(found)? == 0 {
             return Ok(None);
         }
         self.body.resize(error::size(said.body_size)?, 0);

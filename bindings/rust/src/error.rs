@@ -1,13 +1,13 @@
 //! What a call answers where it fails.
 
-use crate::sys;
+use crate::sys::{self, *};
 use alloc::vec;
 use alloc::vec::Vec;
 use core::ffi::{c_char, CStr};
 use core::fmt;
 
 macro_rules! errors {
-    ($($(#[$doc:meta])* $name:ident = $code:literal,)*) => {
+    ($($(#[$doc:meta])* $name:ident = $code:expr,)*) => {
         /// Why a call failed. Nothing has changed then, unless the call says otherwise.
         #[derive(Clone, Copy, Debug, PartialEq, Eq, Hash)]
         #[non_exhaustive]
@@ -28,10 +28,10 @@ macro_rules! errors {
 
             /// The error of a number.
             pub(crate) const fn of(code: i64) -> Error {
-                match code {
-                    $($code => Error::$name,)*
-                    _ => Error::Unknown(code),
-                }
+                $(if code == $code {
+                    return Error::$name;
+                })*
+                Error::Unknown(code)
             }
         }
     };
@@ -41,61 +41,59 @@ errors! {
     /// The slot is empty, or holds an object of another kind.
     ///
     /// So the object was closed, or has become another one.
-    Empty = -1,
-    /// The slot holds an object already.
-    ///
-    /// So the object is open.
-    Open = -2,
+    Empty = LR_E_EMPTY,
+    /// The slot holds an object already, or it is too late for this.
+    Open = LR_E_OPEN,
     /// An allocation failed, and nothing has changed.
-    Memory = -3,
+    Memory = LR_E_MEMORY,
     /// A number is none of those that are allowed.
-    Range = -4,
+    Range = LR_E_RANGE,
     /// There is no such connection, or the number of a new one is not greater than each before.
-    Connection = -5,
+    Connection = LR_E_CONNECTION,
     /// A request waits for its outcome.
-    Asking = -6,
+    Asking = LR_E_ASKING,
     /// No request waits.
-    Idle = -7,
-    /// Octets are due that were not taken.
-    Due = -8,
+    Idle = LR_E_IDLE,
+    /// As many requests are parked as may be, in all or of the connection.
+    Parks = LR_E_PARKS,
     /// No outcome of the operation, or one that can't be sent.
-    Outcome = -9,
+    Outcome = LR_E_OUTCOME,
     /// The room is too small.
-    Room = -10,
+    Room = LR_E_ROOM,
     /// Octets are missing at the end.
-    Short = -11,
+    Short = LR_E_SHORT,
     /// The octets are no value of the type.
-    Value = -12,
+    Value = LR_E_VALUE,
     /// The codes spell no valid types.
-    Types = -13,
+    Types = LR_E_TYPES,
     /// A NUL where none may be, or a name of a length that is not allowed.
-    Text = -14,
+    Text = LR_E_TEXT,
     /// There is an object or operation of that name, or a call of that number or a greater one.
-    Taken = -15,
+    Taken = LR_E_TAKEN,
     /// There is no object of that key.
-    Object = -16,
+    Object = LR_E_OBJECT,
     /// Every operation of the object is raw.
-    Raw = -17,
+    Raw = LR_E_RAW,
     /// No stringified reference.
-    Reference = -18,
+    Reference = LR_E_REFERENCE,
     /// The stream has a fault, and is at its end.
-    Stream = -19,
+    Stream = LR_E_STREAM,
     /// There is no such part.
-    NoPart = -20,
+    NoPart = LR_E_NONE,
     /// The moment is past the expiration.
-    Expired = -21,
+    Expired = LR_E_EXPIRED,
     /// As many calls are pending as a client keeps, or it has given all its numbers.
-    Calls = -22,
+    Calls = LR_E_CALLS,
     /// The message would be longer than its size can say.
-    Long = -23,
+    Long = LR_E_LONG,
     /// An allocation failed, and the connection is gone.
-    Lost = -24,
+    Lost = LR_E_LOST,
     /// The body would stand at a place that is not divisible by 8.
-    Place = -25,
-    /// No request of that ticket waits.
-    Ticket = -26,
+    Place = LR_E_PLACE,
+    /// No request of that ticket waits or is parked.
+    Ticket = LR_E_TICKET,
     /// No pending call of that number is led elsewhere.
-    Forward = -27,
+    Forward = LR_E_FORWARD,
 }
 
 /// What the library says of a number by one of two functions: lr_strerror, lr_error_name.
@@ -184,11 +182,12 @@ mod tests {
 
     #[test]
     fn each_code_has_its_error() {
-        for code in -27..=-1 {
+        for code in -40..=-1 {
             let error = Error::of(code);
-            assert!(!matches!(error, Error::Unknown(_)));
             assert_eq!(error.code(), code);
+            assert_eq!(matches!(error, Error::Unknown(_)), error.name() == "LR_E_UNKNOWN");
         }
+        assert_eq!(Error::NoPart.name(), "LR_E_NONE");
         assert_eq!(Error::of(-1000), Error::Unknown(-1000));
         assert_eq!(count(7), Ok(7));
         assert_eq!(done(7), Ok(()));

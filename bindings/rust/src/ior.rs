@@ -7,6 +7,7 @@ use crate::{Error, Version};
 use alloc::format;
 use alloc::string::String;
 use alloc::vec::Vec;
+use core::mem::size_of;
 use core::ops::Range;
 use core::str::FromStr;
 
@@ -180,9 +181,8 @@ impl Ior {
     ///
     /// `NoPart`, where there is no such profile, and `Memory`.
     pub fn components(&mut self, profile: u32) -> Result<Components<'_>, Error> {
-        let mut said = lr_profile::default();
-        done(sys::lr_ior_profile(&mut self.slot, profile, &mut said))?;
-        Ok(Components { ior: self, profile, left: 0..said.components })
+        let left = 0..self.said_of(profile)?.components;
+        Ok(Components { ior: self, profile, left })
     }
 
     /// What its first profile of IIOP says, if it has one.
@@ -196,10 +196,19 @@ impl Ior {
             .transpose()
     }
 
+    /// What is said of the profile of an index.
+    fn said_of(&mut self, index: u32) -> Result<lr_profile, Error> {
+        let mut said = lr_profile::default();
+        // SAFETY: it is as large as is said.
+        done(unsafe {
+            sys::lr_ior_profile(&mut self.slot, index, &mut said, size_of::<lr_profile>())
+        })?;
+        Ok(said)
+    }
+
     /// The profile of an index.
     fn profile(&mut self, index: u32) -> Result<Profile, Error> {
-        let mut said = lr_profile::default();
-        done(sys::lr_ior_profile(&mut self.slot, index, &mut said))?;
+        let said = self.said_of(index)?;
         let address = if said.is_iiop != 0 { Some(self.address_of(index, &said)?) } else { None };
         Ok(Profile {
             tag: said.tag,

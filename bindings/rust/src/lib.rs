@@ -27,6 +27,7 @@ mod assembler;
 mod catalogue;
 pub mod cdr;
 mod client;
+mod contexts;
 mod error;
 mod ior;
 mod limits;
@@ -38,25 +39,21 @@ mod server;
 mod types;
 pub mod write;
 
-/// The functions of the library.
-mod sys {
-    pub use lemonrudder_sys::*;
+use lemonrudder_sys as sys;
 
-    #[cfg(test)]
-    mod header;
-}
-
-pub use assembler::{Assembler, Contexts, Message};
+pub use assembler::{Assembler, Message};
 pub use catalogue::{Catalogue, Signature};
-pub use client::{Call, Client, Completion, SystemException};
+pub use client::{Call, Client, Completion, RawCall, SystemException};
+pub use contexts::Contexts;
 pub use error::Error;
 pub use ior::{Address, Components, Ior, Profile, Profiles};
 pub use limits::Limits;
 pub use moment::Moment;
 pub use numbers::{
-    Completed, Ended, Fault, LocateStatus, MessageType, Order, Status, SystemName, Version, Wish,
+    Completed, Counted, Ended, Fault, LocateStatus, MessageType, Order, Part, Status, SystemName,
+    Version, Why, Wish,
 };
-pub use server::{FtRequest, Request, Server, Settings};
+pub use server::{Due, FtRequest, Request, Server, Settings, Ticket};
 pub use types::Type;
 
 use alloc::vec::Vec;

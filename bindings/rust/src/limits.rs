@@ -9,9 +9,9 @@ pub struct Limits {
     pub partials: u32,
 }
 
-/// Messages of a mebibyte, eight of them partial.
+/// Messages of a mebibyte, four of them partial.
 impl Default for Limits {
     fn default() -> Limits {
-        Limits { message: 1 << 20, partials: 8 }
+        Limits { message: 1 << 20, partials: 4 }
     }
 }

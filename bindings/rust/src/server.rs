@@ -1,31 +1,74 @@
 //! A server of requests that may be sent again.
 
 use crate::cdr::{Reader, Writer};
-use crate::error::{self, count, done, sure};
+use crate::contexts::Contexts;
+use crate::error::{self, copied, count, done, sure};
 use crate::sys::{self, lr_request, lr_slot};
 use crate::{
-    Catalogue, Completed, Error, Limits, Moment, Order, Status, SystemName, Version, Wish,
+    Catalogue, Completed, Counted, Error, Moment, Order, Part, Status, SystemName, Version, Why,
+    Wish,
 };
 use alloc::vec::Vec;
+use core::mem::size_of;
 
-/// What a server is opened with.
+/// What a server is opened with: its seeds, and its limits. What is not set is as it is said.
+///
+/// ```
+/// use lemonrudder::Settings;
+///
+/// // outcomes of the last minute, 500 a second
+/// let settings = Settings::default().capacity(30_000).share(1_000);
+/// ```
 #[derive(Clone, Debug)]
 pub struct Settings {
-    /// The limits of each connection.
-    pub limits: Limits,
-    /// How many outcomes are kept for repeats at most.
-    pub capacity: u32,
-    /// How many of them are kept of each client at most.
-    pub share: u32,
-    /// Random numbers that no client can guess.
-    pub seeds: [u64; 2],
+    seeds: [u64; 2],
+    limits: Vec<(u32, u64)>,
+}
+
+macro_rules! settings {
+    ($($(#[$doc:meta])* $name:ident: $number:ty = $what:ident;)*) => {$(
+        $(#[$doc])*
+        #[must_use]
+        pub fn $name(self, number: $number) -> Settings {
+            self.with(sys::$what, number.into())
+        }
+    )*};
 }
 
 impl Settings {
-    /// The limits that are usual, 1024 outcomes, as many of each client, and these seeds.
+    /// These seeds, which are random numbers that no client can guess, and the limits that are
+    /// usual.
     #[must_use]
     pub fn new(seeds: [u64; 2]) -> Settings {
-        Settings { limits: Limits::default(), capacity: 1024, share: 1024, seeds }
+        Settings { seeds, limits: Vec::new() }
+    }
+
+    /// With one limit more.
+    fn with(mut self, what: u32, number: u64) -> Settings {
+        self.limits.push((what, number));
+        self
+    }
+
+    settings! {
+        /// How many octets a message may have: 4096 to 16777216. Else 1048576.
+        message: u32 = LR_SET_MESSAGE;
+        /// How many messages of a connection may be partial at a time: 1 to 16. Else 4.
+        partials: u32 = LR_SET_PARTIALS;
+        /// How many outcomes are kept for repeats at most. Else 65536.
+        capacity: u32 = LR_SET_CAPACITY;
+        /// How many of them are kept of each client at most. Else all.
+        share: u32 = LR_SET_SHARE;
+        /// How many requests may be parked at a time. Else 1024.
+        parked: u32 = LR_SET_PARKED;
+        /// How many of those that came on one connection. Else 64.
+        parked_of_one: u32 = LR_SET_PARKED_OF;
+        /// How many may wait for the outcome of a parked request, beside the last who came. Else 8.
+        joined: u32 = LR_SET_JOINED;
+        /// How many octets are due on a connection from which on it is fed no more. Else 1048576.
+        due: u64 = LR_SET_DUE;
+        /// How many octets a client's id may have; FT_REQUEST with a longer one is not valid. Else
+        /// 256.
+        client_id: u64 = LR_SET_CLIENT_ID;
     }
 }
 
@@ -42,17 +85,29 @@ impl Default for Settings {
     }
 }
 
+/// The name of one request, by which it is answered: a server gives it to no other.
+#[derive(Clone, Copy, Debug, PartialEq, Eq, PartialOrd, Ord, Hash)]
+pub struct Ticket(u64);
+
+impl Ticket {
+    /// Its number, which is not 0.
+    #[must_use]
+    pub const fn number(self) -> u64 {
+        self.0
+    }
+}
+
 /// A server of requests that may be sent again: each distinct request is answered once, and its
 /// repeats get that outcome. It is asked again only where it was given up or refused.
 ///
 /// Octets that come on connections go in by [`serve`](Server::serve), which has each request
 /// performed; and what is due goes out by [`output`](Server::output) after each call. `serve` is a
-/// loop over [`feed`](Server::feed), [`identify`](Server::identify) and [`asked`](Server::asked),
-/// for those who perform elsewhere, as in another thread.
+/// loop over [`feed`](Server::feed) and [`asked`](Server::asked).
 ///
-/// One request waits at a time. While it does, `feed`, `connect`, `lost` and `farewell` answer
-/// `Asking`. What is due belongs to one connection; until it is taken, `feed` and `farewell` of
-/// another answer `Due`.
+/// One request waits at a time. While it does, `feed`, `connect`, `lost`, `farewell`, `tick` and
+/// `swap` answer `Asking`. What takes its time is [parked](Request::park): others are fed, and it is
+/// answered by its [`Ticket`] once its outcome is there. Its repeats join those who wait for that;
+/// the replies are due on each connection where somebody waits, which [`due`](Server::due) gives.
 ///
 /// ```
 /// use lemonrudder::cdr::Writer;
@@ -72,7 +127,7 @@ impl Default for Settings {
 ///     total += i64::from(request.reader().long()?);
 ///     request.answer(Writer::new(Order::Big).longlong(total)?)
 /// })?;
-/// let due = server.take_output();
+/// let due = server.take_output(1);
 /// # assert_eq!(due[7], 6);
 /// # Ok::<(), lemonrudder::Error>(())
 /// ```
@@ -103,16 +158,11 @@ impl Server {
     /// `Range`, `Memory`.
     pub fn open(mut catalogue: Catalogue, settings: &Settings) -> Result<Server, Error> {
         let mut slot = lr_slot::empty();
-        done(sys::lr_server_open(
-            &mut slot,
-            &mut catalogue.slot,
-            settings.limits.message,
-            settings.limits.partials,
-            settings.capacity,
-            settings.share,
-            settings.seeds[0],
-            settings.seeds[1],
-        ))?;
+        let [low, high] = settings.seeds;
+        done(sys::lr_server_open(&mut slot, &mut catalogue.slot, low, high))?;
+        for (what, number) in &settings.limits {
+            done(sys::lr_server_set(&mut slot, *what, *number))?;
+        }
         Ok(Server { slot, parts: Default::default() })
     }
 
@@ -125,7 +175,8 @@ impl Server {
         done(sys::lr_server_connect(&mut self.slot, connection))
     }
 
-    /// Forgets a connection that is gone, if there is one, and the octets that are due on it.
+    /// Forgets a connection that is gone, if there is one, the octets that are due on it, and who
+    /// waits there for an outcome.
     ///
     /// # Errors
     ///
@@ -134,30 +185,32 @@ impl Server {
         done(sys::lr_server_lost(&mut self.slot, connection))
     }
 
-    /// Says goodbye: CloseConnection is due, unless the connection's stream has ended. What comes
-    /// on it afterwards has no meaning.
+    /// Says goodbye: CloseConnection is due, unless the connection's stream has ended: at once where
+    /// nobody waits there for the outcome of a parked request, else behind the last of these
+    /// replies. What comes on it from now on means nothing.
     ///
     /// # Errors
     ///
-    /// `Asking`, `Due`, `Connection`, `Lost`.
+    /// `Asking`, `Connection`, `Lost`.
     pub fn farewell(&mut self, connection: u64) -> Result<(), Error> {
         done(sys::lr_server_farewell(&mut self.slot, connection))
     }
 
     /// Whether the connection was never opened, is gone, has ended or was said goodbye to, so that
-    /// its socket is to be closed once what is due is sent.
+    /// its socket is to be closed once what is due is sent; not while a goodbye waits for replies.
     pub fn is_closed(&mut self, connection: u64) -> bool {
         sure(sys::lr_server_is_closed(&mut self.slot, connection)) != 0
     }
 
     /// Takes octets of a connection that came at a moment, and answers how many it took: all of
-    /// them, or those up to a request that waits for its outcome. The rest is to be fed after it is
-    /// answered, at the same moment.
+    /// them; those up to a request that waits for its outcome; or fewer where
+    /// [`Settings::due`] octets are due on it. The rest is to be fed at the same moment, when it is
+    /// answered, or less is due.
     ///
     /// # Errors
     ///
-    /// `Asking`, `Due`, `Connection` (the clock has moved), and `Lost`, where what was answered
-    /// before is due.
+    /// `Asking`, `Connection` (the clock has moved), and `Lost`, where what was answered before is
+    /// due.
     pub fn feed(&mut self, connection: u64, moment: Moment, octets: &[u8]) -> Result<usize, Error> {
         // SAFETY: the octets are lent.
         let answer = unsafe {
@@ -172,32 +225,20 @@ impl Server {
         count(answer)
     }
 
-    /// Answers `_is_a` and `_non_existent` of an object that names its repository ids: whether that
-    /// is what waits, and it is answered.
-    ///
-    /// # Errors
-    ///
-    /// `Idle`, and those of [`Request::answer`].
-    pub fn identify(&mut self) -> Result<bool, Error> {
-        let ticket = self.ticket();
-        Ok(count(sys::lr_server_identify(&mut self.slot, ticket))? != 0)
-    }
-
     /// The request that waits for its outcome, if one does.
     ///
     /// # Errors
     ///
     /// `Memory`.
     pub fn asked(&mut self) -> Result<Option<Request<'_>>, Error> {
-        let mut said = lr_request::default();
-        if count(sys::lr_server_asked(&mut self.slot, &mut said))? == 0 {
+        let Some(said) = self.waiting() else {
             return Ok(None);
-        }
-        self.copy(sys::LR_PART_KEY, said.key_size)?;
-        self.copy(sys::LR_PART_OPERATION, said.operation_size)?;
-        self.copy(sys::LR_PART_BODY, said.body_size)?;
+        };
+        self.copy(said.ticket, Part::Key, said.key_size)?;
+        self.copy(said.ticket, Part::Operation, said.operation_size)?;
+        self.copy(said.ticket, Part::Body, said.body_size)?;
         if said.has_client != 0 {
-            self.copy(sys::LR_PART_CLIENT, said.client_size)?;
+            self.copy(said.ticket, Part::Client, said.client_size)?;
         }
         Ok(Some(Request {
             order: Order::of(said.body_order)?,
@@ -208,28 +249,35 @@ impl Server {
         }))
     }
 
-    /// The ticket of the request that waits; 0, which no request has, where none does.
-    fn ticket(&mut self) -> u64 {
+    /// What is said of the request that waits, if one does.
+    fn waiting(&mut self) -> Option<lr_request> {
         let mut said = lr_request::default();
-        sure(sys::lr_server_asked(&mut self.slot, &mut said));
-        said.ticket
+        // SAFETY: it is as large as is said.
+        let found =
+            unsafe { sys::lr_server_asked(&mut self.slot, &mut said, size_of::<lr_request>()) };
+        (sure(found) != 0).then_some(said)
+    }
+
+    /// The ticket of the request that waits; one that no request has, where none does.
+    fn ticket(&mut self) -> Ticket {
+        Ticket(self.waiting().map_or(0, |said| said.ticket))
     }
 
     /// Copies a part of the request that waits into its buffer.
-    fn copy(&mut self, part: u32, size: u64) -> Result<(), Error> {
+    fn copy(&mut self, ticket: u64, part: Part, size: u64) -> Result<(), Error> {
         let room = &mut self.parts[part as usize];
         room.resize(error::size(size)?, 0);
+        let (at, size) = (room.as_mut_ptr().cast(), room.len());
         // SAFETY: the room is lent.
-        let answer = unsafe {
-            sys::lr_server_part(&mut self.slot, part, room.as_mut_ptr().cast(), room.len())
-        };
-        done(answer)
+        done(unsafe { sys::lr_server_part(&mut self.slot, ticket, part.number(), at, size) })
     }
 
-    /// Feeds octets of a connection that came at a moment, to their end, and has each request
-    /// performed that waits in them. What is due is to be taken afterwards.
+    /// Feeds octets of a connection that came at a moment, has each request performed that waits in
+    /// them, and answers how many it took: all of them, or fewer where [`Settings::due`] octets are
+    /// due on the connection; the rest is to be served when less is. What is due is to be taken
+    /// afterwards.
     ///
-    /// A request that `perform` does not answer, refuse or give up is answered by `INTERNAL`,
+    /// A request that `perform` does not answer, park, refuse or give up is answered by `INTERNAL`,
     /// `Completed::Maybe`, since something may have been done that must not be done again.
     ///
     /// Where an error is answered, what came before it was answered, and the rest of the octets was
@@ -245,15 +293,17 @@ impl Server {
         moment: Moment,
         octets: &[u8],
         mut perform: impl FnMut(&mut Request<'_>) -> Result<(), Error>,
-    ) -> Result<(), Error> {
-        let mut left = octets;
+    ) -> Result<usize, Error> {
+        let mut taken = 0;
         loop {
-            let taken = self.feed(connection, moment, left)?;
-            left = left.get(taken..).unwrap_or(&[]);
-            match self.identify() {
+            let left = octets.get(taken..).unwrap_or(&[]);
+            taken += self.feed(connection, moment, left)?;
+            let Some(said) = self.waiting() else {
+                return Ok(taken);
+            };
+            match self.identify(Ticket(said.ticket)) {
                 Ok(true) => {}
                 Ok(false) => self.perform(&mut perform)?,
-                Err(Error::Idle) => return Ok(()),
                 Err(error) => {
                     self.give_up();
                     return Err(error);
@@ -263,7 +313,7 @@ impl Server {
     }
 
     /// Has the request performed that waits. It is given up where it can't be read, and answered in
-    /// any case where it can.
+    /// any case where it can, unless it is parked.
     fn perform(
         &mut self,
         perform: &mut impl FnMut(&mut Request<'_>) -> Result<(), Error>,
@@ -276,10 +326,9 @@ impl Server {
                 Err(error)
             }
         };
-        let (internal, maybe) = (SystemName::Internal.number(), Completed::Maybe.number());
         let ticket = self.ticket();
-        match done(sys::lr_server_system(&mut self.slot, ticket, internal, 0, maybe)) {
-            Ok(()) | Err(Error::Idle) => performed,
+        match self.system(ticket, SystemName::Internal, 0, Completed::Maybe) {
+            Ok(()) | Err(Error::Ticket) => performed,
             Err(error) => Err(error),
         }
     }
@@ -288,19 +337,245 @@ impl Server {
     /// nothing. Nothing is kept, and its connection is gone; it is asked again when it comes again.
     pub fn give_up(&mut self) {
         let ticket = self.ticket();
-        sure(sys::lr_server_give_up(&mut self.slot, ticket));
+        sure(sys::lr_server_give_up(&mut self.slot, ticket.0));
     }
 
-    /// Moves octets that are due into the room, as many as it has, and answers how many: 0 where
-    /// none are left. They belong to the connection of the last call.
-    pub fn output(&mut self, room: &mut [u8]) -> usize {
+    /// Answers the request of a ticket, which waits or is parked, by results.
+    ///
+    /// # Errors
+    ///
+    /// `Ticket`, where none of that ticket waits or is parked; of a parked one `Asking`, while
+    /// another waits; `Outcome`, `Memory` (it waits or is parked still); and of one that waits
+    /// `Lost`: the outcome counts and is kept, and its reply is lost.
+    pub fn answer(&mut self, ticket: Ticket, results: &Writer) -> Result<(), Error> {
+        let (order, octets) = (results.order().number(), results.as_octets());
+        let (at, size) = (octets.as_ptr().cast(), octets.len());
+        // SAFETY: the octets are lent.
+        done(unsafe { sys::lr_server_answer(&mut self.slot, ticket.0, order, at, size) })
+    }
+
+    /// Answers it by an exception that the operation declares: its repository id, and its members.
+    ///
+    /// # Errors
+    ///
+    /// As of `answer`.
+    pub fn raise(
+        &mut self,
+        ticket: Ticket,
+        id: impl AsRef<[u8]>,
+        members: &Writer,
+    ) -> Result<(), Error> {
+        let (id, order, octets) = (id.as_ref(), members.order().number(), members.as_octets());
+        // SAFETY: the id and the octets are lent.
+        done(unsafe {
+            sys::lr_server_raise(
+                &mut self.slot,
+                ticket.0,
+                id.as_ptr().cast(),
+                id.len(),
+                order,
+                octets.as_ptr().cast(),
+                octets.len(),
+            )
+        })
+    }
+
+    /// Answers it by a system exception with a minor code.
+    ///
+    /// # Errors
+    ///
+    /// As of `answer`.
+    pub fn system(
+        &mut self,
+        ticket: Ticket,
+        name: SystemName,
+        minor: u32,
+        completed: Completed,
+    ) -> Result<(), Error> {
+        let (name, completed) = (name.number(), completed.number());
+        done(sys::lr_server_system(&mut self.slot, ticket.0, name, minor, completed))
+    }
+
+    /// Answers a raw operation by the body of a Reply, of at most 1048576 octets: its status is
+    /// `NoException` to `LocationForward`.
+    ///
+    /// # Errors
+    ///
+    /// As of `answer`, and `Range`.
+    pub fn answer_raw(
+        &mut self,
+        ticket: Ticket,
+        status: Status,
+        body: &Writer,
+    ) -> Result<(), Error> {
+        let (order, octets) = (body.order().number(), body.as_octets());
+        // SAFETY: the octets are lent.
+        done(unsafe {
+            sys::lr_server_answer_raw(
+                &mut self.slot,
+                ticket.0,
+                status.number(),
+                order,
+                octets.as_ptr().cast(),
+                octets.len(),
+            )
+        })
+    }
+
+    /// Answers `_is_a` and `_non_existent` of an object that names its repository ids: whether that
+    /// is what the request of a ticket asks, and it is answered. `serve` does so by itself.
+    ///
+    /// # Errors
+    ///
+    /// As of `answer`.
+    pub fn identify(&mut self, ticket: Ticket) -> Result<bool, Error> {
+        Ok(count(sys::lr_server_identify(&mut self.slot, ticket.0))? != 0)
+    }
+
+    /// Refuses it for now by a system exception with a minor code and `Completed::No`: you have
+    /// done nothing. Nothing is kept, and it is asked again when it comes again. Its connection
+    /// stays.
+    ///
+    /// # Errors
+    ///
+    /// `Ticket`; of a parked one `Asking`, while another waits; and of one that waits `Lost`: for
+    /// want of memory it is given up.
+    pub fn refuse(&mut self, ticket: Ticket, name: SystemName, minor: u32) -> Result<(), Error> {
+        done(sys::lr_server_refuse(&mut self.slot, ticket.0, name.number(), minor))
+    }
+
+    /// A part of the request of a ticket, which waits or is parked.
+    ///
+    /// # Errors
+    ///
+    /// `Ticket`, `Memory`, and `NoPart`: it carries no FT_REQUEST.
+    pub fn part(&mut self, ticket: Ticket, part: Part) -> Result<Vec<u8>, Error> {
+        let slot = &mut self.slot;
         // SAFETY: the room is lent.
-        sure(unsafe { sys::lr_server_output(&mut self.slot, room.as_mut_ptr().cast(), room.len()) })
+        copied(64, |room| unsafe {
+            let (at, size) = (room.as_mut_ptr().cast(), room.len());
+            sys::lr_server_part(slot, ticket.0, part.number(), at, size)
+        })
     }
 
-    /// All octets that are due. They belong to the connection of the last call.
-    pub fn take_output(&mut self) -> Vec<u8> {
-        crate::all_of(|room| self.output(room))
+    /// How many requests are parked.
+    pub fn parked(&mut self) -> usize {
+        sure(sys::lr_server_parked(&mut self.slot))
+    }
+
+    /// How many are parked of those that came on a connection.
+    pub fn parked_of(&mut self, connection: u64) -> usize {
+        sure(sys::lr_server_parked_of(&mut self.slot, connection))
+    }
+
+    /// How many wait for the outcome of a parked request, on connections that go on: 0 where nobody
+    /// would hear it. One that carries FT_REQUEST is kept all the same.
+    ///
+    /// # Errors
+    ///
+    /// `Ticket`.
+    pub fn wanted(&mut self, ticket: Ticket) -> Result<usize, Error> {
+        count(sys::lr_server_wanted(&mut self.slot, ticket.0))
+    }
+
+    /// A connection on which octets became due by the outcome of a parked request, or by a goodbye
+    /// that waited, if there is one: it is named no more for these.
+    pub fn next_due(&mut self) -> Option<u64> {
+        let mut connection = 0;
+        let found = sys::lr_server_next_due(&mut self.slot, &mut connection);
+        (sure(found) != 0).then_some(connection)
+    }
+
+    /// These connections, each with all octets that are due on it.
+    ///
+    /// ```
+    /// # use lemonrudder::{Catalogue, Server, Settings};
+    /// # let mut server = Server::open(Catalogue::open()?, &Settings::default())?;
+    /// for (connection, octets) in server.due() {
+    ///     // send them
+    /// # drop((connection, octets));
+    /// }
+    /// # Ok::<(), lemonrudder::Error>(())
+    /// ```
+    pub fn due(&mut self) -> Due<'_> {
+        Due(self)
+    }
+
+    /// Moves octets that are due on a connection into the room, as many as it has, and answers how
+    /// many: 0 where none are left.
+    pub fn output(&mut self, connection: u64, room: &mut [u8]) -> usize {
+        let (at, size) = (room.as_mut_ptr().cast(), room.len());
+        // SAFETY: the room is lent.
+        sure(unsafe { sys::lr_server_output(&mut self.slot, connection, at, size) })
+    }
+
+    /// All octets that are due on a connection.
+    pub fn take_output(&mut self, connection: u64) -> Vec<u8> {
+        crate::all_of(|room| self.output(connection, room))
+    }
+
+    /// One of the numbers that it counts.
+    pub fn count(&mut self, what: Counted) -> usize {
+        sure(sys::lr_server_count(&mut self.slot, what.number()))
+    }
+
+    /// How many outcomes are kept of a client, by its id: so much of its share it holds.
+    pub fn held_by(&mut self, client_id: impl AsRef<[u8]>) -> usize {
+        let id = client_id.as_ref();
+        // SAFETY: the id is lent.
+        sure(unsafe { sys::lr_server_held_by(&mut self.slot, id.as_ptr().cast(), id.len()) })
+    }
+
+    /// The first expiration of what is kept, if anything is.
+    pub fn next_expiry(&mut self) -> Option<Moment> {
+        let mut moment = 0;
+        let found = sys::lr_server_next_expiry(&mut self.slot, &mut moment);
+        (sure(found) != 0).then_some(Moment(moment))
+    }
+
+    /// A moment has come: what expired before it is forgotten. So does each request that carries
+    /// FT_REQUEST; where none come for long, this gives memory back.
+    ///
+    /// # Errors
+    ///
+    /// `Asking`.
+    pub fn tick(&mut self, moment: Moment) -> Result<(), Error> {
+        done(sys::lr_server_tick(&mut self.slot, moment.0))
+    }
+
+    /// Why nothing more is heard of a connection, until it is [`lost`](Server::lost).
+    ///
+    /// # Errors
+    ///
+    /// `Connection`; and `Range`, where this version of the crate has no name for it.
+    pub fn why(&mut self, connection: u64) -> Result<Why, Error> {
+        let number = count(sys::lr_server_why(&mut self.slot, connection))?;
+        u32::try_from(number).map_err(|_| Error::Range).and_then(Why::of)
+    }
+
+    /// Exchanges what it has on offer and a catalogue: so objects are added and taken away while it
+    /// serves. What is kept stays. A parked request is answered by an outcome of its operation as
+    /// that is on offer then, or by a system exception.
+    ///
+    /// # Errors
+    ///
+    /// `Asking`.
+    pub fn swap(&mut self, catalogue: &mut Catalogue) -> Result<(), Error> {
+        done(sys::lr_server_swap(&mut self.slot, &mut catalogue.slot))
+    }
+}
+
+/// The connections on which octets became due by the outcomes of parked requests, each with all
+/// that is due on it.
+#[derive(Debug)]
+pub struct Due<'s>(&'s mut Server);
+
+impl Iterator for Due<'_> {
+    type Item = (u64, Vec<u8>);
+
+    fn next(&mut self) -> Option<(u64, Vec<u8>)> {
+        let connection = self.0.next_due()?;
+        Some((connection, self.0.take_output(connection)))
     }
 }
 
@@ -315,8 +590,8 @@ pub struct FtRequest<'a> {
     pub expiration: Moment,
 }
 
-/// A request that waits for its outcome. It is answered once; where it is not, [`Server::asked`]
-/// gives it again.
+/// A request that waits for its outcome. It is answered once, or parked; where it is not,
+/// [`Server::asked`] gives it again.
 #[derive(Debug)]
 pub struct Request<'s> {
     server: &'s mut Server,
@@ -327,6 +602,12 @@ pub struct Request<'s> {
 }
 
 impl Request<'_> {
+    /// Its name, by which it is answered.
+    #[must_use]
+    pub fn ticket(&self) -> Ticket {
+        Ticket(self.said.ticket)
+    }
+
     /// The connection on which it came.
     #[must_use]
     pub fn connection(&self) -> u64 {
@@ -392,24 +673,45 @@ impl Request<'_> {
         })
     }
 
-    /// Answers by results.
+    /// Its service contexts, in order.
+    pub fn contexts(&mut self) -> Contexts<'_> {
+        Contexts::of(&mut self.server.slot, self.said.contexts, sys::lr_server_context)
+    }
+
+    /// Parks it: it waits no more, and is answered later, by its ticket.
+    ///
+    /// ```
+    /// # use lemonrudder::{cdr::Writer, Catalogue, Error, Moment, Order, Server, Settings};
+    /// # let mut server = Server::open(Catalogue::open()?, &Settings::default())?;
+    /// # server.connect(1)?;
+    /// let mut parked = Vec::new();
+    /// server.serve(1, Moment::now(), b"octets", |request| {
+    ///     parked.push(request.park()?);
+    ///     Ok(())
+    /// })?;
+    /// // and when the outcome is there
+    /// for ticket in parked {
+    ///     server.answer(ticket, Writer::new(Order::Big).longlong(7)?)?;
+    /// }
+    /// # Ok::<(), Error>(())
+    /// ```
+    ///
+    /// # Errors
+    ///
+    /// `Parks`, `Memory`: it waits still, and is to be answered or refused now.
+    pub fn park(&mut self) -> Result<Ticket, Error> {
+        done(sys::lr_server_park(&mut self.server.slot, self.said.ticket))?;
+        Ok(self.ticket())
+    }
+
+    /// Answers by results, as [`Server::answer`] does.
     ///
     /// # Errors
     ///
     /// `Outcome`, `Memory` (it waits still), and `Lost`: the outcome counts and is kept, and its
     /// reply is lost.
     pub fn answer(&mut self, results: &Writer) -> Result<(), Error> {
-        let (order, octets) = (results.order().number(), results.as_octets());
-        // SAFETY: the octets are lent.
-        done(unsafe {
-            sys::lr_server_answer(
-                &mut self.server.slot,
-                self.said.ticket,
-                order,
-                octets.as_ptr().cast(),
-                octets.len(),
-            )
-        })
+        self.server.answer(self.ticket(), results)
     }
 
     /// Answers by an exception that the operation declares: its repository id, and its members.
@@ -418,19 +720,7 @@ impl Request<'_> {
     ///
     /// As of `answer`.
     pub fn raise(&mut self, id: impl AsRef<[u8]>, members: &Writer) -> Result<(), Error> {
-        let (id, order, octets) = (id.as_ref(), members.order().number(), members.as_octets());
-        // SAFETY: the id and the octets are lent.
-        done(unsafe {
-            sys::lr_server_raise(
-                &mut self.server.slot,
-                self.said.ticket,
-                id.as_ptr().cast(),
-                id.len(),
-                order,
-                octets.as_ptr().cast(),
-                octets.len(),
-            )
-        })
+        self.server.raise(self.ticket(), id, members)
     }
 
     /// Answers by a system exception with a minor code.
@@ -444,8 +734,7 @@ impl Request<'_> {
         minor: u32,
         completed: Completed,
     ) -> Result<(), Error> {
-        let (name, completed) = (name.number(), completed.number());
-        done(sys::lr_server_system(&mut self.server.slot, self.said.ticket, name, minor, completed))
+        self.server.system(self.ticket(), name, minor, completed)
     }
 
     /// Answers a raw operation by the body of a Reply, of at most 1048576 octets: its status is
@@ -455,35 +744,22 @@ impl Request<'_> {
     ///
     /// As of `answer`, and `Range`.
     pub fn answer_raw(&mut self, status: Status, body: &Writer) -> Result<(), Error> {
-        let (status, order, octets) = (status.number(), body.order().number(), body.as_octets());
-        // SAFETY: the octets are lent.
-        done(unsafe {
-            sys::lr_server_answer_raw(
-                &mut self.server.slot,
-                self.said.ticket,
-                status,
-                order,
-                octets.as_ptr().cast(),
-                octets.len(),
-            )
-        })
+        self.server.answer_raw(self.ticket(), status, body)
     }
 
     /// Gives it up: you can't perform it now, and have done nothing. Nothing is kept, and its
     /// connection is gone; it is asked again when it comes again.
     pub fn give_up(&mut self) {
-        self.server.give_up();
+        sure(sys::lr_server_give_up(&mut self.server.slot, self.said.ticket));
     }
 
-    /// Refuses it for now by a system exception with a minor code and `Completed::No`: you have
-    /// done nothing. Nothing is kept, and it is asked again when it comes again. Its connection
-    /// stays.
+    /// Refuses it for now, as [`Server::refuse`] does.
     ///
     /// # Errors
     ///
-    /// `Idle`, and `Lost`: for want of memory it is given up.
+    /// `Lost`: for want of memory it is given up.
     pub fn refuse(&mut self, name: SystemName, minor: u32) -> Result<(), Error> {
-        done(sys::lr_server_refuse(&mut self.server.slot, self.said.ticket, name.number(), minor))
+        self.server.refuse(self.ticket(), name, minor)
     }
 
     /// Gives it up, and says goodbye first: CloseConnection is due, by which its client knows that
@@ -492,7 +768,8 @@ impl Request<'_> {
     ///
     /// # Errors
     ///
-    /// `Idle`, and `Memory` (it waits still).
+    /// `Parks`, where somebody waits on its connection for the outcome of a parked request, and
+    /// `Memory` (it waits still).
     pub fn goodbye(&mut self) -> Result<(), Error> {
         done(sys::lr_server_goodbye(&mut self.server.slot, self.said.ticket))
     }

@@ -1,5 +1,6 @@
 //! Types of IDL.
 
+use crate::sys::*;
 use crate::Error;
 use alloc::vec::Vec;
 
@@ -34,6 +35,10 @@ pub enum Type<'a> {
     LongLong,
     /// `unsigned long long`
     ULongLong,
+    /// `float`, which has the octets of an `unsigned long`
+    Float,
+    /// `double`, which has those of an `unsigned long long`
+    Double,
     /// `string`
     String,
     /// `sequence<octet>`
@@ -47,31 +52,33 @@ pub enum Type<'a> {
 }
 
 impl Type<'_> {
-    /// Appends the codes of the type (`LR_TYPE_BOOLEAN` to `LR_TYPE_STRUCT` of `lemonrudder.h`).
+    /// Appends the codes of the type (`LR_TYPE_..` of `lemonrudder.h`).
     fn put(&self, codes: &mut Vec<u8>) -> Result<(), Error> {
         match self {
-            Type::Boolean => codes.push(1),
-            Type::Char => codes.push(2),
-            Type::Octet => codes.push(3),
-            Type::Short => codes.push(4),
-            Type::UShort => codes.push(5),
-            Type::Long => codes.push(6),
-            Type::ULong => codes.push(7),
-            Type::LongLong => codes.push(8),
-            Type::ULongLong => codes.push(9),
-            Type::String => codes.push(10),
-            Type::Octets => codes.push(11),
+            Type::Boolean => codes.push(LR_TYPE_BOOLEAN),
+            Type::Char => codes.push(LR_TYPE_CHAR),
+            Type::Octet => codes.push(LR_TYPE_OCTET),
+            Type::Short => codes.push(LR_TYPE_SHORT),
+            Type::UShort => codes.push(LR_TYPE_USHORT),
+            Type::Long => codes.push(LR_TYPE_LONG),
+            Type::ULong => codes.push(LR_TYPE_ULONG),
+            Type::LongLong => codes.push(LR_TYPE_LONGLONG),
+            Type::ULongLong => codes.push(LR_TYPE_ULONGLONG),
+            Type::String => codes.push(LR_TYPE_STRING),
+            Type::Float => codes.push(LR_TYPE_FLOAT),
+            Type::Double => codes.push(LR_TYPE_DOUBLE),
+            Type::Octets => codes.push(LR_TYPE_OCTETS),
             // the same octets, which are kept as one value
-            Type::Sequence(Type::Octet) => codes.push(11),
+            Type::Sequence(Type::Octet) => codes.push(LR_TYPE_OCTETS),
             Type::Sequence(element) => {
                 element.put(codes)?;
-                codes.push(12);
+                codes.push(LR_TYPE_SEQUENCE);
             }
-            Type::Enum(names) => codes.extend([13, *names]),
+            Type::Enum(names) => codes.extend([LR_TYPE_ENUM, *names]),
             Type::Struct(members) => {
                 let count = u8::try_from(members.len()).map_err(|_| Error::Types)?;
                 put_all(members, codes)?;
-                codes.extend([14, count]);
+                codes.extend([LR_TYPE_STRUCT, count]);
             }
         }
         Ok(())

@@ -3,8 +3,9 @@
 //! Each function gives a whole message.
 //!
 //! A body is octets that were written for a place divisible by 8, as those of a
-//! [`Writer`](crate::cdr::Writer) are. In 1.2 it stands at such a place.
+//! [`Writer`] are. In 1.2 it stands at such a place.
 
+use crate::cdr::Writer;
 use crate::error::written;
 use crate::sys;
 use crate::{Error, FtRequest, LocateStatus, Order, Status, Version, Wish};
@@ -13,8 +14,14 @@ use alloc::vec::Vec;
 /// What a message takes at most beside the octets that are given.
 const MOST: usize = 128;
 
-/// The id of the service context FT_REQUEST (CORBA 3.3 Part 2, 7.7).
-pub const FT_REQUEST: u32 = 13;
+/// The id of the service context FT_REQUEST (CORBA 3.3 Part 2, 7.7.1).
+pub const FT_REQUEST: u32 = sys::LR_CONTEXT_FT_REQUEST;
+/// The id of that of a transaction.
+pub const TRANSACTION: u32 = sys::LR_CONTEXT_TRANSACTION;
+/// The id of that of code sets.
+pub const CODE_SETS: u32 = sys::LR_CONTEXT_CODE_SETS;
+/// The id of that of the security attributes of a request.
+pub const SECURITY: u32 = sys::LR_CONTEXT_SECURITY;
 
 /// A Request to an object key.
 #[derive(Clone, Copy, Debug)]
@@ -198,4 +205,18 @@ pub fn ft_request(order: Order, said: &FtRequest<'_>) -> Result<Vec<u8>, Error> 
             said.expiration.0,
         )
     })
+}
+
+/// A list of service contexts: the id and the data of each (CORBA 3.3 Part 2, 7.7).
+///
+/// # Errors
+///
+/// `Long`, and `Range`: more is written than a message can have.
+pub fn contexts(order: Order, contexts: &[(u32, &[u8])]) -> Result<Vec<u8>, Error> {
+    let mut list = Writer::new(order);
+    list.ulong(u32::try_from(contexts.len()).map_err(|_| Error::Long)?)?;
+    for (id, data) in contexts {
+        list.ulong(*id)?.octets(data)?;
+    }
+    Ok(list.as_octets().to_vec())
 }

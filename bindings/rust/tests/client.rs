@@ -12,7 +12,7 @@ static NOTHING: Writer = Writer::new(Order::Big);
 
 /// A client that has called and sent its call.
 fn called() -> Result<Client, Error> {
-    let mut client = Client::open("A", Version::V12, Limits::default())?;
+    let mut client = Client::open("A")?;
     client.connected(Moment(50))?;
     assert_eq!(client.call(Moment(50), &CALL)?, 1);
     assert!(!client.take_output().is_empty());
@@ -160,7 +160,7 @@ fn transient_leaves_a_call_pending_where_that_is_kept() -> Result<(), Error> {
 
 #[test]
 fn a_call_of_before_keeps_its_number() -> Result<(), Error> {
-    let mut client = Client::open("A", Version::V12, Limits::default())?;
+    let mut client = Client::open("A")?;
     let now = Moment(50);
     assert_eq!(client.recall(-1, now, &CALL), Err(Error::Range));
     assert_eq!(client.recall(0, now, &CALL), Err(Error::Taken));
@@ -198,11 +198,10 @@ fn a_forward_is_followed_under_the_same_number() -> Result<(), Error> {
 
 #[test]
 fn what_is_no_call_is_refused() -> Result<(), Error> {
-    let limits = Limits::default();
-    assert_eq!(Client::open("", Version::V12, limits).err(), Some(Error::Text));
-    assert_eq!(Client::open("A\0", Version::V12, limits).err(), Some(Error::Text));
-    assert_eq!(Client::open([b'A'; 257], Version::V12, limits).err(), Some(Error::Text));
-    let mut client = Client::open([b'A'; 256], Version::V12, limits)?;
+    assert_eq!(Client::open("").err(), Some(Error::Text));
+    assert_eq!(Client::open("A\0").err(), Some(Error::Text));
+    assert_eq!(Client::open([b'A'; 257]).err(), Some(Error::Text));
+    let mut client = Client::open([b'A'; 256])?;
     let now = Moment(50);
 
     let nul = Call { operation: "g\0", ..CALL };

@@ -4,7 +4,7 @@ mod bank;
 
 use bank::{Bank, DEPOSIT};
 use lemonrudder::cdr::Writer;
-use lemonrudder::{Call, Client, Error, Limits, Moment, Order, Server, Version};
+use lemonrudder::{Call, Client, Error, Moment, Order, Server};
 use std::ffi::c_void;
 use std::ptr;
 use std::sync::atomic::{AtomicI64, Ordering};
@@ -56,7 +56,7 @@ fn again<T>(mut call: impl FnMut() -> Result<T, Error>) -> Result<T, Error> {
 
 /// A client of the bank that has called.
 fn caller() -> Result<Client, Error> {
-    let mut client = again(|| Client::open("A", Version::V12, Limits::default()))?;
+    let mut client = again(|| Client::open("A"))?;
     let mut arguments = Writer::new(Order::Big);
     arguments.string("alice")?.longlong(5)?;
     let call = Call {
@@ -83,12 +83,12 @@ fn connection(
     client.connected(NOW)?;
     let octets = client.take_output();
     let served = server.serve(number, NOW, &octets, |request| bank.perform(request));
-    let due = server.take_output();
+    let due = server.take_output(number);
     if number > 1 {
         // (the first replies are lost)
         client.feed(&due)?;
     }
-    served
+    served.map(drop)
 }
 
 /// Two calls, over as many connections as it takes: whether an allocation was refused.

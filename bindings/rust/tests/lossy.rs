@@ -4,7 +4,7 @@ mod bank;
 
 use bank::{Bank, Random, BALANCE, DEPOSIT};
 use lemonrudder::cdr::Writer;
-use lemonrudder::{Call, Client, Ended, Error, Limits, Moment, Order, Server, Signature, Version};
+use lemonrudder::{Call, Client, Ended, Error, Moment, Order, Server, Signature, Version};
 use std::collections::{BTreeMap, VecDeque};
 
 /// A client, its connection if it has one, the octets on their way, and how its calls ended.
@@ -30,9 +30,11 @@ struct World {
 
 impl Caller {
     fn new(name: &str, version: Version) -> Result<Caller, Error> {
+        let mut client = Client::open(name)?;
+        client.set_version(version)?;
         Ok(Caller {
             name: name.into(),
-            client: Client::open(name, version, Limits::default())?,
+            client,
             connection: None,
             up: VecDeque::new(),
             down: VecDeque::new(),
@@ -143,7 +145,7 @@ impl World {
             let piece = taken(&mut caller.up, size);
             let bank = &mut self.bank;
             self.server.serve(connection, self.now, &piece, |request| bank.perform(request))?;
-            caller.down.extend(self.server.take_output());
+            caller.down.extend(self.server.take_output(connection));
         }
         Ok(())
     }

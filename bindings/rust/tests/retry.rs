@@ -33,7 +33,7 @@ fn serve(
             return Ok(true);
         }
         server.serve(number, Moment::now(), &room[..size], |request| bank.perform(request))?;
-        let due = server.take_output();
+        let due = server.take_output(number);
         match random.below(16) {
             0 => return Ok(false),
             1 => {
@@ -42,7 +42,7 @@ fn serve(
             }
             2 => {
                 server.farewell(number)?;
-                stream.write_all(&[due, server.take_output()].concat())?;
+                stream.write_all(&[due, server.take_output(number)].concat())?;
                 return Ok(false);
             }
             _ => stream.write_all(&due)?,

@@ -93,10 +93,9 @@ fn a_request_says_what_it_asks_for() -> Result<(), Error> {
     request.answer(Writer::new(Order::Little).longlong(4)?)?;
 
     assert!(server.asked()?.is_none());
-    assert_eq!(server.identify(), Err(Error::Idle));
-    let reply = server.take_output();
+    let reply = server.take_output(1);
     assert_eq!(read(&reply, |message| message.reader().longlong())?, Ok(4));
-    assert_eq!(server.take_output(), []);
+    assert_eq!(server.take_output(1), []);
     Ok(())
 }
 
@@ -105,12 +104,12 @@ fn a_repeat_is_not_asked() -> Result<(), Error> {
     let mut server = connected()?;
     let mut bank = Bank::default();
     server.serve(1, NOW, &deposit(1, 5)?, |request| bank.perform(request))?;
-    let first = server.take_output();
+    let first = server.take_output(1);
     server.lost(1)?;
     server.connect(2)?;
     let twice = [deposit(1, 5)?, deposit(2, -6)?].concat();
     server.serve(2, NOW, &twice, |request| bank.perform(request))?;
-    let second = server.take_output();
+    let second = server.take_output(2);
     assert_eq!(second[..first.len()], first);
     assert_eq!(bank.accounts[&b"alice"[..]], 5);
     let status = read(&second[first.len()..], |message| message.status())?;
@@ -130,11 +129,11 @@ fn an_outcome_of_another_operation_is_refused() -> Result<(), Error> {
     assert_eq!(request.raise("IDL:Bank/Other:1.0", &wrong), Err(Error::Outcome));
     assert_eq!(request.raise(OVERDRAWN, &wrong), Err(Error::Outcome));
     assert_eq!(request.answer_raw(Status::NoException, &wrong), Err(Error::Outcome));
-    assert_eq!(server.take_output(), []);
+    assert_eq!(server.take_output(1), []);
     let mut request = server.asked()?.expect("it waits still");
     request.system(SystemName::ImpLimit, 3, Completed::No)?;
-    assert_eq!(request.system(SystemName::ImpLimit, 3, Completed::No), Err(Error::Idle));
-    assert_eq!(exception_of(&server.take_output())?, (id_of("IMP_LIMIT"), 3, 1));
+    assert_eq!(request.system(SystemName::ImpLimit, 3, Completed::No), Err(Error::Ticket));
+    assert_eq!(exception_of(&server.take_output(1))?, (id_of("IMP_LIMIT"), 3, 1));
     Ok(())
 }
 
@@ -143,7 +142,7 @@ fn what_is_left_unanswered_is_answered_by_internal() -> Result<(), Error> {
     let mut server = connected()?;
     let octets = [deposit(1, 5)?, deposit(2, 5)?].concat();
     server.serve(1, NOW, &octets, |_| Ok(()))?;
-    let both = server.take_output();
+    let both = server.take_output(1);
     let (one, two) = both.split_at(both.len() / 2);
     assert_eq!(exception_of(one)?, (id_of("INTERNAL"), 0, 2));
     assert_eq!(exception_of(two)?, (id_of("INTERNAL"), 0, 2));
@@ -156,7 +155,7 @@ fn what_is_left_unanswered_is_answered_by_internal() -> Result<(), Error> {
         request.answer(Writer::new(Order::Big).octet(1)?)
     });
     assert_eq!((served, asked), (Err(Error::Outcome), 1));
-    assert_eq!(exception_of(&server.take_output())?, (id_of("INTERNAL"), 0, 2));
+    assert_eq!(exception_of(&server.take_output(1))?, (id_of("INTERNAL"), 0, 2));
     server.lost(1)?;
     assert!(server.is_closed(1));
     Ok(())
@@ -169,7 +168,7 @@ fn a_request_that_is_refused_is_asked_again() -> Result<(), Error> {
         server.feed(1, NOW, &deposit(1, 5)?)?;
         server.asked()?.unwrap().refuse(name, minor)?;
         let id = id_of(if minor == 7 { "TRANSIENT" } else { "NO_RESOURCES" });
-        assert_eq!(exception_of(&server.take_output())?, (id, minor, 1));
+        assert_eq!(exception_of(&server.take_output(1))?, (id, minor, 1));
         assert!(!server.is_closed(1));
     }
     let mut bank = Bank::default();
@@ -184,7 +183,7 @@ fn goodbye_is_said_before_the_end() -> Result<(), Error> {
     server.feed(1, NOW, &deposit(1, 5)?)?;
     server.asked()?.unwrap().goodbye()?;
     assert!(server.is_closed(1));
-    assert_eq!(server.take_output()[..8], *b"GIOP\x01\0\0\x05");
+    assert_eq!(server.take_output(1)[..8], *b"GIOP\x01\0\0\x05");
     server.connect(2)?;
     let mut bank = Bank::default();
     server.serve(2, NOW, &deposit(1, 5)?, |request| bank.perform(request))?;
@@ -198,7 +197,7 @@ fn a_request_that_is_given_up_is_asked_again() -> Result<(), Error> {
     server.feed(1, NOW, &deposit(1, 5)?)?;
     server.asked()?.unwrap().give_up();
     assert!(server.is_closed(1));
-    assert_eq!(server.take_output(), []);
+    assert_eq!(server.take_output(1), []);
     assert_eq!(server.feed(1, NOW, b""), Err(Error::Connection));
     assert_eq!(server.connect(1), Err(Error::Connection));
     server.connect(2)?;
@@ -218,10 +217,10 @@ fn requests_that_are_refused_are_not_asked() -> Result<(), Error> {
     ];
     for (octets, name) in refused {
         server.serve(1, NOW, &octets, |_| panic!("it is asked"))?;
-        assert_eq!(exception_of(&server.take_output())?, (id_of(name), 0, 1));
+        assert_eq!(exception_of(&server.take_output(1))?, (id_of(name), 0, 1));
     }
     server.serve(1, Moment(101), &deposit(1, 5)?, |_| panic!("it is asked"))?;
-    assert_eq!(exception_of(&server.take_output())?, (id_of("BAD_CONTEXT"), 0, 1));
+    assert_eq!(exception_of(&server.take_output(1))?, (id_of("BAD_CONTEXT"), 0, 1));
     Ok(())
 }
 
@@ -230,17 +229,17 @@ fn what_is_due_belongs_to_a_connection() -> Result<(), Error> {
     let mut server = connected()?;
     server.connect(2)?;
     server.serve(1, NOW, &request(b"bank", "close", None, b"")?, |_| Ok(()))?;
-    assert_eq!(server.feed(2, NOW, b"G"), Err(Error::Due));
-    assert_eq!(server.farewell(2), Err(Error::Due));
+    assert_eq!(server.feed(2, NOW, b"G"), Ok(1));
+    server.farewell(2)?;
     // it is moved out in pieces
     let mut piece = [0; 7];
-    assert_eq!(server.output(&mut piece), 7);
+    assert_eq!(server.output(1, &mut piece), 7);
     assert_eq!(&piece[..4], b"GIOP");
-    assert_eq!(server.output(&mut []), 0);
-    assert!(!server.take_output().is_empty());
+    assert_eq!(server.output(1, &mut []), 0);
+    assert!(!server.take_output(1).is_empty());
+    assert_eq!(server.next_due(), None);
 
-    server.farewell(2)?;
-    let closed = read(&server.take_output(), |message| message.message_type())?;
+    let closed = read(&server.take_output(2), |message| message.message_type())?;
     assert_eq!(closed, MessageType::CloseConnection);
     assert!(server.is_closed(2) && !server.is_closed(1));
     Ok(())
@@ -259,7 +258,7 @@ fn a_raw_operation_has_octets() -> Result<(), Error> {
         let body = Writer::of(Order::Little, request.body().to_vec());
         request.answer_raw(Status::NoException, &body)
     })?;
-    let reply = server.take_output();
+    let reply = server.take_output(1);
     let (order, body) = read(&reply, |message| (message.order(), message.body().to_vec()))?;
     assert_eq!((order, &body[..]), (Order::Little, &[1, 2, 3][..]));
 
@@ -284,12 +283,12 @@ fn an_object_says_what_it_is() -> Result<(), Error> {
         let body = Writer::new(Order::Big).string(id)?.clone();
         let octets = request(b"bank", "_is_a", None, body.as_octets())?;
         server.serve(1, NOW, &octets, |_| panic!("it is asked"))?;
-        let body = read(&server.take_output(), |message| message.body().to_vec())?;
+        let body = read(&server.take_output(1), |message| message.body().to_vec())?;
         assert_eq!(body, [wanted], "{id}");
     }
     let octets = request(b"bank", "_non_existent", None, b"")?;
     server.serve(1, NOW, &octets, |_| panic!("it is asked"))?;
-    assert_eq!(read(&server.take_output(), |message| message.body().to_vec())?, [0]);
+    assert_eq!(read(&server.take_output(1), |message| message.body().to_vec())?, [0]);
     Ok(())
 }
 
@@ -316,14 +315,14 @@ fn composed_types_are_read_and_checked() -> Result<(), Error> {
         assert_eq!(reader.ulong()?, 2);
         request.answer(Writer::new(Order::Big).ulong(1)?.string("B")?.longlong(4)?)
     })?;
-    let reply = server.take_output();
+    let reply = server.take_output(1);
     let wanted = Writer::new(Order::Big).ulong(1)?.string("B")?.longlong(4)?.clone();
     assert_eq!(read(&reply, |message| message.body().to_vec())?, wanted.as_octets());
 
     // there is no third colour
     let octets = request(b"market", "cheapest", None, &[0, 0, 0, 0, 0, 0, 0, 3])?;
     server.serve(1, NOW, &octets, |_| panic!("it is asked"))?;
-    assert_eq!(exception_of(&server.take_output())?.0, id_of("MARSHAL"));
+    assert_eq!(exception_of(&server.take_output(1))?.0, id_of("MARSHAL"));
     Ok(())
 }
 
@@ -362,27 +361,33 @@ fn a_catalogue_refuses_what_has_no_place() -> Result<(), Error> {
 
 #[test]
 fn limits_are_within_their_ranges() -> Result<(), Error> {
-    let ranges = [(4095, 1, 1, 1), (1 << 25, 1, 1, 1), (4096, 0, 1, 1), (4096, 17, 1, 1)];
-    for (message, partials, capacity, share) in ranges {
-        let limits = Limits { message, partials };
-        let settings = Settings { limits, capacity, share, ..Settings::default() };
-        assert_eq!(Server::open(bank::catalogue()?, &settings).err(), Some(Error::Range));
+    let settings = || Settings::new([1, 2]);
+    let wrong = [
+        settings().message(4095),
+        settings().message(1 << 25),
+        settings().partials(0),
+        settings().partials(17),
+        settings().capacity(1).message(0),
+    ];
+    for settings in wrong {
+        let server = Server::open(bank::catalogue()?, &settings);
+        assert_eq!(server.err(), Some(Error::Range), "{settings:?}");
     }
-    assert_ne!(Settings::default().seeds, Settings::default().seeds);
+    assert_ne!(format!("{:?}", Settings::default()), format!("{:?}", Settings::default()));
     assert_eq!(Reader::new(b"", Order::NATIVE).rest(), b"");
     Ok(())
 }
 
 #[test]
 fn a_share_holds_for_each_client() -> Result<(), Error> {
-    let settings = Settings { capacity: 3, share: 1, ..Settings::default() };
+    let settings = Settings::default().capacity(3).share(1);
     let mut server = Server::open(bank::catalogue()?, &settings)?;
     server.connect(1)?;
     let mut bank = Bank::default();
     server.serve(1, NOW, &deposit(1, 5)?, |request| bank.perform(request))?;
-    server.take_output();
+    server.take_output(1);
     server.serve(1, NOW, &deposit(2, 5)?, |request| bank.perform(request))?;
-    assert_eq!(exception_of(&server.take_output())?, (id_of("NO_RESOURCES"), 0, 1));
+    assert_eq!(exception_of(&server.take_output(1))?, (id_of("NO_RESOURCES"), 0, 1));
     assert_eq!(bank.performed.len(), 1);
     Ok(())
 }

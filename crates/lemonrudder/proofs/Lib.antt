@@ -2,6 +2,7 @@ mod Assemblers
 mod Catalogues
 mod Clients
 mod Coding
+mod Contexts
 mod Counts
 mod Declaring
 mod Ended
@@ -15,13 +16,16 @@ mod Lending
 mod Machine
 mod Owing
 mod OwingLate
+mod Pairs
 mod Putting
 mod Raising
+mod RawCalls
 mod Reading
 mod References
 mod Refusing
 mod Resuming
 mod Servers
+mod Settings
 mod Telling
 mod Unparked
 mod Values

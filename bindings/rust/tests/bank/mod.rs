@@ -29,7 +29,7 @@ pub fn catalogue() -> Result<Catalogue, Error> {
 
 /// A server of the bank, that keeps so many outcomes.
 pub fn server(capacity: u32) -> Result<Server, Error> {
-    let settings = Settings { capacity, share: capacity, ..Settings::new([1, 2]) };
+    let settings = Settings::new([1, 2]).capacity(capacity);
     Server::open(catalogue()?, &settings)
 }
 

@@ -60,7 +60,7 @@ fn run() -> Result<(i64, i64), Error> {
     let mut server = Server::open(catalogue, &Settings::new([1, 2]))?;
     let now = Moment::after_1970(Duration::from_secs(1_000_000_000));
 
-    let mut client = Client::open("client 1", Version::V12, Limits::default())?;
+    let mut client = Client::open("client 1")?;
     let mut arguments = Writer::new(Order::Big);
     let call = Call {
         key: b"counter",
@@ -80,7 +80,7 @@ fn run() -> Result<(i64, i64), Error> {
             total = after;
             Ok(())
         })?;
-        let reply = server.take_output();
+        let reply = server.take_output(connection);
         if connection == 1 {
             client.lost();
             server.lost(connection)?;

@@ -1,7 +1,8 @@
 //! A bank for many clients at once, over tokio: `tokio-bank ADDRESS PORT`, for `examples/bank.idl`.
 //!
-//! It prints its reference, and serves until SIGTERM; port 0 is any that is free. A deposit with
-//! FT_REQUEST that is sent again, on any connection, acts once.
+//! It prints its reference, and serves until SIGTERM; port 0 is any that is free. A deposit takes
+//! its time: it is parked, and others are served meanwhile. One with FT_REQUEST that is sent again,
+//! on any connection, acts once.
 
 use lemonrudder::{cdr::Writer, *};
 use std::sync::{Arc, Mutex};
@@ -10,46 +11,48 @@ use tokio::io::{copy, sink, AsyncReadExt, AsyncWriteExt};
 use tokio::net::{TcpListener, TcpStream};
 use tokio::signal::unix::{signal, SignalKind};
 use tokio::time::{sleep, timeout, Duration};
-use tokio::{select, sync::watch, task::JoinSet};
+use tokio::{select, spawn, sync::watch, sync::Notify, task::JoinSet};
 
 const TYPE: &str = "IDL:Bank:1.0";
 const OVERDRAWN: (&str, &[Type]) = ("IDL:Bank/Overdrawn:1.0", &[Type::LongLong]);
 const BALANCE: Signature = Signature::new(&[Type::String], &[Type::LongLong]);
 const DEPOSIT: Signature =
     Signature { arguments: &[Type::String, Type::LongLong], raises: &[OVERDRAWN], ..BALANCE };
+/// What a deposit takes.
+const SLOW: Duration = Duration::from_millis(5);
 /// How long a peer may be silent, or take nothing of what is due to it.
 const IDLE: Duration = Duration::from_secs(600);
 /// What a peer has to close at the end of its stream; and a pause where nobody can be accepted.
 const LINGER: Duration = Duration::from_secs(2);
 
-type Accounts = HashMap<Vec<u8>, i64>;
-type Stop = watch::Receiver<()>;
+type Shared = Arc<Mutex<Bank>>;
 
-/// The engine and the accounts.
+/// The engine, the accounts, and who is told that octets are due on a connection.
 struct Bank {
     server: Server,
-    accounts: Accounts,
+    accounts: HashMap<Vec<u8>, i64>,
+    peers: HashMap<u64, Arc<Notify>>,
 }
 
-/// Performs a request. Money moves only where the answer counts.
-fn perform(accounts: &mut Accounts, request: &mut Request<'_>) -> Result<(), Error> {
-    let mut arguments = request.reader();
-    let name = arguments.string()?.to_vec();
-    let amount = if request.operation() == b"deposit" { arguments.longlong()? } else { 0 };
-    let balance = accounts.get(&name).copied().unwrap_or(0);
-    let Some(after) = balance.checked_add(amount).filter(|_| !name.is_empty()) else {
-        return request.system(SystemName::BadParam, 0, Completed::No);
-    };
-    let mut body = Writer::new(Order::Big);
-    if after < 0 {
-        return request.raise(OVERDRAWN.0, body.longlong(balance)?);
-    }
-    let answered = request.answer(body.longlong(after)?);
-    match answered {
-        Ok(()) | Err(Error::Lost) => _ = accounts.insert(name, after),
-        Err(_) => request.give_up(),
-    }
-    answered
+/// A deposit that is parked.
+struct Deposit {
+    ticket: Ticket,
+    account: Vec<u8>,
+    amount: i64,
+}
+
+/// What a connection is attended to for.
+enum Event<'a> {
+    Came(&'a [u8]),
+    Due,
+    Goodbye,
+}
+
+/// What comes of that: octets to send, how many were taken, and whether the connection ends then.
+struct Attended {
+    due: Vec<u8>,
+    taken: usize,
+    is_over: bool,
 }
 
 impl Bank {
@@ -59,50 +62,135 @@ impl Bank {
         catalogue.repository_ids("bank", &[TYPE])?;
         catalogue.operation("bank", "deposit", &DEPOSIT)?;
         catalogue.operation("bank", "balance", &BALANCE)?;
-        let server = Server::open(catalogue, &Settings { share: 256, ..Settings::default() })?;
-        Ok(Bank { server, accounts: Accounts::new() })
+        let settings = Settings::default().share(256).due(65536);
+        let server = Server::open(catalogue, &settings)?;
+        Ok(Bank { server, accounts: HashMap::new(), peers: HashMap::new() })
     }
 
-    /// Feeds what came on a connection, or says goodbye where nothing did. Answers what is due on
-    /// it (so under one lock with what made it due), and whether the connection ends then.
-    fn attend(&mut self, connection: u64, came: Option<&[u8]>) -> (Vec<u8>, bool) {
-        let (server, accounts) = (&mut self.server, &mut self.accounts);
-        let done = match came {
-            Some(came) => server.serve(connection, Moment::now(), came, |it| perform(accounts, it)),
-            None => server.farewell(connection),
+    fn balance(&self, account: &[u8]) -> i64 {
+        self.accounts.get(account).copied().unwrap_or(0)
+    }
+
+    /// Attends to a connection. What it gives is under one lock with what made it due.
+    fn attend(&mut self, bank: &Shared, connection: u64, event: Event<'_>) -> Attended {
+        let mut deposits = Vec::new();
+        let done = match event {
+            Event::Came(came) => {
+                let accounts = &self.accounts;
+                self.server.serve(connection, Moment::now(), came, |request| {
+                    deposits.extend(perform(accounts, request)?);
+                    Ok(())
+                })
+            }
+            Event::Due => Ok(0),
+            Event::Goodbye => self.server.farewell(connection).map(|()| 0),
         };
-        server.give_up(); // (for want of memory a request may wait still)
-        (server.take_output(), done.is_err() || server.is_closed(connection))
+        self.server.give_up(); // (for want of memory a request may wait still)
+        for deposit in deposits {
+            spawn(settle(bank.clone(), deposit));
+        }
+        let due = self.server.take_output(connection);
+        let is_over = done.is_err() || self.server.is_closed(connection);
+        Attended { due, taken: done.unwrap_or(0), is_over }
+    }
+
+    /// Performs a deposit, and answers it. Money moves only where the answer counts.
+    fn perform(&mut self, deposit: &Deposit) -> Result<(), Error> {
+        let Deposit { ticket, account, amount } = deposit;
+        let balance = self.balance(account);
+        let Some(after) = balance.checked_add(*amount) else {
+            return self.server.system(*ticket, SystemName::BadParam, 0, Completed::No);
+        };
+        let mut body = Writer::new(Order::Big);
+        if after < 0 {
+            return self.server.raise(*ticket, OVERDRAWN.0, body.longlong(balance)?);
+        }
+        self.server.answer(*ticket, body.longlong(after)?)?;
+        self.accounts.insert(account.clone(), after);
+        Ok(())
+    }
+}
+
+/// Answers a request, or parks it where it is a deposit, and gives that.
+fn perform(
+    accounts: &HashMap<Vec<u8>, i64>,
+    request: &mut Request<'_>,
+) -> Result<Option<Deposit>, Error> {
+    let mut arguments = request.reader();
+    let account = arguments.string()?.to_vec();
+    if account.is_empty() {
+        return request.system(SystemName::BadParam, 0, Completed::No).map(|()| None);
+    }
+    if request.operation() == b"deposit" {
+        let amount = arguments.longlong()?;
+        return match request.park() {
+            Ok(ticket) => Ok(Some(Deposit { ticket, account, amount })),
+            Err(_) => request.refuse(SystemName::Transient, 0).map(|()| None),
+        };
+    }
+    let balance = accounts.get(&account).copied().unwrap_or(0);
+    request.answer(Writer::new(Order::Big).longlong(balance)?).map(|()| None)
+}
+
+/// Performs a deposit after a while, once there is memory, and tells those to whom octets are due.
+async fn settle(bank: Shared, deposit: Deposit) {
+    loop {
+        sleep(SLOW).await;
+        let mut bank = bank.lock().unwrap();
+        let is_done = !matches!(bank.perform(&deposit), Err(Error::Memory));
+        while let Some(connection) = bank.server.next_due() {
+            if let Some(peer) = bank.peers.get(&connection) {
+                peer.notify_one();
+            }
+        }
+        if is_done {
+            return;
+        }
     }
 }
 
 /// Serves a connection until its stream ends, it is silent for too long, or the bank is to stop.
 async fn talk(
     stream: &mut TcpStream,
-    bank: &Mutex<Bank>,
+    bank: &Shared,
     connection: u64,
-    mut stop: Stop,
+    mut stop: watch::Receiver<()>,
 ) -> io::Result<()> {
     stream.set_nodelay(true)?;
-    let mut room = [0; 4096];
+    let told = Arc::new(Notify::new());
+    bank.lock().unwrap().peers.insert(connection, told.clone());
+    let (mut room, mut is_leaving) = ([0; 4096], false);
     loop {
-        let came = select! {
-            _ = stop.changed() => None,
-            read = timeout(IDLE, stream.read(&mut room)) => read.ok().transpose()?,
+        let (mut size, mut taken) = (None, 0);
+        let event = select! {
+            _ = told.notified() => Event::Due,
+            _ = stop.changed(), if !is_leaving => Event::Goodbye,
+            read = timeout(IDLE, stream.read(&mut room)) => match read {
+                Ok(read) => { size = Some(read?); Event::Due }
+                Err(_) => Event::Goodbye,
+            },
         };
-        if came == Some(0) {
+        if size == Some(0) {
             return Ok(());
         }
-        let came = came.map(|size| &room[..size]);
-        let (due, is_over) = bank.lock().unwrap().attend(connection, came);
-        timeout(IDLE, stream.write_all(&due)).await??;
-        if is_over {
-            break;
+        is_leaving = is_leaving || matches!(event, Event::Goodbye);
+        let mut event = Some(event).filter(|_| size.is_none());
+        loop {
+            let came = &room[taken..size.unwrap_or(taken)];
+            let event = event.take().unwrap_or(Event::Came(came));
+            let attended = bank.lock().unwrap().attend(bank, connection, event);
+            timeout(IDLE, stream.write_all(&attended.due)).await??;
+            if attended.is_over {
+                stream.shutdown().await?;
+                // what still comes means nothing; it is taken, so that what was sent last arrives
+                return timeout(LINGER, copy(stream, &mut sink())).await?.map(drop);
+            }
+            taken += attended.taken;
+            if taken >= size.unwrap_or(0) {
+                break;
+            }
         }
     }
-    stream.shutdown().await?;
-    // what still comes means nothing; it is taken, so that what was sent last arrives
-    timeout(LINGER, copy(stream, &mut sink())).await?.map(drop)
 }
 
 #[tokio::main(flavor = "current_thread")]
@@ -131,7 +219,9 @@ async fn main() -> Result<(), Box<dyn std::error::Error>> {
         if bank.lock().unwrap().server.connect(connection).is_ok() {
             peers.spawn(async move {
                 _ = talk(&mut stream, &bank, connection, stopped).await;
-                bank.lock().unwrap().server.lost(connection)
+                let mut bank = bank.lock().unwrap();
+                bank.peers.remove(&connection);
+                bank.server.lost(connection)
             });
         }
     }

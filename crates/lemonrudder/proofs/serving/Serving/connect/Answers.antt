@@ -1,5 +1,6 @@
-use Rattle.std.proofs.Common.{refl}
+use Rattle.std.proofs.Common.{ap, refl, sym}
 use Rattle.lemonrudder.specs.Refusals.{refusal_of_connecting}
+use Rattle.lemonrudder.specs.Serves.{opened_with}
 use Rattle.lemonrudder.proofs.Ended.{err-done, ok-done}
 use Rattle.lemonrudder.proofs.Idling.{not_both, not_so}
 use Rattle.lemonrudder.proofs.Unparked.{unparked_still}
@@ -17,6 +18,7 @@ returns-in_err-connect c = (
     c.connect.ensures.idle,
     (refl, refl),
     c.connect.ensures.catalogue,
+    sym (ap (λ o. opened_with o c.args.self.now.setup) c.in_err-connect.was),
     c.connect.ensures.asks,
     c.connect.ensures.table,
     c.connect.ensures.late,
@@ -32,6 +34,7 @@ returns c = (
     c.connect.ensures.idle,
     (refl, refl),
     c.connect.ensures.catalogue,
+    sym (ap (λ o. opened_with o c.args.self.now.setup) c.in_ok-connect.was),
     c.connect.ensures.asks,
     c.connect.ensures.table,
     c.connect.ensures.late,

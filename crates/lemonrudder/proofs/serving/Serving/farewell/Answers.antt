@@ -32,7 +32,7 @@ returns-in-Ok c =
             Ok (tt {0}),
             refl,
             c.close.ensures.idle,
-            c.close.ensures.catalogue,
+            (c.close.ensures.catalogue, refl),
             c.close.ensures.asks,
             λ owner calls past rests placed.
                 let x = closed-as c.close.result Done _ (ap note_of_closing ended) (c.close.ensures.table owner calls past rests) in
@@ -61,7 +61,7 @@ returns-in-Err-NoConnection c =
             Err serving.NoConnection,
             refl,
             c.close.ensures.idle,
-            c.close.ensures.catalogue,
+            (c.close.ensures.catalogue, refl),
             c.close.ensures.asks,
             λ owner calls past rests placed.
                 let x = closed-as c.close.result Refused _ (ap note_of_closing ended) (c.close.ensures.table owner calls past rests) in
@@ -90,7 +90,7 @@ returns-in-Err-Memory c =
             Err (serving.Memory 0 0),
             refl,
             c.close.ensures.idle,
-            c.close.ensures.catalogue,
+            (c.close.ensures.catalogue, refl),
             c.close.ensures.asks,
             λ owner calls past rests placed.
                 let x = closed-as c.close.result (Memory 0 0) _ (ap note_of_closing ended) (c.close.ensures.table owner calls past rests) in

@@ -25,7 +25,7 @@ returns c = (
       (
         c.feed-fed.result,
         c.taken_of.ensures,
-        c.feed-fed.ensures.catalogue,
+        (c.feed-fed.ensures.catalogue, refl),
         (
           c.feed-fed.ensures.place,
           c.feed-fed.ensures.number,

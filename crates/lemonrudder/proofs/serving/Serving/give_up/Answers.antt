@@ -11,7 +11,7 @@ returns c =
       refl,
       c.give_up.ensures.idle,
       (refl, refl),
-      c.give_up.ensures.catalogue,
+      (c.give_up.ensures.catalogue, refl),
       c.give_up.ensures.asks,
       c.give_up.result,
       c.give_up.ensures.count,

@@ -18,7 +18,7 @@ returns-in-Ok c =
       c.in-Ok.ensures.idle,
       refl,
       λ placed. (stays due.taken due.octets.items close_connection out.items placed c.in-Ok.ensures.closed, grows due.taken due.octets.items close_connection out.items placed c.in-Ok.ensures.closed),
-      c.goodbye.ensures.catalogue,
+      (c.goodbye.ensures.catalogue, refl),
       c.goodbye.ensures.asks,
       c.in-Ok.field-0,
       λ owner calls past moment octets written w asks.

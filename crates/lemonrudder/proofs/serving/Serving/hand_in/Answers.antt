@@ -19,7 +19,7 @@ returns-in_err-answer c = (
     err-done c.args.count refusal_of_serving c.answer.result _ c.from_residual.result c.in_err-answer.was c.from_residual.ensures.1,
     c.answer.ensures.idle,
     refl,
-    c.answer.ensures.catalogue,
+    (c.answer.ensures.catalogue, refl),
     c.answer.ensures.asks,
     λ owner calls past moment octets written w asks gave placed.
         let due = c.args.self.now.due in
@@ -46,7 +46,7 @@ returns c = (
     ok-done c.args.count refusal_of_serving c.answer.result _ c.in_ok-answer.was,
     c.answer.ensures.idle,
     refl,
-    c.answer.ensures.catalogue,
+    (c.answer.ensures.catalogue, refl),
     c.answer.ensures.asks,
     λ owner calls past moment octets written w asks gave placed.
         let due = c.args.self.now.due in

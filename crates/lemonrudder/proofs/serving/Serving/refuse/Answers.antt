@@ -23,7 +23,7 @@ returns-in_err-decline c =
       err-done {A = Unit {0}} 0 refusal_of_serving (Err e) e _ same c.from_residual-in_err-decline.ensures.1,
       c.decline.ensures.idle,
       refl,
-      c.decline.ensures.catalogue,
+      (c.decline.ensures.catalogue, refl),
       c.decline.ensures.asks,
       (
         (ap (drop s.due.taken) none, λ placed. subst (λ xs. s.due.taken ≤ length xs) (sym none) placed),
@@ -44,7 +44,7 @@ returns c =
       refl,
       c.decline.ensures.idle,
       refl,
-      c.decline.ensures.catalogue,
+      (c.decline.ensures.catalogue, refl),
       c.decline.ensures.asks,
       λ x held calls past waiting moment octets written w asks placed.
           let h = c.in_ok-decline.ensures.late x held calls past waiting moment octets written w asks in
