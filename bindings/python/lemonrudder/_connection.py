@@ -194,7 +194,10 @@ class Connection(asyncio.BufferedProtocol):
 
     def _left(self) -> int:
         """The octets that the peer has not taken, those that the system holds among them where it tells."""
-        left = int(self.transport.get_write_buffer_size())
+        try:
+            left = int(self.transport.get_write_buffer_size())
+        except AttributeError:
+            return 0  # (of 3.8: it is of TLS, and gone)
         if not left or termios is None:
             return left
         try:
