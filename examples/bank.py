@@ -3,9 +3,9 @@
 
 usage: bank.py [PORT [SECONDS]]
 
-It listens on 127.0.0.1, at a free port if none is given, prints its reference, and serves until SIGTERM or SIGINT. It is
-the object of the key `bank`, whose interface is bank.idl. A deposit takes so many seconds, in which others go on; of
-fewer than 0 cents it takes some. Where the balance would be below 0, or no long long, nothing changes.
+It listens on 127.0.0.1, at a free port if none is given, prints its reference, and serves until SIGTERM or SIGINT. The
+object of the key `bank` has the interface of bank.idl. A deposit takes so many seconds, in which others go on; of fewer
+than 0 cents it takes some. Where the balance would be below 0, or no long long, nothing changes.
 """
 import asyncio
 import os

@@ -38,7 +38,7 @@ from lemonrudder._library import serves as serves_here  # noqa: E402
 SEED = 31
 SCRIPTS = 300
 # how long a part may take on a busy machine; calls of the bank do not expire before
-SECONDS = 20
+SECONDS = 600
 LONG_AGO = 1000
 # how many messages may be partial for `giop show`
 PARTIALS = 8
@@ -160,7 +160,8 @@ class Formats(Case):
     def test_each_type_in_both_orders_at_each_place(self):
         values = {
             "?": True, "c": "\xe9", "B": 255, "h": -2, "H": 65534, "l": -3, "L": 0xfffffffd, "q": -4,
-            "Q": 0xfffffffffffffffc, "f": -0.75, "d": 1e300, "s": "ab\xff", "o": b"\0\1\2", ("enum", 5): 4, ("sequence", "q"): [1, -1],
+            "Q": 0xfffffffffffffffc, "f": -0.75, "d": 1e300, "s": "ab\xff", "o": b"\0\1\2",
+            ("enum", 5): 4, ("sequence", "q"): [1, -1],
             ("sequence", "B"): [1, 2, 3], ("struct", "B", "q", "s"): (7, 1 << 40, ""),
         }
         for kind, value in values.items():
@@ -1288,7 +1289,8 @@ class Ends(Case):
             server, client = await self.pair(operations, raises)
             wanted = {
                 "other": ("UNKNOWN", 0, 2), "members": ("UNKNOWN", 0, 2), "system": ("NO_PERMISSION", 77, 1),
-                "timeout": ("TIMEOUT", 5, 0), "unknown": ("UNKNOWN", 5, 0), "minor": ("UNKNOWN", 0, 2), "error": ("UNKNOWN", 0, 2),
+                "timeout": ("TIMEOUT", 5, 0), "unknown": ("UNKNOWN", 5, 0), "minor": ("UNKNOWN", 0, 2),
+                "error": ("UNKNOWN", 0, 2),
                 "wrong": ("INTERNAL", 0, 2), "missing": ("INTERNAL", 0, 2), "surplus": ("INTERNAL", 0, 2),
                 "nothing": ("BAD_OPERATION", 0, 1),
             }
@@ -2026,7 +2028,8 @@ class Waits(Case):
                 self.assertEqual(one.context(lr.FT_REQUEST)[-8:], expiration.to_bytes(8, "big"))
                 self.assertEqual((one.certificate, one.version), (None, 2))
             last = seen[2]
-            self.assertEqual((last.client_id, last.retention_id, last.expiration, last.contexts), (None, None, None, ()))
+            self.assertEqual((last.client_id, last.retention_id, last.expiration), (None, None, None))
+            self.assertEqual(last.contexts, ())
             self.assertEqual((last.peer, last.request_id, last.wish, last.connection), (own, 77, lr.Wish.EMPTY, 2))
         self.run_async(main())
 
@@ -2061,7 +2064,8 @@ class Waits(Case):
                 server.add_family("acct/", "IDL:A:1.0", {"get": ("", "s", account)})
                 self.fails(Error.TAKEN, server.add_family, "acct/", "IDL:A:1.0", {})
                 server.add_default(lambda body: lr.pack("s", lr.current().operation))
-                for key, operation, wanted in (("acct/7", "get", "acct/7"), ("made/x", "get", "x"), ("q", "any", "any")):
+                for key, operation, wanted in (("acct/7", "get", "acct/7"), ("made/x", "get", "x"),
+                                               ("q", "any", "any")):
                     self.assertEqual(await client.call(key, operation, results="s"), wanted)
                 self.assertEqual(server.reference("acct/9").type_id, "IDL:A:1.0")
                 call = asyncio.ensure_future(client.call("factory", "wait", results="l"))
@@ -2184,7 +2188,8 @@ class Bounds(Case):
         self.run_async(main())
 
     def test_places(self):
-        """As many requests are under way as may be: of a connection the others wait, and beyond that they are refused."""
+        """As many requests are under way as may be: of a connection the others wait, and beyond that they are
+        refused."""
         async def main():
             go, most, now = asyncio.Event(), [0, 0], [0, 0]
 
@@ -2416,7 +2421,7 @@ class Addresses(Case):
         self.run_async(main())
 
     def test_forwards_that_lead_nowhere(self):
-        """Where nobody answers any more the object is asked for as at first; a forward that can't be followed is told."""
+        """Where nobody answers any more the object is asked for as at first; a forward that leads nowhere is told."""
         async def main():
             gone = self.closed_port()
             port, seen = await self.script([self.forward(gone), self.forward(gone), self.returned(5),

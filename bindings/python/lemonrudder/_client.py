@@ -8,7 +8,7 @@ from dataclasses import dataclass
 from typing import Any, Dict, List, Mapping, Optional, Sequence, Tuple, Union
 
 from ._cdr import BIG, pack, parsed, result_of, type_codes
-from ._library import LIMIT, PARTIALS, LemonrudderError, Octets, Text, call, lent, library, now, octets_of
+from ._library import LIMIT, PARTIALS, LemonrudderError, Octets, Text, lent, now, octets_of
 from ._messages import Body
 from ._outcomes import Expired, ForwardRequest, NeedsAddressing, SystemException, UserException
 from ._references import Ior
@@ -210,7 +210,8 @@ class Client:
                 places, there = self._led(key, Ior.read(body.reader()))
                 hops += 1
             elif how == Ended.EXPIRED:
-                raise Expired(f"no answer up to the expiration; it was sent {made.sent} times", made.sent) from made.cause
+                text = f"no answer up to the expiration; it was sent {made.sent} times"
+                raise Expired(text, made.sent) from made.cause
             else:
                 return how, body
             if how is None or hops > 2:

@@ -169,7 +169,7 @@ class Connection(asyncio.BufferedProtocol):
             end = end if end > 0 else len(came)
             taken = engine._feed(self.number, self._address + self._at, self._moment, end - self._at)
             self._at += taken
-            if not server._perform(self):
+            if not server._works.perform(self):
                 server._note(self)
             self.end()
             if time.monotonic() >= until:
