@@ -69,10 +69,10 @@ class Server:
     Where max_parked requests are parked, an async operation is refused by TRANSIENT; the last quarter of the places is
     for connections that have none. While as many outcomes are kept as may be, requests that are new and may be sent
     again are answered NO_RESOURCES. max_connections: one that comes beyond is dropped. timeout: the seconds that an
-    async operation may take; then it is cancelled, and answered as TIMEOUT, COMPLETED_MAYBE, since it has perhaps acted,
-    unless it says another outcome within a second.
-    idle_timeout: the seconds after which goodbye is said on a connection that has been silent. write_timeout: the
-    seconds that a peer may take nothing of what is due. None: as long as it likes.
+    async operation may take; then it is cancelled, and, unless it says another outcome within a second, answered as
+    TIMEOUT, COMPLETED_MAYBE, since it has perhaps acted. idle_timeout: the seconds after which goodbye is said on a
+    connection that has been silent. write_timeout: the seconds that a peer may take nothing of what is due. None: as
+    long as it likes.
 
     The logger `lemonrudder` has a line for each request that is refused and each connection that ends.
     """
