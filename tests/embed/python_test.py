@@ -2282,7 +2282,7 @@ class Bounds(Case):
                 lr.write_error(): "its peer said MessageError",
                 lr.write_request(1, "k", "op", context=(lr.FT_REQUEST, ft)): "refused on connection 5 (127.0.0.1:",
                 lr.write_request(1, "k", "none"): "there is no such object or operation",
-                lr.write_request(1, "k", "not_now"): "not_now is refused on connection 7",
+                lr.write_request(1, "k", "not_now"): "'not_now' is refused on connection 7",
             }
             async with server, client:
                 for octets, text in cases.items():
@@ -2553,6 +2553,24 @@ class Bank(Case):
                 asyncio.run(asyncio.wait_for(self.play(lr.Ior.parse(bank.stdout.readline())), SECONDS))
             finally:
                 bank.terminate()
+
+    def test_it_ends_behind_what_is_under_way(self):
+        """Deposits of several accounts go on at once, and SIGTERM waits for them."""
+        async def main(bank):
+            async with lr.Client.of(bank.stdout.readline()) as client:
+                words = {"arguments": "sq", "results": "q", "timeout": SECONDS}
+                calls = [asyncio.ensure_future(client.call(client.key, "deposit", values=(f"account {number % 5}", 1),
+                                                           **words)) for number in range(10)]
+                while await client.call(client.key, "balance", "s", ("account 0",), "q") == 0:
+                    await asyncio.sleep(0.01)
+                bank.terminate()
+                self.assertEqual(await asyncio.gather(*calls), [1] * 5 + [2] * 5)
+        with subprocess.Popen(example("bank.py", "0", "0.3"), stdout=subprocess.PIPE, text=True) as bank:
+            try:
+                asyncio.run(asyncio.wait_for(main(bank), SECONDS))
+                self.assertEqual(bank.wait(SECONDS), 0)
+            finally:
+                bank.kill()
 
     async def play(self, reference):
         profile, dice = reference.profiles[0], Dice(SEED)

@@ -102,7 +102,7 @@ class Works:
                 why = error.text
         coroutine = returned if inspect.iscoroutine(returned) else None
         if why is not None:
-            self._server.log.warning("%s is refused on %s: %s", asked.operation, connection, why)
+            self._server.log.warning("%a is refused on %s: %s", asked.operation, connection, why)
             if coroutine is not None:
                 coroutine.close()
                 self._answer(asked, "UNKNOWN", self._server._engine.refuse, "TRANSIENT")
@@ -154,7 +154,7 @@ class Works:
         if self._server.is_closed:
             return
         if work.is_answered:
-            self._server.log.info("%s ended too late: what came of it is dropped", work.asked.operation)
+            self._server.log.info("%a ended too late: what came of it is dropped", work.asked.operation)
         elif task.cancelled():
             self._cut_off(work)
         elif raised is not None:
@@ -177,11 +177,11 @@ class Works:
         """Answers the request of an operation that was cancelled."""
         operation = work.asked.operation
         if not work.had_begun:
-            self._server.log.info("%s is refused: it was not begun", operation)
+            self._server.log.info("%a is refused: it was not begun", operation)
             self._answer(work.asked, "UNKNOWN", self._server._engine.refuse, "TRANSIENT")
         else:
             name = work.cut or "UNKNOWN"
-            self._server.log.warning("%s was cancelled: it is answered %s, COMPLETED_MAYBE", operation, name)
+            self._server.log.warning("%a was cancelled: it is answered %s, COMPLETED_MAYBE", operation, name)
             self._answer(work.asked, "UNKNOWN", self._server._engine.raise_system, name, 0, Completed.MAYBE)
 
     def _abandon(self, work: _Work) -> None:
@@ -197,7 +197,7 @@ class Works:
         if isinstance(raised, (Refuse, GiveUp)):
             name = raised.name if isinstance(raised, Refuse) else "TRANSIENT"
             name = name if name in SystemName.__members__ else "TRANSIENT"
-            self._server.log.info("%s is refused on %s: %s", asked.operation, connection, name)
+            self._server.log.info("%a is refused on %s: %s", asked.operation, connection, name)
             waits = engine.asked()
             if isinstance(raised, GiveUp) and waits is not None and waits.ticket == asked.ticket:
                 engine.give_up()
@@ -209,7 +209,7 @@ class Works:
             name = raised.name if raised.name in SystemName.__members__ else "UNKNOWN"
             answer(engine.raise_system, name, raised.minor, raised.completed)
         else:
-            self._server.log.error("%s raised an exception", asked.operation, exc_info=raised)
+            self._server.log.error("%a raised an exception", asked.operation, exc_info=raised)
             self._fail(asked, "UNKNOWN")
 
     def _return(self, asked: Asked, returned: Any) -> None:
@@ -233,7 +233,7 @@ class Works:
         except BaseException as error:
             if getattr(error, "number", None) == Error.LOST:
                 raise
-            self._server.log.error("no outcome of %s", asked.operation, exc_info=error)
+            self._server.log.error("no outcome of %a", asked.operation, exc_info=error)
             self._fail(asked, name)
             if not isinstance(error, Exception):
                 raise
