@@ -351,7 +351,9 @@ class Engine(Held):
 
     def _typed(self, ticket: Optional[int]) -> Tuple[int, Signature]:
         """A ticket as of _ticket, and the types of the operation that is asked for."""
-        asked = self.asked()
+        asked = self._asked
+        if asked is None or asked.ticket != ticket:
+            asked = self.asked()
         if asked is not None and ticket in (None, asked.ticket):
             ticket, (key, operation, is_raw) = asked.ticket, (asked.key, asked.operation, asked.is_raw)
         elif ticket is None:
