@@ -171,7 +171,10 @@ class Connection(asyncio.BufferedProtocol):
             self._at += taken
             if not server._works.perform(self):
                 server._note(self)
-            self.end()
+                if engine.is_closed(self.number):
+                    return
+                if taken == 0:
+                    self.end()  # (so much is due that it takes no more)
             if time.monotonic() >= until:
                 return
 
