@@ -269,7 +269,7 @@ class Engine(Held):
     def give_up(self) -> None:
         """Gives up the request that waits: you can't perform it now, and have done nothing. Nothing is kept, and its
         connection is gone; it is asked again when it comes again. Raises LemonrudderError (IDLE)."""
-        self._answered(self._waiting().ticket, library.lr_server_give_up)
+        self._answered(self._ticket(None), library.lr_server_give_up)
 
     def goodbye(self) -> None:
         """Gives up the request that waits, and says goodbye first: CloseConnection is due, by which its client knows
@@ -277,7 +277,7 @@ class Engine(Held):
 
         Raises LemonrudderError (IDLE; MEMORY: it waits still).
         """
-        self._answered(self._waiting().ticket, library.lr_server_goodbye)
+        self._answered(self._ticket(None), library.lr_server_goodbye)
 
     def next_due(self) -> Optional[int]:
         """A connection on which octets became due by the outcome of a parked request, or by a goodbye that waited; it
@@ -346,8 +346,13 @@ class Engine(Held):
         return asked
 
     def _ticket(self, ticket: Optional[int]) -> int:
-        """A ticket, which is that of the request that waits where none is given."""
-        return self._waiting().ticket if ticket is None else ticket
+        """A ticket, which is that of the request that waits where none is given. Raises LemonrudderError (IDLE)."""
+        if ticket is not None:
+            return ticket
+        head = self._head
+        if not call(library.lr_server_asked, self._slot, head, ctypes.sizeof(head)):
+            raise LemonrudderError(Error.IDLE)
+        return int(head.ticket)
 
     def _typed(self, ticket: Optional[int]) -> Tuple[int, Signature]:
         """A ticket as of _ticket, and the types of the operation that is asked for."""

@@ -51,17 +51,20 @@ class Works:
     def perform(self, connection: Connection) -> bool:
         """Performs the request that waits, if one does, or sees to it that a task does. Whether one waited."""
         engine = self._server._engine
-        asked = engine.asked()
-        if asked is None:
-            return False
-        if engine.identify(asked.ticket):
+        try:
+            asked = engine.asked()
+            if asked is None:
+                return False
+            if engine.identify(asked.ticket):
+                return True
+            performer = self._server._offer.performer(asked.key, asked.operation)
+            current = self._current(asked, connection)
+        except (LemonrudderError, KeyError):
+            # (memory is short, as when a part is read: nothing was done)
+            self._server.log.exception("a request is refused on %s", connection)
+            engine.refuse("NO_RESOURCES")
             return True
-        performer = self._server._offer.performer(asked.key, asked.operation)
-        ft, ticket = asked.ft, asked.ticket
-        token = CURRENT.set(Current(
-            asked.key, asked.operation, ft and ft.client, ft and ft.retention_id, ft and ft.expiration,
-            connection.number, connection.peer, connection.certificate, engine.contexts() if asked.contexts else (),
-            asked.request_id, asked.version, asked.wish, lambda: self._wanted(ticket)))
+        token = CURRENT.set(current)
         try:
             arguments = (asked.body,) if asked.arguments is None else asked.arguments
             try:
@@ -77,9 +80,16 @@ class Works:
                     self._return(asked, returned)
         finally:
             CURRENT.reset(token)
-        if self.works or engine.parked:
-            self._server._tell()
+        self._server._tell()
         return True
+
+    def _current(self, asked: Asked, connection: Connection) -> Current:
+        """What its servant can know of the request that waits."""
+        ft, ticket = asked.ft, asked.ticket
+        contexts = self._server._engine.contexts() if asked.contexts else ()
+        return Current(asked.key, asked.operation, ft and ft.client, ft and ft.retention_id, ft and ft.expiration,
+                       connection.number, connection.peer, connection.certificate, contexts, asked.request_id,
+                       asked.version, asked.wish, lambda: self._wanted(ticket))
 
     def _wanted(self, ticket: int) -> int:
         """How many wait for an outcome, that of a request which waits among them."""
