@@ -2407,17 +2407,22 @@ class Addresses(Case):
         self.run_async(main())
 
     def test_forwards(self):
-        """A forward is followed under the number of the call, and later calls of its key go there at once; other calls
-        stay where they are."""
+        """A forward is followed under the number of the call, and later calls of its key go there at once, until the
+        object is not there; other calls stay where they are."""
         async def main():
-            there, led = await self.script([self.returned(5), self.returned(6)])
-            port, seen = await self.script([self.forward(self.closed_port(), there, key="other"), self.returned(7)])
+            gone = (2, lr.pack("sLL", "IDL:omg.org/CORBA/OBJECT_NOT_EXIST:1.0", 0, 1))
+            there, led = await self.script([self.returned(5), self.returned(6), gone])
+            port, seen = await self.script([self.forward(self.closed_port(), there, key="other"), self.returned(7),
+                                            self.returned(8)])
             async with lr.Client("127.0.0.1", port, "A", delays=(0.001, 0.01)) as client:
                 self.assertEqual(await client.call("k", "op", "l", [1], "l"), 5)
                 self.assertEqual(await client.call("l", "op", "l", [2], "l"), 7)
                 self.assertEqual(await client.call("k", "op", "l", [3], "l"), 6)
-            self.assertEqual([one[:3] for one in seen], [(b"k", "op", 1), (b"l", "op", 2)])
-            self.assertEqual(led, [(b"other", "op", 1, lr.pack("l", 1)), (b"other", "op", 3, lr.pack("l", 3))])
+                with self.assertRaises(lr.SystemException):
+                    await client.call("k", "op", "l", [4], "l")
+                self.assertEqual(await client.call("k", "op", "l", [5], "l"), 8)
+            self.assertEqual([one[:3] for one in seen], [(b"k", "op", 1), (b"l", "op", 2), (b"k", "op", 5)])
+            self.assertEqual(led, [(b"other", "op", number, lr.pack("l", number)) for number in (1, 3, 4)])
         self.run_async(main())
 
     def test_forwards_that_lead_nowhere(self):
