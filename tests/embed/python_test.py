@@ -33,7 +33,9 @@ sys.path.insert(0, os.path.join(ROOT, "bindings", "python"))
 
 import lemonrudder as lr  # noqa: E402
 from lemonrudder import BIG, LITTLE, Error, Signature  # noqa: E402
+from lemonrudder._library import library as native  # noqa: E402
 from lemonrudder._library import serves as serves_here  # noqa: E402
+from lemonrudder._table import FUNCTIONS  # noqa: E402
 
 SEED = 31
 SCRIPTS = 300
@@ -2724,6 +2726,21 @@ class Library(Case):
                 wanted = ".".join(map(str, version))
                 self.assertIn(f"ImportError: {os.environ['LEMONRUDDER_LIBRARY']} is liblemonrudder {VERSION}, and none for "
                               f"{wanted}\n", run.stderr)
+
+    def test_parameters(self):
+        """Each function takes its parameters, and no number that one does not hold."""
+        held = {"uint16_t": 16, "uint32_t": 32, "uint64_t": 64}
+        for name, (_, types) in FUNCTIONS.items():
+            function = getattr(native, name)
+            self.assertEqual(len(function.argtypes), len(types))
+            for place, kind in enumerate(types):
+                if kind in held and not name.startswith("lr_put_"):
+                    with self.subTest(name, place=place):
+                        for number in (-1, 1 << held[kind]):
+                            with self.assertRaises(ValueError):
+                                function.argtypes[place].from_param(number)
+                        self.assertEqual(function.argtypes[place].from_param((1 << held[kind]) - 1).value + 1,
+                                         1 << held[kind])
 
     def test_moments(self):
         self.assertEqual(lr.moment_of(0), 122192928000000000)
