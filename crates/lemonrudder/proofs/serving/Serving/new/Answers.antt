@@ -3,7 +3,6 @@ use Rattle.ft_objects.specs.Families.{families_offer}
 use Rattle.ft_orb.specs.Offerings.{terms_by}
 use Rattle.ft_orb.specs.Parking.{Settings}
 use Rattle.ft_orb.specs.Requests.{Terms}
-use Rattle.lemonrudder.proofs.Offered.{there_if_idle}
 use Rattle.lemonrudder.proofs.Asked.{asked-idle}
 use Rattle.lemonrudder.proofs.serving.Serving.new.Goals as goal
 
@@ -19,11 +18,9 @@ returns c =
       offering,
       c.new.ensures,
       c.new-2.ensures.empty,
-      c.new-2.ensures,
-      c.new-3.ensures,
       (b.asks ∙ e.asks, λ q. ((b.parked q).0 ∙ e.parked q, (b.parked q).1 ∙ e.told q), b.counts ∙ e.counts, λ x. b.ended x ∙ e.ending x),
       λ held on first second. b.late (within on) held [] [] (λ n. []) (e.late held on first) (second ∙ sym (ap (terms_by families_offer) offering)),
     )
 
 pub invariant_of-result : goal.invariant_of-result
-invariant_of-result c = record {asked = asked-idle c.new-2.result c.bound_client_ids.new.self c.bound_client_ids.ensures.idle, asked = there_if_idle c.new.result c.bound_client_ids.new.self c.bound_client_ids.ensures.idle}
+invariant_of-result c = record { asked = asked-idle c.new.result c.bound_client_ids.new.self c.bound_client_ids.ensures.idle }
