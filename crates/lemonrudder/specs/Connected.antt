@@ -1,5 +1,5 @@
 -- The connections of a server: words of `Serves`, and so of what the exports promise.
-use Rattle.std.specs.Prelude.{◌≡◌, ◌==◌, ℕ, Bool, true, false, List, [], Option, is_some}
+use Rattle.std.specs.Prelude.{◌≡◌, ◌==◌, ℕ, Bool, true, false, List, [], length, Option, is_some}
 use Rattle.std.specs.Option.{option_map_or}
 use Rattle.std.specs.Ordering.{nat_cmp}
 use Rattle.std.specs.BTreeMap.{get}
@@ -15,6 +15,9 @@ connection_at k c = get nat_cmp k.entries c
 
 abbrev pub is_there : Connections → ℕ → Bool
 is_there k c = is_some (connection_at k c)
+
+abbrev pub how_many : Connections → ℕ
+how_many k = length k.entries.entries
 
 -- the octets that are due on it
 abbrev pub owed_in : Connections → ℕ → List ℕ

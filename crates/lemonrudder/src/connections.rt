@@ -24,7 +24,7 @@ pub struct Connections {
 }
 
 impl Connections {
-    ghost use Rattle.lemonrudder.specs.Connected.{AreOthers, AreSame, OnlyDue, is_there, owed_in};
+    ghost use Rattle.lemonrudder.specs.Connected.{AreOthers, AreSame, OnlyDue, how_many, is_there, owed_in};
     ghost use Rattle.lemonrudder.specs.Refusals.{filled};
 
     /// None.
@@ -42,6 +42,13 @@ impl Connections {
         ensures { result ≡ is_there self.now connection }
     {
         self.entries.contains_key(&connection)
+    }
+
+    /// How many there are.
+    pub fn len(&self) -> usize
+        ensures { result ≡ how_many self.now }
+    {
+        self.entries.len()
     }
 
     /// Opens one, on which nothing is due, where there is none of the number.
