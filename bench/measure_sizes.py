@@ -19,7 +19,7 @@ PROGRAMS = [
     ("a program that does nothing", []),
     ("a server is opened and closed", ["tests/embed/main.c"]),
     ("examples/first.c: a client and a server", ["examples/first.c"]),
-    ("examples/bank.c: a server over poll()", ["examples/bank.c", "examples/loop.c"]),
+    ("examples/bank.c: a server over epoll", ["examples/bank.c", "examples/loop.c"]),
 ]
 
 

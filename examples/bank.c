@@ -65,8 +65,9 @@ static void perform(lr_server *server, const lr_request *asked) {
   uint64_t start = 0, length = 0;
   int64_t amount = 0;
   if (lr_server_identify(server, asked->ticket) != 0) return;
-  if (lr_server_part(server, LR_PART_OPERATION, operation, sizeof operation) < 0) return;
-  if (asked->body_size > sizeof body || lr_server_part(server, LR_PART_BODY, body, sizeof body) < 0) return;
+  if (lr_server_part(server, asked->ticket, LR_PART_OPERATION, operation, sizeof operation) < 0) return;
+  if (asked->body_size > sizeof body) return;
+  if (lr_server_part(server, asked->ticket, LR_PART_BODY, body, sizeof body) < 0) return;
   lr_get_string(body, asked->body_size, &in, &start, &length);
   if (operation[0] == 'd') lr_get_longlong(body, asked->body_size, &in, &amount);
   change(server, asked->ticket, account_of(body + start, length), amount);
@@ -74,7 +75,8 @@ static void perform(lr_server *server, const lr_request *asked) {
 
 /* Opens a server with the bank as its one object. */
 static int64_t open_server(lr_server *server) {
-  static const uint8_t text[] = {LR_TYPE_STRING}, both[] = {LR_TYPE_STRING, LR_TYPE_LONGLONG}, amount[] = {LR_TYPE_LONGLONG};
+  static const uint8_t text[] = {LR_TYPE_STRING}, amount[] = {LR_TYPE_LONGLONG};
+  static const uint8_t both[] = {LR_TYPE_STRING, LR_TYPE_LONGLONG};
   lr_catalogue bank = LR_INIT;
   uint64_t seeds[2];
   int64_t done = getentropy(seeds, sizeof seeds) == 0 ? lr_catalogue_open(&bank) : LR_E_RANGE;
@@ -83,7 +85,8 @@ static int64_t open_server(lr_server *server) {
   if (done == LR_OK) done = lr_catalogue_exception(&bank, OVERDRAWN, SIZE(OVERDRAWN), amount, sizeof amount);
   if (done == LR_OK) done = lr_catalogue_operation(&bank, KEY, SIZE(KEY), "deposit", 7, both, sizeof both, amount, 1);
   if (done == LR_OK) done = lr_catalogue_operation(&bank, KEY, SIZE(KEY), "balance", 7, text, sizeof text, amount, 1);
-  if (done == LR_OK) done = lr_server_open(server, &bank, LIMIT, 8, 1024, 256, seeds[0], seeds[1]);
+  if (done == LR_OK) done = lr_server_open(server, &bank, seeds[0], seeds[1]);
+  if (done == LR_OK) done = lr_server_set(server, LR_SET_MESSAGE, LIMIT);
   lr_close(&bank);
   return done;
 }
@@ -97,7 +100,7 @@ int main(int count, char **words) {
   int64_t done = open_server(&server);
   if (done == LR_OK) done = loop_print(TYPE, SIZE(TYPE), 2, words[1], port, KEY, SIZE(KEY));
   if (done < 0) return fprintf(stderr, "bank: %s\n", lr_strerror(done)), 1;
-  int served = loop_serve(&server, listener, perform);
+  int served = loop_serve(&server, listener, perform, NULL);
   if (served != 0) perror("bank");
   lr_close(&server);
   return served == 0 ? 0 : 1;

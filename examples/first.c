@@ -18,7 +18,7 @@ static void perform(lr_server *server, uint64_t ticket, int64_t *total) {
   uint8_t body[8];
   int32_t n;
   lr_place in = {.order = LR_ORDER_BIG}, out = {.order = LR_ORDER_BIG};
-  int64_t size = sure(lr_server_part(server, LR_PART_BODY, body, sizeof body));
+  int64_t size = sure(lr_server_part(server, ticket, LR_PART_BODY, body, sizeof body));
   sure(lr_get_long(body, (size_t)size, &in, &n));
   sure(lr_put_longlong(body, sizeof body, &out, *total + n));
   sure(lr_server_answer(server, ticket, LR_ORDER_BIG, body, out.next));
@@ -35,8 +35,8 @@ int main(void) {
   sure(lr_catalogue_open(&catalogue));
   sure(lr_catalogue_object(&catalogue, "counter", 7));
   sure(lr_catalogue_operation(&catalogue, "counter", 7, "add", 3, long_type, 1, longlong_type, 1));
-  sure(lr_server_open(&server, &catalogue, 65536, 8, 1024, 1024, 1, 2)); /* 1, 2: random numbers in a product */
-  sure(lr_client_open(&client, "client 1", 8, 2, 65536, 8));
+  sure(lr_server_open(&server, &catalogue, 1, 2)); /* 1, 2: random numbers in a product */
+  sure(lr_client_open(&client, "client 1", 8));
   sure(lr_client_call(&client, now, now + 600000000, "counter", 7, "add", 3, long_type, 1, LR_ORDER_BIG, octets, 4));
 
   for (uint64_t connection = 1; connection <= 2; connection++) {
@@ -46,9 +46,9 @@ int main(void) {
     int64_t size = sure(lr_client_output(&client, octets, sizeof octets));
     for (int64_t at = 0; at < size;) {
       at += sure(lr_server_feed(&server, connection, now, octets + at, (size_t)(size - at)));
-      if (sure(lr_server_asked(&server, &request))) perform(&server, request.ticket, &total);
+      if (sure(lr_server_asked(&server, &request, sizeof request))) perform(&server, request.ticket, &total);
     }
-    size = sure(lr_server_output(&server, octets, sizeof octets));
+    size = sure(lr_server_output(&server, connection, octets, sizeof octets));
     if (connection == 1) {
       sure(lr_server_lost(&server, connection));
       sure(lr_client_lost(&client));
@@ -57,7 +57,7 @@ int main(void) {
     }
   }
   lr_completion completion;
-  if (sure(lr_client_completed(&client, &completion))) {
+  if (sure(lr_client_completed(&client, &completion, sizeof completion))) {
     int64_t result, size = sure(lr_client_body(&client, octets, sizeof octets));
     lr_place in = {.at = completion.body_at, .order = completion.body_order};
     sure(lr_get_longlong(octets, (size_t)size, &in, &result));

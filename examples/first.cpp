@@ -19,8 +19,8 @@ int main() {
   auto catalogue = sure(lr::Catalogue::open());
   sure(catalogue.object("counter"));
   sure(catalogue.operation("counter", "add", {LR_TYPE_LONG}, {LR_TYPE_LONGLONG}));
-  auto server = sure(lr::Server::open(catalogue, {65536, 8}, {1024, 1024}, {1, 2}));  // random seeds in a product
-  auto client = sure(lr::Client::open("client 1", 2, {65536, 8}));
+  auto server = sure(lr::Server::open(catalogue, {1, 2}));  // random seeds in a product
+  auto client = sure(lr::Client::open("client 1"));
 
   const auto now = lr::now();
   const std::uint8_t types[] = {LR_TYPE_LONG}, seven[] = {0, 0, 0, 7};
@@ -36,7 +36,7 @@ int main() {
       left = left.from(sure(server.feed(connection, now, left)));
       const auto asked = sure(server.asked());
       if (!asked) continue;
-      const auto body = sure(server.part(lr::Part::body));
+      const auto body = sure(server.part(asked->ticket, lr::Part::body));
       const auto after = total + sure(lr::Reader(body).get_long());
       std::uint8_t results[8];
       lr::Writer out(results);
@@ -44,7 +44,7 @@ int main() {
       sure(server.answer(asked->ticket, lr::Order::big, out.octets()));
       total = after;
     }
-    const auto size = sure(server.output(room));
+    const auto size = sure(server.output(connection, room));
     if (connection == 1) {
       sure(server.lost(connection));
       sure(client.lost());

@@ -1,13 +1,33 @@
-/* A loop that serves an lr_server over TCP to many connections at once, 1000 at most. */
+/*
+ * A loop that serves an lr_server over TCP to many connections at once. What it keeps is bounded: of a peer 20 KiB
+ * here, and in the server what the limits of that allow (lr_server_set), of which it sets two, LR_SET_DUE and
+ * LR_SET_PARKED_OF.
+ */
 #ifndef LOOP_H
 #define LOOP_H
 
 #include <lemonrudder.h>
 
-/* How many seconds a peer may be idle: it sends nothing, and takes nothing of what is due. Then it is told goodbye, or
- * dropped where something is due. */
+/* These may be defined otherwise. How many peers are served at once: */
+#ifndef LOOP_PEERS
+#define LOOP_PEERS 1000
+#endif
+/* how many octets are due to a peer from which on it is fed no more: */
+#ifndef LOOP_DUE
+#define LOOP_DUE 65536
+#endif
+/* how many requests of a peer are parked from which on it is fed no more: */
+#ifndef LOOP_PARKED
+#define LOOP_PARKED 64
+#endif
+/* how many seconds a peer may be idle: it sends nothing, takes nothing of what is due, and nothing of it is parked.
+ * Then it is told goodbye, or dropped where something is due: */
 #ifndef LOOP_IDLE
 #define LOOP_IDLE 300
+#endif
+/* and how many seconds after SIGTERM what is parked may be answered. */
+#ifndef LOOP_DRAIN
+#define LOOP_DRAIN 30
 #endif
 
 /* Listens at an IPv4 address, and answers a socket, or -1. Port 0 becomes one that is free. From then on SIGTERM ends
@@ -18,11 +38,18 @@ int loop_listen(const char *address, uint16_t *port);
 int64_t loop_print(const char *type, size_t type_size, uint32_t minor, const char *address, uint16_t port,
                    const void *key, size_t key_size);
 
-/* Serves until SIGTERM, and says goodbye to all then. `perform` answers the request that waits; one that it leaves
- * waiting is given up, so of that it must have done nothing. Answers 0, or -1 where errno says why.
+/* Serves until SIGTERM. Then each peer is told goodbye, behind the replies to what it has parked. `perform` answers the
+ * request that waits, or parks it; one that it leaves waiting is refused by TRANSIENT, so of that it must have done
+ * nothing.
+ * `settle`, or NULL, answers parked requests whose outcome is there: it is called after loop_wake, and every second.
+ * Answers 0, or -1 where errno says why.
  *
- * A peer whose stream has ended has five seconds to close, less where others want its place. Where there are no
- * descriptors for another peer, it waits until one is free. */
-int loop_serve(lr_server *server, int listener, void (*perform)(lr_server *server, const lr_request *asked));
+ * A peer whose stream has ended has five seconds to close. Where there is no place or descriptor for another one, such
+ * a peer is dropped, or the one that is idle longest, for a second at least, is told goodbye; else it waits. */
+int loop_serve(lr_server *server, int listener, void (*perform)(lr_server *server, const lr_request *asked),
+               void (*settle)(lr_server *server));
+
+/* Has `settle` called, on the thread of loop_serve. It may be called by any thread, and in a signal's handler. */
+void loop_wake(void);
 
 #endif

@@ -2,7 +2,8 @@
 
     <!-- made of: PATH -->                  the file
     <!-- made of: PATH NAME -->             what declares NAME, with the comment before it: a function, a type, a
-                                            definition, a `ghost` line; or `impl ..`, in these words
+                                            definition, a `ghost` line; or `impl ..`, in these words; in C and C++ a
+                                            function
     <!-- made of: PATH NAME to NAME -->     from the first of these to the end of the last
 
 Such a mark stands before a block of code, and `<!-- end -->` after it. What stands between them is written by
@@ -14,15 +15,20 @@ from collections.abc import Callable
 from scripts.sources import Missing
 
 LANGUAGES = {"antt": "antt", "c": "c", "cpp": "cpp", "idl": "idl", "py": "python", "rs": "rust", "rt": "rust"}
+# in C and C++, what stands before the name of a function
+TYPE = r"[\w:]+(?:<[\w:<>, ]*>)?[ *&]+"
 MARK = "<!-- made of: "
 PART = re.compile(rf"^({MARK}(\S+\.\w+)(?: (.+?))? -->\n)(?:```\w+\n(?:(?!```).*\n)*```\n)?(<!-- end -->)$", re.M)
 DECLARING = r"pub|pub\(crate\)|abbrev|unfoldable|data|record|fn|struct|enum|trait|const|ghost"
 
 
-def head_of(lines: list[str], name: str) -> int:
+def head_of(lines: list[str], name: str, language: str) -> int:
     """The index of the one line that declares a name."""
     word = re.escape(name)
-    head = re.compile(rf"^ *(?:(?:{DECLARING}) )+{word}(?![\w'])|^{word} [:{{]")
+    if language in ("c", "cpp"):
+        head = re.compile(rf"^ *(?!return)(?:{TYPE})+{word}\(.*{{$")
+    else:
+        head = re.compile(rf"^ *(?:(?:{DECLARING}) )+{word}(?![\w'])|^{word} [:{{]")
     found = [index for index, line in enumerate(lines) if head.match(line)]
     if len(found) != 1:
         raise Missing(f"{len(found)} lines declare {name}, and not one")
@@ -32,7 +38,7 @@ def head_of(lines: list[str], name: str) -> int:
 def first_of(lines: list[str], head: int) -> int:
     """Where the comment and the attributes before a head begin."""
     first = head
-    while first and lines[first - 1].lstrip().startswith(("//", "#[", "--")):
+    while first and lines[first - 1].lstrip().startswith(("//", "#[", "--", "/* ", "* ")):
         first -= 1
     return first
 
@@ -50,13 +56,14 @@ def last_of(lines: list[str], head: int) -> int:
     raise Missing(f"what begins with {lines[head].strip()} does not end")
 
 
-def part_of(text: str, words: str | None) -> str:
-    """What the words of a mark name of a source."""
+def part_of(text: str, words: str | None, language: str) -> str:
+    """What the words of a mark name of a source in a language."""
     if not words:
         return text
     lines = text.rstrip("\n").split("\n")
     begins, _, ends = words.partition(" to ")
-    first, last = first_of(lines, head_of(lines, begins)), last_of(lines, head_of(lines, ends or begins))
+    first = first_of(lines, head_of(lines, begins, language))
+    last = last_of(lines, head_of(lines, ends or begins, language))
     return "".join(line + "\n" for line in lines[first : last + 1])
 
 
@@ -66,7 +73,8 @@ def with_quotes(page: str, text_of: Callable[[str], str]) -> str:
     def made(found: re.Match) -> str:
         mark, path, words, end = found.groups()
         try:
-            language, quoted = LANGUAGES[path.rpartition(".")[2]], part_of(text_of(path), words)
+            language = LANGUAGES[path.rpartition(".")[2]]
+            quoted = part_of(text_of(path), words, language)
         except (KeyError, Missing, OSError) as why:
             raise Missing(f"{path}: {why}") from why
         return f"{mark}```{language}\n{quoted}```\n{end}"

@@ -1,8 +1,8 @@
 """Compiles C and C++ against liblemonrudder and runs it: the programs of tests/embed, and the examples over sockets.
 
 Each program of tests/embed is run with the archive, with the shared library, with the sanitizers for addresses and for
-undefined behaviour, and under valgrind. The two banks are called by a client of tests/giop_peers.py, and the gateway
-stands before a server of it, and before one of omniORB.
+undefined behaviour, and under valgrind. The banks are called by clients of tests/giop_peers.py, and the gateway stands
+before a server of it, and before one of omniORB.
 """
 from __future__ import annotations
 
@@ -10,6 +10,7 @@ import atexit
 import contextlib
 import functools
 import itertools
+import multiprocessing
 import os
 import random
 import re
@@ -19,6 +20,7 @@ import signal
 import socket
 import subprocess
 import tempfile
+import threading
 import time
 import unittest
 from collections.abc import Callable, Iterator
@@ -37,7 +39,8 @@ EMBED = os.path.join(ROOT, "tests", "embed")
 EXAMPLES = os.path.join(ROOT, "examples")
 WARNINGS = ["-Wall", "-Wextra", "-Wpedantic", "-Wshadow", "-Werror"]
 C, CPP = ["-std=c99", *WARNINGS], ["-std=c++17", *WARNINGS, "-Wconversion"]
-SANITIZED = ["-fsanitize=address,undefined", "-fno-sanitize-recover=all"]
+# (the check of vptr takes descriptors, of which a test leaves none)
+SANITIZED = ["-fsanitize=address,undefined", "-fno-sanitize=vptr", "-fno-sanitize-recover=all"]
 THREADS = ["-fsanitize=thread"]
 VALGRIND = ["valgrind", "-q", "--error-exitcode=9", "--leak-check=full"]
 # a program under valgrind may take so many seconds
@@ -99,10 +102,10 @@ class Kit:
         """The words that link with the shared library."""
         return [f"-L{self.lib}", "-llemonrudder", f"-Wl,-rpath,{self.lib}"]
 
-    def example(self, name: str, sources: list[str]) -> str:
+    def example(self, name: str, sources: list[str], flags: list[str]) -> str:
         """An example, with the sanitizers if there are any."""
         paths = [os.path.join(EXAMPLES, source) for source in sources]
-        return self.compile(name, paths, [f"-I{EXAMPLES}", *(SANITIZED if self.is_sanitized else [])])
+        return self.compile(name, paths, [f"-I{EXAMPLES}", *(SANITIZED if self.is_sanitized else []), *flags])
 
 
 # ---- headers and libraries ----
@@ -119,6 +122,7 @@ def compile_text(kit: Kit, text: str, compiler: str, standard: str) -> None:
 def headers_stand_alone(kit: Kit) -> None:
     """Each header compiles by itself, first and twice."""
     c_text, cpp_text = '#include "lemonrudder.h"\n' * 2, '#include "lemonrudder.hpp"\n' * 2
+    loop_text = '#include "lemonrudder_loop.hpp"\n' * 2
     compilers = ["cc", *(["clang"] if shutil.which("clang") else [])]
     for compiler in compilers:
         for standard in ("c99", "c11"):
@@ -127,7 +131,8 @@ def headers_stand_alone(kit: Kit) -> None:
         for compiler in ["g++", *(["clang++"] if shutil.which("clang++") else [])]:
             compile_text(kit, c_text, compiler, "c++11")
             compile_text(kit, c_text, compiler, "c++17")
-            compile_text(kit, cpp_text, compiler, "c++17")
+            for text in (cpp_text, loop_text, "#define LEMONRUDDER_LOOP_POLL\n" + loop_text):
+                compile_text(kit, text, compiler, "c++17")
 
 
 def declarations_can_be_marked(kit: Kit) -> None:
@@ -272,8 +277,9 @@ def packages_are_made_below_a_root(kit: Kit) -> None:
         made = os.path.join(root, "opt", "some")
         want(os.listdir(root), ["opt"])
         want(all_of(made), sorted([
-            "include/lemonrudder.h", "include/lemonrudder.hpp", "lib/liblemonrudder.a", "lib/liblemonrudder.so",
-            f"lib/{library.SONAME}", f"lib/liblemonrudder.so.{library.VERSION}", "lib/pkgconfig/lemonrudder.pc",
+            "include/lemonrudder.h", "include/lemonrudder.hpp", "include/lemonrudder_loop.hpp",
+            "lib/liblemonrudder.a", "lib/liblemonrudder.so", f"lib/{library.SONAME}",
+            f"lib/liblemonrudder.so.{library.VERSION}", "lib/pkgconfig/lemonrudder.pc",
             *(f"lib/cmake/lemonrudder/lemonrudder-{name}.cmake" for name in ("config", "config-version"))]))
         for name in all_of(made):
             with open(os.path.join(made, name), "rb") as file:
@@ -396,7 +402,7 @@ BARE = ["-fno-exceptions", "-fno-rtti", "-DNDEBUG"]
 def header_compiles(kit: Kit) -> None:
     """What uses it compiles silently by both compilers, in each standard, without exceptions and assert() too."""
     classes = os.path.join(EMBED, "classes.cpp")
-    others = [os.path.join(EXAMPLES, "first.cpp"), os.path.join(EXAMPLES, "bank.cpp")]
+    others = [os.path.join(EXAMPLES, name) for name in ("first.cpp", "bank.cpp", "slow_bank.cpp")]
     for compiler in [programs.tool("g++"), *(["clang++"] if shutil.which("clang++") else [])]:
         for standard in STANDARDS:
             for flags, sources in (([], [classes]), (BARE, [classes, *(others if standard == STANDARDS[-1] else [])])):
@@ -672,10 +678,15 @@ def bank_bears_want_of_descriptors(bank: str) -> None:
             peer.wants(returned(1, 0))
 
 
+def let_open(count: int) -> None:
+    """Lets this process, and those that it begins, have so many descriptors."""
+    most = resource.getrlimit(resource.RLIMIT_NOFILE)[1]
+    resource.setrlimit(resource.RLIMIT_NOFILE, (min(most, count), most))
+
+
 def bank_serves_beside_streams_that_ended(bank: str) -> None:
     """A thousand peers whose streams ended, and that stay, keep nobody out."""
-    most = resource.getrlimit(resource.RLIMIT_NOFILE)[1]
-    resource.setrlimit(resource.RLIMIT_NOFILE, (min(most, 4096), most))
+    let_open(4096)
     with Serving(bank, "127.0.0.1", "0") as serving, contextlib.ExitStack() as stack:
         peers = [stack.enter_context(Peer(serving.port)) for _ in range(1000)]
         for peer in peers:
@@ -686,6 +697,17 @@ def bank_serves_beside_streams_that_ended(bank: str) -> None:
             peer.socket.settimeout(3)
             peer.tell(balance(1, "ann"))
             peer.wants(returned(1, 0))
+
+
+def is_there(peer: Peer, octets: bytes) -> bool:
+    """Takes what has come on a connection: whether it is these octets."""
+    peer.socket.setblocking(False)
+    try:
+        return peer.received(len(octets)) == octets
+    except BlockingIOError:
+        return False
+    finally:
+        peer.socket.settimeout(SECONDS)
 
 
 def is_refused(peer: Peer) -> bool:
@@ -736,6 +758,195 @@ def bank_drops_peers_that_take_nothing(bank: str) -> None:
         ask(serving.port, balance(1, "ann"), returned(1, 0))
 
 
+def bank_serves_beside_silent_peers(bank: str) -> None:
+    """A thousand peers that say nothing keep nobody out: the one that is idle longest is told goodbye."""
+    let_open(4096)
+    with Serving(bank, "127.0.0.1", "0") as serving, contextlib.ExitStack() as stack:
+        peers = [stack.enter_context(Peer(serving.port)) for _ in range(1000)]
+        for index, peer in enumerate(peers):
+            peer.tell(balance(index, "ann"))
+        for index, peer in enumerate(peers):
+            peer.wants(returned(index, 0))
+        ask(serving.port, deposit(1, "bob", 5), returned(1, 5))
+        gone = [peer for peer in peers if is_there(peer, CLOSE_CONNECTION)]
+        if not 1 <= len(gone) <= 10:
+            raise Wrong(f"{len(gone)} peers were told goodbye")
+        for peer in gone:
+            peer.ended()
+
+
+def flood(port: int) -> None:
+    """Sends requests as fast as they are answered, until it is ended."""
+    def take() -> None:
+        while peer.socket.recv(1 << 16):
+            pass
+
+    octets = balance(1, "ann") * 500
+    with Peer(port) as peer:
+        threading.Thread(target=take, daemon=True).start()
+        while True:
+            peer.tell(octets)
+
+
+def middle_of(port: int, count: int) -> float:
+    """How long a request takes, in the middle of so many."""
+    took = []
+    with Peer(port) as peer:
+        for index in range(count):
+            began = time.monotonic()
+            peer.tell(balance(index, "ann"))
+            peer.wants(returned(index, 0))
+            took.append(time.monotonic() - began)
+    return sorted(took)[count // 2]
+
+
+def bank_is_fair(bank: str) -> None:
+    """One peer that sends requests without an end makes another one wait five times as long as alone, or less."""
+    with Serving(bank, "127.0.0.1", "0") as serving:
+        for _ in range(3):  # (other processes may take the processors)
+            alone = middle_of(serving.port, 500)
+            flooding = multiprocessing.get_context("fork").Process(target=flood, args=(serving.port,), daemon=True)
+            flooding.start()
+            time.sleep(0.2)
+            beside = middle_of(serving.port, 500)
+            flooding.kill()
+            flooding.join()
+            if beside <= 5 * alone:
+                return
+        raise Wrong(f"a request takes {beside} s, and {alone} s alone")
+
+
+# ---- the banks whose deposits take their time ----
+
+@contextlib.contextmanager
+def slow(bank: str, milliseconds: int) -> Iterator[Serving]:
+    """A bank whose deposits take so long."""
+    with Serving(bank, "127.0.0.1", "0", str(milliseconds)) as serving:
+        yield serving
+
+
+def slow_deposits_are_made_at_once(bank: str) -> None:
+    """Deposits of 64 clients at once take little more than one; meanwhile balances are told at once."""
+    with slow(bank, 1000) as serving, contextlib.ExitStack() as stack:
+        peers = [stack.enter_context(Peer(serving.port)) for _ in range(64)]
+        began = time.monotonic()
+        for index, peer in enumerate(peers):
+            peer.tell(deposit(index, "ann", 1, number=index))
+        for index in range(10):
+            ask(serving.port, balance(index, "ann"), returned(index, 0))
+        told = time.monotonic() - began
+        balances = sorted(int.from_bytes(peer.message().body, "big") for peer in peers)
+        took = time.monotonic() - began
+        want(balances, list(range(1, 65)))
+        if not told < 1 <= took < 2:
+            raise Wrong(f"ten balances took {told} s, 64 deposits {took} s")
+
+
+def slow_deposits_act_once(bank: str) -> None:
+    """A deposit is sent again while it is made, by two, and the first one is gone: both get its outcome."""
+    with slow(bank, 500) as serving, Peer(serving.port) as second, Peer(serving.port) as third:
+        with Peer(serving.port) as first:
+            first.tell(deposit(1, "ann", 100, number=1) + balance(2, "ann"))
+            first.wants(returned(2, 0))
+        second.tell(deposit(3, "ann", 100, number=1))
+        third.tell(deposit(4, "ann", 100, number=1))
+        second.wants(returned(3, 100))
+        third.wants(returned(4, 100))
+        ask(serving.port, deposit(5, "ann", 100, number=1) + balance(6, "ann"), returned(5, 100) + returned(6, 100))
+        ask(serving.port, deposit(7, "ann", -101, number=2), overdrawn(7, 100))
+        ask(serving.port, deposit(8, "ann", -101, number=2), overdrawn(8, 100))
+
+
+def slow_deposits_are_answered_in_any_order(bank: str) -> None:
+    """On one connection: what is asked behind a deposit is answered before it."""
+    with slow(bank, 300) as serving, Peer(serving.port) as peer:
+        peer.tell(deposit(1, "ann", 5) + balance(2, "ann") + deposit(3, "bob", 7) + balance(4, "bob"))
+        peer.wants(returned(2, 0) + returned(4, 0))
+        want(sorted((it.request_id, it.body[-1]) for it in (peer.message(), peer.message())), [(1, 5), (3, 7)])
+
+
+def slow_deposits_are_refused_for_now(bank: str) -> None:
+    """Where 256 are parked, more are refused by TRANSIENT, and act when they are sent again. Of a peer 64 are parked at
+    most: the rest is taken later."""
+    with slow(bank, 1000) as serving, contextlib.ExitStack() as stack:
+        peers = [stack.enter_context(Peer(serving.port)) for _ in range(6)]
+        numbers = {index: range(70 * index, 70 * index + 70) for index in range(6)}
+        for index, peer in enumerate(peers):
+            peer.tell(b"".join(deposit(number, "ann", 1, number=number) for number in numbers[index]))
+        refused = []
+        for index, peer in enumerate(peers):
+            replies = {it.request_id: it for it in (peer.message() for _ in numbers[index])}
+            want(sorted(replies), list(numbers[index]))
+            refused += [it for it in replies.values() if it.status != giop.NO_EXCEPTION]
+        if not 1 <= len(refused) <= 6 * 70 - 256:
+            raise Wrong(f"{len(refused)} were refused")
+        for it in refused:
+            want(giop.system_exception(it.request_id, "TRANSIENT", NO)[-len(it.body):], it.body)
+        ask(serving.port, balance(1, "ann"), returned(1, 6 * 70 - len(refused)))
+        for number in [it.request_id for it in refused][:64]:
+            peers[0].tell(deposit(number, "ann", 1, number=number))
+        for _ in refused[:64]:
+            want(peers[0].message().status, giop.NO_EXCEPTION)
+        ask(serving.port, balance(1, "ann"), returned(1, 6 * 70 - len(refused) + len(refused[:64])))
+
+
+def slow_deposits_lapse(bank: str) -> None:
+    """While all workers are busy: what nobody waits for any more is not begun, but where it has FT_REQUEST."""
+    with slow(bank, 1000) as serving, Peer(serving.port) as stays, contextlib.ExitStack() as stack:
+        busy = [stack.enter_context(Peer(serving.port)) for _ in range(2)]
+        for peer in busy:
+            peer.tell(b"".join(deposit(index, "ann", 1) for index in range(32)) + locate_bank())
+            peer.wants(giop.located(1, 1))
+        for name, number in (("bob", None), ("cid", 1)):
+            with Peer(serving.port) as gone:
+                gone.tell(deposit(1, name, 5, number=number) + locate_bank())
+                gone.wants(giop.located(1, 1))
+        stays.tell(deposit(1, "dan", 5) + deposit(2, "eve", 5) + giop.cancel(1) + locate_bank())
+        stays.wants(giop.located(1, 1))
+        for peer in busy * 32:
+            want(peer.message().status, giop.NO_EXCEPTION)
+        stays.wants(returned(2, 5))
+        ask(serving.port, deposit(2, "cid", 5, number=1), returned(2, 5))
+        for name, left in (("bob", 0), ("cid", 5), ("dan", 0), ("eve", 5)):
+            ask(serving.port, balance(1, name), returned(1, left))
+
+
+def locate_bank() -> bytes:
+    return giop.locate(1, BANK)
+
+
+def slow_bank_says_goodbye(bank: str) -> None:
+    """At SIGTERM each deposit that is parked is answered, and then CloseConnection comes; at once where none is."""
+    with slow(bank, 2000) as serving, Peer(serving.port) as idle, contextlib.ExitStack() as stack:
+        peers = [stack.enter_context(Peer(serving.port)) for _ in range(20)]
+        for index, peer in enumerate(peers):
+            peer.tell(deposit(1, f"account {index}", 5) + deposit(2, f"account {index}", 5) + locate_bank())
+            peer.wants(giop.located(1, 1))
+        serving.stop()
+        began = time.monotonic()
+        idle.wants(CLOSE_CONNECTION)
+        idle.ended()
+        for peer in peers:
+            peer.tell(deposit(3, "nobody", 5))  # (it comes after the goodbye, and means nothing)
+        if time.monotonic() - began > 1:
+            raise Wrong("the goodbye to a peer that waits for nothing came late")
+        for peer in peers:
+            want(sorted((it.request_id, it.status) for it in (peer.message(), peer.message())), [(1, 0), (2, 0)])
+            peer.wants(CLOSE_CONNECTION)
+            peer.ended()
+        with contextlib.suppress(ConnectionRefusedError), socket.create_connection(("127.0.0.1", serving.port)):
+            raise Wrong("it takes connections after SIGTERM")
+
+
+def slow_bank_gives_up(bank: str) -> None:
+    """Compiled to wait a second: what is parked then is not answered, and nothing says that it was not performed."""
+    with slow(bank, 3000) as serving, Peer(serving.port) as peer:
+        peer.tell(deposit(1, "ann", 5) + locate_bank())
+        peer.wants(giop.located(1, 1))
+        serving.stop()
+        peer.ended("what comes")
+
+
 def long_replies_are_bounded(server: str) -> None:
     """Ten peers send repeats of a request whose reply has a million octets, and take nothing: each costs little. Then
     one takes all of them."""
@@ -753,6 +964,30 @@ def long_replies_are_bounded(server: str) -> None:
             raise Wrong(f"ten peers that take nothing made it keep {more} octets")
         for index in range(60):
             peers[0].wants(reply(index, body))
+
+
+# ---- the loop for C++ ----
+
+def servants_answer_in_each_way(server: str) -> None:
+    """By another thread, by what their name says, and not; what is let go of is INTERNAL, and what waits TRANSIENT."""
+    with Serving(server, "127.0.0.1", "0") as serving, Peer(serving.port) as peer:
+        def asks(key: bytes, operation: str, answer: bytes, body: bytes = b"", number: int | None = None) -> None:
+            peer.tell(request(1, key, operation, body, number=number))
+            peer.wants(answer, operation)
+
+        asks(b"desk", "echo", reply(1, b"some octets"), b"some octets")
+        asks(b"any", "that", reply(1, b"that"))
+        for number, operation in enumerate(("forget", "misfit", "overflow")):
+            for _ in range(2):  # (it is kept)
+                asks(b"desk", operation, system_exception(1, "INTERNAL", MAYBE), number=number)
+        refused = giop.reply(1, giop.system_body("NO_PERMISSION", NO, 7), status=giop.SYSTEM_EXCEPTION)
+        for _ in range(2):
+            asks(b"desk", "withdraw", refused, number=10)
+            asks(b"desk", "nothing", system_exception(1, "TRANSIENT", NO), number=11)
+        asks(b"desk", "_is_a", reply(1, b"\1"), b"\0\0\0\x0dIDL:Desk:1.0\0")
+        serving.is_stopped = True
+        asks(b"desk", "stop", reply(1) + CLOSE_CONNECTION)
+        peer.ended()
 
 
 # ---- the gateway ----
@@ -833,20 +1068,16 @@ def gateway_says_maybe(gateway: str) -> None:
             ask(serving.port, request(5, key, "add", number=100 + number), reply(5, number_body(2 * number + 2)))
 
 
-def gateway_gives_up_what_was_not_begun(gateway: str) -> None:
-    """The server behind says goodbye, or is not there: nothing is kept, and the repeat is forwarded."""
+def gateway_refuses_what_was_not_begun(gateway: str) -> None:
+    """The server behind says goodbye, or is not there: TRANSIENT, of which nothing is kept: the repeat is forwarded."""
     with gateway_before(gateway) as (behind, serving, key):
         behind.manners = ["closes"]
-        with Peer(serving.port) as peer:
-            peer.tell(request(1, key, "add", number=1))
-            peer.ended()
+        ask(serving.port, request(1, key, "add", number=1), system_exception(1, "TRANSIENT", NO))
         ask(serving.port, request(2, key, "add", number=1), reply(2, number_body(1)))
         behind.manners = ["closes"]
         ask(serving.port, request(3, key, "add"), system_exception(3, "TRANSIENT", NO))
         behind.hush()
-        with Peer(serving.port) as peer:
-            peer.tell(request(4, key, "add", number=2))
-            peer.ended()
+        ask(serving.port, request(4, key, "add", number=2), system_exception(4, "TRANSIENT", NO))
         ask(serving.port, request(5, key, "add"), system_exception(5, "TRANSIENT", NO))
         ask(serving.port, request(6, key, "add", number=1), reply(6, number_body(1)))
 
@@ -968,12 +1199,18 @@ def omniorb_acts_once_through_the_gateway(kit: Kit, gateway: str) -> None:
 BANKS = [bank_deposits_act_once, bank_refusals, bank_locates, bank_serves_a_hundred,
          bank_serves_beside_one_that_reads_nothing, bank_ends_streams, bank_says_goodbye, bank_wants_words,
          bank_sends_at_once, bank_bears_want_of_descriptors, bank_serves_beside_streams_that_ended,
-         bank_drops_streams_that_ended]
+         bank_drops_streams_that_ended, bank_serves_beside_silent_peers]
+SLOW_BANKS = [slow_deposits_are_made_at_once, slow_deposits_act_once, slow_deposits_are_answered_in_any_order,
+              slow_deposits_are_refused_for_now, slow_deposits_lapse, slow_bank_says_goodbye]
+# over poll()
+POLLS = [bank_serves_a_hundred, bank_serves_beside_one_that_reads_nothing, bank_says_goodbye,
+         bank_bears_want_of_descriptors]
 # with an idle time of two seconds
 IDLE_BANKS = [bank_tells_idle_peers_goodbye, bank_drops_peers_that_take_nothing]
+FAIR_BANKS = [bank_is_fair]
 LONGS = [long_replies_are_bounded]
 GATEWAYS = [gateway_leads_to_itself, gateway_forwards_as_it_came, gateway_retries_act_once, gateway_keeps_exceptions,
-            gateway_says_maybe, gateway_gives_up_what_was_not_begun, gateway_comes_back,
+            gateway_says_maybe, gateway_refuses_what_was_not_begun, gateway_comes_back,
             gateway_refuses_what_it_cannot, gateway_takes_long_replies, gateway_forwards_without_a_reply,
             gateway_forwards_one_at_a_time, gateway_wants_a_reference]
 LIBRARY = [headers_stand_alone, declarations_can_be_marked, slots_are_closed_by_kind, programs_link, two_archives_link,
@@ -1037,10 +1274,11 @@ class Example:
 
     NAME: str
     SOURCES: list[str]
+    FLAGS: list[str] = []
 
     @classmethod
     def setUpClass(cls) -> None:
-        cls.subject = the_kit().example(cls.NAME, cls.SOURCES)
+        cls.subject = the_kit().example(cls.NAME, cls.SOURCES, cls.FLAGS)
 
 
 class Plain:
@@ -1068,6 +1306,62 @@ class BankCpp(Example, unittest.TestCase):
     """The bank in C++."""
 
     NAME, SOURCES = "bank_cpp", ["bank.cpp"]
+
+
+@of_functions(SLOW_BANKS)
+class SlowBankC(Example, unittest.TestCase):
+    """The bank in C whose deposits take their time."""
+
+    NAME, SOURCES, FLAGS = "slow_bank_c", ["slow_bank.c", "loop.c"], ["-pthread"]
+
+
+@of_functions(SLOW_BANKS)
+class SlowBankCpp(Example, unittest.TestCase):
+    """The bank in C++ whose deposits take their time."""
+
+    NAME, SOURCES, FLAGS = "slow_bank_cpp", ["slow_bank.cpp"], ["-pthread"]
+
+
+@of_functions([slow_bank_gives_up])
+class ShortBankC(Plain, unittest.TestCase):
+    """The same in C, with a second for what is parked at SIGTERM."""
+
+    NAME, SOURCES, FLAGS = "short_bank_c", ["slow_bank.c", "loop.c"], ["-DLOOP_DRAIN=1", "-pthread"]
+
+
+@of_functions([*POLLS, *FAIR_BANKS])
+class PollBankC(Plain, unittest.TestCase):
+    """The bank in C, over poll()."""
+
+    NAME, SOURCES, FLAGS = "poll_bank_c", ["bank.c", "loop.c"], ["-DLOOP_POLL"]
+
+
+@of_functions([*POLLS, *FAIR_BANKS])
+class PollBankCpp(Plain, unittest.TestCase):
+    """The bank in C++, over poll()."""
+
+    NAME, SOURCES, FLAGS = "poll_bank_cpp", ["bank.cpp"], ["-DLEMONRUDDER_LOOP_POLL"]
+
+
+@of_functions(SLOW_BANKS)
+class SlowPollBankC(Plain, unittest.TestCase):
+    """The bank in C whose deposits take their time, over poll()."""
+
+    NAME, SOURCES, FLAGS = "slow_poll_bank_c", ["slow_bank.c", "loop.c"], ["-DLOOP_POLL", "-pthread"]
+
+
+@of_functions(FAIR_BANKS)
+class FairBankC(Plain, unittest.TestCase):
+    """The bank in C, beside a peer that asks without an end."""
+
+    NAME, SOURCES, FLAGS = "fair_bank_c", ["bank.c", "loop.c"], []
+
+
+@of_functions(FAIR_BANKS)
+class FairBankCpp(Plain, unittest.TestCase):
+    """The bank in C++, beside a peer that asks without an end."""
+
+    NAME, SOURCES, FLAGS = "fair_bank_cpp", ["bank.cpp"], []
 
 
 @of_functions(IDLE_BANKS)
@@ -1098,6 +1392,13 @@ class LongCpp(Plain, unittest.TestCase):
 
     NAME, SOURCES = "long_cpp", ["long.cpp"]
     FOLDER, FLAGS = EMBED, [f"-I{EXAMPLES}"]
+
+
+@of_functions([servants_answer_in_each_way])
+class ServantsCpp(Example, unittest.TestCase):
+    """A server in C++ whose servants answer in each way."""
+
+    NAME, SOURCES, FLAGS = "servants_cpp", ["../tests/embed/servants.cpp"], ["-pthread"]
 
 
 @of_functions(GATEWAYS)

@@ -17,6 +17,7 @@ from tests.engine_model import (
 from tests.giop import CLOSE_CONNECTION, HEADER, MESSAGE_ERROR
 from tests.schedules import EDGES, LIMIT, NAMES, VERSIONS, parts_of
 from tests.smaller import smallest
+from tests.trace import EXCEPTIONS
 
 SEED = 29
 COUNT = 300
@@ -222,8 +223,7 @@ class Maker:
         self.steps.append(("open", self.last))
 
     def owner(self):
-        names = ["TRANSIENT", "UNKNOWN", "NO_RESOURCES", "BAD_PARAM"]
-        system = f"system {self.dice.choice(names)} {self.dice.choice([0, 7, 0xffffffff])}"
+        system = f"system {self.dice.choice(EXCEPTIONS)} {self.dice.choice([0, 7, 0xffffffff])}"
         self.steps.append(("owner", self.dice.choice(["performs"] * 3 + ["gives_up", system, "mistypes"])))
 
     def step(self):

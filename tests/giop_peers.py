@@ -105,6 +105,11 @@ class Peer:
             got += more
         return bytes(got)
 
+    def message(self) -> Message:
+        """The next message."""
+        head = self.received(giop.HEADER)
+        return giop.read(head + self.received(giop.size_of(head) - len(head)))
+
     def wants(self, wanted: bytes, what: str = "the answer") -> None:
         want(self.received(len(wanted)), wanted, what)
 

@@ -133,8 +133,25 @@ add n = n
 added : ℕ
 added = add 1
 """
+PROGRAM = """/* Adds
+ * numbers. */
+static int64_t add(const struct pair *it) {
+  return it->first;
+}
+
+lr::Result<std::vector<int>> last() {
+  return added(1);
+}
+
+int main(void) {
+  return add(NULL);
+}
+"""
+LANGUAGES = {SOURCE: "rust", DEFINITIONS: "antt", PROGRAM: "c"}
 # the words of a mark, and what they name: a front and an end of it, and how many lines it has
 PARTS = [
+    (PROGRAM, "add", "/* Adds\n", ">first;\n}\n", 5),
+    (PROGRAM, "last to main", "lr::Result", "(NULL);\n}\n", 7),
     (SOURCE, "Pair", "/// A pair.\n#[derive(Drop)]\n", "    first: u8,\n}\n", 5),
     (SOURCE, "impl Model for Pair", "impl Model", "    };\n}\n", 7),
     (SOURCE, "view", "    ghost view = {", "};\n", 1),
@@ -156,7 +173,7 @@ class Quotes(unittest.TestCase):
         """Each form of a mark."""
         for text, words, front, end, count in PARTS:
             with self.subTest(words):
-                part = quoted.part_of(text, words)
+                part = quoted.part_of(text, words, LANGUAGES[text])
                 self.assertTrue(part in text and part.startswith(front) and part.endswith(end), part)
                 self.assertEqual(part.count("\n"), count)
 
@@ -164,7 +181,7 @@ class Quotes(unittest.TestCase):
         """A name that nothing declares, and one that two lines declare."""
         for text, name in ((SOURCE, "second"), (SOURCE + "fn last() {}\n", "last")):
             with self.subTest(name), self.assertRaises(quoted.Missing):
-                quoted.part_of(text, name)
+                quoted.part_of(text, name, "rust")
 
     def test_pages(self) -> None:
         """A block is written between its marks, and again; a mark without an end is refused, and eats nothing."""

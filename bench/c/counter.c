@@ -77,7 +77,7 @@ int main(int count, char **words) {
   int64_t done = open_server(&server, key, size);
   if (done == LR_OK) done = loop_print(TYPE, SIZE(TYPE), 2, "127.0.0.1", port, key, size);
   if (done < 0) return fprintf(stderr, "counter: %s\n", lr_strerror(done)), 1;
-  int served = loop_serve(&server, listener, perform);
+  int served = loop_serve(&server, listener, perform, NULL);
   if (served != 0) perror("counter");
   lr_close(&server);
   return served == 0 ? 0 : 1;

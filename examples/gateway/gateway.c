@@ -6,8 +6,8 @@
  *
  *   - Service contexts are dropped, the code sets of a connection among them: a wstring fails, and so does a string
  *     that is not in the server's own code set, as UTF-8.
- *   - It keeps 1,024 outcomes, and 256 of a client, each until its request expires. A new request beyond that is refused
- *     by NO_RESOURCES, and nothing is printed: a client whose requests never expire is refused from its 257th on, for
+ *   - It keeps 65,536 outcomes, each until its request expires. A new request beyond that is refused by NO_RESOURCES,
+ *     and nothing is printed: where requests never expire, all with FT_REQUEST are refused from the 65,537th on, for
  *     good.
  *   - A reply of more than 1 MiB is answered by UNKNOWN, COMPLETED_MAYBE, though its request was performed; a request
  *     that long ends its connection, by MessageError.
@@ -24,7 +24,7 @@
  * kept, and its repeats are told that.
  *
  * One request is forwarded at a time, over one connection, and while it waits for its reply all others wait. What can't
- * be done is answered by a system exception, which is kept as any other outcome is:
+ * be done is answered by a system exception, which but for TRANSIENT is kept as any other outcome is:
  *
  *   UNKNOWN, COMPLETED_MAYBE   The server behind was lost, or made no sense, before it replied. It may have performed
  *                              the request, so it is not sent again.
@@ -32,13 +32,14 @@
  *                              be in 1.0 and 1.1. (An empty body may stand anywhere.) Or the server behind wants the
  *                              client to ask elsewhere, past the gateway, or to address in another way.
  *   IMP_LIMIT, COMPLETED_YES   The request was performed, and it is the body of the reply that has no such place.
- *   TRANSIENT, COMPLETED_NO    The server behind can't be reached, or said goodbye before it began. This answers a
- *                              request without FT_REQUEST. Of one that has it nothing is kept: its connection is
- *                              closed, and it is forwarded when it comes again.
+ *   TRANSIENT, COMPLETED_NO    The server behind can't be reached, or said goodbye before it began. Nothing is kept:
+ *                              the request is forwarded when it comes again.
  */
 #define _DEFAULT_SOURCE
 #include <errno.h>
 #include <netdb.h>
+#include <netinet/in.h>
+#include <netinet/tcp.h>
 #include <poll.h>
 #include <stdbool.h>
 #include <stdio.h>
@@ -81,6 +82,7 @@ static bool reach(void) {
   if (getaddrinfo(behind.host, behind.port, &hints, &found) != 0) return false;
   for (struct addrinfo *at = found; at != NULL && behind.fd < 0; at = at->ai_next) {
     behind.fd = socket(at->ai_family, at->ai_socktype, at->ai_protocol);
+    setsockopt(behind.fd, IPPROTO_TCP, TCP_NODELAY, &(int){1}, sizeof(int));
     if (behind.fd >= 0 && connect(behind.fd, at->ai_addr, at->ai_addrlen) == 0) break;
     if (behind.fd >= 0) close(behind.fd);
     behind.fd = -1;
@@ -110,7 +112,7 @@ static enum fate await(lr_message *reply) {
       int64_t taken = lr_assembler_feed(&behind.assembler, piece + at, (size_t)(got - at));
       if (taken < 0) return LOST;
       at += (ssize_t)taken;
-      if (lr_assembler_message(&behind.assembler, reply) != 1) continue;
+      if (lr_assembler_message(&behind.assembler, reply, sizeof *reply) != 1) continue;
       if (reply->type == LR_MSG_CLOSE_CONNECTION) return NOT_BEGUN; /* (CORBA 3.3 Part 2, 9.4.7) */
       if (reply->type != LR_MSG_REPLY || reply->request_id != behind.last_id) return LOST;
       if (at < got) shutdown(behind.fd, SHUT_RDWR); /* (what follows can only be goodbye) */
@@ -124,8 +126,8 @@ static int64_t write_message(lr_server *server, const lr_request *asked) {
   char operation[256];
   if (asked->operation_size > sizeof operation || asked->body_size > sizeof body) return LR_E_ROOM;
   if (asked->body_size > 0 && asked->body_at % 8 != 0) return LR_E_VALUE;
-  int64_t named = lr_server_part(server, LR_PART_OPERATION, operation, sizeof operation);
-  int64_t size = lr_server_part(server, LR_PART_BODY, body, sizeof body);
+  int64_t named = lr_server_part(server, asked->ticket, LR_PART_OPERATION, operation, sizeof operation);
+  int64_t size = lr_server_part(server, asked->ticket, LR_PART_BODY, body, sizeof body);
   if (named < 0 || size < 0) return LR_E_MEMORY;
   uint32_t wish = asked->wish == LR_WISH_NONE ? LR_WISH_NONE : LR_WISH_FULL;
   return lr_write_request(message, sizeof message, asked->version, asked->body_order, ++behind.last_id, wish,
@@ -134,7 +136,8 @@ static int64_t write_message(lr_server *server, const lr_request *asked) {
 
 /* Answers by a reply of the server behind. One to a request that wants none is all zero, and never sent. */
 static int64_t answer_by(lr_server *server, uint64_t ticket, const lr_message *reply) {
-  if (reply->status > LR_REPLY_SYSTEM_EXCEPTION) return lr_server_system(server, ticket, LR_EX_IMP_LIMIT, 0, LR_COMPLETED_NO);
+  if (reply->status > LR_REPLY_SYSTEM_EXCEPTION)
+    return lr_server_system(server, ticket, LR_EX_IMP_LIMIT, 0, LR_COMPLETED_NO);
   if (reply->body_size == 0) return lr_server_answer_raw(server, ticket, reply->status, reply->order, NULL, 0);
   if (reply->body_at % 8 != 0) return lr_server_system(server, ticket, LR_EX_IMP_LIMIT, 0, LR_COMPLETED_YES);
   int64_t size = lr_assembler_part(&behind.assembler, LR_PART_BODY, body, sizeof body);
@@ -155,7 +158,7 @@ static void forward(lr_server *server, const lr_request *asked) {
   if (reach() && send_all(message, (size_t)size)) fate = asked->wish == LR_WISH_NONE ? REPLIED : await(&reply);
   if (fate != REPLIED) leave();
   if (fate == NOT_BEGUN) {
-    if (!asked->has_client) lr_server_system(server, ticket, LR_EX_TRANSIENT, 0, LR_COMPLETED_NO);
+    lr_server_refuse(server, ticket, LR_EX_TRANSIENT, 0);
     return;
   }
   do { /* (it may have been performed, so without memory for what came of it there is no way on) */
@@ -170,7 +173,8 @@ static int64_t find(const char *text) {
   lr_profile profile = {0};
   uint32_t index = 0;
   int64_t done = lr_ior_parse(&ior, text, strcspn(text, "\r\n")), type = 0, host = 0, key = 0;
-  while (done == LR_OK && (done = lr_ior_profile(&ior, index, &profile)) == LR_OK && !profile.is_iiop) index++;
+  while (done == LR_OK && (done = lr_ior_profile(&ior, index, &profile, sizeof profile)) == LR_OK && !profile.is_iiop)
+    index++;
   if (done == LR_OK) type = done = lr_ior_type_id(&ior, behind.type, sizeof behind.type);
   if (done >= 0) host = done = lr_ior_part(&ior, index, LR_IOR_HOST, behind.host, sizeof behind.host - 1);
   if (done >= 0) key = done = lr_ior_part(&ior, index, LR_IOR_KEY, behind.key, sizeof behind.key);
@@ -190,7 +194,7 @@ static int64_t open_server(lr_server *server) {
   uint64_t seeds[2];
   int64_t done = getentropy(seeds, sizeof seeds) == 0 ? lr_catalogue_open(&catalogue) : LR_E_RANGE;
   if (done == LR_OK) done = lr_catalogue_raw_object(&catalogue, behind.key, behind.key_size);
-  if (done == LR_OK) done = lr_server_open(server, &catalogue, LIMIT, 8, 1024, 256, seeds[0], seeds[1]);
+  if (done == LR_OK) done = lr_server_open(server, &catalogue, seeds[0], seeds[1]);
   lr_close(&catalogue);
   return done;
 }
@@ -208,7 +212,7 @@ int main(int count, char **words) {
   if (listener < 0) return perror("gateway"), 1;
   done = loop_print(behind.type, behind.type_size, behind.minor, words[1], port, behind.key, behind.key_size);
   if (done < 0) return fprintf(stderr, "gateway: %s\n", lr_strerror(done)), 1;
-  int served = loop_serve(&server, listener, forward);
+  int served = loop_serve(&server, listener, forward, NULL);
   if (served != 0) perror("gateway");
   lr_close(&server);
   leave();

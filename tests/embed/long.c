@@ -7,7 +7,7 @@
 
 #include "loop.h"
 
-enum { LIMIT = 4096, LONG = 1000000 };
+enum { LONG = 1000000 };
 
 static const unsigned char zeros[LONG];
 static unsigned char result[4 + LONG];
@@ -29,7 +29,7 @@ int main(int count, char **words) {
       lr_server_open(&server, &catalogue, 1, 2) != LR_OK ||
       loop_print("IDL:Long:1.0", 12, 2, words[1], port, "long", 4) < 0)
     return 1;
-  int served = loop_serve(&server, listener, perform);
+  int served = loop_serve(&server, listener, perform, NULL);
   lr_close(&server);
   return served == 0 ? 0 : 1;
 }

@@ -4,7 +4,6 @@ What is read is compared with the rows and cases of `giop show`, with octets of 
 tests/engine.py. The library is that of LEMONRUDDER_LIBRARY, or the one that tests/programs.py finds.
 """
 import asyncio
-import ctypes
 import gc
 import itertools
 import logging
@@ -13,6 +12,7 @@ import random
 import re
 import shutil
 import socket
+import ssl
 import struct
 import subprocess
 import sys
@@ -25,7 +25,7 @@ from tests import base, cases, giop, rows
 from tests import engine as model
 from tests import engine_model
 from tests.cdr import Octets
-from tests.programs import NEEDS, ROOT, library
+from tests.programs import NEEDS, ROOT, library, needs
 
 if "LEMONRUDDER_LIBRARY" not in os.environ:
     os.environ["LEMONRUDDER_LIBRARY"] = os.path.join(library(), "lib", "liblemonrudder.so")
@@ -33,12 +33,17 @@ sys.path.insert(0, os.path.join(ROOT, "bindings", "python"))
 
 import lemonrudder as lr  # noqa: E402
 from lemonrudder import BIG, LITTLE, Error, Signature  # noqa: E402
+from lemonrudder._library import library as native  # noqa: E402
+from lemonrudder._library import serves as serves_here  # noqa: E402
+from lemonrudder._table import FUNCTIONS  # noqa: E402
 
 SEED = 31
 SCRIPTS = 300
 # how long a part may take on a busy machine; calls of the bank do not expire before
 SECONDS = 600
 LONG_AGO = 1000
+# how many messages may be partial for `giop show`
+PARTIALS = 8
 FAR = (1 << 64) - 1
 OVERDRAWN = "IDL:Bank/Overdrawn:1.0"
 OVERFLOW = "IDL:Counter/Overflow:1.0"
@@ -51,7 +56,7 @@ FAULTS = {
 }
 KINDS = {
     "REQUEST": "Request", "REPLY": "Reply", "CANCEL_REQUEST": "CancelRequest", "LOCATE_REQUEST": "LocateRequest",
-    "LOCATE_REPLY": "LocateReply", "CLOSE_CONNECTION": "CloseConnection", "MESSAGE_ERROR": "MessageError",
+    "LOCATE_REPLY": "LocateReply", "CLOSE_CONNECTION": "CloseConnection", "ERROR": "MessageError",
 }
 
 
@@ -77,6 +82,7 @@ class Case(unittest.TestCase):
 # ---- CDR ----
 
 
+REALS = {"f": 4, "d": 8}
 SIZES = {"B": 1, "h": 2, "H": 2, "l": 4, "L": 4, "i": 4, "I": 4, "q": 8, "Q": 8}
 ORDERS = {BIG: ">", LITTLE: "<"}
 
@@ -87,6 +93,8 @@ def spelled(out, kind, value):
         out.all += bytes([value]) if kind == "?" else value.encode("latin-1")
     elif kind in SIZES:
         out.number(SIZES[kind], kind.replace("l", "i").replace("L", "I"), value)
+    elif kind in REALS:
+        out.number(REALS[kind], kind, value)
     elif kind == "s":
         out.string(value.encode("latin-1"))
     elif kind == "o":
@@ -122,7 +130,7 @@ def some_kind(dice, depth=3):
         return ("struct", *(some_kind(dice, depth - 1) for _ in range(dice.randint(1, 4))))
     if chance < 0.5:
         return ("enum", dice.randint(1, 255))
-    return dice.choice("?cBhHlLqQsoiI")
+    return dice.choice("?cBhHlLqQfdsoiI")
 
 
 def some_value(dice, kind):
@@ -135,6 +143,8 @@ def some_value(dice, kind):
         bits = 8 * SIZES[kind]
         least = -(1 << bits - 1) if kind.islower() else 0
         return dice.choice([least, least + (1 << bits) - 1, least + dice.randrange(1 << bits), 0])
+    if kind in REALS:
+        return dice.choice([0.0, -1.5, 2.0 ** 100, dice.randrange(1 << 20) / 8])
     if kind == "s":
         return "".join(chr(dice.randint(1, 255)) for _ in range(dice.randint(0, 9)))
     if kind == "o":
@@ -152,7 +162,8 @@ class Formats(Case):
     def test_each_type_in_both_orders_at_each_place(self):
         values = {
             "?": True, "c": "\xe9", "B": 255, "h": -2, "H": 65534, "l": -3, "L": 0xfffffffd, "q": -4,
-            "Q": 0xfffffffffffffffc, "s": "ab\xff", "o": b"\0\1\2", ("enum", 5): 4, ("sequence", "q"): [1, -1],
+            "Q": 0xfffffffffffffffc, "f": -0.75, "d": 1e300, "s": "ab\xff", "o": b"\0\1\2",
+            ("enum", 5): 4, ("sequence", "q"): [1, -1],
             ("sequence", "B"): [1, 2, 3], ("struct", "B", "q", "s"): (7, 1 << 40, ""),
         }
         for kind, value in values.items():
@@ -193,7 +204,7 @@ class Formats(Case):
 
     def test_codes(self):
         self.assertEqual(lr.type_codes("?cBhHlLqQso"), bytes(range(1, 12)))
-        self.assertEqual(lr.type_codes(" iI "), lr.type_codes("lL"))
+        self.assertEqual(lr.type_codes(" iI fd"), lr.type_codes("lL LQ"))
         self.assertEqual(lr.type_codes("s[l]"), bytes([10, 6, 12]))
         self.assertEqual(lr.type_codes("(s[l])"), bytes([10, 6, 12, 14, 2]))
         self.assertEqual(lr.type_codes("e7 [e255]"), bytes([13, 7, 13, 255, 12]))
@@ -205,8 +216,14 @@ class Formats(Case):
                        f"({'l' * 256})", "s\0"):
             with self.subTest(format=format):
                 for call in (lr.type_codes, lambda format: lr.unpack(format, b""), lr.pack):
-                    with self.assertRaises(ValueError):
+                    with self.assertRaises(lr.FormatError) as caught:
                         call(format)
+                    self.assertEqual(caught.exception.format, format)
+        for format, place in (("l x", 2), ("s[(ll", 2), ("[ll]", 0), ("l[l", 1), ("le0", 1), (" l)", 2)):
+            with self.assertRaises(lr.FormatError) as caught:
+                lr.pack(format)
+            self.assertEqual(caught.exception.place, place)
+            self.assertIn(f"at {place}", str(caught.exception))
 
     def test_what_is_no_value(self):
         for format, value, error in (
@@ -216,11 +233,13 @@ class Formats(Case):
             ("Q", -1, ValueError), ("q", 1.0, TypeError), ("q", "1", TypeError), ("s", "a\0", ValueError),
             ("s", b"\0", ValueError), ("s", "\u20ac", ValueError), ("s", 5, TypeError), ("o", "a", TypeError),
             ("o", [1], TypeError), ("e3", 3, ValueError), ("e3", -1, ValueError), ("[l]", 3, TypeError),
+            ("f", "1", TypeError), ("d", None, TypeError), ("f", 1e39, ValueError),
             ("[l]", ["a"], TypeError), ("(ll)", (1,), ValueError), ("(ll)", (1, 2, 3), ValueError),
         ):
             with self.subTest(format=format, value=value):
-                with self.assertRaises(error):
-                    lr.pack(format, value)
+                with self.assertRaises(error) as caught:
+                    lr.pack("?" + format, True, value)
+                self.assertIn("value 1 of ", str(caught.exception))
         for values in ((), (1, 2)):
             with self.assertRaises(ValueError):
                 lr.pack("l", *values)
@@ -238,6 +257,16 @@ class Formats(Case):
         self.assertEqual(lr.unpack("s", bytes(4)), ("",))
         self.fails(Error.SHORT, lr.unpack, "[q]", b"\xff\xff\xff\xff" + bytes(20))
         self.fails(Error.SHORT, lr.unpack, "o", b"\xff\xff\xff\xff" + bytes(20))
+
+    def test_faults_say_where(self):
+        error = self.fails(Error.SHORT, lr.unpack, "lslq", lr.pack("lsl", 1, "abc", 2))
+        self.assertIn("at octet 16", str(error))
+
+    def test_floats(self):
+        for value in (float("inf"), -0.0, 5e-324):
+            self.assertEqual(lr.pack("d", value), struct.pack(">d", value))
+        self.assertEqual(lr.pack("f", 7), struct.pack(">f", 7.0))
+        self.assertNotEqual(lr.unpack("d", struct.pack(">d", float("nan"))), (0.0,))
 
     def test_other_kinds_of_octets(self):
         self.assertEqual(lr.unpack("H", bytearray(b"\1\2")), (258,))
@@ -309,7 +338,7 @@ def lines_of_message(message):
 
 def lines_of_stream(pieces):
     """A stream as `giop show` prints it: what is left over at its end is not said."""
-    with lr.Assembler() as assembler:
+    with lr.Assembler(partials=PARTIALS) as assembler:
         found = []
         try:
             for piece in pieces:
@@ -620,6 +649,16 @@ class References(Case):
             reader.read("B")
             self.assertEqual(lr.Ior.read(reader).profiles, ior.profiles)
 
+    def test_addresses(self):
+        inner = lr.pack("BsH", 0, "other", 9)
+        data = lr.pack("BBBsHo[(Lo)]", 0, 1, 1, "host", 7, b"key", [(3, inner), (3, b""), (3, b"\0\0"), (4, inner)])
+        profiles = [(0, data), (9, b"other"), (0, lr.Ior.iiop("", "third", 5, b"k").profiles[0].data)]
+        ior = lr.Ior.of_value(("IDL:X:1.0", profiles))
+        self.assertEqual(ior.value, ("IDL:X:1.0", profiles))
+        self.assertEqual(ior.addresses, (lr.Address("host", 7, b"key", 1), lr.Address("other", 9, b"key", 1),
+                                         lr.Address("third", 5, b"k", 2)))
+        self.assertEqual(lr.unpack(lr.REFERENCE, lr.pack(lr.REFERENCE, ior.value)), (ior.value,))
+
     def test_nil(self):
         nil = lr.Ior.parse("IOR:" + lr.pack("Bs[(Lo)]", 0, "", []).hex())
         self.assertEqual((nil.type_id, nil.profiles), ("", ()))
@@ -659,14 +698,14 @@ def asked_for(number, operation, body=b"", key=b"c", client="A", retention=None,
 class Engines(Case):
     """Catalogues and an engine, call by call."""
 
-    def engine(self, catalogue=None, *terms):
-        engine = lr.Engine(catalogue or counting(), *terms)
+    def engine(self, catalogue=None, *terms, **limits):
+        engine = lr.Engine(catalogue or counting(), *terms, **limits)
         engine.connect(1)
         return engine
 
-    def reply(self, engine):
-        """The one message that is due."""
-        message, = lr.messages(engine.output())
+    def reply(self, engine, connection=1):
+        """The one message that is due on a connection."""
+        message, = lr.messages(engine.output(connection))
         return message
 
     def test_catalogues(self):
@@ -695,8 +734,10 @@ class Engines(Case):
             catalogue = counting()
             self.fails(Error.RANGE, lr.Engine, catalogue, *terms)
             lr.Engine(catalogue).close()
+        for wrong in ({"capacity": 1 << 32}, {"max_parked": 1 << 32}, {"max_client_id": 1 << 32}):
+            self.fails(Error.RANGE, lr.Engine, counting(), **wrong)
         with self.assertRaises(ValueError):
-            lr.Engine(counting(), capacity=1 << 32)
+            lr.Engine(counting(), capacity=1 << 64)
 
     def test_a_request_in_full(self):
         engine, octets = self.engine(), asked_for(5, "add", lr.pack("l", 7), retention=3, client="me", expiration=99)
@@ -708,7 +749,7 @@ class Engines(Case):
         self.assertEqual((asked.request_id, asked.version, asked.wish, asked.is_raw), (5, 2, lr.Wish.FULL, False))
         self.assertEqual(asked.ft, lr.FtRequest(b"me", 3, 99))
         self.assertEqual(asked.body.unpack("l"), (7,))
-        self.assertEqual(engine.output(), b"")
+        self.assertEqual(engine.output(1), b"")
         engine.answer(7)
         reply = self.reply(engine)
         self.assertEqual((reply.request_id, reply.status, reply.body.unpack("q")), (5, 0, (7,)))
@@ -746,18 +787,29 @@ class Engines(Case):
         engine.lost(2)
 
     def test_what_is_due(self):
-        engine = self.engine()
+        engine = self.engine(None, max_due=100)
         engine.connect(2)
-        engine.feed(1, asked_for(1, "none"), LONG_AGO)
-        self.fails(Error.DUE, engine.feed, 2, asked_for(1, "get"), LONG_AGO)
-        self.fails(Error.DUE, engine.farewell, 2)
-        engine.feed(1, asked_for(2, "none"), LONG_AGO)
-        self.assertEqual([one.request_id for one in lr.messages(engine.output())], [1, 2])
-        self.assertEqual(engine.output(), b"")
+        requests = b"".join(asked_for(number, "none") for number in range(9))
+        taken = engine.feed(1, requests, LONG_AGO)
+        self.assertLess(taken, len(requests))
+        self.assertEqual(engine.feed(1, requests, LONG_AGO, taken), taken)
+        engine.feed(2, asked_for(3, "none"), LONG_AGO)
+        self.assertEqual([one.request_id for one in lr.messages(engine.output(2))], [3])
+        found = b""
+        while True:
+            some = engine.output(1, 7)
+            found += some
+            if not some:
+                break
+            self.assertLessEqual(len(some), 7)
+        while taken < len(requests):
+            taken = engine.feed(1, requests, LONG_AGO, taken)
+            found += engine.output(1)
+        self.assertEqual([one.request_id for one in lr.messages(found)], [*range(9)])
         engine.feed(1, asked_for(3, "none"), LONG_AGO)
         engine.lost(1)
-        self.assertEqual(engine.output(), b"")
-        engine.feed(2, asked_for(1, "get"), LONG_AGO)
+        self.assertEqual(engine.output(1), b"")
+        self.assertEqual(engine.output(7), b"")
 
     def test_outcomes_that_are_none(self):
         engine = self.engine()
@@ -771,9 +823,8 @@ class Engines(Case):
         with self.assertRaises(TypeError):
             engine.answer("7")
         self.fails(Error.OUTCOME, engine.raise_user, "IDL:Other:1.0")
-        self.fails(Error.OUTCOME, engine.answer_raw, bytes(8))
         self.fails(Error.RANGE, engine.answer_octets, bytes(8), 2)
-        self.fails(Error.RANGE, engine.raise_system, 11)
+        self.fails(Error.RANGE, engine.raise_system, 40)
         self.fails(Error.RANGE, engine.raise_system, "UNKNOWN", 0, 3)
         with self.assertRaises(KeyError):
             engine.raise_system("OTHER")
@@ -808,13 +859,14 @@ class Engines(Case):
         engine, octets = self.engine(), asked_for(1, "get", retention=1)
         engine.feed(1, octets, LONG_AGO)
         engine.give_up()
-        self.assertEqual(engine.output(), b"")
+        self.assertEqual(engine.output(1), b"")
+        self.assertIs(engine.why(1), lr.Why.GIVEN_UP)
         self.assertTrue(engine.is_closed(1))
         engine.connect(2)
         engine.feed(2, octets, LONG_AGO)
         self.assertEqual(engine.asked().operation, "get")
         engine.answer(5)
-        self.assertEqual(self.reply(engine).body.unpack("q"), (5,))
+        self.assertEqual(self.reply(engine, 2).body.unpack("q"), (5,))
 
     def test_refused(self):
         engine, octets = self.engine(), asked_for(1, "get", retention=1)
@@ -844,8 +896,9 @@ class Engines(Case):
         engine.farewell(1)
         self.assertEqual(self.reply(engine).type, lr.MessageType.CLOSE_CONNECTION)
         self.assertTrue(engine.is_closed(1))
+        self.assertIs(engine.why(1), lr.Why.FAREWELL)
         engine.farewell(1)
-        self.assertEqual(engine.output(), b"")
+        self.assertEqual(engine.output(1), b"")
         octets = asked_for(1, "get")
         self.assertEqual(engine.feed(1, octets, LONG_AGO), len(octets))
         self.assertIsNone(engine.asked())
@@ -853,9 +906,11 @@ class Engines(Case):
     def test_the_end_of_a_stream(self):
         engine = self.engine()
         engine.feed(1, b"GIOQ" + bytes(8), LONG_AGO)
-        self.assertEqual(self.reply(engine).type, lr.MessageType.MESSAGE_ERROR)
+        self.assertEqual(self.reply(engine).type, lr.MessageType.ERROR)
         self.assertTrue(engine.is_closed(1))
+        self.assertIs(engine.why(1), lr.Fault.MAGIC)
         self.assertTrue(engine.is_closed(7))
+        self.fails(Error.CONNECTION, engine.why, 7)
 
     def test_identity(self):
         catalogue = counting()
@@ -909,11 +964,103 @@ class Engines(Case):
                 engine.raise_user("IDL:X:1.0", *values[2])
                 self.assertEqual(self.reply(engine).body.unpack("s" + formats[2]), ("IDL:X:1.0", *values[2]))
 
+    def test_parked(self):
+        engine = self.engine(None, max_parked=2, max_joined=1)
+        engine.connect(2)
+        self.fails(Error.IDLE, engine.park)
+        engine.feed(1, asked_for(1, "add", lr.pack("l", 7), retention=1), LONG_AGO)
+        first = engine.park()
+        self.assertIsNone(engine.asked())
+        engine.feed(1, asked_for(2, "get"), LONG_AGO)
+        second = engine.park()
+        self.assertEqual((engine.parked, engine.parked_of(1), engine.parked_of(2), engine.wanted(first)), (2, 2, 0, 1))
+        engine.feed(2, asked_for(9, "get"), LONG_AGO)
+        self.fails(Error.PARKS, engine.park)
+        self.fails(Error.ASKING, engine.answer, 1, ticket=first)
+        engine.answer(5)
+        self.assertEqual(self.reply(engine, 2).body.unpack("q"), (5,))
+        engine.feed(2, asked_for(8, "add", lr.pack("l", 7), retention=1), LONG_AGO)
+        self.assertIsNone(engine.asked())
+        self.assertEqual(engine.wanted(first), 2)
+        self.assertIsNone(engine.next_due())
+        engine.answer(7, ticket=first)
+        self.assertEqual({engine.next_due(), engine.next_due()}, {1, 2})
+        self.assertIsNone(engine.next_due())
+        self.assertEqual((self.reply(engine, 1).request_id, self.reply(engine, 2).request_id), (1, 8))
+        self.fails(Error.TICKET, engine.answer, 7, ticket=first)
+        self.fails(Error.TICKET, engine.raise_system, "UNKNOWN", ticket=first)
+        self.fails(Error.TICKET, engine.wanted, first)
+        engine.farewell(1)
+        self.assertFalse(engine.is_closed(1))
+        self.fails(Error.OUTCOME, engine.raise_user, OVERFLOW, ticket=second)
+        engine.refuse("TIMEOUT", 3, ticket=second)
+        self.assertEqual([engine.next_due(), engine.next_due()], [1, None])
+        reply, close = lr.messages(engine.output(1))
+        self.assertEqual(reply.body.unpack("sLL"), ("IDL:omg.org/CORBA/TIMEOUT:1.0", 3, 1))
+        self.assertIs(close.type, lr.MessageType.CLOSE_CONNECTION)
+        self.assertTrue(engine.is_closed(1))
+        self.assertEqual(engine.parked, 0)
+
+    def test_counts(self):
+        engine = self.engine()
+        engine.feed(1, asked_for(1, "get", retention=1, client="me", expiration=99), 50)
+        self.assertEqual(engine.contexts(), ((lr.FT_REQUEST, lr.write_ft("me", 1, 99)),))
+        self.assertEqual((engine.contexts(0), engine.asked().contexts), ((), 1))
+        engine.answer(1)
+        self.fails(Error.IDLE, engine.contexts)
+        engine.feed(1, asked_for(1, "get", retention=1, client="me", expiration=99) + asked_for(1, "none"), 50)
+        counts = engine.counts()
+        wanted = {"connections": 1, "kept": 1, "asked": 1, "answered": 1, "repeated": 1, "invalid": 1}
+        self.assertEqual({name: number for name, number in counts.items() if number}, wanted)
+        self.assertEqual(engine.count(lr.Counted.KEPT), 1)
+        self.fails(Error.RANGE, engine.count, 1000)
+        self.assertEqual((engine.held_by("me"), engine.held_by("you"), engine.next_expiry()), (1, 0, 99))
+        engine.tick(100)
+        self.assertEqual((engine.held_by("me"), engine.next_expiry()), (0, None))
+
+    def test_objects_that_come_and_go(self):
+        families = lr.Catalogue()
+        families.add_object(b"acct/")
+        families.add_operation(b"acct/", "get", Signature("", "q"))
+        families.add_object(b"acct/of/")
+        families.add_operation(b"acct/of/", "get", Signature("", "s"))
+        catalogue = counting()
+        catalogue.add_families(families)
+        self.fails(Error.EMPTY, families.add_object, b"x")
+        self.fails(Error.TAKEN, catalogue.add_families, counting())
+        engine = self.engine(catalogue)
+        for key, answer, format in ((b"acct/7", 7, "q"), (b"acct/of/x", "x", "s"), (b"c", 1, "q")):
+            engine.feed(1, asked_for(1, "get", key=key), LONG_AGO)
+            self.assertEqual(engine.asked().key, key)
+            engine.answer(answer)
+            self.assertEqual(self.reply(engine).body.unpack(format), (answer,))
+        other = lr.Catalogue()
+        other.add_object(b"d")
+        other.add_operation(b"d", "get", Signature("", "q"))
+        other.add_default()
+        self.fails(Error.TAKEN, other.add_default)
+        self.fails(Error.OBJECT, other.remove, b"c")
+        engine.feed(1, asked_for(1, "get"), LONG_AGO)
+        self.fails(Error.ASKING, engine.swap, other)
+        ticket = engine.park()
+        engine.swap(other)
+        self.fails(Error.OUTCOME, engine.answer, 1, ticket=ticket)
+        engine.raise_system("OBJECT_NOT_EXIST", ticket=ticket)
+        self.reply(engine)
+        engine.feed(1, asked_for(1, "anything", key=b"acct/7"), LONG_AGO)
+        self.assertTrue(engine.asked().is_raw)
+        engine.answer_raw(b"")
+        self.reply(engine)
+        engine.feed(1, asked_for(1, "get", key=b"d"), LONG_AGO)
+        engine.answer(3)
+        other.remove(b"c")
+        self.fails(Error.OBJECT, other.remove, b"c")
+
     def test_closed(self):
         engine = self.engine()
         engine.close()
         self.fails(Error.EMPTY, engine.connect, 2)
-        self.fails(Error.EMPTY, engine.output)
+        self.fails(Error.EMPTY, engine.output, 1)
         del engine
         gc.collect()
 
@@ -951,7 +1098,7 @@ class Player:
         asks, due, at = [], b"", 0
         while at < len(octets):
             at = self.engine.feed(number, octets, moment, at)
-            due += self.engine.output()
+            due += self.engine.output(number)
             asked = self.engine.asked()
             if asked is None:
                 continue
@@ -959,7 +1106,7 @@ class Player:
             if not self.answer(asked):
                 self.engine.give_up()
                 return asks, due, True
-            due += self.engine.output()
+            due += self.engine.output(number)
         return asks, due, False
 
     def step(self, name, number, moment=0, octets=b""):
@@ -972,7 +1119,7 @@ class Player:
                 self.engine.lost(number)
             elif name == "close":
                 self.engine.farewell(number)
-                due = self.engine.output()
+                due = self.engine.output(number)
             else:
                 asks, due, is_given_up = self.feed(number, moment, octets)
         except lr.LemonrudderError as error:
@@ -1131,7 +1278,8 @@ class Ends(Case):
                 "other": raising(lr.UserException("IDL:Y:1.0")),
                 "members": raising(lr.UserException("IDL:X:1.0", ["a"])),
                 "system": raising(lr.SystemException("NO_PERMISSION", 77, lr.Completed.NO)),
-                "unknown": raising(lr.SystemException("TIMEOUT", 5, lr.Completed.YES)),
+                "timeout": raising(lr.SystemException("TIMEOUT", 5, lr.Completed.YES)),
+                "unknown": raising(lr.SystemException("OTHER", 5, lr.Completed.YES)),
                 "minor": raising(lr.SystemException("INTERNAL", -1)),
                 "error": raising(ZeroDivisionError()),
                 "wrong": ("", "q", lambda: "text"),
@@ -1142,7 +1290,8 @@ class Ends(Case):
             server, client = await self.pair(operations, raises)
             wanted = {
                 "other": ("UNKNOWN", 0, 2), "members": ("UNKNOWN", 0, 2), "system": ("NO_PERMISSION", 77, 1),
-                "unknown": ("UNKNOWN", 5, 0), "minor": ("UNKNOWN", 0, 2), "error": ("UNKNOWN", 0, 2),
+                "timeout": ("TIMEOUT", 5, 0), "unknown": ("UNKNOWN", 5, 0), "minor": ("UNKNOWN", 0, 2),
+                "error": ("UNKNOWN", 0, 2),
                 "wrong": ("INTERNAL", 0, 2), "missing": ("INTERNAL", 0, 2), "surplus": ("INTERNAL", 0, 2),
                 "nothing": ("BAD_OPERATION", 0, 1),
             }
@@ -1164,26 +1313,30 @@ class Ends(Case):
             self.run_async(main())
 
     def test_what_is_no_object(self):
-        async def slow():
-            pass
-
         server = lr.Server()
-        with self.assertRaises(TypeError):
-            server.add("k", "IDL:K:1.0", {"slow": ("", "", slow)})
+        with self.assertRaisesRegex(TypeError, "no function, and there is no servant"):
+            server.add("k", "IDL:K:1.0", {"none": ("", "")})
         with self.assertRaises(TypeError):
             server.add("k", "IDL:K:1.0", {"none": ("", "", None)})
+        with self.assertRaises(TypeError):
+            server.add_default(None)
         with self.assertRaises(AttributeError):
             server.add("k", "IDL:K:1.0", {"none": ("", "")}, servant=object())
-        with self.assertRaises(ValueError):
+        with self.assertRaises(lr.FormatError):
             server.add("k", "IDL:K:1.0", {"bad": ("x", "", print)})
         with self.assertRaises(ValueError):
             server.add("k", "IDL:K:1.0", {}, raises={"other": {}})
         with self.assertRaises(ValueError):
             server.add("k", "IDL:K:1.0", {"raw": print}, raises={"raw": {}})
+        self.fails(Error.TEXT, server.add, "k", "IDL:K:1.0", {"first": ("", "", print), "a\0": ("", "", print)})
         server.add("k", ["IDL:K:1.0"], {})
         self.fails(Error.TAKEN, server.add, "k", "IDL:K:1.0", {})
+        self.fails(Error.OBJECT, server.remove, "l")
         with self.assertRaises(ValueError):
             server.reference("k")
+        with self.assertRaises(KeyError):
+            server.reference("l", "host", 5)
+        self.assertEqual(server.stats(), {})
 
     def test_raw_operations_and_forwards(self):
         there = lr.Ior.iiop("IDL:K:1.0", "elsewhere", 7, "key")
@@ -1199,6 +1352,7 @@ class Ends(Case):
 
         async def main():
             server, client = await self.pair({"forward": forward, "twice": twice, "wrong": lambda body: 5})
+            client = lr.Client(client.host, client.port, keep_forward=False)
             async with server, client:
                 self.assertEqual(await client.call("k", "twice", "l", [21], "l"), 42)
                 with self.assertRaises(lr.ForwardRequest) as caught:
@@ -1209,91 +1363,6 @@ class Ends(Case):
                 self.assertEqual(caught.exception.name, "INTERNAL")
         with self.assertLogs("lemonrudder"):
             self.run_async(main())
-
-    def test_a_call_goes_on(self):
-        """TRANSIENT and a forward leave a call pending: it is sent again, and asked for by another key."""
-        there = lr.Ior.iiop("IDL:K:1.0", "elsewhere", 7, "other")
-        forward = lr.pack("s[(Lo)]", there.type_id, [(profile.tag, profile.data) for profile in there.profiles])
-        transient = lr.pack("sLL", "IDL:omg.org/CORBA/TRANSIENT:1.0", 0, 1)
-
-        async def main():
-            seen, answers = [], asyncio.Queue()
-
-            async def serve(reader, writer):
-                assembler = lr.Assembler()
-                while octets := await reader.read(4096):
-                    for message in assembler.feed(octets):
-                        seen.append((message.key, message.ft.retention_id))
-                        status, body = await answers.get()
-                        writer.write(lr.write_reply(message.request_id, body, status=status))
-                writer.close()
-
-            async def until(condition):
-                while not condition():
-                    await asyncio.sleep(0.005)
-
-            listener = await asyncio.start_server(serve, "127.0.0.1", 0)
-            async with lr.Client("127.0.0.1", listener.sockets[0].getsockname()[1], "A") as client:
-                client.keep(transient=True, forward=True)
-                client.skip_to(4)
-                client.resend()
-                call = asyncio.ensure_future(client.call("k", "op", "l", [5], "l"))
-                answers.put_nowait((lr.ReplyStatus.SYSTEM_EXCEPTION, transient))
-                await until(lambda: client.resend() or len(seen) == 2)
-                self.assertIsNone(client.forwarded())
-                self.fails(Error.FORWARD, client.redirect, 5, "other", "op", "l", [5])
-                answers.put_nowait((lr.ReplyStatus.LOCATION_FORWARD, forward))
-                await until(client.forwarded)
-                self.assertEqual(client.forwarded(), (5, there))
-                client.redirect(5, "other", "op", "l", [5])
-                answers.put_nowait((lr.ReplyStatus.NO_EXCEPTION, lr.pack("l", 6)))
-                client.reconnect()
-                self.assertEqual(await call, 6)
-                self.assertEqual(seen, [(b"k", 5), (b"k", 5), (b"other", 5)])
-                answers.put_nowait((lr.ReplyStatus.LOCATION_FORWARD, b""))
-                call = asyncio.ensure_future(client.call("k", "op"))
-                await until(lambda: client.forwarded() or call.done())
-                with self.assertRaises(lr.LemonrudderError) as caught:
-                    await call
-                self.assertEqual((caught.exception.number, client.forwarded()), (Error.SHORT, None))
-                client.keep()
-                answers.put_nowait((lr.ReplyStatus.LOCATION_FORWARD, forward))
-                with self.assertRaises(lr.ForwardRequest):
-                    await client.call("k", "op")
-            listener.close()
-        self.run_async(main())
-
-    def test_another_place(self):
-        """A connection that is under way to another place than the one that was asked for since takes nothing."""
-        async def main():
-            came = {}
-
-            async def listener(name):
-                async def serve(reader, writer):
-                    came.setdefault(name, []).append(await reader.read(4096))
-                    writer.close()
-                server = await asyncio.start_server(serve, "127.0.0.1", 0)
-                return server, server.sockets[0].getsockname()[1]
-
-            (first, before), (second, after) = await listener("first"), await listener("second")
-            async with lr.Client("127.0.0.1", before) as client:
-                for port in (0, 65536):
-                    with self.assertRaises(ValueError):
-                        client.reconnect(port=port)
-                call = asyncio.ensure_future(client.call("k", "op"))
-                while client._task is None:
-                    await asyncio.sleep(0)
-                await asyncio.sleep(0)
-                client.reconnect(port=after)
-                while "second" not in came:
-                    await asyncio.sleep(0.005)
-                self.assertEqual([it.operation for it in lr.messages(came["second"][0])], ["op"])
-                self.assertFalse(any(came.get("first", [])))
-                call.cancel()
-                await asyncio.wait([call])
-            first.close()
-            second.close()
-        self.run_async(main())
 
     def test_calls_of_before(self):
         """A client that is made anew with its old id takes a call of before up again, and it acts once."""
@@ -1346,19 +1415,21 @@ class Ends(Case):
                 asked.append(number)
                 if len(asked) == 1:
                     raise lr.Refuse("NO_RESOURCES", 7)
-                if len(asked) == 2:
+                if len(asked) < 4:
                     raise lr.Refuse("unheard of")
                 return number
 
             server, client = await self.pair({"op": ("l", "l", function)})
-            async with server, client:
-                for name, minor in (("NO_RESOURCES", 7), ("TRANSIENT", 0)):
+            plain = lr.Client(client.host, client.port, keep_transient=False)
+            async with server, client, plain:
+                for one, name, minor in ((client, "NO_RESOURCES", 7), (plain, "TRANSIENT", 0)):
                     with self.assertRaises(lr.SystemException) as caught:
-                        await client.call("k", "op", "l", [5], "l")
+                        await one.call("k", "op", "l", [5], "l")
                     raised = caught.exception
                     self.assertEqual((raised.name, raised.minor, raised.completed), (name, minor, lr.Completed.NO))
-                self.assertEqual(server.connections, 1)
+                # (of TRANSIENT the client knows that it may send it again)
                 self.assertEqual(await client.call("k", "op", "l", [5], "l"), 5)
+                self.assertEqual((server.connections, len(asked)), (2, 4))
         self.run_async(main())
 
     def test_many_calls_at_once(self):
@@ -1373,8 +1444,10 @@ class Ends(Case):
         async def main():
             async with lr.Client("127.0.0.1", 9, delays=(0.001, 0.01)) as client:
                 began = asyncio.get_running_loop().time()
-                with self.assertRaises(lr.Expired):
+                with self.assertRaises(lr.Expired) as caught:
                     await client.call("k", "op", timeout=0.2)
+                self.assertIsInstance(caught.exception.__cause__, OSError)
+                self.assertEqual(caught.exception.sent, 0)
                 self.assertLess(asyncio.get_running_loop().time() - began, SECONDS / 10)
                 with self.assertRaises(lr.Expired):
                     await client.call("k", "op", expiration=lr.now() - 1)
@@ -1516,7 +1589,7 @@ class Ends(Case):
                 reader, writer = await asyncio.open_connection(client.host, client.port)
                 writer.write(b"nonsense, and more of it")
                 message, = lr.messages(await reader.read())
-                self.assertIs(message.type, lr.MessageType.MESSAGE_ERROR)
+                self.assertIs(message.type, lr.MessageType.ERROR)
                 writer.close()
                 self.assertEqual(await client.call("k", "get", results="l"), 1)
         self.run_async(main())
@@ -1664,6 +1737,817 @@ class Turns(Case):
         self.assertEqual(records, [])
 
 
+class Waits(Case):
+    """Operations that wait, many at once."""
+
+    run_async, pair, connected, drained = Ends.run_async, Ends.pair, Turns.connected, Turns.drained
+
+    def test_many_wait_at_once(self):
+        """64 callers of an operation that sleeps a second have all been answered after 1.2 of them."""
+        async def main():
+            async def slow(number):
+                await asyncio.sleep(1)
+                return number
+
+            server, client = await self.pair({"slow": ("l", "l", slow), "get": ("", "l", lambda: 5)})
+            clients = [lr.Client(client.host, client.port) for _ in range(64)]
+            async with server, client:
+                await asyncio.gather(*(one.call("k", "get", results="l") for one in clients))
+                for _ in range(5):
+                    began = time.monotonic()
+                    calls = [one.call("k", "slow", "l", [number], "l") for number, one in enumerate(clients)]
+                    self.assertEqual(await asyncio.gather(*calls), list(range(64)))
+                    took = time.monotonic() - began
+                    if took < 1.2:
+                        break
+                self.assertLess(took, 1.2)
+                # (one connection has as many)
+                calls = [client.call("k", "slow", "l", [number], "l") for number in range(64)]
+                self.assertEqual(await client.call("k", "get", results="l"), 5)
+                self.assertEqual(await asyncio.gather(*calls), list(range(64)))
+                stats = server.stats()
+                self.assertEqual((stats["parked_now"], stats["under_way"], stats["parked"] % 64), (0, 0, 0))
+                for one in clients:
+                    await one.close()
+        self.run_async(main())
+
+    def test_outcomes(self):
+        async def main():
+            async def answer(what):
+                await asyncio.sleep(0)
+                if what == "refuse":
+                    raise lr.Refuse("NO_RESOURCES", 4)
+                if what == "user":
+                    raise lr.UserException("IDL:X:1.0", [7])
+                if what == "system":
+                    raise lr.SystemException("PERSIST_STORE", 6, lr.Completed.NO)
+                if what == "error":
+                    raise ZeroDivisionError
+                if what == "cancel":
+                    raise asyncio.CancelledError
+                if what == "other":
+                    raise lr.UserException("IDL:Y:1.0")
+                return "text" if what == "wrong" else 5
+
+            async def raw(body):
+                await asyncio.sleep(0)
+                return lr.RawReply(lr.pack("l", 6, order=LITTLE), LITTLE)
+
+            server, client = await self.pair({"op": ("s", "l", answer), "raw": raw}, {"op": {"IDL:X:1.0": "l"}})
+            wanted = {"refuse": ("NO_RESOURCES", 4, 1), "system": ("PERSIST_STORE", 6, 1), "error": ("UNKNOWN", 0, 2),
+                      "cancel": ("UNKNOWN", 0, 2), "other": ("UNKNOWN", 0, 2), "wrong": ("INTERNAL", 0, 2)}
+            async with server, client:
+                self.assertEqual(await client.call("k", "op", "s", ["go"], "l"), 5)
+                self.assertEqual(await client.call("k", "raw", results="l"), 6)
+                for what, parts in wanted.items():
+                    with self.subTest(what), self.assertRaises(lr.SystemException) as caught:
+                        await client.call("k", "op", "s", [what], "l")
+                    raised = caught.exception
+                    self.assertEqual((raised.name, raised.minor, raised.completed), parts)
+                with self.assertRaises(lr.UserException) as caught:
+                    await client.call("k", "op", "s", ["user"], "l", {"IDL:X:1.0": "l"})
+                self.assertEqual(caught.exception.values, (7,))
+        with self.assertLogs("lemonrudder"):
+            self.run_async(main())
+
+    def test_given_up_and_asked_again(self):
+        async def main():
+            asked = []
+
+            async def function(number):
+                asked.append(number)
+                await asyncio.sleep(0)
+                if len(asked) < 4:
+                    raise lr.GiveUp
+                return number
+
+            server, client = await self.pair({"op": ("l", "l", function)})
+            async with server, client:
+                self.assertEqual(await client.call("k", "op", "l", [5], "l"), 5)
+                self.assertEqual((asked, server.stats()["withdrawn"], server.connections), ([5] * 4, 3, 1))
+        self.run_async(main())
+
+    def test_repeats_join(self):
+        """Repeats of a request that is under way wait for its outcome; one that comes after it gets it too."""
+        async def main():
+            asked, go = [], asyncio.Event()
+
+            async def function():
+                asked.append(lr.current().retention_id)
+                await go.wait()
+                return len(asked)
+
+            server, client = await self.pair({"op": ("", "l", function)})
+            context = (lr.FT_REQUEST, lr.write_ft("A", 7, FAR))
+            async with server, client:
+                peers = []
+                for number in range(3):
+                    reader, writer = await asyncio.open_connection(client.host, client.port)
+                    writer.write(lr.write_request(number, "k", "op", context=context))
+                    peers.append((reader, writer))
+                while server.stats().get("joined") != 2:
+                    await asyncio.sleep(0.01)
+                gone = peers.pop(0)[1]
+                gone.transport.abort()
+                await self.drained(server, 2)
+                go.set()
+                reader, writer = await asyncio.open_connection(client.host, client.port)
+                for number, (reader, writer) in enumerate([*peers, (reader, writer)]):
+                    if number == 2:
+                        writer.write(lr.write_request(3, "k", "op", context=context))
+                    message, = lr.messages(await reader.read(4096))
+                    self.assertEqual((message.request_id, message.body.unpack("l")), (number + 1, (1,)))
+                    writer.close()
+                self.assertEqual(asked, [7])
+        self.run_async(main())
+
+    def test_a_connection_that_is_lost_meanwhile(self):
+        """What is under way acts all the same, and its outcome is kept."""
+        async def main():
+            asked, go = [], asyncio.Event()
+
+            async def function():
+                asked.append(lr.current().wanted)
+                await go.wait()
+                asked.append(lr.current().wanted)
+                return 5
+
+            server, client = await self.pair({"op": ("", "l", function)})
+            request = lr.write_request(1, "k", "op", context=(lr.FT_REQUEST, lr.write_ft("A", 7, FAR)))
+            async with server, client:
+                reader, writer = await asyncio.open_connection(client.host, client.port)
+                writer.write(request)
+                while not asked:
+                    await asyncio.sleep(0.01)
+                writer.transport.abort()
+                await self.drained(server, 0)
+                go.set()
+                while len(asked) < 2:
+                    await asyncio.sleep(0.01)
+                reader, writer = await asyncio.open_connection(client.host, client.port)
+                writer.write(request)
+                message, = lr.messages(await reader.read(4096))
+                self.assertEqual((message.body.unpack("l"), asked), ((5,), [1, 0]))
+                writer.close()
+        self.run_async(main())
+
+    def test_timeouts(self):
+        """An operation that is cut off has perhaps acted; what it says after all is dropped."""
+        async def main():
+            ended = []
+
+            async def function(how):
+                try:
+                    await asyncio.sleep(SECONDS)
+                except asyncio.CancelledError:
+                    ended.append(how)
+                    if how == "refuses":
+                        raise lr.Refuse("NO_PERMISSION") from None
+                    if how == "answers":
+                        return 5
+                    if how == "stays":
+                        await asyncio.sleep(1.5)
+                        ended.append("late")
+                        return 6
+                    raise
+
+            async def long():
+                await asyncio.sleep(0.5)
+                return 7
+
+            server, client = await self.pair({"op": ("s", "l", function)}, timeout=0.2)
+            server.add("slow", "IDL:K:1.0", {"op": ("", "l", long)}, timeout=SECONDS)
+            async with server, client:
+                self.assertEqual(await client.call("slow", "op", results="l"), 7)
+                self.assertEqual(await client.call("k", "op", "s", ["answers"], "l"), 5)
+                for how, name, completed in (("refuses", "NO_PERMISSION", 1), ("raises", "TIMEOUT", 2),
+                                             ("stays", "TIMEOUT", 2)):
+                    with self.subTest(how), self.assertRaises(lr.SystemException) as caught:
+                        await client.call("k", "op", "s", [how], "l")
+                    raised = caught.exception
+                    self.assertEqual((raised.name, raised.minor, raised.completed), (name, 0, completed))
+                self.assertEqual(server.stats()["under_way"], 1)
+                while server.stats()["under_way"]:
+                    await asyncio.sleep(0.01)
+                self.assertEqual(ended, ["answers", "refuses", "raises", "stays", "late"])
+        with self.assertLogs("lemonrudder", "INFO") as logged:
+            self.run_async(main())
+        text = "\n".join(logged.output)
+        self.assertIn("answered TIMEOUT, COMPLETED_MAYBE", text)
+        self.assertIn("ended too late", text)
+
+    def test_close_waits(self):
+        """Goodbye is said behind what is under way, and no more is taken."""
+        async def main():
+            async def function(number):
+                await asyncio.sleep(0.2)
+                return number
+
+            server, client = await self.pair({"op": ("l", "l", function)})
+            async with client:
+                reader, writer = await asyncio.open_connection(client.host, client.port)
+                writer.write(lr.write_request(1, "k", "op", lr.pack("l", 8)))
+                while not server.stats()["parked_now"]:
+                    await asyncio.sleep(0.01)
+                closing = asyncio.ensure_future(server.close())
+                await asyncio.sleep(0)
+                writer.write(lr.write_request(2, "k", "op", lr.pack("l", 9)))
+                reply, close = lr.messages(await reader.read())
+                self.assertEqual((reply.request_id, reply.body.unpack("l")), (1, (8,)))
+                self.assertIs(close.type, lr.MessageType.CLOSE_CONNECTION)
+                writer.close()
+                await closing
+                with self.assertRaises(lr.LemonrudderError):
+                    server.add("l", "IDL:K:1.0", {})
+                with self.assertRaises(lr.LemonrudderError):
+                    await server.listen()
+        self.run_async(main())
+
+    def test_close_cuts_off(self):
+        """What does not end in time is cancelled: it is answered as it says itself, or as what has perhaps acted."""
+        async def main():
+            async def function(how):
+                try:
+                    await asyncio.sleep(SECONDS)
+                except asyncio.CancelledError:
+                    if how == 1:
+                        raise lr.Refuse() from None
+                    if how == 2:
+                        await asyncio.sleep(SECONDS)
+                    raise
+
+            server, client = await self.pair({"op": ("l", "l", function)})
+            async with client:
+                reader, writer = await asyncio.open_connection(client.host, client.port)
+                for number in range(3):
+                    writer.write(lr.write_request(number, "k", "op", lr.pack("l", number)))
+                while server.stats()["parked_now"] < 3:
+                    await asyncio.sleep(0.01)
+                await server.close(timeout=0.1)
+                *replies, close = lr.messages(await reader.read())
+                found = {message.request_id: message.body.unpack("sLL") for message in replies}
+                failed = ("IDL:omg.org/CORBA/COMM_FAILURE:1.0", 0, 2)
+                self.assertEqual(found, {0: failed, 1: ("IDL:omg.org/CORBA/TRANSIENT:1.0", 0, 1), 2: failed})
+                self.assertIs(close.type, lr.MessageType.CLOSE_CONNECTION)
+                writer.close()
+        with self.assertLogs("lemonrudder"):
+            self.run_async(main())
+
+    def test_current(self):
+        async def main():
+            seen = []
+
+            def plain():
+                seen.append(lr.current())
+
+            async def slow():
+                await asyncio.sleep(0)
+                await asyncio.gather(asyncio.ensure_future(inner()))
+
+            async def inner():
+                seen.append(lr.current())
+
+            server, client = await self.pair({"plain": ("", "", plain), "slow": ("", "", slow)})
+            with self.assertRaises(RuntimeError):
+                lr.current()
+            async with server, client:
+                expiration = lr.now() + 10**9
+                for operation in ("plain", "slow"):
+                    await client.call_raw("k", operation, contexts=[(5, b"abc"), (6, b"")], expiration=expiration)
+                request = lr.write_request(77, "k", "plain", wish=lr.Wish.EMPTY)
+                reader, writer = await asyncio.open_connection(client.host, client.port)
+                writer.write(request)
+                await reader.read(12)
+                own = writer.get_extra_info("sockname")
+                writer.close()
+            with self.assertRaises(RuntimeError):
+                lr.current()
+            for number, (one, operation) in enumerate(zip(seen, ("plain", "slow")), 1):
+                self.assertEqual((one.key, one.operation, one.client_id), (b"k", operation, client.client_id))
+                self.assertEqual((one.retention_id, one.expiration, one.connection), (number, expiration, 1))
+                self.assertEqual((one.context(5), one.context(6), one.context(7)), (b"abc", b"", None))
+                self.assertEqual(one.context(lr.FT_REQUEST)[-8:], expiration.to_bytes(8, "big"))
+                self.assertEqual((one.certificate, one.version), (None, 2))
+            last = seen[2]
+            self.assertEqual((last.client_id, last.retention_id, last.expiration), (None, None, None))
+            self.assertEqual(last.contexts, ())
+            self.assertEqual((last.peer, last.request_id, last.wish, last.connection), (own, 77, lr.Wish.EMPTY, 2))
+        self.run_async(main())
+
+    def test_objects_that_come_and_go(self):
+        async def main():
+            server, client = await self.pair({"get": ("", "l", lambda: 1)})
+
+            def make(name):
+                """A factory, whose object is there when its reference is."""
+                server.add("made/" + name, "IDL:K:1.0", {"get": ("", "s", lambda: name)})
+                return server.reference("made/" + name).value
+
+            async def account():
+                await asyncio.sleep(0)
+                return lr.current().key.decode()
+
+            go = asyncio.Event()
+
+            async def waiting():
+                await go.wait()
+                return 3
+
+            async with server, client:
+                self.assertEqual(await client.call("k", "get", results="l"), 1)
+                server.add("factory", "IDL:F:1.0", {"make": ("s", lr.REFERENCE, make), "wait": ("", "l", waiting)})
+                value = await client.call("factory", "make", "s", ["x"], lr.REFERENCE)
+                async with lr.Client.of(lr.Ior.of_value(value)) as other:
+                    self.assertEqual(await other.call(other.key, "get", results="s"), "x")
+                with self.assertRaises(lr.SystemException) as caught:
+                    await client.call("factory", "make", "s", ["x"], lr.REFERENCE)
+                self.assertEqual(caught.exception.name, "UNKNOWN")
+                server.add_family("acct/", "IDL:A:1.0", {"get": ("", "s", account)})
+                self.fails(Error.TAKEN, server.add_family, "acct/", "IDL:A:1.0", {})
+                server.add_default(lambda body: lr.pack("s", lr.current().operation))
+                for key, operation, wanted in (("acct/7", "get", "acct/7"), ("made/x", "get", "x"),
+                                               ("q", "any", "any")):
+                    self.assertEqual(await client.call(key, operation, results="s"), wanted)
+                self.assertEqual(server.reference("acct/9").type_id, "IDL:A:1.0")
+                call = asyncio.ensure_future(client.call("factory", "wait", results="l"))
+                while not server.stats()["parked_now"]:
+                    await asyncio.sleep(0.01)
+                server.remove("factory")
+                server.remove_family("acct/")
+                go.set()
+                with self.assertRaises(lr.SystemException) as caught:
+                    await call
+                self.assertEqual((caught.exception.name, caught.exception.completed), ("INTERNAL", 2))
+                self.assertEqual(await client.call("acct/7", "get", results="s"), "get")
+                server.remove("made/x")
+                self.fails(Error.OBJECT, server.remove, "made/x")
+                self.fails(Error.OBJECT, server.remove_family, "acct/")
+                self.assertEqual(await client.call("k", "get", results="l"), 1)
+        with self.assertLogs("lemonrudder"):
+            self.run_async(main())
+
+
+# a peer that sends the same octets without end, and reads what comes
+FLOOD = """
+import socket, sys, threading
+octets = sys.stdin.buffer.read()
+peer = socket.create_connection(("127.0.0.1", int(sys.argv[1])))
+def drop():
+    while peer.recv(65536):
+        pass
+threading.Thread(target=drop, daemon=True).start()
+while True:
+    peer.sendall(octets)
+"""
+
+
+class Bounds(Case):
+    """What each peer may take of a server, and what is told of it."""
+
+    run_async, pair, connected, drained = Ends.run_async, Ends.pair, Turns.connected, Turns.drained
+
+    def memory(self):
+        """The octets of memory that this process has."""
+        if not os.path.exists("/proc/self/statm"):
+            self.skipTest(NEEDS + "/proc/self/statm")
+        with open("/proc/self/statm", encoding="ascii") as file:
+            return int(file.read().split()[1]) * os.sysconf("SC_PAGESIZE")
+
+    def test_a_flood_leaves_a_calm_one(self):
+        """A calm peer's calls take at most 5 times as long beside one that floods."""
+        async def main():
+            server, client = await self.pair({"get": ("", "l", lambda: 1)})
+            server.add("s", "IDL:S:1.0", {"slow": ("", "", lambda: asyncio.sleep(0.001))})
+
+            async def calm():
+                # (the time of this process, whatever else the machine does)
+                times = []
+                for _ in range(40):
+                    began = time.process_time()
+                    await client.call("k", "get", results="l")
+                    times.append(time.process_time() - began)
+                return sorted(times)[20]
+
+            async def flooded(key, operation):
+                """The time of a call beside a peer that sends such requests without end."""
+                requests = b"".join(lr.write_request(number, key, operation) for number in range(2000))
+                words = [sys.executable, "-c", FLOOD, str(client.port)]
+                with subprocess.Popen(words, stdin=subprocess.PIPE) as peer:
+                    peer.stdin.write(requests)
+                    peer.stdin.close()
+                    while server.connections < 2:
+                        await asyncio.sleep(0.01)
+                    await asyncio.sleep(0.2)
+                    try:
+                        return await calm()
+                    finally:
+                        peer.kill()
+                        await self.drained(server, 1)
+
+            async with server, client:
+                await calm()
+                for key, operation in (("k", "get"), ("s", "slow"), ("none", "get")):
+                    for _ in range(5):
+                        alone, beside = await calm(), await flooded(key, operation)
+                        if beside < 5 * alone:
+                            break
+                    with self.subTest(key):
+                        self.assertLess(beside, 5 * alone)
+        self.run_async(main())
+
+    def test_memory_beside_a_peer_that_reads_nothing(self):
+        """Repeats of a long reply that nobody takes cost a few of them, and not all."""
+        async def main():
+            big = bytes(1000000)
+
+            async def slow():
+                await asyncio.sleep(0.01)
+                return big
+
+            operations = {"big": ("", "o", lambda: big), "slow": ("", "o", slow), "get": ("", "l", lambda: 1)}
+            server, client = await self.pair(operations, max_parked_of=4)
+            context = (lr.FT_REQUEST, lr.write_ft("A", 1, FAR))
+            async with server, client:
+                await client.call("k", "get", results="l")
+                for name in ("big", "slow"):
+                    repeats = [lr.write_request(number, "k", name, context=context if name == "big" else None)
+                               for number in range(1500)]
+                    before, most = self.memory(), 0
+                    peers = [self.connected(client.port) for _ in range(3)]
+                    for peer in peers:
+                        peer.setblocking(False)
+                        peer.send(b"".join(repeats))
+                    for _ in range(100):
+                        self.assertEqual(await client.call("k", "get", results="l"), 1)
+                        await asyncio.sleep(0.005)
+                        most = max(most, self.memory() - before)
+                    with self.subTest(name):
+                        self.assertLess(most, 64 << 20)
+                    for peer in peers:
+                        peer.close()
+                    await self.drained(server, 1)
+        self.run_async(main())
+
+    def test_places(self):
+        """As many requests are under way as may be: of a connection the others wait, and beyond that they are
+        refused."""
+        async def main():
+            go, most, now = asyncio.Event(), [0, 0], [0, 0]
+
+            async def slow(which):
+                now[which] += 1
+                most[which] = max(most[which], now[which])
+                await go.wait()
+                now[which] -= 1
+                return which
+
+            server, client = await self.pair({"slow": ("l", "l", slow)}, max_parked=8, max_parked_of=5)
+            others = [lr.Client(client.host, client.port, keep_transient=False) for _ in range(4)]
+            async with server, client:
+                calls = [asyncio.ensure_future(client.call("k", "slow", "l", [0], "l")) for _ in range(20)]
+                while now[0] < 5:
+                    await asyncio.sleep(0.01)
+                more = [asyncio.ensure_future(one.call("k", "slow", "l", [1], "l")) for one in others]
+                done, _ = await asyncio.wait(more, return_when=asyncio.FIRST_COMPLETED)
+                with self.assertRaises(lr.SystemException) as caught:
+                    await done.pop()
+                self.assertEqual((caught.exception.name, caught.exception.completed), ("TRANSIENT", lr.Completed.NO))
+                self.assertEqual((now, server.stats()["parked_now"]), ([5, 3], 8))
+                go.set()
+                self.assertEqual(await asyncio.gather(*calls), [0] * 20)
+                self.assertEqual(sum(not one.exception() for one in more), 3)
+                self.assertEqual(most[0], 5)
+                for one in others:
+                    await one.close()
+        with self.assertLogs("lemonrudder") as logged:
+            self.run_async(main())
+        self.assertIn("max_parked", "\n".join(logged.output))
+
+    def test_places_are_taken_in_turn(self):
+        """Connections that want more than there is go on when a place is free."""
+        async def main():
+            async def slow():
+                await asyncio.sleep(0.002)
+
+            server, client = await self.pair({"slow": ("", "", slow), "get": ("", "l", lambda: 1)}, max_parked=8)
+            clients = [lr.Client(client.host, client.port, delays=(0.001, 0.01)) for _ in range(6)]
+            async with server, client:
+                calls = [one.call("k", ("slow", "get")[number % 3 == 0]) for number in range(30) for one in clients]
+                await asyncio.gather(*calls)
+                for one in clients:
+                    await one.close()
+        self.run_async(main())
+
+    def test_connections(self):
+        """One that comes beyond the bound is dropped, and one that is silent for long is left."""
+        async def main():
+            async def slow():
+                await asyncio.sleep(0.9)
+                return 1
+
+            server, client = await self.pair({"slow": ("", "l", slow)}, max_connections=2, idle_timeout=0.4)
+            async with server, client:
+                call = asyncio.ensure_future(client.call("k", "slow", results="l"))
+                reader, writer = await asyncio.open_connection(client.host, client.port)
+                await self.drained(server, 2)
+                other, third = await asyncio.open_connection(client.host, client.port)
+                with self.assertRaises(ConnectionError):
+                    self.assertEqual(await other.read(), b"")
+                    raise ConnectionError
+                message, = lr.messages(await reader.read())
+                self.assertIs(message.type, lr.MessageType.CLOSE_CONNECTION)
+                self.assertFalse(call.done())
+                self.assertEqual(await call, 1)
+                self.assertEqual(server.stats()["turned_away"], 1)
+                for one in (writer, third):
+                    one.close()
+        with self.assertLogs("lemonrudder", "INFO") as logged:
+            self.run_async(main())
+        text = "\n".join(logged.output)
+        self.assertIn("is turned away", text)
+        self.assertIn("it was idle", text)
+
+    def test_what_is_told(self):
+        """There is a line for each request that is refused and each connection that ends, and a count."""
+        async def main():
+            def not_now():
+                raise lr.Refuse("NO_PERMISSION")
+
+            server, client = await self.pair({"op": ("l", "", lambda number: None), "not_now": ("", "", not_now)},
+                                             capacity=1)
+            ft = lr.write_ft("A", 1, 5)
+            cases = {
+                "nonsense, and so on": "its stream has a fault, MAGIC",
+                lr.write_reply(1): "its peer sent a message that only a server sends",
+                lr.write_close(): "its peer said CloseConnection",
+                lr.write_error(): "its peer said MessageError",
+                lr.write_request(1, "k", "op", context=(lr.FT_REQUEST, ft)): "refused on connection 5 (127.0.0.1:",
+                lr.write_request(1, "k", "none"): "there is no such object or operation",
+                lr.write_request(1, "k", "not_now"): "'not_now' is refused on connection 7",
+            }
+            async with server, client:
+                for octets, text in cases.items():
+                    with self.subTest(text), self.assertLogs("lemonrudder", "INFO") as logged:
+                        reader, writer = await asyncio.open_connection(client.host, client.port)
+                        writer.write(octets if isinstance(octets, bytes) else octets.encode())
+                        writer.write_eof()
+                        await reader.read()
+                        writer.close()
+                        await self.drained(server, 0)
+                    self.assertIn(text, "\n".join(logged.output))
+                with self.assertLogs("lemonrudder") as logged:
+                    await client.call("k", "op", "l", [1])
+                    with self.assertRaises(lr.SystemException):
+                        await client.call("k", "op", "l", [1])
+                self.assertIn("as many outcomes are kept as may be (capacity)", "\n".join(logged.output))
+                stats = server.stats()
+                for name, number in {"expired": 1, "invalid": 1, "declined": 1, "log_full": 1, "answered": 1, "kept": 1,
+                                     "connections": 1, "under_way": 0}.items():
+                    self.assertEqual((name, stats[name]), (name, number))
+            self.assertEqual(server.stats(), {})
+        self.run_async(main())
+
+
+class Addresses(Case):
+    """A client over all addresses of a reference, and where it is led."""
+
+    run_async, pair = Ends.run_async, Ends.pair
+
+    async def script(self, answers):
+        """A server that answers one request after another as a list says, a status and a body, or None: it hangs up.
+        Its port, and the key, operation, number and body of each request that came."""
+        seen = []
+
+        async def serve(reader, writer):
+            assembler = lr.Assembler()
+            while octets := await reader.read(4096):
+                for message in assembler.feed(octets):
+                    if message.type != lr.MessageType.REQUEST:
+                        continue
+                    seen.append((message.key, message.operation, message.ft.retention_id, message.body.octets))
+                    said = answers.pop(0) if answers else None
+                    if said is None:
+                        writer.transport.abort()
+                        return
+                    writer.write(lr.write_reply(message.request_id, said[1], status=said[0]))
+            writer.close()
+
+        listener = await asyncio.start_server(serve, "127.0.0.1", 0)
+        self.addCleanup(listener.close)
+        return listener.sockets[0].getsockname()[1], seen
+
+    def closed_port(self):
+        """A port at which nobody listens."""
+        with socket.socket() as made:
+            made.bind(("127.0.0.1", 0))
+            return made.getsockname()[1]
+
+    def reference(self, *ports, key="k"):
+        """A reference with a profile for each port."""
+        profiles = [(0, lr.Ior.iiop("", "127.0.0.1", port, key).profiles[0].data) for port in ports]
+        return lr.Ior.of_value(("IDL:K:1.0", profiles))
+
+    def forward(self, *ports, key="k"):
+        """A reply that forwards there."""
+        return lr.ReplyStatus.LOCATION_FORWARD, lr.pack("s[(Lo)]", *self.reference(*ports, key=key).value)
+
+    def returned(self, number):
+        return lr.ReplyStatus.NO_EXCEPTION, lr.pack("l", number)
+
+    TRANSIENT = (lr.ReplyStatus.SYSTEM_EXCEPTION, lr.pack("sLL", "IDL:omg.org/CORBA/TRANSIENT:1.0", 0, 1))
+
+    def test_addresses_are_tried_in_turn(self):
+        async def main():
+            port, seen = await self.script([self.returned(5), None, self.returned(6)])
+            other, _ = await self.script([])
+            reference = self.reference(self.closed_port(), other, port)
+            async with lr.Client.of(reference, "A", delays=(0.001, 0.01)) as client:
+                self.assertEqual(await client.call("k", "op", "l", [7], "l"), 5)
+                self.assertEqual(client.port, port)
+                self.assertEqual(await client.call("k", "op", "l", [8], "l"), 6)
+            body = [lr.pack("l", number) for number in (7, 8, 8)]
+            self.assertEqual(seen, [(b"k", "op", number, octets) for number, octets in zip((1, 2, 2), body)])
+        self.run_async(main())
+
+    def test_a_server_that_moves(self):
+        """Two servers at two addresses of one reference: the calls go on where one is left."""
+        async def main():
+            servers = []
+            for number in range(2):
+                server = lr.Server()
+                server.add("k", "IDL:K:1.0", {"get": ("", "l", lambda number=number: number)})
+                await server.listen()
+                servers.append(server)
+            ports = [server.reference("k").profiles[0].port for server in servers]
+            async with lr.Client.of(self.reference(*ports), delays=(0.001, 0.01)) as client:
+                self.assertEqual(await client.call("k", "get", results="l"), 0)
+                await servers[0].close()
+                self.assertEqual(await client.call("k", "get", results="l"), 1)
+            await servers[1].close()
+        self.run_async(main())
+
+    def test_what_is_transient(self):
+        """A call that TRANSIENT answers is sent again under its number, at the next address where there is one."""
+        async def main():
+            port, seen = await self.script([self.TRANSIENT, self.TRANSIENT, self.returned(5)])
+            async with lr.Client("127.0.0.1", port, "A", delays=(0.001, 0.01)) as client:
+                self.assertEqual(await client.call("k", "op", results="l"), 5)
+                self.assertEqual([one[2] for one in seen], [1, 1, 1])
+            backup, seen = await self.script([self.TRANSIENT] * 9)
+            primary, others = await self.script([self.returned(6)])
+            async with lr.Client.of(self.reference(backup, primary), delays=(0.001, 0.01)) as client:
+                self.assertEqual(await client.call("k", "op", results="l"), 6)
+                self.assertEqual((len(seen), len(others)), (1, 1))
+            port, seen = await self.script([self.TRANSIENT] * 1000)
+            async with lr.Client("127.0.0.1", port, delays=(0.001, 0.01)) as client:
+                with self.assertRaises(lr.Expired) as caught:
+                    await client.call("k", "op", results="l", timeout=0.3)
+            self.assertEqual(caught.exception.__cause__.name, "TRANSIENT")
+            self.assertEqual(caught.exception.sent, len(seen))
+            self.assertGreater(caught.exception.sent, 3)
+        self.run_async(main())
+
+    def test_forwards(self):
+        """A forward is followed under the number of the call, and later calls of its key go there at once, until the
+        object is not there; other calls stay where they are."""
+        async def main():
+            gone = (2, lr.pack("sLL", "IDL:omg.org/CORBA/OBJECT_NOT_EXIST:1.0", 0, 1))
+            there, led = await self.script([self.returned(5), self.returned(6), gone])
+            port, seen = await self.script([self.forward(self.closed_port(), there, key="other"), self.returned(7),
+                                            self.returned(8)])
+            async with lr.Client("127.0.0.1", port, "A", delays=(0.001, 0.01)) as client:
+                self.assertEqual(await client.call("k", "op", "l", [1], "l"), 5)
+                self.assertEqual(await client.call("l", "op", "l", [2], "l"), 7)
+                self.assertEqual(await client.call("k", "op", "l", [3], "l"), 6)
+                with self.assertRaises(lr.SystemException):
+                    await client.call("k", "op", "l", [4], "l")
+                self.assertEqual(await client.call("k", "op", "l", [5], "l"), 8)
+            self.assertEqual([one[:3] for one in seen], [(b"k", "op", 1), (b"l", "op", 2), (b"k", "op", 5)])
+            self.assertEqual(led, [(b"other", "op", number, lr.pack("l", number)) for number in (1, 3, 4)])
+        self.run_async(main())
+
+    def test_forwards_that_lead_nowhere(self):
+        """Where nobody answers any more the object is asked for as at first; a forward that leads nowhere is told."""
+        async def main():
+            gone = self.closed_port()
+            port, seen = await self.script([self.forward(gone), self.forward(gone), self.returned(5),
+                                            self.forward(), self.forward(gone), (3, b"")])
+            async with lr.Client("127.0.0.1", port, "A", delays=(0.001, 0.01)) as client:
+                self.assertEqual(await client.call("k", "op", results="l"), 5)
+                self.assertEqual([one[2] for one in seen], [1, 1, 1])
+                with self.assertRaises(lr.ForwardRequest):
+                    await client.call("k", "op")
+                plain = lr.Client("127.0.0.1", port, keep_forward=False)
+                async with plain:
+                    with self.assertRaises(lr.ForwardRequest) as caught:
+                        await plain.call("k", "op")
+                    self.assertEqual(caught.exception.ior, self.reference(gone))
+                with self.assertRaises(lr.LemonrudderError) as caught:
+                    await client.call("k", "op")
+                self.assertIs(caught.exception.number, Error.SHORT)
+        self.run_async(main())
+
+    def test_a_forward_does_not_act_twice(self):
+        """The reply is lost after the operation acted; its repeat is forwarded, and gets the outcome of the first."""
+        async def main():
+            total = []
+            server, client = await self.pair({"add": ("l", "l", lambda number: total.append(number) or sum(total))})
+            port = client.port
+
+            async def lose(reader, writer):
+                """The first request goes to the server, and its reply is lost; the second is forwarded there."""
+                requests.append(await reader.read(4096))
+                if len(requests) == 1:
+                    there, back = await asyncio.open_connection("127.0.0.1", port)
+                    back.write(requests[0])
+                    await there.read(4096)
+                    back.close()
+                else:
+                    message, = lr.messages(requests[1])
+                    writer.write(lr.write_reply(message.request_id, self.forward(port)[1], status=3))
+                    await reader.read()
+                writer.close()
+
+            requests = []
+            listener = await asyncio.start_server(lose, "127.0.0.1", 0)
+            before = lr.Client("127.0.0.1", listener.sockets[0].getsockname()[1], delays=(0.001, 0.01))
+            async with server, client, before:
+                self.assertEqual(await before.call("k", "add", "l", [7], "l"), 7)
+                self.assertEqual((total, len(requests)), ([7], 2))
+            listener.close()
+        self.run_async(main())
+
+    def test_raw_calls(self):
+        async def main():
+            seen = []
+
+            def raw(body):
+                seen.append((lr.current().wish, body.order, body.unpack("l"), lr.current().context(9)))
+                return lr.RawReply(lr.pack("l", 8, order=LITTLE), LITTLE)
+
+            server, client = await self.pair({"raw": raw, "typed": ("l", "", lambda number: seen.append(number))})
+            async with server, client:
+                body = lr.pack("l", 7, order=LITTLE)
+                answer = await client.call_raw("k", "raw", body, order=LITTLE, contexts=[(9, b"x")])
+                self.assertEqual((answer.order, answer.unpack("l")), (LITTLE, (8,)))
+                answer = await client.call_raw("k", "raw", body, order=LITTLE, wish=lr.Wish.EMPTY)
+                self.assertEqual(seen, [(2, LITTLE, (7,), b"x"), (1, LITTLE, (7,), None)])
+                self.assertIsNone(await client.oneway("k", "typed", "l", [5]))
+                self.assertEqual((await client.call_raw("k", "typed", lr.pack("l", 6), number=9)).octets, b"")
+                self.assertEqual(seen[2:], [5, 6])
+                with self.assertRaises(lr.SystemException) as caught:
+                    await client.call_raw("k", "none")
+                self.assertEqual(caught.exception.name, "BAD_OPERATION")
+                with self.assertRaises(lr.LemonrudderError) as caught:
+                    await client.call_raw("k", "raw", contexts=[(lr.FT_REQUEST, b"")])
+                self.assertIs(caught.exception.number, Error.VALUE)
+        self.run_async(main())
+
+
+@needs("openssl")
+class Tls(Case):
+    """Both ends over TLS."""
+
+    run_async = Ends.run_async
+
+    def contexts(self, folder):
+        """Contexts of a server and of a client, which trust one certificate that both show."""
+        key, certificate = os.path.join(folder, "key.pem"), os.path.join(folder, "certificate.pem")
+        subprocess.run(["openssl", "req", "-x509", "-newkey", "rsa:2048", "-nodes", "-keyout", key, "-out", certificate,
+                        "-days", "2", "-subj", "/CN=localhost", "-addext", "subjectAltName=DNS:localhost"],
+                       check=True, capture_output=True, timeout=SECONDS)
+        made = []
+        for purpose in (ssl.Purpose.CLIENT_AUTH, ssl.Purpose.SERVER_AUTH):
+            context = ssl.create_default_context(purpose, cafile=certificate)
+            context.load_cert_chain(certificate, key)
+            context.verify_mode = ssl.CERT_REQUIRED
+            made.append(context)
+        return made
+
+    def test_both_ends(self):
+        async def main(served, called):
+            async def who(octets):
+                await asyncio.sleep(0.01)
+                subject = dict(pair for pairs in lr.current().certificate["subject"] for pair in pairs)
+                return subject["commonName"], octets
+
+            server = lr.Server()
+            server.add("k", "IDL:K:1.0", {"who": ("o", "so", who)})
+            port = await server.listen(ssl=served)
+            octets = bytes(range(256)) * 1000
+            async with server, lr.Client("127.0.0.1", port, ssl=called, server_hostname="localhost") as client:
+                calls = [client.call("k", "who", "o", [octets], "so") for _ in range(10)]
+                self.assertEqual(await asyncio.gather(*calls), [("localhost", octets)] * 10)
+                wrong = lr.Client("127.0.0.1", port, ssl=called, server_hostname="elsewhere", delays=(0.001, 0.01))
+                async with wrong:
+                    with self.assertRaises(lr.Expired) as caught:
+                        await wrong.call("k", "who", "o", [b""], "so", timeout=0.5)
+                self.assertIsInstance(caught.exception.__cause__, ssl.SSLError)
+                self.assertEqual(caught.exception.sent, 0)
+        with tempfile.TemporaryDirectory() as folder:
+            self.run_async(main(*self.contexts(folder)))
+
+
 class Bank(Case):
     """The bank of the examples, whose clients lose their connections."""
 
@@ -1675,6 +2559,24 @@ class Bank(Case):
                 asyncio.run(asyncio.wait_for(self.play(lr.Ior.parse(bank.stdout.readline())), SECONDS))
             finally:
                 bank.terminate()
+
+    def test_it_ends_behind_what_is_under_way(self):
+        """Deposits of several accounts go on at once, and SIGTERM waits for them."""
+        async def main(bank):
+            async with lr.Client.of(bank.stdout.readline()) as client:
+                words = {"arguments": "sq", "results": "q", "timeout": SECONDS}
+                calls = [asyncio.ensure_future(client.call(client.key, "deposit", values=(f"account {number % 5}", 1),
+                                                           **words)) for number in range(10)]
+                while await client.call(client.key, "balance", "s", ("account 0",), "q") == 0:
+                    await asyncio.sleep(0.01)
+                bank.terminate()
+                self.assertEqual(await asyncio.gather(*calls), [1] * 5 + [2] * 5)
+        with subprocess.Popen(example("bank.py", "0", "0.3"), stdout=subprocess.PIPE, text=True) as bank:
+            try:
+                asyncio.run(asyncio.wait_for(main(bank), SECONDS))
+                self.assertEqual(bank.wait(SECONDS), 0)
+            finally:
+                bank.kill()
 
     async def play(self, reference):
         profile, dice = reference.profiles[0], Dice(SEED)
@@ -1771,57 +2673,6 @@ class Captures(Case):
 
 
 HEADER = os.path.join(ROOT, "embed", "include", "lemonrudder.h")
-# what stands for the names of the header, by how they begin; of several the first that has the name counts
-ENUMS = [
-    ("LR_E_", lr.Error), ("LR_WISH_", lr.Wish), ("LR_COMPLETED_", lr.Completed), ("LR_PART_", lr._Part),
-    ("LR_FAULT_", lr.Fault), ("LR_ENDED_", lr._Ended), ("LR_IOR_", lr._IorPart),
-    ("LR_CLIENT_", lr._Setting), ("LR_", lr.Order),
-    ("LR_", lr.ReplyStatus), ("LR_", lr.LocateStatus), ("LR_", lr.SystemName), ("LR_", lr.MessageType),
-    ("LR_", lr._Code),
-]
-STRUCTS = {
-    **{f"lr_{kind}": lr._Slot for kind in ("catalogue", "server", "client", "assembler", "ior")}, "lr_request": lr._Request, "lr_completion": lr._Completion, "lr_message": lr._Message,
-    "lr_profile": lr._Profile, "lr_place": lr._Place,
-}
-# what the module has no use for
-UNUSED = ["LR_OK", "LR_PART_PAYLOAD"]
-OTHERS = ["lr_version", "lr_strerror", "lr_error_name", "lr_moment", "lr_close", "lr_set_heap"]
-
-
-class Header(Case):
-    """What the module says of the library, against the header."""
-
-    def setUp(self):
-        with open(HEADER, encoding="ascii") as file:
-            self.text = re.sub(r"/\*.*?\*/", "", file.read(), flags=re.S)
-
-    def test_numbers(self):
-        found = re.findall(r"\b(LR_\w+) = (-?\d+)", self.text)
-        self.assertGreater(len(found), 90)
-        for name, number in found:
-            with self.subTest(name):
-                known = [enum[name[len(prefix):]] for prefix, enum in ENUMS
-                         if name.startswith(prefix) and name[len(prefix):] in enum.__members__]
-                self.assertEqual(known[:1], [int(number)] if name not in UNUSED else [])
-        self.assertEqual(re.findall(r"#define LR_CONTEXT_FT_REQUEST (\d+)", self.text), [str(lr.FT_REQUEST)])
-
-    def test_structs(self):
-        for name, struct_type in STRUCTS.items():
-            with self.subTest(name):
-                body, = re.findall(rf"struct {{([^}}]*)}} {name};", self.text)
-                members = re.findall(r"(\w+) \*?(\w+);", body)
-                self.assertEqual(len(members), len(struct_type._fields_))
-                for (kind, member), field in zip(members, struct_type._fields_):
-                    ctype = ctypes.c_void_p if kind == "void" else getattr(ctypes, "c_" + kind[:-2])
-                    self.assertEqual(field, (member, ctype))
-
-    def test_functions(self):
-        found = re.findall(r"\b(lr_\w+)\(([^;{}]*?)\);", self.text)
-        self.assertEqual({name for name, _ in found}, {*lr._FUNCTIONS, *OTHERS})
-        for name, parameters in found:
-            if name not in OTHERS:
-                with self.subTest(name):
-                    self.assertEqual(len(parameters.split(",")), len(lr._FUNCTIONS[name]))
 
 
 class Library(Case):
@@ -1857,23 +2708,38 @@ class Library(Case):
         some = [*itertools.product((0, 1, 2), (0, 1, 2), (0, 1, 10))]
         for version, built in itertools.product(some, some):
             texts = [".".join(map(str, each)) for each in (version, built)]
-            self.assertEqual(lr._serves(version, built), serves(*texts), texts)
+            self.assertEqual(serves_here(version, built), serves(*texts), texts)
 
     def test_another_version(self):
         """A library of another series is refused by its version."""
         with tempfile.TemporaryDirectory() as folder:
-            module = os.path.join(ROOT, "bindings", "python", "lemonrudder", "__init__.py")
-            with open(module, encoding="utf-8") as file:
+            table = os.path.join(self.package_in(folder), "_table.py")
+            with open(table, encoding="utf-8") as file:
                 text = file.read()
             major, minor, patch = lr.VERSION
             for version in ((major + 1, minor, patch), (major, minor + 1, patch), (major, minor, patch + 1)):
-                with open(os.path.join(folder, "lemonrudder.py"), "w", encoding="utf-8") as file:
+                with open(table, "w", encoding="utf-8") as file:
                     file.write(text.replace(f"\nVERSION = {lr.VERSION}", f"\nVERSION = {version}"))
-                run = subprocess.run([sys.executable, "-c", "import lemonrudder"], capture_output=True, text=True,
+                run = subprocess.run([sys.executable, "-B", "-c", "import lemonrudder"], capture_output=True, text=True,
                                      env={**os.environ, "PYTHONPATH": folder}, timeout=SECONDS)
                 wanted = ".".join(map(str, version))
                 self.assertIn(f"ImportError: {os.environ['LEMONRUDDER_LIBRARY']} is liblemonrudder {VERSION}, and none for "
                               f"{wanted}\n", run.stderr)
+
+    def test_parameters(self):
+        """Each function takes its parameters, and no number that one does not hold."""
+        held = {"uint16_t": 16, "uint32_t": 32, "uint64_t": 64}
+        for name, (_, types) in FUNCTIONS.items():
+            function = getattr(native, name)
+            self.assertEqual(len(function.argtypes), len(types))
+            for place, kind in enumerate(types):
+                if kind in held and not name.startswith("lr_put_"):
+                    with self.subTest(name, place=place):
+                        for number in (-1, 1 << held[kind]):
+                            with self.assertRaises(ValueError):
+                                function.argtypes[place].from_param(number)
+                        self.assertEqual(function.argtypes[place].from_param((1 << held[kind]) - 1).value + 1,
+                                         1 << held[kind])
 
     def test_moments(self):
         self.assertEqual(lr.moment_of(0), 122192928000000000)

@@ -24,6 +24,7 @@ pub mod Places
 pub mod Withdrawing
 pub mod Cancelling
 pub mod Redirecting
+pub mod Anew
 pub mod Ticking
 pub mod SendingOff
 pub mod Awaiting

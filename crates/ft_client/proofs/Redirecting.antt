@@ -23,6 +23,7 @@ use Rattle.ft_client.specs.Ends.{body_of, completion_of, led_to}
 use Rattle.ft_client.specs.Keeping.{Kept, kept_as, kept_by, kept_of}
 use Rattle.ft_client.specs.Messages.{Call, Form, keeps_place, request_behind}
 use Rattle.ft_client.specs.Private.{IsLedAt}
+use Rattle.ft_client.specs.Redirections.{asked_anew}
 use Rattle.ft_client.specs.Standing.{FieldsStand, FtStands, LinkFor, sent_ids, times}
 use Rattle.ft_client.proofs.Leaving.{nobody}
 use Rattle.ft_client.proofs.Living.{alike-asked_at, alike-rising}
@@ -64,17 +65,18 @@ module _ (version : Version) (client_id : List ℕ) where
   heads : (x y : Kept) (xs ys : List Kept) → x ∷ xs ≡ y ∷ ys → (x ≡ y) × (xs ≡ ys)
   heads x y xs ys e = (cc, cc)
 
-  pub asked_set : (id : ℤ) (key : List ℕ) (i : ℕ) (k : Kept) (qs : List CodePending) (ps : List Pending) (d : Pending) → i < length ps → int_eq (pos (slice_index_or ps i d).id) id ≡ true → ((j : ℕ) → j < i → int_eq (pos (slice_index_or ps j d).id) id ≡ false)
-      → k ≡ kept_of version client_id (record (slice_index_or ps i d) { at = key; led = None }) → map kept_by qs ≡ map (kept_of version client_id) ps → slice_set (map kept_by qs) i k ≡ map (kept_of version client_id) (asked_at id key ps)
-  asked_set id key i k qs [] d lt here none one same = absurd (omega arith)
-  asked_set id key i k [] (p ∷ ps) d lt here none one same = absurd (let e : [] ≡ kept_of version client_id p ∷ map (kept_of version client_id) ps = same in cc)
-  asked_set id key zero k (q ∷ qs) (p ∷ ps) d lt here none one same =
+  pub anew_set : (id : ℤ) (key : List ℕ) (anew : Call → Call) (i : ℕ) (k : Kept) (qs : List CodePending) (ps : List Pending) (d : Pending) → i < length ps → int_eq (pos (slice_index_or ps i d).id) id ≡ true → ((j : ℕ) → j < i → int_eq (pos (slice_index_or ps j d).id) id ≡ false)
+      → k ≡ kept_of version client_id (record (slice_index_or ps i d) { call = anew (slice_index_or ps i d).call; at = key; led = None }) → map kept_by qs ≡ map (kept_of version client_id) ps
+      → slice_set (map kept_by qs) i k ≡ map (kept_of version client_id) (asked_anew id key anew ps)
+  anew_set id key anew i k qs [] d lt here none one same = absurd (omega arith)
+  anew_set id key anew i k [] (p ∷ ps) d lt here none one same = absurd (let e : [] ≡ kept_of version client_id p ∷ map (kept_of version client_id) ps = same in cc)
+  anew_set id key anew zero k (q ∷ qs) (p ∷ ps) d lt here none one same =
       let h = heads (kept_by q) (kept_of version client_id p) (map kept_by qs) (map (kept_of version client_id) ps) same in
-      (λ i. one i ∷ h.1 i) ∙ sym (ap (λ b. map (kept_of version client_id) (cond b (record p { at = key; led = None } ∷ ps) (p ∷ asked_at id key ps))) here)
-  asked_set id key (suc i) k (q ∷ qs) (p ∷ ps) d lt here none one same =
+      (λ i. one i ∷ h.1 i) ∙ sym (ap (λ b. map (kept_of version client_id) (cond b (record p { call = anew p.call; at = key; led = None } ∷ ps) (p ∷ asked_anew id key anew ps))) here)
+  anew_set id key anew (suc i) k (q ∷ qs) (p ∷ ps) d lt here none one same =
       let h = heads (kept_by q) (kept_of version client_id p) (map kept_by qs) (map (kept_of version client_id) ps) same in
-      let rest = asked_set id key i k qs ps d (omega arith) here (λ j less. none (suc j) (omega (arith, less))) one h.1 in
-      (λ j. h.0 j ∷ rest j) ∙ sym (ap (λ b. map (kept_of version client_id) (cond b (record p { at = key; led = None } ∷ ps) (p ∷ asked_at id key ps))) (none 0 (omega arith)))
+      let rest = anew_set id key anew i k qs ps d (omega arith) here (λ j less. none (suc j) (omega (arith, less))) one h.1 in
+      (λ j. h.0 j ∷ rest j) ∙ sym (ap (λ b. map (kept_of version client_id) (cond b (record p { call = anew p.call; at = key; led = None } ∷ ps) (p ∷ asked_anew id key anew ps))) (none 0 (omega arith)))
 
   -- the call as it is given again
   abbrev pub given_again : List ℕ → List ℕ → Values → ℕ → Form → Call
@@ -179,8 +181,13 @@ led_at z c m place d n f st led is = record {
   led = is_led_by z c m place d true f led;
   numbered = number_is z c m place d n f is;
   kept = λ x. at_both m.version m.client_id c.pending.items m.pending place x nobody st.pending (let n = same_length kept_by (kept_of m.version m.client_id) c.pending.items m.pending st.pending in let w = f.within in omega (arith, n, w)) ∙ ap (kept_of m.version m.client_id) f.here;
-  put = λ key k e. asked_set m.version m.client_id z key place k c.pending.items m.pending nobody f.within f.holds f.before (e ∙ ap (λ (q : Pending). kept_of m.version m.client_id (record q { at = key; led = None })) (sym f.here)) st.pending;
+  put = λ key anew k e. anew_set m.version m.client_id z key anew place k c.pending.items m.pending nobody f.within f.holds f.before (e ∙ ap (λ (q : Pending). kept_of m.version m.client_id (record q { call = anew q.call; at = key; led = None })) (sym f.here)) st.pending;
 }
+
+-- one by which it is itself is that which was asked
+same_asked : (id : ℤ) (key : List ℕ) (ps : List Pending) → asked_anew id key (λ c. c) ps ≡ asked_at id key ps
+same_asked id key [] = refl
+same_asked id key (p ∷ ps) = ap (λ rest. cond (int_eq (pos p.id) id) (record p { at = key; led = None } ∷ ps) (p ∷ rest)) (same_asked id key ps)
 
 -- the calls, with what is kept of it now
 pub redirected_kept : (z : ℤ) (c : FtClient) (m : Client) (place : ℕ) (d : CodePending) (k : Kept) (version : Version) (client_id : List ℕ) (number : ℕ) (key operation : List ℕ) (arguments : Values) (form : Form)
@@ -190,11 +197,12 @@ pub redirected_kept : (z : ℤ) (c : FtClient) (m : Client) (place : ℕ) (d : C
 redirected_kept z c m place d k version client_id number key operation arguments form f was ev ei ef eo ea is =
     let expiration : d.expiration ≡ f.call.call.expiration = ap (λ (x : Kept). x.expiration) was in
     let sent : d.sent ≡ f.call.sent = ap (λ (x : Kept). x.sent) was in
-    f.put key k
+    f.put key (λ c. c) k
     (is
     ∙ (λ i. record (kept_of (ev i) (ei i) (begun (f.numbered i) (given_again version client_id key operation arguments d.expiration form) None)) { sent = d.sent })
     ∙ again_kept m.version m.client_id key operation arguments d.expiration form f.call ef eo ea expiration d.sent
     ∙ ap (λ o. kept_of m.version m.client_id (record f.call { at = key; sent = o; led = None })) sent)
+    ∙ ap (map (kept_of m.version m.client_id)) (same_asked z key m.pending)
 
 -- a client afterwards
 pub redirected_stands : (c d : FtClient) (m : Client) (id : ℤ) (key : List ℕ) (o : Option Pending) → is_redirected key m o ≡ true → FtStands c m

@@ -6,6 +6,8 @@
 pub mod Directions
 pub mod Messages
 pub mod Clients
+pub mod Made
+pub mod Redirections
 pub mod Errors
 pub mod Calling
 pub mod Ends

@@ -18,11 +18,12 @@ use Rattle.ft_client.specs.declared.ended.ReplyBody.{ReplyBody}
 use Rattle.ft_client.specs.declared.pending.Asked.{Asked}
 use Rattle.ft_client.specs.declared.pending.Pending.{Pending as CodePending}
 use Rattle.ft_client.specs.declared.requests.Manner.{Manner}
-use Rattle.ft_client.specs.Clients.{Client, Ended, Linked, NeedsAddressing, Pending, Told, asked_at, asks_again, completed_if, find_pending, put_off, told_of, waiting}
+use Rattle.ft_client.specs.Clients.{Client, Ended, Linked, NeedsAddressing, Pending, Told, asks_again, completed_if, find_pending, put_off, told_of, waiting}
 use Rattle.ft_client.specs.Ends.{body_of, completion_of, ended_of, numbered}
 use Rattle.ft_client.specs.Keeping.{Kept, ids_after_sending, ids_awaited, kept_by, kept_of, octets_again, sent_again}
 use Rattle.ft_client.specs.Lives.{AreRising}
-use Rattle.ft_client.specs.Messages.{Transmission, contexts_of, fields_of, order_of, request_behind, wish_of}
+use Rattle.ft_client.specs.Messages.{Call, Transmission, contexts_of, fields_of, order_of, request_behind, wish_of}
+use Rattle.ft_client.specs.Redirections.{asked_anew}
 use Rattle.ft_client.specs.Standing.{IsLinked, down, waiting_ids}
 
 -- the place after service contexts whose first stands at a place
@@ -110,15 +111,16 @@ pub record CallsStand (pending : List CodePending) (completions : List (ℤ × C
   pub completions_are : map completion_of completions ≡ map numbered m.completions
   pub rising : AreRising m.last m.pending
 
--- The call of a number stands at a place of the client, and is led elsewhere. What is put there in its place, as it is asked for under
--- another object key, makes the calls those where it is redirected.
+-- The call of a number stands at a place of the client, and is led elsewhere. What is put there in its place, as it or another by it is
+-- asked for under another object key, makes the calls those where it is redirected.
 pub record IsLedAt (z : ℤ) (c : FtClient) (m : Client) (place number : ℕ) : Type 0 where
   pub call : Pending
   pub find : find_pending z m.pending ≡ Some call
   pub led : is_some call.led ≡ true
   pub numbered : number ≡ call.id
   pub kept : (d : CodePending) → kept_by (slice_index_or c.pending.items place d) ≡ kept_of m.version m.client_id call
-  pub put : (key : List ℕ) (k : Kept) → k ≡ kept_of m.version m.client_id (record call { at = key; led = None }) → slice_set (map kept_by c.pending.items) place k ≡ map (kept_of m.version m.client_id) (asked_at z key m.pending)
+  pub put : (key : List ℕ) (anew : Call → Call) (k : Kept) → k ≡ kept_of m.version m.client_id (record call { call = anew call.call; at = key; led = None })
+      → slice_set (map kept_by c.pending.items) place k ≡ map (kept_of m.version m.client_id) (asked_anew z key anew m.pending)
 
 -- what a client is after octets came on its link: it has ended, or it goes on
 abbrev pub IsFedTo : Client → Linked → List ℕ → Bool → List CodePending → List (ℤ × CodeEnded) → ClientLinked → Type 0

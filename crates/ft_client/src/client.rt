@@ -9,6 +9,7 @@ ghost use Rattle.ft_client.specs.facts.Texts.{clean_prop};
 ghost use Rattle.cdr_core.specs.Writing.{AreWritable};
 
 mod connecting;
+mod making;
 mod raw;
 mod redirecting;
 

@@ -68,6 +68,12 @@ IsOutcomeOf (operation t) (raised id members) = IsClean id × IsRaised t.raises 
 IsOutcomeOf raw_operation (raw status order body) = ⊤
 IsOutcomeOf _ outcome = ⊥
 
+-- an outcome that the owner of an engine may hand in for an operation: one of it, or the body of a Reply as it stands, as of an outcome
+-- that was stored while the operation had other types
+abbrev pub IsAnswerOf : Interface → Performed → Type 0
+IsAnswerOf _ (raw status order body) = ⊤
+IsAnswerOf i outcome = IsOutcomeOf i outcome
+
 -- an exception of the code
 abbrev pub raise_of : Vec ℕ Global × Vec Ty Global → List ℕ × Forms
 raise_of r = (r.0.items, forms_of r.1.items)

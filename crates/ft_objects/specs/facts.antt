@@ -6,6 +6,8 @@ pub mod Ranges
 pub mod Results
 pub mod Sizes
 pub mod Objects
+-- that an outcome of an operation may be handed in for it: proofs of callers cite it
+pub mod Answers
 -- that types are valid is a fact, with at most one proof: a field of `Typed` cites it
 pub mod Validity
 -- that catalogues that are filled in keep the promises of one: the `impl`s of `Interfaces` and of `Families` cite it

@@ -69,6 +69,13 @@ impl Interfaces {
         }
     }
 
+    /// Whether there are no objects.
+    pub fn is_empty(&self) -> bool
+        ensures { IsTrue result ↔ (offer_of self.now ≡ nothing) }
+    {
+        self.objects.is_empty()
+    }
+
     /// Adds an object without operations.
     pub fn add_object(&mut self, key: &[u8]) -> Result<(), InterfacesError>
         ensures free { OnOk result ((offer_of self.old).knows key.now ≡ false) }

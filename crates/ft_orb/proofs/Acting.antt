@@ -14,7 +14,7 @@ use Rattle.ft_log.specs.Performed.{Performed}
 use Rattle.ft_log.specs.declared.system_exception.SystemName.{SystemName}
 use Rattle.ft_log.specs.declared.system_exception.SystemName.TheVariants.{BadContext}
 use Rattle.ft_objects.specs.Catalogues.{Offer}
-use Rattle.ft_objects.specs.Interfaces.{IsOutcomeOf}
+use Rattle.ft_objects.specs.Interfaces.{IsAnswerOf}
 use Rattle.ft_orb.specs.declared.deeds.Deed.{Deed as CodeDeed}
 use Rattle.ft_orb.specs.declared.deeds.Deed.TheVariants as code
 use Rattle.ft_orb.specs.declared.engine.Engine.{Engine}
@@ -325,7 +325,7 @@ module _ {C : Type 0} (offers : C → Offer) (s : Settings) where
   fits-here : (g : Ledger) (old : Engine C) (x : Awaiting g old) (o : Performed) → CanAnswer (offers old.offering.catalogue) (waits_in old) x.a.request.number o → IsFor s (s.terms (changes g.past)).interface (Some x.a.request) o
   fits-here g old x o can =
       let y = subst (λ (w : Option Awaited). CanAnswer (offers old.offering.catalogue) w x.a.request.number o) x.asks.asks.waits can in
-      (y.1, subst (λ (f : Terms). IsOutcomeOf (f.interface x.a.request.call.object_key x.a.request.call.operation) o) x.asks.asks.keeps.offer_is y.2)
+      (y.1, subst (λ (f : Terms). IsAnswerOf (f.interface x.a.request.call.object_key x.a.request.call.operation) o) x.asks.asks.keeps.offer_is y.2)
 
   -- The request that waits is answered, parked or given up.
   pub answers-deed : (g : Ledger) (old new : Engine C) (x : Awaiting g old) (o : Performed) (note : Note) (before out : List ℕ) → before ≡ []
@@ -430,7 +430,7 @@ module _ {C : Type 0} (offers : C → Offer) (s : Settings) where
     where
       by : (p : Option CodeParked) → CanSettle (offers old.offering.catalogue) p o → IsFor s (s.terms (changes g.past)).interface (option_map (λ (p : CodeParked). awaited_of p.pending) p) o
       by None can = absurd can
-      by (Some p) can = (can.1, subst (λ (f : Terms). IsOutcomeOf (f.interface (awaited_of p.pending).call.object_key (awaited_of p.pending).call.operation) o) r.stays.rests.offer_is can.2)
+      by (Some p) can = (can.1, subst (λ (f : Terms). IsAnswerOf (f.interface (awaited_of p.pending).call.object_key (awaited_of p.pending).call.operation) o) r.stays.rests.offer_is can.2)
 
   shows-without : (g : Ledger) (old new : Engine C) → Shows offers s g.asked g.there old → (n : ℕ) → asks_in new ≡ asks_in old → parked_in new n ≡ None
       → ((q : ℕ) → (q == n) ≡ false → (parked_in new q ≡ parked_in old q) × (told_in new q ≡ told_in old q)) → Shows offers s g.asked (put_at n None g.there) new

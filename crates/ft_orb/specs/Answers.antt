@@ -30,7 +30,7 @@ abbrev pub Agrees : (List Call → Call → Performed) → List Call → List An
 Agrees rule calls [] = Unit {0}
 Agrees rule calls (a ∷ later) = (rule calls a.call ≡ a.outcome) × Agrees rule (calls ++ a.call ∷ []) later
 
--- each outcome can be sent, and is one of its call's operation, as `can_answer` says of it
+-- each outcome can be sent, and is one of its call's operation
 abbrev pub AreAnswers : Offer → List Answer → Type 0
 AreAnswers offer answers = AllByRecursion (λ a. IsRenderable a.outcome × IsOutcomeOf (offer.interface a.call.object_key a.call.operation) a.outcome) answers
 

@@ -6,7 +6,7 @@ use Rattle.giop_link.specs.Hearing.{Question}
 use Rattle.ft_log.specs.Holding.{Holding, known, parked}
 use Rattle.ft_log.specs.Performed.{Performed}
 use Rattle.ft_log.specs.declared.system_exception.SystemName.{SystemName}
-use Rattle.ft_objects.specs.Interfaces.{Interface, IsOutcomeOf}
+use Rattle.ft_objects.specs.Interfaces.{Interface, IsAnswerOf}
 use Rattle.ft_objects.specs.Replies.{IsRenderable}
 use Rattle.ft_orb.specs.declared.events.Note.{Note}
 use Rattle.ft_orb.specs.declared.events.Note.TheVariants.{Done, Memory}
@@ -281,10 +281,10 @@ module _ (s : Settings) where
     pub call : (i : ℕ) → i < length g.calls → g.held i ≡ parked n → ⊥
     pub nobody : g.waiting n ≡ []
 
-  -- the outcome can be sent, and is one of the operation of the request, as it is on offer now
+  -- the outcome can be sent, and may be handed in for the operation of the request, as it is on offer now
   abbrev pub IsFor : (interface : List ℕ → List ℕ → Interface) → Option Awaited → Performed → Type 0
   IsFor interface None outcome = ⊥
-  IsFor interface (Some w) outcome = IsRenderable outcome × IsOutcomeOf (interface w.call.object_key w.call.operation) outcome
+  IsFor interface (Some w) outcome = IsRenderable outcome × IsAnswerOf (interface w.call.object_key w.call.operation) outcome
 
   -- no more are parked than there are places, in all and of the request's connection: all numbers are below that of the next
   abbrev pub HasPlace : Ledger → Awaited → Type 0

@@ -15,7 +15,7 @@ use Rattle.ft_orb.specs.declared.wire.StreamEnd.TheVariants.{LinkClosed, Memory,
 use Rattle.ft_orb.specs.Answers.{Answer, calls_of}
 use Rattle.ft_orb.specs.History.{Changed, Close, Event, Lost, Opened, Piece, Withdrew, changes}
 use Rattle.ft_objects.specs.Catalogues.{Offer}
-use Rattle.ft_objects.specs.Interfaces.{IsOutcomeOf}
+use Rattle.ft_objects.specs.Interfaces.{IsAnswerOf}
 use Rattle.ft_objects.specs.Replies.{IsRenderable}
 use Rattle.ft_orb.specs.Parking.{Settings, Stays, goes_on, put_at, still}
 use Rattle.ft_orb.specs.Requests.{Call, offer_in}
@@ -44,9 +44,9 @@ answers_given call (Some outcome) = record { call = call; outcome = performed_in
 abbrev pub unfit : Performed
 unfit = system Internal 0 Maybe
 
--- an outcome can be sent, and is one of the call's operation
+-- an outcome can be sent, and may be handed in for the call's operation
 abbrev pub IsFor : Offer → Call → Performed → Type 0
-IsFor offer call outcome = IsRenderable outcome × IsOutcomeOf (offer.interface call.object_key call.operation) outcome
+IsFor offer call outcome = IsRenderable outcome × IsAnswerOf (offer.interface call.object_key call.operation) outcome
 
 -- the owner's outcome is handed in where it can be, and else INTERNAL
 abbrev pub IsHandedIn : Offer → Call → (gave handed : Performed) → Type 0

@@ -15,7 +15,7 @@ use Rattle.ft_log.specs.declared.system_exception.Completion.TheVariants.{Maybe,
 use Rattle.ft_log.specs.declared.system_exception.SystemName.{SystemName}
 use Rattle.ft_log.specs.declared.system_exception.SystemName.TheVariants.{Transient}
 use Rattle.ft_objects.specs.Catalogues.{Offer}
-use Rattle.ft_objects.specs.Interfaces.{IsOutcomeOf}
+use Rattle.ft_objects.specs.Interfaces.{IsAnswerOf}
 use Rattle.ft_objects.specs.Replies.{IsRenderable}
 use Rattle.ft_orb.specs.declared.engine.Engine.{Engine}
 use Rattle.ft_orb.specs.declared.engine.Fed.{Fed}
@@ -140,6 +140,14 @@ left_of (Some p) = length p.waiters.items
 abbrev pub left_in : {C : Type 0} → Engine C → ℕ → ℕ
 left_in e n = left_of (parked_at e n)
 
+-- how many of those who wait for it do so on connections that go on
+abbrev pub wanted_of : (goes : ℕ → Bool) → Option Parked → ℕ
+wanted_of goes None = 0
+wanted_of goes (Some p) = length (on_going goes p.waiters.items)
+
+abbrev pub wanted_in : {C : Type 0} → Engine C → (n : ℕ) → ℕ
+wanted_in e n = wanted_of (going_in e.links) (parked_at e n)
+
 -- those who wait for it on connections that go on, other than c
 abbrev pub others_of : (goes : ℕ → Bool) → (c : ℕ) → Option Parked → List Waiter
 others_of goes c None = []
@@ -148,11 +156,11 @@ others_of goes c (Some p) = elsewhere c (on_going goes p.waiters.items)
 abbrev pub others_under : {C : Type 0} → Engine C → (c n : ℕ) → List Waiter
 others_under e c n = others_of (going_in e.links) c (parked_at e n)
 
--- an outcome can be that of the request that is parked so: it has none yet, and it can be sent, and is one of its operation as that is
--- on offer now
+-- an outcome can be that of the request that is parked so: it has none yet, and it can be sent, and may be handed in for its operation
+-- as that is on offer now
 abbrev pub CanSettle : Offer → Option Parked → Performed → Type 0
 CanSettle offer None outcome = ⊥
-CanSettle offer (Some p) outcome = (p.outcome ≡ None) × IsRenderable outcome × IsOutcomeOf (offer.interface p.pending.waiting.object_key.items p.pending.waiting.operation.items) outcome
+CanSettle offer (Some p) outcome = (p.outcome ≡ None) × IsRenderable outcome × IsAnswerOf (offer.interface p.pending.waiting.object_key.items p.pending.waiting.operation.items) outcome
 
 -- what a request is told that is declined: it has done nothing (GIOP 9.4.3, COMPLETED_NO)
 abbrev pub not_now : SystemName → (minor : ℕ) → Performed

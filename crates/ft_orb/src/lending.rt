@@ -17,7 +17,7 @@ use crate::carrying::can_carry;
 use crate::counts::Counts;
 use crate::ending::{Ended, Ending};
 use crate::engine::Engine;
-use crate::outcomes::{is_outcome_of, is_renderable};
+use crate::outcomes::{is_answer_of, is_renderable};
 use ft_log::Outcome;
 use ft_objects::Catalogue;
 use giop_link::Inbound;
@@ -98,7 +98,8 @@ impl<C: Catalogue + Drop> Engine<C> {
     }
 
     /// Whether an outcome can answer the request of this number: that waits, and the outcome can be sent, and is one of its
-    /// operation, as each system exception is.
+    /// operation, as each system exception is. A raw outcome is the stored form of any outcome, the status, byte order and body
+    /// of a Reply, written for a place divisible by 8: its types are not looked at, and who hands it in answers for them.
     pub fn can_answer(&self, number: u64, outcome: &Outcome) -> bool
         ensures { IsTrue result ↔ CanAnswer (C.offers self.now.offering.catalogue) (waits_in self.now) number (performed_in outcome.now) }
     {
@@ -114,7 +115,7 @@ impl<C: Catalogue + Drop> Engine<C> {
             .offering
             .catalogue
             .interface(&waiting.object_key, &waiting.operation);
-        is_renderable(outcome) && is_outcome_of(lookup, outcome)
+        is_renderable(outcome) && is_answer_of(lookup, outcome)
     }
 
     /// Whether an outcome can answer the request of this number (`can_answer`), and the Reply can carry these service contexts:

@@ -1,4 +1,4 @@
-//! Which outcomes can be sent, and which are those of an operation.
+//! Which outcomes can be sent, and which may be handed in for an operation.
 
 ghost use Rattle.std.specs.Prelude.{◌≡◌, ◌↔◌, ◌+◌, ◌≤◌, IfSome, IsSome, IsTrue, Some, length, map};
 ghost use Rattle.std.specs.List.{AllByRecursion};
@@ -9,7 +9,7 @@ ghost use Rattle.cdr_core.specs.declared.order.Order.TheVariants.{Big};
 ghost use Rattle.giop_core.specs.Written.{exception_body};
 ghost use Rattle.ft_log.specs.Performed.{system};
 ghost use Rattle.ft_log.specs.View.{performed_in};
-ghost use Rattle.ft_objects.specs.Interfaces.{IsOutcomeOf, IsRaised, IsValidInterface, interface_of, raise_of};
+ghost use Rattle.ft_objects.specs.Interfaces.{IsAnswerOf, IsRaised, IsValidInterface, interface_of, raise_of};
 ghost use Rattle.ft_objects.specs.Replies.{IsRenderable, body_limit, body_of, order_of};
 
 use cdr_core::{Ty, Val, are_writable, end_of_list, fits, has_no_nul};
@@ -128,19 +128,19 @@ fn is_raised(raises: &[(Vec<u8>, Vec<Ty>)], id: &[u8], members: &[Val]) -> bool
     false
 }
 
-/// Whether an outcome is one of an operation: results of its types, or an exception that it declares; of a raw one
-/// octets; and a system exception, whatever is on offer.
-pub(crate) fn is_outcome_of(lookup: Lookup<'_>, outcome: &Outcome) -> bool
+/// Whether an outcome may be handed in for an operation: results of its types, or an exception that it declares; and,
+/// whatever is on offer, a system exception or the octets of a raw outcome, which were written before.
+pub(crate) fn is_answer_of(lookup: Lookup<'_>, outcome: &Outcome) -> bool
     requires { IsValidInterface (interface_of lookup) }
-    ensures { IsTrue result ↔ IsOutcomeOf (interface_of lookup.entry) (performed_in outcome.now) }
+    ensures { IsTrue result ↔ IsAnswerOf (interface_of lookup.entry) (performed_in outcome.now) }
 {
     match (lookup, outcome) {
         (_, Outcome::System(..)) => true,
+        (_, Outcome::Raw(..)) => true,
         (Lookup::Operation(types), Outcome::Returned(results)) => are_of(&types.results, results),
         (Lookup::Operation(types), Outcome::Raised(id, members)) => {
             has_no_nul(id) && is_raised(&types.raises, id, members)
         }
-        (Lookup::Raw, Outcome::Raw(..)) => true,
         _ => false,
     }
 }

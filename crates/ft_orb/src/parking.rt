@@ -26,10 +26,10 @@ use crate::ending::{Ended, Ending};
 use crate::engine::Engine;
 use crate::error::{ParkError, ServeError};
 use crate::keeper;
-use crate::outcomes::{is_outcome_of, is_renderable};
+use crate::outcomes::{is_answer_of, is_renderable};
 use crate::parked::Parked;
 use crate::pausing::Pending;
-use crate::waiters::{copy_of, count_all, is_going, own_waiter};
+use crate::waiters::{copy_of, count_all, count_going, is_going, own_waiter};
 use ft_log::Outcome;
 use ft_objects::Catalogue;
 use std::mem;
@@ -39,7 +39,7 @@ impl<C: Catalogue + Drop> Engine<C> {
     ghost use Rattle.ft_orb.specs.Carrying.{CanCarry, due_in, due_on, next_in, reply_if, unless_failed};
     ghost use Rattle.ft_orb.specs.Decisions.{one_more};
     ghost use Rattle.ft_orb.specs.Parked.{own_waiters};
-    ghost use Rattle.ft_orb.specs.Parking.{AreParked, AsksLate, CanSettle, IsDueLate, RepliesLate, ResumesLate, Settings, Stays, by_number, own_of, parked_at, parked_count, parked_in, parked_of, places_of, places_of_one, put_at, left_in, told_in, waits_on};
+    ghost use Rattle.ft_orb.specs.Parking.{AreParked, AsksLate, CanSettle, IsDueLate, RepliesLate, ResumesLate, Settings, Stays, by_number, own_of, parked_at, parked_count, parked_in, parked_of, places_of, places_of_one, put_at, left_in, told_in, waits_on, wanted_in};
 
     /// How many requests are parked.
     pub fn parked_len(&self) -> usize
@@ -67,6 +67,19 @@ impl<C: Catalogue + Drop> Engine<C> {
         count_all(&self.parked.requests, connection)
     }
 
+    /// How many wait for the outcome of the request that is parked under this number, on connections that go on: nobody where
+    /// nothing is parked so.
+    pub fn wanted(&self, number: u64) -> usize
+        ensures many { result ≡ wanted_in self.now number }
+        // who waits is who is told
+        ensures late { (s : Settings) (held : ℕ → Holding) (calls : List Call) (past : List history.Event) (waiting : ℕ → List Waiting) → Stays C.offers s held calls self.now past waiting → IsSome (parked_in self.now number) → result ≡ length (waiting number) }
+    {
+        match self.parked.requests.get(&number) {
+            Some(parked) => count_going(&parked.waiters, &self.links),
+            None => 0,
+        }
+    }
+
     /// The request that is parked under this number, if one is.
     pub fn parked(&self, number: u64) -> Option<Asked<'_>>
         ensures { option_map awaited_lent result ≡ parked_in self.now number }
@@ -83,7 +96,8 @@ impl<C: Catalogue + Drop> Engine<C> {
     }
 
     /// Whether an outcome can be that of the request that is parked under this number: it has none yet, and the outcome can be
-    /// sent, and is one of its operation as that is on offer now. A system exception is, whatever is on offer.
+    /// sent, and is one of its operation as that is on offer now. Whatever is on offer a system exception may be it, and a raw
+    /// outcome, the stored form of any: its types are not looked at (`can_answer`).
     pub fn can_settle(&self, number: u64, outcome: &Outcome) -> bool
         ensures { IsTrue result ↔ CanSettle (C.offers self.now.offering.catalogue) (parked_at self.now number) (performed_in outcome.now) }
     {
@@ -95,7 +109,7 @@ impl<C: Catalogue + Drop> Engine<C> {
             .offering
             .catalogue
             .interface(&waiting.object_key, &waiting.operation);
-        parked.outcome.is_none() && is_renderable(outcome) && is_outcome_of(lookup, outcome)
+        parked.outcome.is_none() && is_renderable(outcome) && is_answer_of(lookup, outcome)
     }
 
     /// Parks the request of this number, which waits (`is_open`): its outcome comes later, by `settle`, and the engine goes

@@ -81,6 +81,16 @@ pub(crate) fn own_waiter(
     Ok(waiters)
 }
 
+/// How many of them wait on connections that go on.
+pub(crate) fn count_going(waiters: &VecDeque<Waiter>, links: &BTreeMap<u64, ServerLink>) -> usize
+    ensures { result ≡ length (on_going (going_in links.now) waiters.now.items) }
+{
+    waiters
+        .iter()
+        .filter(|waiter| is_going(links, waiter.connection))
+        .count()
+}
+
 /// How many of them wait on a connection.
 fn count_on(waiters: &VecDeque<Waiter>, connection: u64) -> usize
     ensures { result ≡ on_connection connection waiters.now.items }

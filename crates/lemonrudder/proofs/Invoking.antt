@@ -15,6 +15,7 @@ use Rattle.ft_client.specs.Calling.{IsCallError, IsFitting, IsRecallError, IsRed
 use Rattle.ft_client.specs.Clients.{Called, Client, Pending, Redirected, Resumed, after, find_pending, is_resumed, is_taken, says}
 use Rattle.ft_client.specs.Directions.{stream}
 use Rattle.ft_client.specs.Messages.{octets_said, typed}
+use Rattle.ft_client.specs.Redirections.{asked_anew, in_place_of}
 use Rattle.ft_client.specs.Standing.{FtStands, down}
 use Rattle.lemonrudder.specs.declared.calling.Calling.{Calling}
 use Rattle.lemonrudder.specs.declared.refusal.Refusal.{Refusal}
@@ -90,10 +91,15 @@ pub client_redirects : (call : ℤ) (q : Question) (s : Calling) (c : FtClient) 
     → ((m : Client) → FtStands s.client m → IsFitting call (call_of q.key q.operation xs) m true)
     → ((m : Client) (p : Pending) → FtStands s.client m → find_pending call m.pending ≡ Some p → p.call.form ≡ typed → p.call.operation ≡ q.operation → p.call.arguments ≡ values_of xs
     → FtStands c (after (down m.limits) (Redirected call q.key) m))
+    → ((m : Client) → FtStands s.client m → FtStands c (record m { pending = asked_anew call q.key (in_place_of q.operation (values_of xs) typed) m.pending }))
     → OnRedirect call q s (record s { client = c }) (Ok 0)
-client_redirects call q s c xs are fitting stands = (
+client_redirects call q s c xs are fitting stands anew = (
   refl,
   values_of xs,
   are,
-  λ x st. (fitting x.client st.client, λ p find form operation arguments. stands_silent s c x _ st (stands x.client p st.client find form operation arguments)),
+  λ x st. record {
+    fitting = fitting x.client st.client;
+    anew = record { client = anew x.client st.client; placed = st.placed; due = st.due; last = st.last };
+    same = λ p find form operation arguments. stands_silent s c x _ st (stands x.client p st.client find form operation arguments);
+  },
 )

@@ -1,5 +1,5 @@
 -- What a request says of itself and of its client, in the head of the caller.
-use Rattle.std.specs.Prelude.{ℕ, pos, List, length}
+use Rattle.std.specs.Prelude.{ℕ, pos, min, List, length}
 use Rattle.giop_core.specs.declared.header.Version.{Version}
 use Rattle.giop_core.specs.declared.request.ReplyWish.{ReplyWish}
 use Rattle.giop_core.specs.Ft as ft
@@ -23,7 +23,7 @@ no_request = record {
   wish = 0;
   has_client = 0;
   retention_id = pos 0;
-  reserved = 0;
+  contexts = 0;
   client_size = 0;
   expiration = 0;
 }
@@ -33,6 +33,7 @@ abbrev pub with_client : Ft → RequestHead → RequestHead
 with_client (ft.present client_id retention_id expiration) h = record h { has_client = 1; retention_id = retention_id; client_size = length client_id; expiration = expiration }
 with_client _ h = h
 
--- a head with the version, the id, the wish and the FT_REQUEST of a request
+-- a head with the version, the id, the wish, how many service contexts there are, or the greatest number that there is room for, and
+-- the FT_REQUEST of a request
 abbrev pub with_question : Version → ℕ → ReplyWish → List (ℕ × List ℕ) → RequestHead → RequestHead
-with_question version id wish contexts h = with_client (ft_in contexts) (record h { request_id = id; version = minor_number version; wish = wish_number wish })
+with_question version id wish contexts h = with_client (ft_in contexts) (record h { request_id = id; version = minor_number version; wish = wish_number wish; contexts = min (length contexts) 4294967295 })

@@ -1,12 +1,12 @@
 -- What a call on a client does.
-use Rattle.std.specs.Prelude.{◌≡◌, ◌≢◌, ℕ, ◌<◌, ℤ, pos, Bool, List, [], ◌∷◌, ◌++◌, ◌≤◌, length, min, take, drop, is_some, option_map, Option, Some, None, Result, Ok, Err, FitsSigned, ◌⊎◌, ⊤}
+use Rattle.std.specs.Prelude.{◌≡◌, ◌≢◌, ℕ, ◌<◌, ℤ, pos, Bool, List, [], ◌∷◌, ◌++◌, ◌≤◌, length, min, take, drop, is_some, option_map, Option, Some, None, Result, Ok, Err, FitsSigned, ⊤}
 use Rattle.std.specs.Int.{from_bool, w32}
 use Rattle.std.specs.Option.{option_and_then}
 use Rattle.cdr_core.specs.declared.order.Order.TheVariants.{Big}
 use Rattle.cdr_core.specs.Spelling.{IsClean}
 use Rattle.giop_core.specs.Content.{Rest}
 use Rattle.giop_core.specs.declared.reply.ReplyStatus.TheVariants.{LocationForward, NoException, UserException}
-use Rattle.giop_core.specs.declared.header.Version.{Version}
+use Rattle.giop_core.specs.declared.header.Version.TheVariants.{V12}
 use Rattle.giop_frames.specs.declared.limits.Limits.{Limits}
 use Rattle.ft_client.specs.Clients.{Cancelled, Client, Ended, Expired, Fed, Happening, Joined, NeedsAddressing, Recalled, Sent, Taken, Ticked, Told, after, find_pending, new_client, parted, says, told_of}
 use Rattle.ft_client.specs.Directions.{stream}
@@ -19,7 +19,7 @@ use Rattle.lemonrudder.specs.declared.refusal.Refusal.{Refusal}
 use Rattle.lemonrudder.specs.declared.refusal.Refusal.TheVariants as refusal
 use Rattle.lemonrudder.specs.Copies.{Copies}
 use Rattle.lemonrudder.specs.Dues.{IsPlaced, owed}
-use Rattle.lemonrudder.specs.Naming.{AreLimits, HasLimits, order_number, version_named}
+use Rattle.lemonrudder.specs.Naming.{HasLimits, order_number}
 use Rattle.lemonrudder.specs.Refusals.{filled}
 
 -- a client as C has it: the client, the octets that are due on its connection, and how the call ended whose completion was
@@ -92,16 +92,16 @@ abbrev pub told : Ended → Option Rest
 told (Told status body) = Some body
 told _ = None
 
--- how a call ended, as the header numbers it; one that wishes for no reply, of which the library makes none, returned without a body
+-- how a call ended, as the header numbers it
 abbrev pub how_ended : Ended → ℕ
 how_ended (Told NoException body) = 0
 how_ended (Told UserException body) = 1
 how_ended (Told LocationForward body) = 3
 how_ended (Told _ body) = 2
 how_ended NeedsAddressing = 4
-how_ended Sent = 0
 how_ended Expired = 5
 how_ended Cancelled = 6
+how_ended Sent = 7
 
 -- where there is no body its numbers are 0
 abbrev pub body_or_none : Option Rest → Rest
@@ -137,11 +137,10 @@ OnOutput room new s t r = (r ≡ Ok (min (length (owed s.due)) (length room))) �
 abbrev pub IsName : List ℕ → Type 0
 IsName id = (1 ≤ length id) × (length id ≤ 256) × IsClean id
 
--- a client is made that has made no call; or a number is not allowed, or the name; or memory is short
-abbrev pub IsMade : (id : List ℕ) → (version message partials : ℕ) → Result Calling Refusal → Type 0
-IsMade id version message partials (Ok s) = (v : Version) × (limits : Limits) × (version_named version ≡ Some v) × HasLimits message partials limits
-    × Stands s (record { client = new_client id v limits; due = []; last = None })
-IsMade id version message partials (Err refusal.Range) = (version_named version ≡ None) ⊎ (¬ (AreLimits message partials))
-IsMade id version message partials (Err refusal.Text) = ¬ (IsName id)
-IsMade id version message partials (Err refusal.Memory) = ⊤
-IsMade id version message partials (Err e) = ⊥
+-- a client is made that has made no call: its messages are in 1.2, and its connections have messages of up to 1048576 octets, and 4
+-- that are partial; or its name is not allowed; or memory is short
+abbrev pub IsMade : (id : List ℕ) → Result Calling Refusal → Type 0
+IsMade id (Ok s) = (limits : Limits) × HasLimits 1048576 4 limits × Stands s (record { client = new_client id V12 limits; due = []; last = None })
+IsMade id (Err refusal.Text) = ¬ (IsName id)
+IsMade id (Err refusal.Memory) = ⊤
+IsMade id (Err e) = ⊥

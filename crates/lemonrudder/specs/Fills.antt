@@ -5,6 +5,7 @@ use Rattle.ft_objects.specs.Catalogues.{Offer}
 use Rattle.ft_objects.specs.Filling.{CanBeAdded, IsFree, IsNotValidOr, IsWhyNoObject, IsWhyNothing, TakesOperations, changed, ids_of, nothing, offer_of, raw_objects, with_object, with_operation, with_raw_object}
 use Rattle.ft_objects.specs.Interfaces.{Interface, raise_of, raw_operation}
 use Rattle.ft_objects.specs.declared.error.InterfacesError.{InterfacesError}
+use Rattle.ft_objects.specs.declared.interfaces.Interfaces.{Interfaces}
 use Rattle.lemonrudder.specs.declared.cataloguing.Cataloguing.{Cataloguing}
 use Rattle.lemonrudder.specs.declared.object.Object.{Object}
 use Rattle.lemonrudder.specs.declared.object.Object.TheVariants.{Catalogue}
@@ -12,21 +13,34 @@ use Rattle.lemonrudder.specs.declared.refusal.Refusal.{Refusal}
 use Rattle.lemonrudder.specs.Answers.{Opens}
 use Rattle.lemonrudder.specs.Refusals.{refusal_of_offering}
 
--- a catalogue: what it offers, which of its objects are raw as a whole, the repository ids that each names, if it names any, and
--- the exceptions that were declared for the operation that is added next
+-- objects under their keys: what they offer, which of them are raw as a whole, and the repository ids that each names, if it names any
+pub record Stock : Type 0 where
+  pub offer : Offer
+  pub raw : List ℕ → Bool
+  pub ids : List ℕ → Option (List (List ℕ))
+
+abbrev pub no_stock : Stock
+no_stock = record { offer = nothing; raw = λ key. false; ids = λ key. None }
+
+abbrev pub stock_of : Interfaces → Stock
+stock_of i = record { offer = offer_of i; raw = raw_objects i; ids = ids_of i }
+
+-- a catalogue: its objects, as those of a stock; its families, each under its prefix; and the exceptions that were declared for the
+-- operation that is added next
 pub record Filling : Type 0 where
   pub offer : Offer
   pub raw : List ℕ → Bool
   pub ids : List ℕ → Option (List (List ℕ))
+  pub families : Stock
   pub raises : List (List ℕ × Forms)
 
--- a catalogue without objects
+-- a catalogue without objects and families
 abbrev pub empty : Filling
-empty = record { offer = nothing; raw = λ key. false; ids = λ key. None; raises = [] }
+empty = record { offer = nothing; raw = λ key. false; ids = λ key. None; families = no_stock; raises = [] }
 
 -- what the library holds
 abbrev pub filling : Cataloguing → Filling
-filling s = record { offer = offer_of s.interfaces; raw = raw_objects s.interfaces; ids = ids_of s.interfaces; raises = map raise_of s.raises.items }
+filling s = let f = s.families in record { offer = offer_of f.objects; raw = raw_objects f.objects; ids = ids_of f.objects; families = stock_of f.families; raises = map raise_of s.raises.items }
 
 -- a catalogue without objects is put into a slot
 abbrev pub OpensEmpty : Option Object → Option Object → ℤ → Type 0

@@ -17,6 +17,7 @@ use Rattle.lemonrudder.specs.declared.assembling.MessageHead.{MessageHead}
 use Rattle.lemonrudder.specs.declared.refusal.Refusal.{Refusal}
 use Rattle.lemonrudder.specs.Copies.{Copies}
 use Rattle.lemonrudder.specs.Items.{CopiesItem}
+use Rattle.lemonrudder.specs.Layouts.{laid, octets_of_message}
 use Rattle.lemonrudder.specs.Naming.{minor_number, order_number, wish_number}
 
 -- the type of a message, as its header has it (GIOP 9.4.1)
@@ -150,13 +151,13 @@ said_in (Some f) = said_by (content_of f.header f.octets)
 abbrev pub said : Assembling → Option Content
 said s = said_in s.assembler.message
 
--- 1, and what the lent message says; or 0, where none is lent, and the head is as it was
-abbrev pub Tells : Option Frame → (head new : MessageHead) → Result ℕ Refusal → Type 0
-Tells None head new r = (r ≡ Ok 0) × (new ≡ head)
-Tells (Some f) head new r = (r ≡ Ok 1) × ((c : Content) × (content_of f.header f.octets ≡ Ok c) × (new ≡ head_of f.header.version f.header.order c))
+-- 1, and what the lent message says, as much of the struct as the room has; or 0, where none is lent, and the room is as it was
+abbrev pub Tells : Option Frame → (room new : List ℕ) → Result ℕ Refusal → Type 0
+Tells None room new r = (r ≡ Ok 0) × (new ≡ room)
+Tells (Some f) room new r = (r ≡ Ok 1) × ((c : Content) × (content_of f.header f.octets ≡ Ok c) × (new ≡ laid (octets_of_message (head_of f.header.version f.header.order c)) room))
 
-abbrev pub OnMessage : (head new : MessageHead) → Assembling → Assembling → Result ℕ Refusal → Type 0
-OnMessage head new s t r = (t ≡ s) × Tells s.assembler.message head new r
+abbrev pub OnMessage : (room new : List ℕ) → Assembling → Assembling → Result ℕ Refusal → Type 0
+OnMessage room new s t r = (t ≡ s) × Tells s.assembler.message room new r
 
 -- a part of the lent message is copied, if there is one and it has it
 abbrev pub OnPart : ℕ → (room new : List ℕ) → Assembling → Assembling → Result ℕ Refusal → Type 0

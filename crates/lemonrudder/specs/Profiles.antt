@@ -13,6 +13,7 @@ use Rattle.lemonrudder.specs.declared.refusal.Refusal.{Refusal}
 use Rattle.lemonrudder.specs.declared.refusal.Refusal.TheVariants as refusal
 use Rattle.lemonrudder.specs.Copies.{Copies}
 use Rattle.lemonrudder.specs.Items.{CopiesItem}
+use Rattle.lemonrudder.specs.Layouts.{laid, octets_of_profile}
 
 -- the profile of an index, if there is one
 abbrev pub profile_at : ℕ → Referring → Option Tagged
@@ -44,15 +45,15 @@ head_of p (Some q) = record {
   reserved = 0;
 }
 
--- what is reported by what a profile is seen as; or why nothing is, and the head is as it was
-abbrev pub Tells : Option Tagged → Result (Option IiopProfile) Refusal → (head new : ProfileHead) → Result ℕ Refusal → Type 0
-Tells (Some p) (Ok q) head new r = (r ≡ Ok 0) × (new ≡ head_of p q)
-Tells None (Ok q) head new r = ⊥
-Tells profile (Err e) head new r = (r ≡ Err e) × (new ≡ head)
+-- what is reported by what a profile is seen as, as much of the struct as the room has; or why nothing is, and the room is as it was
+abbrev pub Tells : Option Tagged → Result (Option IiopProfile) Refusal → (room new : List ℕ) → Result ℕ Refusal → Type 0
+Tells (Some p) (Ok q) room new r = (r ≡ Ok 0) × (new ≡ laid (octets_of_profile (head_of p q)) room)
+Tells None (Ok q) room new r = ⊥
+Tells profile (Err e) room new r = (r ≡ Err e) × (new ≡ room)
 
 -- what is reported of the profile of an index
-abbrev pub OnProfile : ℕ → (head new : ProfileHead) → Referring → Referring → Result ℕ Refusal → Type 0
-OnProfile index head new s t r = (t ≡ s) × (seen : Result (Option IiopProfile) Refusal) × IsSeenAt (profile_at index s) seen × Tells (profile_at index s) seen head new r
+abbrev pub OnProfile : ℕ → (room new : List ℕ) → Referring → Referring → Result ℕ Refusal → Type 0
+OnProfile index room new s t r = (t ≡ s) × (seen : Result (Option IiopProfile) Refusal) × IsSeenAt (profile_at index s) seen × Tells (profile_at index s) seen room new r
 
 -- a part of a profile of IIOP, by its number in the header
 abbrev pub part_in : ℕ → IiopProfile → Option (List ℕ)

@@ -1,32 +1,33 @@
--- What is reported of the request that waits.
+-- What is reported of the request that waits, and of one that is parked.
 use Rattle.std.specs.Prelude.{◌≡◌, ◌⊎◌, ℕ, ◌<◌, ◌^◌, nat_lt, Bool, true, false, if◌then◌else◌, List, length, Option, Some, None, unwrap_or, Result, Ok, Err}
 use Rattle.std.specs.Int.{from_bool}
 use Rattle.std.specs.Option.{option_map_or}
 use Rattle.cdr_core.specs.declared.order.Order.TheVariants.{Big}
 use Rattle.cdr_core.specs.Value.{Values}
 use Rattle.cdr_core.specs.Writing.{AreWritable, octets_of_all}
-use Rattle.giop_core.specs.Ft as ft
-use Rattle.giop_core.specs.Ft.{Ft, ft_in}
 use Rattle.giop_link.specs.Hearing.{Question}
 use Rattle.ft_objects.specs.Accessors.{boolean_of, octets_in, read_at, ulong_of}
 use Rattle.ft_log.specs.Holding.{Holding}
 use Rattle.ft_orb.specs.declared.parked.Waiter.{Waiter}
 use Rattle.ft_orb.specs.Engines.{Asks, Awaited, waits_in}
 use Rattle.ft_objects.specs.Families.{families_offer}
+use Rattle.ft_orb.specs.ExactlyOnce.{Absent, Bad, Field, Present}
 use Rattle.ft_orb.specs.History.{Event}
 use Rattle.ft_objects.specs.Interfaces.{Interface, raw_operation}
 use Rattle.ft_orb.specs.Owners.{Owner}
-use Rattle.ft_orb.specs.Parking.{AsksLate, Settings}
+use Rattle.ft_orb.specs.Parking.{AsksLate, Settings, parked_in}
 use Rattle.ft_orb.specs.Requests.{Call}
 use Rattle.lemonrudder.specs.declared.refusal.Refusal.{Refusal}
 use Rattle.lemonrudder.specs.declared.refusal.Refusal.TheVariants as refusal
 use Rattle.lemonrudder.specs.declared.request.RequestHead.{RequestHead}
 use Rattle.lemonrudder.specs.declared.serving.Serving.{Serving}
+use Rattle.lemonrudder.specs.declared.serving.questions.Found.{Found}
 use Rattle.lemonrudder.specs.Asking.{no_request, with_question}
+use Rattle.lemonrudder.specs.Layouts.{laid, octets_of_request}
 use Rattle.lemonrudder.specs.Outcomes.{interface_at}
 use Rattle.lemonrudder.specs.Refusals.{filled}
 use Rattle.lemonrudder.specs.Serves.{IsIdle}
-use Rattle.lemonrudder.specs.Tickets.{ticket_of}
+use Rattle.lemonrudder.specs.Tickets.{named_by, ticket_of}
 
 -- a head with what it says of the body: of a raw operation the octets as they came, their order and their place, and else how many
 -- octets the arguments are in big order from place 0
@@ -43,13 +44,13 @@ with_body _ arguments h = let n = length (octets_of_all Big arguments 0) in reco
 abbrev pub head_of : Interface → Awaited → Question → RequestHead
 head_of i w q = with_body i w.call.arguments (with_question q.version q.id q.wish q.contexts (record no_request { ticket = ticket_of w.number; connection = w.connection; key_size = length w.call.object_key; operation_size = length w.call.operation }))
 
--- the head of what waits is reported, and 1; where nothing waits 0, and the caller's head is as it was
-abbrev pub OnAsked : (head new : RequestHead) → Serving → Serving → Result ℕ Refusal → Type 0
-OnAsked head new s t r = (t ≡ s) × (IsIdle s → (r ≡ Ok 0) × (new ≡ head))
+-- the head of what waits is reported, as much of the struct as the room has, and 1; where nothing waits 0, and the room is as it was
+abbrev pub OnAsked : (room new : List ℕ) → Serving → Serving → Result ℕ Refusal → Type 0
+OnAsked room new s t r = (t ≡ s) × (IsIdle s → (r ≡ Ok 0) × (new ≡ room))
     × ((owner : Owner) (calls : List Call) (past : List Event) (moment : ℕ) (octets written : List ℕ) (w : Awaited) → (a : Asks families_offer owner calls s.engine past moment octets written w)
-    → (r ≡ Ok 1) × (new ≡ head_of (interface_at s w) w a.question))
+    → (r ≡ Ok 1) × (new ≡ laid (octets_of_request (head_of (interface_at s w) w a.question)) room))
     × ((x : Settings) (held : ℕ → Holding) (calls : List Call) (past : List Event) (waiting : ℕ → List Waiter) (moment : ℕ) (octets written : List ℕ) (w : Awaited) → (a : AsksLate families_offer x held calls s.engine past waiting moment octets written w)
-    → (r ≡ Ok 1) × (new ≡ head_of (interface_at s w) w a.asks.question))
+    → (r ≡ Ok 1) × (new ≡ laid (octets_of_request (head_of (interface_at s w) w a.asks.question)) room))
 
 -- octets are copied to the front of a room, as many as it has, and how many they are is returned
 abbrev pub Tells : List ℕ → (room new : List ℕ) → Result ℕ Refusal → Type 0
@@ -71,24 +72,21 @@ TellsBody _ arguments room new r =
     × (¬ (AreWritable arguments) → TellsNone refusal.None room new r)
 
 -- the client id, if the request carries one
-abbrev pub client_in : Ft → Option (List ℕ)
-client_in (ft.present client_id retention_id expiration) = Some client_id
-client_in _ = None
+abbrev pub client_of : Field → Option (List ℕ)
+client_of Absent = None
+client_of Bad = None
+client_of (Present key expiration) = Some key.client_id
 
--- the client id of the request that waits is reported, if it carries one
-abbrev pub TellsClient : (room new : List ℕ) → Serving → Result ℕ Refusal → Type 0
-TellsClient room new s r = ((owner : Owner) (calls : List Call) (past : List Event) (moment : ℕ) (octets written : List ℕ) (w : Awaited) → (a : Asks families_offer owner calls s.engine past moment octets written w)
-    → TellsIfSome (client_in (ft_in a.question.contexts)) room new r)
-    × ((x : Settings) (held : ℕ → Holding) (calls : List Call) (past : List Event) (waiting : ℕ → List Waiter) (moment : ℕ) (octets written : List ℕ) (w : Awaited) → (a : AsksLate families_offer x held calls s.engine past waiting moment octets written w)
-    → TellsIfSome (client_in (ft_in a.asks.question.contexts)) room new r)
+-- of a request that is found this is told
+abbrev pub TellsFound : Result (Found × Awaited) Refusal → (room new : List ℕ) → Result ℕ Refusal → (Awaited → Type 0) → Type 0
+TellsFound (Err e) room new r Does = TellsNone e room new r
+TellsFound (Ok x) room new r Does = Does x.1
 
--- a part of the request that waits is reported: its object key, its operation, its body or its client id
-abbrev pub OnPart : ℕ → (room new : List ℕ) → Serving → Serving → Result ℕ Refusal → Type 0
-OnPart part room new s t r = (t ≡ s) × (IsIdle s → TellsNone refusal.Idle room new r)
-    × ((w : Awaited) → waits_in s.engine ≡ Some w
-    → (part ≡ 0 → Tells w.call.object_key room new r) × (part ≡ 1 → Tells w.call.operation room new r)
-    × (part ≡ 2 → TellsBody (interface_at s w) w.call.arguments room new r) × (3 < part → TellsNone refusal.None room new r))
-    × (part ≡ 3 → TellsClient room new s r)
+-- a part of the request of a ticket, which waits or is parked, is reported: its object key, its operation, its body or its client id
+abbrev pub OnPart : (ticket part : ℕ) → (room new : List ℕ) → Serving → Serving → Result ℕ Refusal → Type 0
+OnPart ticket part room new s t r = (t ≡ s) × TellsFound (named_by ticket (waits_in s.engine) (parked_in s.engine)) room new r (λ w.
+    (part ≡ 0 → Tells w.call.object_key room new r) × (part ≡ 1 → Tells w.call.operation room new r)
+    × (part ≡ 2 → TellsBody (interface_at s w) w.call.arguments room new r) × (part ≡ 3 → TellsIfSome (client_of w.field) room new r) × (3 < part → TellsNone refusal.None room new r))
 
 -- Words of private functions.
 

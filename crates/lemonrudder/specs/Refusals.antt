@@ -7,6 +7,10 @@ use Rattle.cdr_core.specs.declared.fault.Kind.{Kind}
 use Rattle.cdr_core.specs.declared.fault.Kind.TheVariants as kind
 use Rattle.ft_client.specs.declared.error.CallError.{CallError}
 use Rattle.ft_client.specs.declared.error.CallError.TheVariants as calling
+use Rattle.ft_client.specs.declared.error.RawCallError.{RawCallError}
+use Rattle.ft_client.specs.declared.error.RawCallError.TheVariants as raw_calling
+use Rattle.ft_client.specs.declared.error.RawRecallError.{RawRecallError}
+use Rattle.ft_client.specs.declared.error.RawRecallError.TheVariants as raw_recalling
 use Rattle.ft_client.specs.declared.error.RecallError.{RecallError}
 use Rattle.ft_client.specs.declared.error.RecallError.TheVariants as recalling
 use Rattle.ft_client.specs.declared.error.RedirectError.{RedirectError}
@@ -33,7 +37,7 @@ error_number refusal.Range = negsuc 3
 error_number refusal.Connection = negsuc 4
 error_number refusal.Asking = negsuc 5
 error_number refusal.Idle = negsuc 6
-error_number refusal.Due = negsuc 7
+error_number refusal.Parks = negsuc 7
 error_number refusal.Outcome = negsuc 8
 error_number refusal.Room = negsuc 9
 error_number refusal.Short = negsuc 10
@@ -97,6 +101,16 @@ refusal_of_recalling recalling.Expired = refusal.Expired
 refusal_of_recalling recalling.TooManyCalls = refusal.Calls
 refusal_of_recalling recalling.TooLong = refusal.Long
 refusal_of_recalling recalling.Memory = refusal.Memory
+
+abbrev pub refusal_of_raw_calling : RawCallError → Refusal
+refusal_of_raw_calling raw_calling.FtRequest = refusal.Value
+refusal_of_raw_calling (raw_calling.Untaken e) = refusal_of_calling e
+refusal_of_raw_calling raw_calling.Misplaced = refusal.Place
+
+abbrev pub refusal_of_raw_recalling : RawRecallError → Refusal
+refusal_of_raw_recalling raw_recalling.FtRequest = refusal.Value
+refusal_of_raw_recalling (raw_recalling.Untaken e) = refusal_of_recalling e
+refusal_of_raw_recalling raw_recalling.Misplaced = refusal.Place
 
 abbrev pub refusal_of_redirecting : RedirectError → Refusal
 refusal_of_redirecting redirecting.NotForwarded = refusal.Forward

@@ -1,37 +1,30 @@
--- What a client is set to keep, and calls that go on: those that are sent again, those of before, and those that are led elsewhere.
-use Rattle.std.specs.Prelude.{◌≡◌, ◌≢◌, ◌⊎◌, ℕ, ◌==◌, ℤ, Bool, true, if◌then◌else◌, List, [], FitsSigned, Option, Some, None, Result, Ok, Err}
+-- Calls of a client that go on: those that are sent again, those of before, and those that are led elsewhere.
+use Rattle.std.specs.Prelude.{◌≡◌, ◌≢◌, ◌⊎◌, ℕ, ℤ, true, List, [], FitsSigned, Option, Some, None, Result, Ok, Err}
 use Rattle.std.specs.Int.{w32}
-use Rattle.std.specs.Option.{option_and_then, option_map}
+use Rattle.std.specs.Option.{option_map}
 use Rattle.cdr_core.specs.Value.{Values}
 use Rattle.giop_core.specs.Content.{Rest}
 use Rattle.giop_core.specs.declared.reply.ReplyStatus.TheVariants.{LocationForward}
 use Rattle.ft_client.specs.declared.error.RecallError.{RecallError}
 use Rattle.ft_client.specs.declared.error.RedirectError.{RedirectError}
 use Rattle.ft_client.specs.Calling.{IsFitting, IsRecallError, IsRedirectError}
-use Rattle.ft_client.specs.Clients.{Happening, Kept, KeptForwards, Pending, Redirected, Resent, Resumed, Skipped, Told, find_pending, first_led, is_resumed, parted, says}
+use Rattle.ft_client.specs.Clients.{Happening, Pending, Redirected, Resent, Resumed, Skipped, Told, find_pending, first_led, is_resumed, parted, says}
 use Rattle.ft_client.specs.Ends.{led_to}
 use Rattle.ft_client.specs.Messages.{typed}
+use Rattle.ft_client.specs.Redirections.{asked_anew, in_place_of}
 use Rattle.lemonrudder.specs.declared.calling.Calling.{Calling}
 use Rattle.lemonrudder.specs.declared.calling.CompletionHead.{CompletionHead}
 use Rattle.lemonrudder.specs.declared.refusal.Refusal.{Refusal}
 use Rattle.lemonrudder.specs.declared.refusal.Refusal.TheVariants as refusal
 use Rattle.lemonrudder.specs.Calls.{Becomes, Standing, Stands, Stays, happened, head_of}
 use Rattle.lemonrudder.specs.Invokes.{AreAsked, IsWhyUnasked, Question, asked}
-use Rattle.lemonrudder.specs.Naming.{call_numbered, truth_named}
+use Rattle.lemonrudder.specs.Naming.{call_numbered}
 use Rattle.lemonrudder.specs.Refusals.{filled, refusal_of_recalling, refusal_of_redirecting}
 
 -- something happens to a client; or a number is none of those that are allowed, and nothing has changed
 abbrev pub HappensIf : Option Happening → Calling → Calling → Result ℕ Refusal → Type 0
 HappensIf None s t r = (r ≡ Err refusal.Range) × (t ≡ s)
 HappensIf (Some h) s t r = (r ≡ Ok 0) × Becomes (happened h) s t
-
--- what is set, as the header numbers it: whether TRANSIENT leaves a call pending, or a forward
-abbrev pub setting : (what : ℕ) → Bool → Option Happening
-setting what keeps = if what == 1 then Some (Kept keeps) else (if what == 2 then Some (KeptForwards keeps) else None)
-
--- it is set to 0 or 1
-abbrev pub OnSet : (what value : ℕ) → Calling → Calling → Result ℕ Refusal → Type 0
-OnSet what value s t r = HappensIf (option_and_then (setting what) (truth_named value)) s t r
 
 -- numbers up to one were given to calls of before
 abbrev pub OnSkip : (call : ℤ) → Calling → Calling → Result ℕ Refusal → Type 0
@@ -65,10 +58,12 @@ LeadsTo (Some l) head new room filled_room r = (r ≡ Ok 1) × (new ≡ head_of 
 abbrev pub OnForwarded : (head new : CompletionHead) → (room filled_room : List ℕ) → Calling → Calling → Result ℕ Refusal → Type 0
 OnForwarded head new room filled_room s t r = (t ≡ s) × ((x : Standing) → Stands s x → LeadsTo (led_to (first_led x.client.pending)) head new room filled_room r)
 
--- A call that is led elsewhere is asked for under another key. Of another operation than its own, or other arguments, nothing is said.
-abbrev pub Redirects : (call : ℤ) → Question → Values → Standing → Calling → Type 0
-Redirects call q vs x t = IsFitting call (asked q vs) x.client true
-    × ((p : Pending) → find_pending call x.client.pending ≡ Some p → p.call.form ≡ typed → p.call.operation ≡ q.operation → p.call.arguments ≡ vs → Stands t (happened (Redirected call q.key) x))
+-- A call that is led elsewhere is asked for under another key. This is what it asks from now on, whatever it asked before; where it asked
+-- the same, it is that call.
+pub record Redirects (call : ℤ) (q : Question) (vs : Values) (x : Standing) (t : Calling) : Type 0 where
+  pub fitting : IsFitting call (asked q vs) x.client true
+  pub anew : Stands t (record x { client = record x.client { pending = asked_anew call q.key (in_place_of q.operation vs typed) x.client.pending } })
+  pub same : (p : Pending) → find_pending call x.client.pending ≡ Some p → p.call.form ≡ typed → p.call.operation ≡ q.operation → p.call.arguments ≡ vs → Stands t (happened (Redirected call q.key) x)
 
 -- why a call is not redirected: its number is none of 32 bits, it can't be asked, or the client does not redirect it
 abbrev pub IsWhyUnled : (call : ℤ) → Question → Calling → Refusal → Type 0

@@ -5,7 +5,6 @@ ghost use Rattle.lemonrudder.specs.Answers.{OnAssembler};
 ghost use Rattle.lemonrudder.specs.Assembles.{OnFault, OnFeed};
 ghost use Rattle.lemonrudder.specs.Lends.{OnContext, OnMessage, OnPart};
 
-use crate::assembling::MessageHead;
 use crate::object::Object;
 use crate::refusal::{Refusal, number_of, signed};
 
@@ -30,14 +29,14 @@ pub fn fault(object: &Object) -> i64
 }
 
 /// Says what the message is that the last feed completed.
-pub fn message(object: &Object, head: &mut MessageHead) -> i64
-    ensures told { OnAssembler (OnMessage head.old head.new) (Some object.now) (Some object.now) result }
-    ensures none { result ≤ℤ pos 0 → head.new ≡ head.old }
+pub fn message(object: &Object, room: &mut [u8]) -> i64
+    ensures told { OnAssembler (OnMessage room.old room.new) (Some object.now) (Some object.now) result }
+    ensures none { result ≤ℤ pos 0 → room.new ≡ room.old }
 {
     let Object::Assembler(assembler) = object else {
         return Refusal::Empty.number();
     };
-    signed(assembler.message(head))
+    signed(assembler.message(room))
 }
 
 /// Copies a part of that message.

@@ -5,6 +5,7 @@ ghost use Rattle.giop_core.specs.Lent.{content_of};
 ghost use Rattle.lemonrudder.specs.Assembles.{fault_number};
 ghost use Rattle.lemonrudder.specs.Lends.{head_of};
 
+use crate::layout::Layout;
 use crate::lent::{
     body_of, client_of, context_of, count_of_contexts, expiration_of, ft_of, id_of, key_of,
     kind_of, operation_of, part_of, payload_of, place_of, retention_of, size_of, status_of,
@@ -17,7 +18,6 @@ use giop_frames::{Assembler, StreamFault};
 use std::alloc::Global;
 
 /// A message: `lr_message`.
-#[repr(C)]
 #[derive(Clone, Copy, Debug, Drop)]
 pub struct MessageHead {
     pub key_size: u64,
@@ -37,6 +37,35 @@ pub struct MessageHead {
     pub retention_id: i32,
     pub client_size: u64,
     pub expiration: u64,
+}
+
+impl MessageHead {
+    ghost use Rattle.lemonrudder.specs.Layouts.{laid, octets_of_message};
+
+    /// Fills a room: with the octets of the struct, as many as it has, and with zeros behind.
+    fn tell(&self, room: &mut [u8])
+        ensures { room.new ≡ laid (octets_of_message self.now) room.old }
+    {
+        let mut layout = Layout::new();
+        layout.put_u64(self.key_size);
+        layout.put_u64(self.operation_size);
+        layout.put_u64(self.body_size);
+        layout.put_u64(self.body_at);
+        layout.put_u64(self.payload_size);
+        layout.put_u32(self.kind);
+        layout.put_u32(self.version);
+        layout.put_u32(self.order);
+        layout.put_u32(self.request_id);
+        layout.put_u32(self.status);
+        layout.put_u32(self.wish);
+        layout.put_u32(self.contexts);
+        layout.put_u32(self.has_key);
+        layout.put_u32(self.has_client);
+        layout.put_i32(self.retention_id);
+        layout.put_u64(self.client_size);
+        layout.put_u64(self.expiration);
+        layout.fill(room);
+    }
 }
 
 /// An assembler, and the first fault of its stream, as a number.
@@ -136,15 +165,16 @@ impl Assembling {
     }
 
     /// Says what the message is that the last feed completed.
-    pub fn message(&self, head: &mut MessageHead) -> u64
-        ensures told { OnMessage head.old head.new self.now self.now (Ok result) }
-        ensures none { result ≡ 0 → head.new ≡ head.old }
+    pub fn message(&self, room: &mut [u8]) -> u64
+        ensures told { OnMessage room.old room.new self.now self.now (Ok result) }
+        ensures none { result ≡ 0 → room.new ≡ room.old }
     {
         let Some(message) = self.assembler.message() else {
             return 0;
         };
-        *head = head_of(&message);
+        let mut head = head_of(&message);
         head.contexts = count_of_contexts(message.content);
+        head.tell(room);
         1
     }
 

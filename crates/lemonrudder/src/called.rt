@@ -4,7 +4,10 @@ ghost use Rattle.std.specs.Prelude.{◌≡◌, ◌<ℤ◌, ◌≤ℤ◌, pos, So
 ghost use Rattle.lemonrudder.specs.Answers.{OnClient};
 ghost use Rattle.lemonrudder.specs.Calls.{OnBody, OnCancel, OnCompleted, OnConnected, OnFeed, OnIsConnected, OnLost, OnOutput, OnTick};
 ghost use Rattle.lemonrudder.specs.Invokes.{OnCall, question_of};
-ghost use Rattle.lemonrudder.specs.Resuming.{OnForwarded, OnRecall, OnRedirect, OnResend, OnSet, OnSkip};
+ghost use Rattle.lemonrudder.specs.Resuming.{OnForwarded, OnRecall, OnRedirect, OnResend, OnSkip};
+ghost use Rattle.lemonrudder.specs.Settings.{OnSet};
+
+pub mod raw;
 
 use crate::calling::{CompletionHead, Question};
 use crate::object::Object;
@@ -40,7 +43,7 @@ pub fn is_connected(object: &Object) -> i64
     signed(client.is_connected())
 }
 
-/// Says whether TRANSIENT leaves calls pending from now on, or a forward.
+/// Sets what a client keeps, or what it is made with.
 pub fn set(object: &mut Object, what: u32, value: u64) -> i64
     ensures { OnClient (OnSet what value) (Some object.old) (Some object.new) result }
 {

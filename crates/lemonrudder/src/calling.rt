@@ -5,13 +5,23 @@ ghost use Rattle.ft_client.specs.Ends.{body_of, ended_of};
 ghost use Rattle.lemonrudder.specs.Calls.{head_of, head_with, how_ended, told};
 
 mod asking;
+mod raw;
+mod setting;
 
 use crate::due::Due;
-use crate::named::{limits_of, number_of_call, number_of_order, truth_of, version_of};
+use crate::named::{limits_of, number_of_call, number_of_order};
 use crate::refusal::{Refusal, copied, count_of};
 use cdr_core::has_no_nul;
 use ft_client::{Ended, FtClient, ReplyBody};
+use giop_core::Version;
+pub use raw::RawQuestion;
 use std::alloc::Global;
+
+/// How many octets a message may have that comes, where nothing is set.
+const MESSAGE: u32 = 1_048_576;
+
+/// How many messages may be partial at a time, where nothing is set.
+const PARTIALS: u32 = 4;
 
 /// A call that ended: `lr_completion`.
 #[repr(C)]
@@ -55,9 +65,9 @@ fn of_ended(ended: &Ended) -> (u32, Option<&ReplyBody>)
         Ended::System(body) => (2, Some(body)),
         Ended::Forwarded(body) => (3, Some(body)),
         Ended::NeedsAddressing => (4, None),
-        Ended::Sent => (0, None),
         Ended::Expired => (5, None),
         Ended::Cancelled => (6, None),
+        Ended::Sent => (7, None),
     }
 }
 
@@ -90,25 +100,18 @@ fn head_of(call: i32, ended: &Ended) -> CompletionHead
 impl Calling {
     ghost use Rattle.std.specs.Prelude.{◌≡◌, Ok, false, is_some};
     ghost use Rattle.lemonrudder.specs.Calls.{IsMade, OnBody, OnCancel, OnCompleted, OnConnected, OnFeed, OnIsConnected, OnLost, OnOutput, OnTick};
-    ghost use Rattle.lemonrudder.specs.Resuming.{OnResend, OnSet, OnSkip};
+    ghost use Rattle.lemonrudder.specs.Resuming.{OnResend, OnSkip};
 
     /// A client that is not connected.
-    pub fn new(
-        alloc: Global,
-        id: &[u8],
-        version: u32,
-        message: u32,
-        partials: u32,
-    ) -> Result<Calling, Refusal>
-        ensures { IsMade id.now version message partials result }
+    pub fn new(alloc: Global, id: &[u8]) -> Result<Calling, Refusal>
+        ensures { IsMade id.now result }
     {
-        let version = version_of(version)?;
-        let limits = limits_of(message, partials)?;
+        let limits = limits_of(MESSAGE, PARTIALS)?;
         if id.is_empty() || id.len() > 256 || !has_no_nul(id) {
             return Err(Refusal::Text);
         }
         Ok(Calling {
-            client: FtClient::new(alloc, id, version, limits)?,
+            client: FtClient::new(alloc, id, Version::V12, limits)?,
             alloc,
             due: Due::new(Vec::new(alloc)),
             ended: None,
@@ -141,19 +144,6 @@ impl Calling {
         ensures { OnIsConnected self.now self.now (Ok result) }
     {
         u64::from(self.client.is_connected())
-    }
-
-    /// Says whether TRANSIENT leaves calls pending from now on, or a forward.
-    pub fn set(&mut self, what: u32, value: u64) -> Result<u64, Refusal>
-        ensures { OnSet what value self.old self.new result }
-    {
-        let keeps = truth_of(value)?;
-        match what {
-            1 => self.client.keep_on_transient(keeps),
-            2 => self.client.keep_on_forward(keeps),
-            _ => return Err(Refusal::Range),
-        }
-        Ok(0)
     }
 
     /// Numbers up to this one were given to calls of before.

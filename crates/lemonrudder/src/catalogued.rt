@@ -3,8 +3,10 @@
 ghost use Rattle.std.specs.Prelude.{Some};
 ghost use Rattle.lemonrudder.specs.Answers.{OnCatalogue};
 ghost use Rattle.lemonrudder.specs.Declares.{OnException, OnOperation};
+ghost use Rattle.lemonrudder.specs.Families.{OnDefault, OnFamilies, OnRemove};
 ghost use Rattle.lemonrudder.specs.Fills.{OnObject, OnRawObject, OnRawOperation};
 ghost use Rattle.lemonrudder.specs.Identifies.{OnRepositoryIds};
+ghost use Rattle.lemonrudder.specs.Pairs.{OnCatalogues};
 
 use crate::object::Object;
 use crate::refusal::{Refusal, number_of};
@@ -73,4 +75,37 @@ pub fn repository_ids(object: &mut Object, key: &[u8], ids: &[u8]) -> i64
         return Refusal::Empty.number();
     };
     number_of(catalogue.repository_ids(key, ids))
+}
+
+/// Adds an object whose every operation is raw, for each key that leads to no other.
+pub fn default(object: &mut Object) -> i64
+    ensures { OnCatalogue OnDefault (Some object.old) (Some object.new) result }
+{
+    let Object::Catalogue(catalogue) = object else {
+        return Refusal::Empty.number();
+    };
+    number_of(catalogue.default())
+}
+
+/// Takes the objects of another catalogue as families.
+pub fn families(object: &mut Object, other: &mut Object) -> i64
+    ensures { OnCatalogues OnFamilies (Some object.old) (Some object.new) (Some other.old) (Some other.new) result }
+{
+    let Object::Catalogue(catalogue) = object else {
+        return Refusal::Empty.number();
+    };
+    let Object::Catalogue(families) = other else {
+        return Refusal::Empty.number();
+    };
+    number_of(catalogue.take_families(families))
+}
+
+/// Takes an object away.
+pub fn remove(object: &mut Object, key: &[u8]) -> i64
+    ensures { OnCatalogue (OnRemove key.now) (Some object.old) (Some object.new) result }
+{
+    let Object::Catalogue(catalogue) = object else {
+        return Refusal::Empty.number();
+    };
+    number_of(catalogue.remove(key))
 }

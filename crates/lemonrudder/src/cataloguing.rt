@@ -1,18 +1,22 @@
 //! Which objects and operations a server has, as its owner fills them in.
 
+mod families;
+
+ghost use Rattle.std.specs.Prelude.{◌≡◌};
+ghost use Rattle.lemonrudder.specs.Fills.{no_stock, stock_of};
 ghost use Rattle.lemonrudder.specs.Identifies.{AreIds};
 
 use crate::refusal::Refusal;
 use crate::types::types_of;
 use cdr_core::Ty;
-use ft_objects::{Interfaces, Signature};
+use ft_objects::{Families, Interfaces, Signature};
 use std::alloc::Global;
 use std::mem;
 
 /// A catalogue, and the exceptions of the operation that is added next.
 #[derive(Drop)]
 pub struct Cataloguing {
-    pub interfaces: Interfaces,
+    pub families: Families,
     alloc: Global,
     raises: Vec<(Vec<u8>, Vec<Ty>)>,
 }
@@ -36,6 +40,17 @@ fn ids_of(alloc: Global, octets: &[u8]) -> Result<Vec<Vec<u8>>, Refusal>
     Ok(ids)
 }
 
+/// No objects and no families.
+pub fn no_families(alloc: Global) -> Families
+    ensures objects { stock_of result.objects ≡ no_stock }
+    ensures families { stock_of result.families ≡ no_stock }
+{
+    Families {
+        objects: Interfaces::new(alloc),
+        families: Interfaces::new(alloc),
+    }
+}
+
 impl Cataloguing {
     ghost use Rattle.std.specs.Prelude.{◌≡◌};
     ghost use Rattle.lemonrudder.specs.Declares.{OnException, OnOperation};
@@ -47,7 +62,7 @@ impl Cataloguing {
         ensures { filling result ≡ empty }
     {
         Cataloguing {
-            interfaces: Interfaces::new(alloc),
+            families: no_families(alloc),
             alloc,
             raises: Vec::new(alloc),
         }
@@ -57,7 +72,7 @@ impl Cataloguing {
     pub fn object(&mut self, key: &[u8]) -> Result<u64, Refusal>
         ensures { OnObject key.now self.old self.new result }
     {
-        self.interfaces.add_object(key)?;
+        self.families.objects.add_object(key)?;
         Ok(0)
     }
 
@@ -65,7 +80,7 @@ impl Cataloguing {
     pub fn raw_object(&mut self, key: &[u8]) -> Result<u64, Refusal>
         ensures { OnRawObject key.now self.old self.new result }
     {
-        self.interfaces.add_raw_object(key)?;
+        self.families.objects.add_raw_object(key)?;
         Ok(0)
     }
 
@@ -73,7 +88,7 @@ impl Cataloguing {
     pub fn raw_operation(&mut self, key: &[u8], name: &[u8]) -> Result<u64, Refusal>
         ensures { OnRawOperation key.now name.now self.old self.new result }
     {
-        self.interfaces.add_raw_operation(key, name)?;
+        self.families.objects.add_raw_operation(key, name)?;
         Ok(0)
     }
 
@@ -103,7 +118,7 @@ impl Cataloguing {
             results: types_of(self.alloc, results)?,
             raises,
         };
-        self.interfaces.add_operation(key, name, signature)?;
+        self.families.objects.add_operation(key, name, signature)?;
         Ok(0)
     }
 
@@ -112,7 +127,7 @@ impl Cataloguing {
         ensures { OnRepositoryIds key.now ids.now self.old self.new result }
     {
         let ids = ids_of(self.alloc, ids)?;
-        self.interfaces.add_repository_ids(key, ids)?;
+        self.families.objects.add_repository_ids(key, ids)?;
         Ok(0)
     }
 }

@@ -1,6 +1,6 @@
 //! Octets that are to be sent, and that the caller has not taken yet.
 
-ghost use Rattle.std.specs.Prelude.{◌≡◌, ◌<◌, ◌↔◌, [], IsTrue, drop, length, min};
+ghost use Rattle.std.specs.Prelude.{◌≡◌, ◌<◌, ◌+◌, ◌↔◌, [], IsTrue, drop, length, min};
 ghost use Rattle.lemonrudder.specs.Refusals.{filled};
 
 /// Octets that are due; the first `taken` are gone.
@@ -26,6 +26,37 @@ impl Due {
         ensures { IsTrue result ↔ 0 < length (owed self.now) }
     {
         self.taken < self.octets.len()
+    }
+
+    /// How many octets are due.
+    pub fn len(&self) -> usize
+        ensures { result ≡ length (owed self.now) }
+    {
+        self.octets.len().saturating_sub(self.taken)
+    }
+
+    /// How many octets there are, with those that are gone.
+    pub fn size(&self) -> usize
+        ensures { result ≡ length self.now.octets.items }
+    {
+        self.octets.len()
+    }
+
+    /// As many octets as may be, with those that are gone.
+    pub fn most(&self, most: usize) -> usize
+        ensures { result ≡ min (most + self.now.taken) 18446744073709551615 }
+    {
+        most.saturating_add(self.taken)
+    }
+
+    /// The same is due, and no more octets are taken than there are.
+    pub fn placed(self) -> Due
+        ensures owed { owed result ≡ owed self }
+        ensures placed { IsPlaced result }
+    {
+        let Due { octets, taken } = self;
+        let taken = taken.min(octets.len());
+        Due { octets, taken }
     }
 
     /// Drops what is due.

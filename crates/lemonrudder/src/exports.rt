@@ -9,7 +9,9 @@ mod catalogue;
 mod cdr;
 mod client;
 mod ior;
+mod looking;
 mod message;
+mod raw_call;
 mod server;
 
 use crate::slot::Slot;

@@ -212,7 +212,7 @@ pub fn count_of_contexts(content: Content<'_>) -> u32
 }
 
 /// How many service contexts are left, or the greatest number.
-fn length_of(contexts: Contexts<'_>) -> u32
+pub fn length_of(contexts: Contexts<'_>) -> u32
     ensures { result ≡ min (length (contexts_left contexts.entry)) 4294967295 }
 {
     let mut count: u32 = 0;

@@ -6,7 +6,6 @@ ghost use Rattle.lemonrudder.specs.Profiles.{OnComponent, OnPart, OnProfile};
 ghost use Rattle.lemonrudder.specs.Refers.{OnPrint, OnProfiles, OnTypeId};
 
 use crate::object::Object;
-use crate::referring::ProfileHead;
 use crate::refusal::{Refusal, number_of, signed};
 
 /// Copies the repository id of its type.
@@ -31,14 +30,14 @@ pub fn profiles(object: &Object) -> i64
 }
 
 /// Says what a profile has.
-pub fn profile(object: &Object, index: u32, head: &mut ProfileHead) -> i64
-    ensures told { OnReference (OnProfile index head.old head.new) (Some object.now) (Some object.now) result }
-    ensures refused { result <ℤ pos 0 → head.new ≡ head.old }
+pub fn profile(object: &Object, index: u32, room: &mut [u8]) -> i64
+    ensures told { OnReference (OnProfile index room.old room.new) (Some object.now) (Some object.now) result }
+    ensures refused { result <ℤ pos 0 → room.new ≡ room.old }
 {
     let Object::Reference(reference) = object else {
         return Refusal::Empty.number();
     };
-    number_of(reference.profile(index, head))
+    number_of(reference.profile(index, room))
 }
 
 /// Copies a part of a profile.

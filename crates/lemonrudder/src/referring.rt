@@ -4,6 +4,7 @@ ghost use Rattle.std.specs.Prelude.{◌≡◌};
 ghost use Rattle.lemonrudder.specs.Makes.{IsProfiled, profile_to};
 ghost use Rattle.lemonrudder.specs.Profiles.{head_of};
 
+use crate::layout::Layout;
 use crate::refusal::{Refusal, copied, count_of, fitted};
 use ior_core::{
     Component, IiopProfile, Ior, IorError, Profile, TAG_INTERNET_IOP, parse_text, print_text,
@@ -12,7 +13,6 @@ use ior_core::{
 use std::alloc::Global;
 
 /// A profile of a reference: `lr_profile`.
-#[repr(C)]
 #[derive(Clone, Copy, Debug, Drop)]
 pub struct ProfileHead {
     pub data_size: u64,
@@ -24,6 +24,27 @@ pub struct ProfileHead {
     pub port: u32,
     pub components: u32,
     pub reserved: u32,
+}
+
+impl ProfileHead {
+    ghost use Rattle.lemonrudder.specs.Layouts.{laid, octets_of_profile};
+
+    /// Fills a room: with the octets of the struct, as many as it has, and with zeros behind.
+    fn tell(&self, room: &mut [u8])
+        ensures { room.new ≡ laid (octets_of_profile self.now) room.old }
+    {
+        let mut layout = Layout::new();
+        layout.put_u64(self.data_size);
+        layout.put_u64(self.host_size);
+        layout.put_u64(self.key_size);
+        layout.put_u32(self.tag);
+        layout.put_u32(self.is_iiop);
+        layout.put_u32(self.minor);
+        layout.put_u32(self.port);
+        layout.put_u32(self.components);
+        layout.put_u32(self.reserved);
+        layout.fill(room);
+    }
 }
 
 /// A reference.
@@ -175,12 +196,12 @@ impl Referring {
     }
 
     /// Says what a profile has.
-    pub fn profile(&self, index: u32, head: &mut ProfileHead) -> Result<u64, Refusal>
-        ensures told { OnProfile index head.old head.new self.now self.now result }
-        ensures refused { OnErr result (head.new ≡ head.old) }
+    pub fn profile(&self, index: u32, room: &mut [u8]) -> Result<u64, Refusal>
+        ensures told { OnProfile index room.old room.new self.now self.now result }
+        ensures refused { OnErr result (room.new ≡ room.old) }
     {
         let iiop = self.iiop_at(index)?;
-        *head = head_of(self.at(index)?, &iiop);
+        head_of(self.at(index)?, &iiop).tell(room);
         Ok(0)
     }
 

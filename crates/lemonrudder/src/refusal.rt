@@ -2,10 +2,10 @@
 
 ghost use Rattle.std.specs.Prelude.{◌≡◌, ◌<◌, ◌≤◌, length};
 ghost use Rattle.lemonrudder.specs.declared.refusal.Refusal.TheVariants.{Memory};
-ghost use Rattle.lemonrudder.specs.Refusals.{error_number, filled, number_in, refusal_of_calling, refusal_of_connecting, refusal_of_fault, refusal_of_offering, refusal_of_reading, refusal_of_recalling, refusal_of_redirecting, refusal_of_referring, refusal_of_serving, refusal_of_writing, signed_of};
+ghost use Rattle.lemonrudder.specs.Refusals.{error_number, filled, number_in, refusal_of_calling, refusal_of_connecting, refusal_of_fault, refusal_of_offering, refusal_of_parking, refusal_of_raw_calling, refusal_of_raw_recalling, refusal_of_reading, refusal_of_recalling, refusal_of_redirecting, refusal_of_referring, refusal_of_serving, refusal_of_writing, signed_of};
 
 use cdr_core::{CdrError, Fault, Kind};
-use ft_client::{CallError, RecallError, RedirectError};
+use ft_client::{CallError, RawCallError, RawRecallError, RecallError, RedirectError};
 use ft_objects::InterfacesError;
 use ft_orb::{ConnectError, ServeError};
 use giop_core::WriteError;
@@ -29,8 +29,8 @@ pub enum Refusal {
     Asking,
     /// No request waits.
     Idle,
-    /// Octets are due that were not taken.
-    Due,
+    /// As many requests are parked as may be, or one is for whose outcome somebody waits on the connection.
+    Parks,
     /// No outcome of the operation, or one that can't be sent.
     Outcome,
     /// The room is too small.
@@ -65,7 +65,7 @@ pub enum Refusal {
     Lost,
     /// The body would stand at a place that is not divisible by 8.
     Place,
-    /// No request of that ticket waits.
+    /// No request of that ticket waits, or is parked.
     Ticket,
     /// No pending call of that number is led elsewhere.
     Forward,
@@ -84,7 +84,7 @@ impl Refusal {
             Refusal::Connection => -5,
             Refusal::Asking => -6,
             Refusal::Idle => -7,
-            Refusal::Due => -8,
+            Refusal::Parks => -8,
             Refusal::Outcome => -9,
             Refusal::Room => -10,
             Refusal::Short => -11,
@@ -246,6 +246,30 @@ impl From<RecallError> for Refusal {
             RecallError::TooManyCalls => Refusal::Calls,
             RecallError::TooLong => Refusal::Long,
             RecallError::Memory => Refusal::Memory,
+        }
+    }
+}
+
+impl From<RawCallError> for Refusal {
+    ghost from_gives = { λ e r. r ≡ refusal_of_raw_calling e };
+
+    fn from(error: RawCallError) -> Refusal {
+        match error {
+            RawCallError::FtRequest => Refusal::Value,
+            RawCallError::Untaken(error) => Refusal::from(error),
+            RawCallError::Misplaced => Refusal::Place,
+        }
+    }
+}
+
+impl From<RawRecallError> for Refusal {
+    ghost from_gives = { λ e r. r ≡ refusal_of_raw_recalling e };
+
+    fn from(error: RawRecallError) -> Refusal {
+        match error {
+            RawRecallError::FtRequest => Refusal::Value,
+            RawRecallError::Untaken(error) => Refusal::from(error),
+            RawRecallError::Misplaced => Refusal::Place,
         }
     }
 }

@@ -5,12 +5,13 @@ ghost use Rattle.giop_core.specs.Items.{contexts_left};
 ghost use Rattle.lemonrudder.specs.Asking.{with_question};
 ghost use Rattle.lemonrudder.specs.Tickets.{ticket_of};
 
+use crate::layout::Layout;
+use crate::lent::length_of;
 use crate::named::{minor_of, number_of_wish};
 use crate::refusal::count_of;
 use giop_core::{FtField, Request, Version, ft_request};
 
 /// A request that waits for its outcome: `lr_request`.
-#[repr(C)]
 #[derive(Clone, Copy, Debug, Drop)]
 pub struct RequestHead {
     pub ticket: u64,
@@ -26,13 +27,14 @@ pub struct RequestHead {
     pub wish: u32,
     pub has_client: u32,
     pub retention_id: i32,
-    pub reserved: u32,
+    pub contexts: u32,
     pub client_size: u64,
     pub expiration: u64,
 }
 
 impl RequestHead {
     ghost use Rattle.lemonrudder.specs.Asking.{no_request};
+    ghost use Rattle.lemonrudder.specs.Layouts.{laid, octets_of_request};
 
     /// All zero.
     pub fn none() -> RequestHead
@@ -52,10 +54,34 @@ impl RequestHead {
             wish: 0,
             has_client: 0,
             retention_id: 0,
-            reserved: 0,
+            contexts: 0,
             client_size: 0,
             expiration: 0,
         }
+    }
+
+    /// Fills a room: with the octets of the struct, as many as it has, and with zeros behind.
+    pub fn tell(&self, room: &mut [u8])
+        ensures { room.new ≡ laid (octets_of_request self.now) room.old }
+    {
+        let mut layout = Layout::new();
+        layout.put_u64(self.ticket);
+        layout.put_u64(self.connection);
+        layout.put_u64(self.key_size);
+        layout.put_u64(self.operation_size);
+        layout.put_u64(self.body_size);
+        layout.put_u64(self.body_at);
+        layout.put_u32(self.body_order);
+        layout.put_u32(self.is_raw);
+        layout.put_u32(self.request_id);
+        layout.put_u32(self.version);
+        layout.put_u32(self.wish);
+        layout.put_u32(self.has_client);
+        layout.put_i32(self.retention_id);
+        layout.put_u32(self.contexts);
+        layout.put_u64(self.client_size);
+        layout.put_u64(self.expiration);
+        layout.fill(room);
     }
 }
 
@@ -66,18 +92,20 @@ pub fn ticket_of(number: u64) -> u64
     number.saturating_add(1)
 }
 
-/// Says the version, the id, the wish and the FT_REQUEST of a request.
-pub fn put_question(head: &mut RequestHead, version: Version, request: &Request<'_>)
-    ensures { head.new ≡ with_question version request.now.request_id request.now.reply (contexts_left request.now.contexts) head.old }
+/// Says the version, the id, the wish, how many service contexts it has and the FT_REQUEST of a request.
+pub fn put_question(head: &mut RequestHead, version: Version, request: Request<'_>)
+    ensures { head.new ≡ with_question version request.entry.request_id request.entry.reply (contexts_left request.entry.contexts) head.old }
 {
     head.request_id = request.request_id;
     head.version = minor_of(version);
     head.wish = number_of_wish(request.reply);
+    let ft = ft_request(&request.contexts);
+    head.contexts = length_of(request.contexts);
     let FtField::Present {
         client_id,
         retention_id,
         expiration,
-    } = ft_request(&request.contexts)
+    } = ft
     else {
         return;
     };

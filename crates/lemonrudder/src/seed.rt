@@ -9,7 +9,7 @@ use std::io;
 use std::random::RandomSource;
 
 /// Two random numbers.
-#[derive(Drop)]
+#[derive(Clone, Copy)]
 pub struct Seed {
     pub low: u64,
     pub high: u64,

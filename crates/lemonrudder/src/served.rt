@@ -1,15 +1,41 @@
 //! The calls on an object that is a server, if it is one.
 
-ghost use Rattle.std.specs.Prelude.{◌≡◌, Some};
+ghost use Rattle.std.specs.Prelude.{◌≡◌, ◌≤ℤ◌, pos, Some};
 ghost use Rattle.lemonrudder.specs.Answers.{OnServer};
 ghost use Rattle.lemonrudder.specs.Declining.{OnGoodbye, OnRefuse};
+ghost use Rattle.lemonrudder.specs.Pairs.{OnServerAndCatalogue};
+ghost use Rattle.lemonrudder.specs.Setting.{OnSet};
+ghost use Rattle.lemonrudder.specs.Swapping.{OnSwap};
 ghost use Rattle.lemonrudder.specs.Outcomes.{OnAnswer, OnAnswerRaw, OnIdentify, OnRaise, OnSystem};
+ghost use Rattle.lemonrudder.specs.Parks.{OnNextDue, OnPark, OnParked, OnParkedOf};
 ghost use Rattle.lemonrudder.specs.Questions.{OnAsked, OnPart};
 ghost use Rattle.lemonrudder.specs.Serves.{HasNoServer, OnConnect, OnFarewell, OnFeed, OnGiveUp, OnIsClosed, OnLost, OnOutput};
 
 use crate::object::Object;
-use crate::refusal::{Refusal, number_of};
-use crate::request::RequestHead;
+use crate::refusal::{Refusal, number_of, signed};
+
+/// Sets the limit of a number, before the first connection.
+pub fn set(object: &mut Object, what: u32, value: u64) -> i64
+    ensures { OnServer (OnSet what value) (Some object.old) (Some object.new) result }
+{
+    let Object::Server(server) = object else {
+        return Refusal::Empty.number();
+    };
+    number_of(server.set(what, value))
+}
+
+/// Exchanges what is on offer and a catalogue.
+pub fn swap(object: &mut Object, other: &mut Object) -> i64
+    ensures { OnServerAndCatalogue OnSwap (Some object.old) (Some object.new) (Some other.old) (Some other.new) result }
+{
+    let Object::Server(server) = object else {
+        return Refusal::Empty.number();
+    };
+    let Object::Catalogue(catalogue) = other else {
+        return Refusal::Empty.number();
+    };
+    number_of(server.swap(catalogue))
+}
 
 /// Opens a connection.
 pub fn connect(object: &mut Object, connection: u64) -> i64
@@ -62,25 +88,25 @@ pub fn feed(object: &mut Object, connection: u64, moment: u64, octets: &[u8]) ->
 }
 
 /// Says what waits.
-pub fn asked(object: &Object, request: &mut RequestHead) -> i64
-    ensures does { OnServer (OnAsked request.old request.new) (Some object.now) (Some object.now) result }
-    ensures request { HasNoServer (Some object.now) → request.new ≡ request.old }
+pub fn asked(object: &Object, room: &mut [u8]) -> i64
+    ensures does { OnServer (OnAsked room.old room.new) (Some object.now) (Some object.now) result }
+    ensures none { result ≤ℤ pos 0 → room.new ≡ room.old }
 {
     let Object::Server(server) = object else {
         return Refusal::Empty.number();
     };
-    number_of(Ok(server.asked(request)))
+    signed(server.asked(room))
 }
 
-/// Copies a part of the request that waits.
-pub fn part(object: &Object, part: u32, room: &mut [u8]) -> i64
-    ensures does { OnServer (OnPart part room.old room.new) (Some object.now) (Some object.now) result }
+/// Copies a part of the request of a ticket.
+pub fn part(object: &Object, ticket: u64, part: u32, room: &mut [u8]) -> i64
+    ensures does { OnServer (OnPart ticket part room.old room.new) (Some object.now) (Some object.now) result }
     ensures room { HasNoServer (Some object.now) → room.new ≡ room.old }
 {
     let Object::Server(server) = object else {
         return Refusal::Empty.number();
     };
-    number_of(server.part(part, room))
+    number_of(server.part(ticket, part, room))
 }
 
 /// Answers by results.
@@ -163,13 +189,54 @@ pub fn goodbye(object: &mut Object, ticket: u64) -> i64
     number_of(server.goodbye(ticket))
 }
 
-/// Moves octets that are due into a room.
-pub fn output(object: &mut Object, room: &mut [u8]) -> i64
-    ensures does { OnServer (OnOutput room.old room.new) (Some object.old) (Some object.new) result }
+/// Moves octets that are due on a connection into a room.
+pub fn output(object: &mut Object, connection: u64, room: &mut [u8]) -> i64
+    ensures does { OnServer (OnOutput connection room.old room.new) (Some object.old) (Some object.new) result }
     ensures room { HasNoServer (Some object.old) → room.new ≡ room.old }
 {
     let Object::Server(server) = object else {
         return Refusal::Empty.number();
     };
-    number_of(Ok(server.output(room)))
+    number_of(Ok(server.output(connection, room)))
+}
+
+/// Parks the request that waits.
+pub fn park(object: &mut Object, ticket: u64) -> i64
+    ensures { OnServer (OnPark ticket) (Some object.old) (Some object.new) result }
+{
+    let Object::Server(server) = object else {
+        return Refusal::Empty.number();
+    };
+    number_of(server.park(ticket))
+}
+
+/// How many requests are parked.
+pub fn parked(object: &Object) -> i64
+    ensures { OnServer OnParked (Some object.now) (Some object.now) result }
+{
+    let Object::Server(server) = object else {
+        return Refusal::Empty.number();
+    };
+    number_of(Ok(server.parked()))
+}
+
+/// How many of the parked requests came on a connection.
+pub fn parked_of(object: &Object, connection: u64) -> i64
+    ensures { OnServer (OnParkedOf connection) (Some object.now) (Some object.now) result }
+{
+    let Object::Server(server) = object else {
+        return Refusal::Empty.number();
+    };
+    number_of(Ok(server.parked_of(connection)))
+}
+
+/// Names a connection on which octets came due.
+pub fn next_due(object: &mut Object, connection: &mut u64) -> i64
+    ensures does { OnServer (OnNextDue connection.old connection.new) (Some object.old) (Some object.new) result }
+    ensures connection { HasNoServer (Some object.old) → connection.new ≡ connection.old }
+{
+    let Object::Server(server) = object else {
+        return Refusal::Empty.number();
+    };
+    number_of(Ok(server.next_due(connection)))
 }

@@ -1,67 +1,71 @@
-//! A server, with the octets that are due on a connection: its connections, and what it takes and writes.
+//! A server, with the octets that are due on each of its connections: what it takes and writes.
 
-ghost use Rattle.std.specs.Prelude.{◌≡◌, ◌↔◌, IsTrue};
-ghost use Rattle.ft_orb.specs.Parking.{parked_count};
+ghost use Rattle.std.specs.Prelude.{◌≡◌, IsTrue, true};
+ghost use Rattle.lemonrudder.specs.Connected.{is_asked_there};
 
 mod declining;
+mod looking;
+mod offering;
 mod outcomes;
+mod parking;
 mod questions;
+mod settling;
 mod taken;
 
-use crate::due::Due;
+use crate::connections::Connections;
 use crate::refusal::Refusal;
-use crate::terms::Terms;
+use crate::terms::{Setup, Terms};
 use ft_log::Retention;
 use ft_objects::Families;
-use ft_orb::{CloseError, Engine, Places};
+use ft_orb::{CloseError, Engine};
 use std::alloc::Global;
+use std::collections::BTreeSet;
 use std::hash::RandomState;
 use taken::taken_of;
 
-/// An engine that parks nothing, and what is due on one of its connections.
+/// An engine, and its connections: what is due on each, and those on which octets came due that the caller didn't ask for.
 #[derive(Drop)]
 pub struct Serving {
     engine: Engine<Families>,
     alloc: Global,
-    due: Due,
-    due_on: u64,
-    ghost unparked: { parked_count engine ≡ 0 },
+    setup: Setup,
+    connections: Connections,
+    ready: BTreeSet<u64>,
+    ghost asked: { IsTrue (is_asked_there connections engine) },
 }
 
 impl Serving {
     ghost use Rattle.lemonrudder.specs.Openings.{IsNew};
-    ghost use Rattle.lemonrudder.specs.Serves.{IsDueElsewhere, OnConnect, OnFarewell, OnFeed, OnGiveUp, OnIsClosed, OnLost, OnOutput};
+    ghost use Rattle.lemonrudder.specs.Connected.{is_there};
+    ghost use Rattle.lemonrudder.specs.Serves.{IsIdle, OnConnect, OnFarewell, OnFeed, OnGiveUp, OnIsClosed, OnLost, OnOutput, Serves};
 
     /// A server to which nothing has happened.
     pub fn new(alloc: Global, families: Families, terms: Terms, hasher: RandomState) -> Serving
-        ensures { IsNew families terms.limits terms.capacity terms.share result }
+        ensures { IsNew families terms result }
     {
-        let Terms {
-            limits,
-            capacity,
-            share,
-            seed: _,
-        } = terms;
-        Serving {
-            engine: Engine::new(
-                alloc,
-                families,
-                limits,
-                Retention { capacity, share },
-                Places::none(),
-                hasher,
-            ),
+        let retention = Retention {
+            capacity: terms.capacity,
+            share: terms.share,
+        };
+        let mut engine = Engine::new(
             alloc,
-            due: Due::new(Vec::new(alloc)),
-            due_on: 0,
+            families,
+            terms.limits,
+            retention,
+            terms.places,
+            hasher,
+        );
+        engine.bound_client_ids(terms.longest);
+        Serving {
+            engine,
+            alloc,
+            setup: Setup {
+                terms,
+                opened: false,
+            },
+            connections: Connections::new(alloc),
+            ready: BTreeSet::new(alloc),
         }
-    }
-
-    /// Whether octets are due on another connection.
-    fn is_due_elsewhere(&self, connection: u64) -> bool
-        ensures { IsTrue result ↔ IsDueElsewhere connection self.now }
-    {
-        self.due.is_some() && self.due_on != connection
     }
 
     /// Opens a connection.
@@ -71,8 +75,18 @@ impl Serving {
         if self.engine.is_asking() {
             return Err(Refusal::Asking);
         }
-        self.engine.connect(connection)?;
-        Ok(0)
+        let was = self.connections.has(connection);
+        self.connections.open(connection)?;
+        match self.engine.connect(connection) {
+            Ok(()) => {
+                self.setup.opened = true;
+                Ok(0)
+            }
+            Err(error) => {
+                self.connections.undo(connection, was);
+                Err(Refusal::from(error))
+            }
+        }
     }
 
     /// Forgets a connection, and what is due on it.
@@ -83,28 +97,29 @@ impl Serving {
             return Err(Refusal::Asking);
         }
         self.engine.lost(connection);
-        if self.due_on == connection {
-            self.due.drop_all();
-        }
+        self.connections.remove(connection);
+        self.ready.remove(&connection);
         Ok(0)
     }
 
-    /// Says goodbye on a connection.
+    /// Says goodbye on a connection, on which nobody waits for what is parked.
     pub fn farewell(&mut self, connection: u64) -> Result<u64, Refusal>
         ensures { OnFarewell connection self.old self.new result }
     {
         if self.engine.is_asking() {
             return Err(Refusal::Asking);
         }
-        if self.is_due_elsewhere(connection) {
-            return Err(Refusal::Due);
+        if !self.connections.has(connection) {
+            return Err(Refusal::Connection);
         }
-        self.due_on = connection;
-        match self.engine.close(connection, &mut self.due.octets) {
+        let mut due = self.connections.take(connection);
+        let closed = self.engine.close(connection, &mut due.octets);
+        self.connections.put(connection, due);
+        match closed {
             Ok(()) => Ok(0),
             Err(CloseError::NoConnection) => Err(Refusal::Connection),
             Err(CloseError::Memory) => Err(Refusal::Lost),
-            Err(CloseError::Waits) => unreachable!(),
+            Err(CloseError::Waits) => Err(Refusal::Parks),
         }
     }
 
@@ -122,13 +137,28 @@ impl Serving {
         if self.engine.is_asking() {
             return Err(Refusal::Asking);
         }
-        if self.is_due_elsewhere(connection) {
-            return Err(Refusal::Due);
+        if !self.connections.has(connection) {
+            self.engine.tick(moment);
+            return Err(Refusal::Connection);
         }
-        self.due_on = connection;
+        if self.connections.due_len(connection) >= self.setup.terms.due {
+            return Ok(0);
+        }
+        self.serve(connection, moment, octets)
+    }
+
+    /// Takes octets of a connection, until as many are due on it as may be.
+    fn serve(&mut self, connection: u64, moment: u64, octets: &[u8]) -> Result<u64, Refusal>
+        requires idle { IsIdle self.old }
+        requires there { is_there self.old.connections connection ≡ true }
+        ensures { Serves connection moment octets.now self.old self.new result }
+    {
+        let mut due = self.connections.take(connection);
+        let most = due.most(self.setup.terms.due);
         let fed = self
             .engine
-            .feed(connection, moment, octets, &mut self.due.octets);
+            .feed_within(connection, moment, octets, most, &mut due.octets);
+        self.connections.put(connection, due);
         taken_of(octets, fed)
     }
 
@@ -141,10 +171,10 @@ impl Serving {
         Ok(0)
     }
 
-    /// Moves octets that are due into a room.
-    pub fn output(&mut self, room: &mut [u8]) -> u64
-        ensures { OnOutput room.old room.new self.old self.new (Ok result) }
+    /// Moves octets that are due on a connection into a room.
+    pub fn output(&mut self, connection: u64, room: &mut [u8]) -> u64
+        ensures { OnOutput connection room.old room.new self.old self.new (Ok result) }
     {
-        self.due.output(room)
+        self.connections.output(connection, room)
     }
 }

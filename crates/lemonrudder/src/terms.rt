@@ -1,38 +1,85 @@
-//! How much a server keeps, and the random numbers of its hasher.
+//! The limits of a server, and the random numbers of its hasher.
 
-ghost use Rattle.std.specs.Prelude.{◌≡◌, IfErr, IfOk};
-ghost use Rattle.lemonrudder.specs.Naming.{AreLimits, HasLimits};
+ghost use Rattle.std.specs.Prelude.{◌≡◌, ◌≤◌, Some, None, IfErr, IfOk};
+ghost use Rattle.lemonrudder.specs.Limited.{limited, set_to, usual};
 
 use crate::named::limits_of;
 use crate::refusal::Refusal;
 use crate::seed::Seed;
+use ft_orb::Places;
 use giop_frames::Limits;
 
-/// How much a server keeps, and the random numbers of its hasher.
-#[derive(Drop)]
+/// How much a server takes, keeps and parks, and the random numbers of its hasher.
+#[derive(Clone, Copy)]
 pub struct Terms {
     pub limits: Limits,
     pub capacity: u32,
     pub share: u32,
+    pub places: Places,
+    /// With so many octets due a connection is fed no more.
+    pub due: usize,
+    /// How many octets a client's id may have.
+    pub longest: usize,
     pub seed: Seed,
 }
 
+/// The terms of a server, and whether it has had a connection.
+#[derive(Clone, Copy)]
+pub struct Setup {
+    pub terms: Terms,
+    pub opened: bool,
+}
+
+/// A number that is to have 32 bits.
+fn in_32_bits(value: u64) -> Result<u32, Refusal>
+    ensures ok { IfOk result (λ n. (n ≡ value) × (value ≤ 4294967295)) }
+    ensures err { IfErr result (λ e. (e ≡ Refusal.Range) × (4294967296 ≤ value)) }
+{
+    u32::try_from(value).map_err(|_| Refusal::Range)
+}
+
 impl Terms {
-    pub fn new(
-        message: u32,
-        partials: u32,
-        capacity: u32,
-        share: u32,
-        seed: Seed,
-    ) -> Result<Terms, Refusal>
-        ensures ok { IfOk result (λ t. HasLimits message partials t.limits × (t.capacity ≡ capacity) × (t.share ≡ share) × (t.seed ≡ seed)) }
-        ensures err { IfErr result (λ e. (e ≡ Refusal.Range) × (¬ (AreLimits message partials))) }
+    /// The limits of a server where nothing is set.
+    pub fn new(seed: Seed) -> Terms
+        ensures limited { limited result ≡ usual }
+        ensures seed { result.seed ≡ seed }
     {
-        Ok(Terms {
-            limits: limits_of(message, partials)?,
-            capacity,
-            share,
+        let Some(limits) = Limits::new(1_048_576, 4) else {
+            unreachable!()
+        };
+        Terms {
+            limits,
+            capacity: 65_536,
+            share: u32::MAX,
+            places: Places {
+                parked: 1024,
+                of_one: 64,
+                joined: 8,
+            },
+            due: 1_048_576,
+            longest: 256,
             seed,
-        })
+        }
+    }
+
+    /// With another value for the limit of a number.
+    pub fn set_to(self, what: u32, value: u64) -> Result<Terms, Refusal>
+        ensures ok { IfOk result (λ t. (set_to what value (limited self) ≡ Some (limited t)) × (t.seed ≡ self.seed)) }
+        ensures err { IfErr result (λ e. (e ≡ Refusal.Range) × (set_to what value (limited self) ≡ None)) }
+    {
+        let mut terms = self;
+        match what {
+            1 => terms.limits = limits_of(in_32_bits(value)?, u32::from(self.limits.partials))?,
+            2 => terms.limits = limits_of(self.limits.message, in_32_bits(value)?)?,
+            3 => terms.capacity = in_32_bits(value)?,
+            4 => terms.share = in_32_bits(value)?,
+            5 => terms.places.parked = in_32_bits(value)?,
+            6 => terms.places.of_one = in_32_bits(value)?,
+            7 => terms.places.joined = in_32_bits(value)?,
+            8 => terms.due = value as usize,
+            9 => terms.longest = value as usize,
+            _ => return Err(Refusal::Range),
+        }
+        Ok(terms)
     }
 }

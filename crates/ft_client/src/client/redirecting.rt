@@ -22,8 +22,9 @@ impl FtClient {
     ghost use Rattle.ft_client.specs.Calling.{IsFitting, IsRawRedirectError, IsRedirectError, call_of, call_raw, is_led, raw_until};
     ghost use Rattle.ft_client.specs.Clients.{Client, KeptForwards, Pending, Redirected, after, find_pending, first_led};
     ghost use Rattle.ft_client.specs.Ends.{led_by_code, led_to};
-    ghost use Rattle.ft_client.specs.Messages.{typed};
+    ghost use Rattle.ft_client.specs.Messages.{is_oneway, typed};
     ghost use Rattle.ft_client.specs.Private.{IsLedAt};
+    ghost use Rattle.ft_client.specs.Redirections.{asked_anew, in_place_of};
     ghost use Rattle.ft_client.specs.Standing.{FieldsStand, FtStands, down};
 
     /// Whether a reply LOCATION_FORWARD or LOCATION_FORWARD_PERM (GIOP 9.4.3.2) leaves its call pending from now on, in place of
@@ -58,7 +59,8 @@ impl FtClient {
     /// are to be those of the call: under one number a server takes both for one call. What is pending is always sent on the
     /// one connection, so it is up to the caller that this leads to where the call is led.
     ///
-    /// For a raw call (`redirect_raw`), or other arguments, no contract says what the client is afterwards.
+    /// What is given is what the call asks from now on, whatever it asked before, also where it was a raw one
+    /// (`redirect_raw`).
     pub fn redirect(
         &mut self,
         id: i32,
@@ -72,6 +74,8 @@ impl FtClient {
         ensures fitting { OnOk result ((m : Client) → FtStands self.old m → IsFitting id (call_of object_key.now operation.now arguments.now) m true) }
         ensures stands { OnOk result ((m : Client) (p : Pending) → FtStands self.old m → find_pending id m.pending ≡ Some p → p.call.form ≡ typed → p.call.operation ≡ operation.now → p.call.arguments ≡ values_of arguments.now
             → FtStands self.new (after (down m.limits) (Redirected id object_key.now) m)) }
+        // .. also where this is another call
+        ensures anew { OnOk result ((m : Client) → FtStands self.old m → FtStands self.new (record m { pending = asked_anew id object_key.now (in_place_of operation.now (values_of arguments.now) typed) m.pending })) }
         // .. or it is the first that holds
         ensures err { IfErr result (λ e. (m : Client) → FtStands self.old m → IsRedirectError id (call_of object_key.now operation.now arguments.now) m e) }
         ensures same { OnErr result ((m : Client) → FtStands self.old m → FtStands self.new m) }
@@ -95,8 +99,9 @@ impl FtClient {
     /// A raw call that is led elsewhere is asked for under another object key from now on, as `redirect` does a typed one. What
     /// it asks is given again, but for its expiration, which counts for nothing here.
     ///
-    /// The operation has no NUL, and 1.0 and 1.1 can't ask for an empty reply. For a typed call, or a raw one that asks
-    /// something else, no contract says what the client is afterwards.
+    /// The operation has no NUL, and 1.0 and 1.1 can't ask for an empty reply. What is given is what the call asks from now
+    /// on, also where it was a typed one. A call that is led elsewhere wished for a reply: of one that is given without
+    /// such a wish, and is not the call, no contract says what the client is afterwards.
     pub fn redirect_raw(&mut self, id: i32, call: &RawCall<'_>) -> Result<(), RawRedirectError>
         requires clean { IsClean call.now.operation.now }
         requires wish { CanAsk call.now.version call.now.wish }
@@ -104,6 +109,8 @@ impl FtClient {
         ensures fitting { OnOk result ((m : Client) → FtStands self.old m → IsFitting id (raw_until call.now) m true) }
         ensures stands { OnOk result ((m : Client) (p : Pending) → FtStands self.old m → find_pending id m.pending ≡ Some p → p.call.form ≡ (call_raw call.now).form → p.call.operation ≡ call.now.operation.now → p.call.arguments ≡ (call_raw call.now).arguments
             → FtStands self.new (after (down m.limits) (Redirected id call.now.object_key.now) m)) }
+        // .. also where this is another call, which wishes for a reply
+        ensures anew { OnOk result (is_oneway call.now.wish ≡ false → (m : Client) → FtStands self.old m → FtStands self.new (record m { pending = asked_anew id call.now.object_key.now (in_place_of call.now.operation.now (call_raw call.now).arguments (call_raw call.now).form) m.pending })) }
         // .. or it is the first that holds
         ensures err { IfErr result (λ e. (m : Client) → FtStands self.old m → IsRawRedirectError id (raw_until call.now) m e) }
         ensures same { OnErr result ((m : Client) → FtStands self.old m → FtStands self.new m) }

@@ -8,7 +8,7 @@ ghost use Rattle.lemonrudder.specs.Opening.{OpensMade};
 ghost use Rattle.lemonrudder.specs.Slots.{held_in};
 
 use crate::assembled;
-use crate::assembling::{Assembling, MessageHead};
+use crate::assembling::Assembling;
 use crate::object::Object;
 use crate::opened::open;
 use crate::refusal::Refusal;
@@ -57,20 +57,16 @@ pub extern "C" fn lr_assembler_fault(alloc: Global, slot: &mut Slot) -> i64
     answer
 }
 
-/// Says what the message is that the last feed completed.
+/// Says what the message is that the last feed completed: `lr_message`.
 #[unsafe(no_mangle)]
-pub extern "C" fn lr_assembler_message(
-    alloc: Global,
-    slot: &mut Slot,
-    message: &mut MessageHead,
-) -> i64
-    ensures told { OnAssembler (OnMessage message.old message.new) (held_in slot.old) (held_in slot.new) result }
-    ensures none { result ≤ℤ pos 0 → message.new ≡ message.old }
+pub extern "C" fn lr_assembler_message(alloc: Global, slot: &mut Slot, room: &mut [u8]) -> i64
+    ensures told { OnAssembler (OnMessage room.old room.new) (held_in slot.old) (held_in slot.new) result }
+    ensures none { result ≤ℤ pos 0 → room.new ≡ room.old }
 {
     let Some(object) = slot.take(alloc) else {
         return Refusal::Empty.number();
     };
-    let answer = assembled::message(&object, message);
+    let answer = assembled::message(&object, room);
     slot.put(object);
     answer
 }

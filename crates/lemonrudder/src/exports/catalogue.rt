@@ -2,8 +2,10 @@
 
 ghost use Rattle.lemonrudder.specs.Answers.{OnCatalogue};
 ghost use Rattle.lemonrudder.specs.Declares.{OnException, OnOperation};
+ghost use Rattle.lemonrudder.specs.Families.{OnDefault, OnFamilies, OnRemove};
 ghost use Rattle.lemonrudder.specs.Fills.{OnObject, OnRawObject, OnRawOperation, OpensEmpty};
 ghost use Rattle.lemonrudder.specs.Identifies.{OnRepositoryIds};
+ghost use Rattle.lemonrudder.specs.Pairs.{OnCatalogues};
 ghost use Rattle.lemonrudder.specs.Slots.{held_in};
 
 use crate::catalogued;
@@ -118,6 +120,57 @@ pub extern "C" fn lr_catalogue_repository_ids(
         return Refusal::Empty.number();
     };
     let answer = catalogued::repository_ids(&mut object, key, ids);
+    slot.put(object);
+    answer
+}
+
+/// Adds an object whose every operation is raw, for each key that leads to no other.
+#[unsafe(no_mangle)]
+pub extern "C" fn lr_catalogue_default(alloc: Global, slot: &mut Slot) -> i64
+    ensures { OnCatalogue OnDefault (held_in slot.old) (held_in slot.new) result }
+{
+    let Some(mut object) = slot.take(alloc) else {
+        return Refusal::Empty.number();
+    };
+    let answer = catalogued::default(&mut object);
+    slot.put(object);
+    answer
+}
+
+/// Takes the objects of a catalogue that is in a slot as families.
+fn joined(alloc: Global, object: &mut Object, families: &mut Slot) -> i64
+    ensures { OnCatalogues OnFamilies (Some object.old) (Some object.new) (held_in families.old) (held_in families.new) result }
+{
+    let Some(mut other) = families.take(alloc) else {
+        return Refusal::Empty.number();
+    };
+    let answer = catalogued::families(object, &mut other);
+    families.put(other);
+    answer
+}
+
+/// Takes the objects of another catalogue as families, which is empty afterwards.
+#[unsafe(no_mangle)]
+pub extern "C" fn lr_catalogue_families(alloc: Global, slot: &mut Slot, families: &mut Slot) -> i64
+    ensures { OnCatalogues OnFamilies (held_in slot.old) (held_in slot.new) (held_in families.old) (held_in families.new) result }
+{
+    let Some(mut object) = slot.take(alloc) else {
+        return Refusal::Empty.number();
+    };
+    let answer = joined(alloc, &mut object, families);
+    slot.put(object);
+    answer
+}
+
+/// Takes an object away.
+#[unsafe(no_mangle)]
+pub extern "C" fn lr_catalogue_remove(alloc: Global, slot: &mut Slot, key: &[u8]) -> i64
+    ensures { OnCatalogue (OnRemove key.now) (held_in slot.old) (held_in slot.new) result }
+{
+    let Some(mut object) = slot.take(alloc) else {
+        return Refusal::Empty.number();
+    };
+    let answer = catalogued::remove(&mut object, key);
     slot.put(object);
     answer
 }

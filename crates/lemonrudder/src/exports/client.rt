@@ -5,7 +5,8 @@ ghost use Rattle.lemonrudder.specs.Answers.{OnClient};
 ghost use Rattle.lemonrudder.specs.Calls.{IsMade, OnBody, OnCancel, OnCompleted, OnConnected, OnFeed, OnIsConnected, OnLost, OnOutput, OnTick};
 ghost use Rattle.lemonrudder.specs.Invokes.{OnCall, question};
 ghost use Rattle.lemonrudder.specs.Opening.{OpensMade};
-ghost use Rattle.lemonrudder.specs.Resuming.{OnForwarded, OnRecall, OnRedirect, OnResend, OnSet, OnSkip};
+ghost use Rattle.lemonrudder.specs.Resuming.{OnForwarded, OnRecall, OnRedirect, OnResend, OnSkip};
+ghost use Rattle.lemonrudder.specs.Settings.{OnSet};
 ghost use Rattle.lemonrudder.specs.Slots.{held_in};
 
 use crate::called;
@@ -18,17 +19,10 @@ use std::alloc::Global;
 
 /// Opens a client that is not connected.
 #[unsafe(no_mangle)]
-pub extern "C" fn lr_client_open(
-    alloc: Global,
-    slot: &mut Slot,
-    id: &[u8],
-    version: u32,
-    message_limit: u32,
-    partials: u32,
-) -> i64
-    ensures { OpensMade Object.Client (IsMade id.now version message_limit partials) (held_in slot.old) (held_in slot.new) result }
+pub extern "C" fn lr_client_open(alloc: Global, slot: &mut Slot, id: &[u8]) -> i64
+    ensures { OpensMade Object.Client (IsMade id.now) (held_in slot.old) (held_in slot.new) result }
 {
-    match Calling::new(alloc, id, version, message_limit, partials) {
+    match Calling::new(alloc, id) {
         Ok(calling) => open(alloc, slot, Object::Client(calling)),
         Err(refusal) => refusal.number(),
     }
@@ -73,7 +67,7 @@ pub extern "C" fn lr_client_is_connected(alloc: Global, slot: &mut Slot) -> i64
     answer
 }
 
-/// Says whether TRANSIENT leaves calls pending from now on, or a forward.
+/// Sets what a client keeps, or what it is made with.
 #[unsafe(no_mangle)]
 pub extern "C" fn lr_client_set(alloc: Global, slot: &mut Slot, what: u32, value: u64) -> i64
     ensures { OnClient (OnSet what value) (held_in slot.old) (held_in slot.new) result }

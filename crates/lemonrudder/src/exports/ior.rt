@@ -11,7 +11,7 @@ ghost use Rattle.lemonrudder.specs.Slots.{held_in};
 use crate::object::Object;
 use crate::opened::open;
 use crate::referred;
-use crate::referring::{Address, ProfileHead, Referring};
+use crate::referring::{Address, Referring};
 use crate::refusal::Refusal;
 use crate::slot::Slot;
 use std::alloc::Global;
@@ -93,21 +93,16 @@ pub extern "C" fn lr_ior_profiles(alloc: Global, slot: &mut Slot) -> i64
     answer
 }
 
-/// Says what a profile has.
+/// Says what a profile has: `lr_profile`.
 #[unsafe(no_mangle)]
-pub extern "C" fn lr_ior_profile(
-    alloc: Global,
-    slot: &mut Slot,
-    index: u32,
-    profile: &mut ProfileHead,
-) -> i64
-    ensures told { OnReference (OnProfile index profile.old profile.new) (held_in slot.old) (held_in slot.new) result }
-    ensures refused { result <ℤ pos 0 → profile.new ≡ profile.old }
+pub extern "C" fn lr_ior_profile(alloc: Global, slot: &mut Slot, index: u32, room: &mut [u8]) -> i64
+    ensures told { OnReference (OnProfile index room.old room.new) (held_in slot.old) (held_in slot.new) result }
+    ensures refused { result <ℤ pos 0 → room.new ≡ room.old }
 {
     let Some(object) = slot.take(alloc) else {
         return Refusal::Empty.number();
     };
-    let answer = referred::profile(&object, index, profile);
+    let answer = referred::profile(&object, index, room);
     slot.put(object);
     answer
 }

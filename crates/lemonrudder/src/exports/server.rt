@@ -1,48 +1,51 @@
 //! A server of requests that may be sent again.
 
-ghost use Rattle.std.specs.Prelude.{◌≡◌};
+ghost use Rattle.std.specs.Prelude.{◌≡◌, ◌≤ℤ◌, pos};
 ghost use Rattle.lemonrudder.specs.Answers.{OnServer};
 ghost use Rattle.lemonrudder.specs.Declining.{OnGoodbye, OnRefuse};
 ghost use Rattle.lemonrudder.specs.Hosting.{Hosts, Leaves, OpensServer};
 ghost use Rattle.lemonrudder.specs.Outcomes.{OnAnswer, OnAnswerRaw, OnIdentify, OnRaise, OnSystem};
+ghost use Rattle.lemonrudder.specs.Pairs.{OnServerAndCatalogue};
+ghost use Rattle.lemonrudder.specs.Parks.{OnNextDue, OnPark, OnParked, OnParkedOf};
+ghost use Rattle.lemonrudder.specs.Setting.{OnSet};
+ghost use Rattle.lemonrudder.specs.Swapping.{OnSwap};
 ghost use Rattle.lemonrudder.specs.Questions.{OnAsked, OnPart};
 ghost use Rattle.lemonrudder.specs.Serves.{HasNoServer, OnConnect, OnFarewell, OnFeed, OnGiveUp, OnIsClosed, OnLost, OnOutput};
 ghost use Rattle.lemonrudder.specs.Slots.{held_in, unboxed};
 
+use crate::cataloguing::no_families;
 use crate::object::Object;
 use crate::refusal::Refusal;
-use crate::request::RequestHead;
 use crate::seed::Seed;
 use crate::served;
 use crate::serving::Serving;
 use crate::slot::Slot;
 use crate::terms::Terms;
-use ft_objects::Interfaces;
 use std::alloc::Global;
 use std::hash::RandomState;
 use std::mem;
 
 /// Makes a catalogue a server of its objects.
-fn host(alloc: Global, object: &mut Object, terms: Terms) -> Result<(), Refusal>
-    ensures { Hosts terms.limits terms.capacity terms.share object.old object.new result }
+fn host(alloc: Global, object: &mut Object, seed: Seed) -> Result<(), Refusal>
+    ensures { Hosts seed object.old object.new result }
 {
     let Object::Catalogue(catalogue) = object else {
         return Err(Refusal::Empty);
     };
-    let hasher = RandomState::new(&terms.seed).map_err(|_| Refusal::Memory)?;
-    let interfaces = mem::replace(&mut catalogue.interfaces, Interfaces::new(alloc));
-    *object = Object::Server(Serving::new(alloc, interfaces, terms, hasher));
+    let hasher = RandomState::new(&seed).map_err(|_| Refusal::Memory)?;
+    let families = mem::replace(&mut catalogue.families, no_families(alloc));
+    *object = Object::Server(Serving::new(alloc, families, Terms::new(seed), hasher));
     Ok(())
 }
 
 /// The server of a catalogue's objects. The catalogue stays where it is refused.
-fn opened(alloc: Global, catalogue: &mut Slot, terms: Terms) -> Result<Box<Object>, Refusal>
-    ensures { Leaves terms.limits terms.capacity terms.share (held_in catalogue.old) (held_in catalogue.new) (unboxed result) }
+fn opened(alloc: Global, catalogue: &mut Slot, seed: Seed) -> Result<Box<Object>, Refusal>
+    ensures { Leaves seed (held_in catalogue.old) (held_in catalogue.new) (unboxed result) }
 {
     let Some(mut object) = catalogue.take(alloc) else {
         return Err(Refusal::Empty);
     };
-    match host(alloc, &mut object, terms) {
+    match host(alloc, &mut object, seed) {
         Ok(()) => Ok(object),
         Err(refusal) => {
             catalogue.put(object);
@@ -57,14 +60,10 @@ pub extern "C" fn lr_server_open(
     alloc: Global,
     slot: &mut Slot,
     catalogue: &mut Slot,
-    message_limit: u32,
-    partials: u32,
-    capacity: u32,
-    share: u32,
     seed_low: u64,
     seed_high: u64,
 ) -> i64
-    ensures { OpensServer message_limit partials capacity share (held_in slot.old) (held_in slot.new) (held_in catalogue.old) (held_in catalogue.new) result }
+    ensures { OpensServer (record { low = seed_low; high = seed_high }) (held_in slot.old) (held_in slot.new) (held_in catalogue.old) (held_in catalogue.new) result }
 {
     if !slot.is_empty() {
         return Refusal::Open.number();
@@ -73,17 +72,51 @@ pub extern "C" fn lr_server_open(
         low: seed_low,
         high: seed_high,
     };
-    let terms = match Terms::new(message_limit, partials, capacity, share, seed) {
-        Ok(terms) => terms,
-        Err(refusal) => return refusal.number(),
-    };
-    match opened(alloc, catalogue, terms) {
+    match opened(alloc, catalogue, seed) {
         Ok(object) => {
             slot.put(object);
             0
         }
         Err(refusal) => refusal.number(),
     }
+}
+
+/// Sets a limit of a server, before its first connection.
+#[unsafe(no_mangle)]
+pub extern "C" fn lr_server_set(alloc: Global, slot: &mut Slot, what: u32, value: u64) -> i64
+    ensures { OnServer (OnSet what value) (held_in slot.old) (held_in slot.new) result }
+{
+    let Some(mut object) = slot.take(alloc) else {
+        return Refusal::Empty.number();
+    };
+    let answer = served::set(&mut object, what, value);
+    slot.put(object);
+    answer
+}
+
+/// Exchanges what a server has on offer and a catalogue that is in a slot.
+fn swapped(alloc: Global, object: &mut Object, catalogue: &mut Slot) -> i64
+    ensures { OnServerAndCatalogue OnSwap (Some object.old) (Some object.new) (held_in catalogue.old) (held_in catalogue.new) result }
+{
+    let Some(mut other) = catalogue.take(alloc) else {
+        return Refusal::Empty.number();
+    };
+    let answer = served::swap(object, &mut other);
+    catalogue.put(other);
+    answer
+}
+
+/// Exchanges what a server has on offer and a catalogue.
+#[unsafe(no_mangle)]
+pub extern "C" fn lr_server_swap(alloc: Global, slot: &mut Slot, catalogue: &mut Slot) -> i64
+    ensures { OnServerAndCatalogue OnSwap (held_in slot.old) (held_in slot.new) (held_in catalogue.old) (held_in catalogue.new) result }
+{
+    let Some(mut object) = slot.take(alloc) else {
+        return Refusal::Empty.number();
+    };
+    let answer = swapped(alloc, &mut object, catalogue);
+    slot.put(object);
+    answer
 }
 
 /// Opens a connection.
@@ -157,30 +190,36 @@ pub extern "C" fn lr_server_feed(
     answer
 }
 
-/// Says what waits.
+/// Says what waits: `lr_request`.
 #[unsafe(no_mangle)]
-pub extern "C" fn lr_server_asked(alloc: Global, slot: &mut Slot, request: &mut RequestHead) -> i64
-    ensures does { OnServer (OnAsked request.old request.new) (held_in slot.old) (held_in slot.new) result }
-    ensures request { HasNoServer (held_in slot.old) → request.new ≡ request.old }
+pub extern "C" fn lr_server_asked(alloc: Global, slot: &mut Slot, room: &mut [u8]) -> i64
+    ensures does { OnServer (OnAsked room.old room.new) (held_in slot.old) (held_in slot.new) result }
+    ensures none { result ≤ℤ pos 0 → room.new ≡ room.old }
 {
     let Some(object) = slot.take(alloc) else {
         return Refusal::Empty.number();
     };
-    let answer = served::asked(&object, request);
+    let answer = served::asked(&object, room);
     slot.put(object);
     answer
 }
 
-/// Copies a part of the request that waits.
+/// Copies a part of the request of a ticket, which waits or is parked.
 #[unsafe(no_mangle)]
-pub extern "C" fn lr_server_part(alloc: Global, slot: &mut Slot, part: u32, room: &mut [u8]) -> i64
-    ensures does { OnServer (OnPart part room.old room.new) (held_in slot.old) (held_in slot.new) result }
+pub extern "C" fn lr_server_part(
+    alloc: Global,
+    slot: &mut Slot,
+    ticket: u64,
+    part: u32,
+    room: &mut [u8],
+) -> i64
+    ensures does { OnServer (OnPart ticket part room.old room.new) (held_in slot.old) (held_in slot.new) result }
     ensures room { HasNoServer (held_in slot.old) → room.new ≡ room.old }
 {
     let Some(object) = slot.take(alloc) else {
         return Refusal::Empty.number();
     };
-    let answer = served::part(&object, part, room);
+    let answer = served::part(&object, ticket, part, room);
     slot.put(object);
     answer
 }
@@ -290,7 +329,7 @@ pub extern "C" fn lr_server_give_up(alloc: Global, slot: &mut Slot, ticket: u64)
     answer
 }
 
-/// Refuses the request that waits, for now.
+/// Refuses the request of a ticket, for now.
 #[unsafe(no_mangle)]
 pub extern "C" fn lr_server_refuse(
     alloc: Global,
@@ -322,16 +361,74 @@ pub extern "C" fn lr_server_goodbye(alloc: Global, slot: &mut Slot, ticket: u64)
     answer
 }
 
-/// Moves octets that are due into a room.
+/// Moves octets that are due on a connection into a room.
 #[unsafe(no_mangle)]
-pub extern "C" fn lr_server_output(alloc: Global, slot: &mut Slot, room: &mut [u8]) -> i64
-    ensures does { OnServer (OnOutput room.old room.new) (held_in slot.old) (held_in slot.new) result }
+pub extern "C" fn lr_server_output(
+    alloc: Global,
+    slot: &mut Slot,
+    connection: u64,
+    room: &mut [u8],
+) -> i64
+    ensures does { OnServer (OnOutput connection room.old room.new) (held_in slot.old) (held_in slot.new) result }
     ensures room { HasNoServer (held_in slot.old) → room.new ≡ room.old }
 {
     let Some(mut object) = slot.take(alloc) else {
         return Refusal::Empty.number();
     };
-    let answer = served::output(&mut object, room);
+    let answer = served::output(&mut object, connection, room);
+    slot.put(object);
+    answer
+}
+
+/// Parks the request that waits.
+#[unsafe(no_mangle)]
+pub extern "C" fn lr_server_park(alloc: Global, slot: &mut Slot, ticket: u64) -> i64
+    ensures { OnServer (OnPark ticket) (held_in slot.old) (held_in slot.new) result }
+{
+    let Some(mut object) = slot.take(alloc) else {
+        return Refusal::Empty.number();
+    };
+    let answer = served::park(&mut object, ticket);
+    slot.put(object);
+    answer
+}
+
+/// How many requests are parked.
+#[unsafe(no_mangle)]
+pub extern "C" fn lr_server_parked(alloc: Global, slot: &mut Slot) -> i64
+    ensures { OnServer OnParked (held_in slot.old) (held_in slot.new) result }
+{
+    let Some(object) = slot.take(alloc) else {
+        return Refusal::Empty.number();
+    };
+    let answer = served::parked(&object);
+    slot.put(object);
+    answer
+}
+
+/// How many of the parked requests came on a connection.
+#[unsafe(no_mangle)]
+pub extern "C" fn lr_server_parked_of(alloc: Global, slot: &mut Slot, connection: u64) -> i64
+    ensures { OnServer (OnParkedOf connection) (held_in slot.old) (held_in slot.new) result }
+{
+    let Some(object) = slot.take(alloc) else {
+        return Refusal::Empty.number();
+    };
+    let answer = served::parked_of(&object, connection);
+    slot.put(object);
+    answer
+}
+
+/// Names a connection on which octets came due that no call on it brought.
+#[unsafe(no_mangle)]
+pub extern "C" fn lr_server_next_due(alloc: Global, slot: &mut Slot, connection: &mut u64) -> i64
+    ensures does { OnServer (OnNextDue connection.old connection.new) (held_in slot.old) (held_in slot.new) result }
+    ensures connection { HasNoServer (held_in slot.old) → connection.new ≡ connection.old }
+{
+    let Some(mut object) = slot.take(alloc) else {
+        return Refusal::Empty.number();
+    };
+    let answer = served::next_due(&mut object, connection);
     slot.put(object);
     answer
 }

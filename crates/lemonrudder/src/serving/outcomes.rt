@@ -1,16 +1,18 @@
-//! The outcomes that are handed in for the request that waits.
+//! The outcomes that are handed in for the request that waits, and for one that is parked.
 
 ghost use Rattle.std.specs.Prelude.{◌≡◌, Some, map};
 ghost use Rattle.cdr_core.specs.Fitting.{AreValid};
 ghost use Rattle.cdr_core.specs.View.{forms_of};
 ghost use Rattle.ft_log.specs.View.{performed_in};
-ghost use Rattle.ft_orb.specs.Engines.{awaited_lent};
+ghost use Rattle.ft_orb.specs.Engines.{awaited_lent, waits_in};
 ghost use Rattle.ft_objects.specs.Interfaces.{raise_of};
 ghost use Rattle.lemonrudder.specs.Outcomes.{forms_in, members_in, outcome_read};
 
 use crate::named::{completion_of, order_of, raw_status_of, system_name_of};
 use crate::refusal::Refusal;
 use crate::serving::Serving;
+use crate::serving::questions::Found;
+use crate::serving::taken::done_of;
 use crate::types::values_of;
 use cdr_core::{Order, Ty, Val};
 use ft_log::Outcome;
@@ -18,17 +20,41 @@ use ft_objects::{Catalogue, Lookup, string_at};
 use ft_orb::Asked;
 
 impl Serving {
-    ghost use Rattle.lemonrudder.specs.Outcomes.{AreRead, HandsIn, OnAnswer, OnAnswerRaw, OnIdentify, OnRaise, OnSystem, identity_at, interface_at, member_types, result_types};
+    ghost use Rattle.lemonrudder.specs.Tickets.{IsFound};
+    ghost use Rattle.lemonrudder.specs.declared.serving.questions.Found.TheVariants.{Waits};
+    ghost use Rattle.lemonrudder.specs.Outcomes.{AnswersAsked, AreRead, HandsIn, OnAnswer, OnAnswerRaw, OnIdentify, OnRaise, OnSystem, identity_at, interface_at, member_types, result_types};
 
-    /// Hands in the outcome of the request of a number, and answers the count where it is taken.
-    fn hand_in(&mut self, number: u64, outcome: Outcome, count: u64) -> Result<u64, Refusal>
-        ensures { HandsIn number count (performed_in outcome) self.old self.new result }
+    /// Hands in the outcome of the request of a number, which waits, and answers the count where it is taken.
+    fn answer_asked(
+        &mut self,
+        number: u64,
+        connection: u64,
+        outcome: Outcome,
+        count: u64,
+    ) -> Result<u64, Refusal>
+        requires found { IsFound (Waits number connection) (waits_in self.old.engine) }
+        ensures { AnswersAsked number connection count (performed_in outcome) self.old self.new result }
     {
         if !self.engine.can_answer(number, &outcome) {
             return Err(Refusal::Outcome);
         }
-        self.engine.answer(number, outcome, &mut self.due.octets)?;
-        Ok(count)
+        let mut due = self.connections.take(connection);
+        let answered = self.engine.answer(number, outcome, &mut due.octets);
+        self.connections.put(connection, due);
+        done_of(count, answered)
+    }
+
+    /// .. of one that waits or is parked.
+    fn hand_in(&mut self, found: Found, outcome: Outcome, count: u64) -> Result<u64, Refusal>
+        requires found { IsFound found (waits_in self.old.engine) }
+        ensures { HandsIn found count (performed_in outcome) self.old self.new result }
+    {
+        match found {
+            Found::Waits(number, connection) => self.answer_asked(
+                number, connection, outcome, count,
+            ),
+            Found::Parked(number) => self.settle(number, outcome, count),
+        }
     }
 
     /// The values of types whose octets these are; others are no outcome.
@@ -70,10 +96,9 @@ impl Serving {
         ensures { OnAnswer ticket order octets.now self.old self.new result }
     {
         let order = order_of(order)?;
-        let asked = self.asked_by(ticket)?;
-        let number = asked.number;
-        let results = self.results(&asked, order, octets)?;
-        self.hand_in(number, Outcome::Returned(results), 0)
+        let called = self.called_by(ticket)?;
+        let results = self.results(&called.asked, order, octets)?;
+        self.hand_in(called.found, Outcome::Returned(results), 0)
     }
 
     /// Answers by an exception that the operation declares.
@@ -87,11 +112,10 @@ impl Serving {
         ensures { OnRaise ticket id.now order octets.now self.old self.new result }
     {
         let order = order_of(order)?;
-        let asked = self.asked_by(ticket)?;
-        let number = asked.number;
-        let members = self.members(&asked, id, order, octets)?;
+        let called = self.called_by(ticket)?;
+        let members = self.members(&called.asked, id, order, octets)?;
         let id = Vec::from_slice(self.alloc, id)?;
-        self.hand_in(number, Outcome::Raised(id, members), 0)
+        self.hand_in(called.found, Outcome::Raised(id, members), 0)
     }
 
     /// Answers by a system exception.
@@ -106,8 +130,8 @@ impl Serving {
     {
         let name = system_name_of(name)?;
         let completed = completion_of(completed)?;
-        let number = self.asked_by(ticket)?.number;
-        self.hand_in(number, Outcome::System(name, minor, completed), 0)
+        let called = self.called_by(ticket)?;
+        self.hand_in(called.found, Outcome::System(name, minor, completed), 0)
     }
 
     /// Answers a raw operation.
@@ -122,9 +146,9 @@ impl Serving {
     {
         let status = raw_status_of(status)?;
         let order = order_of(order)?;
-        let number = self.asked_by(ticket)?.number;
+        let called = self.called_by(ticket)?;
         let body = Vec::from_slice(self.alloc, body)?;
-        self.hand_in(number, Outcome::Raw(status, order, body), 0)
+        self.hand_in(called.found, Outcome::Raw(status, order, body), 0)
     }
 
     /// The answer to a request, where it asks an object that names its repository ids what it is.
@@ -149,13 +173,12 @@ impl Serving {
     pub fn identify(&mut self, ticket: u64) -> Result<u64, Refusal>
         ensures { OnIdentify ticket self.old self.new result }
     {
-        let asked = self.asked_by(ticket)?;
-        let number = asked.number;
-        let Some(truth) = self.identity(&asked) else {
+        let called = self.called_by(ticket)?;
+        let Some(truth) = self.identity(&called.asked) else {
             return Ok(0);
         };
         let results = vec![in self.alloc; Val::Boolean(truth)]?;
-        self.hand_in(number, Outcome::Returned(results), 1)
+        self.hand_in(called.found, Outcome::Returned(results), 1)
     }
 }
 

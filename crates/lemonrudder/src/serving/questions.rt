@@ -1,9 +1,11 @@
-//! What is said of the request that waits.
+//! What is said of the request that waits, and of one that is parked.
 
-ghost use Rattle.std.specs.Prelude.{◌≡◌};
+ghost use Rattle.std.specs.Prelude.{◌≡◌, IfOk};
 ghost use Rattle.cdr_core.specs.View.{values_of};
 ghost use Rattle.ft_orb.specs.Engines.{awaited_lent, waits_in};
+ghost use Rattle.ft_orb.specs.Parking.{parked_in};
 ghost use Rattle.ft_objects.specs.Interfaces.{interface_of};
+ghost use Rattle.lemonrudder.specs.Questions.{TellsIfSome, client_of};
 
 use crate::refusal::{Refusal, copied, count_of};
 use crate::request::{RequestHead, put_question, ticket_of};
@@ -11,13 +13,28 @@ use crate::serving::Serving;
 use cdr_core::{Order, end_of_list, write_list};
 use ft_objects::{Catalogue, Lookup, boolean_at, octets_at, ulong_at};
 use ft_orb::Asked;
-use giop_core::{FtField, ft_request};
 use giop_link::Inbound;
+
+/// Where the request of a ticket is.
+#[derive(Clone, Copy, Debug)]
+pub(super) enum Found {
+    /// It waits: it has this number, and came on this connection.
+    Waits(u64, u64),
+    /// It is parked under this number.
+    Parked(u64),
+}
+
+/// The request of a ticket, and where it is.
+#[derive(Clone, Copy, Debug)]
+pub(super) struct Called<'e> {
+    pub(super) found: Found,
+    pub(super) asked: Asked<'e>,
+}
 
 impl Serving {
     ghost use Rattle.lemonrudder.specs.Outcomes.{interface_at};
-    ghost use Rattle.lemonrudder.specs.Questions.{OnAsked, OnPart, TellsBody, TellsClient, is_raw, with_body};
-    ghost use Rattle.lemonrudder.specs.Tickets.{IsAskedBy};
+    ghost use Rattle.lemonrudder.specs.Questions.{OnAsked, OnPart, TellsBody, is_raw, with_body};
+    ghost use Rattle.lemonrudder.specs.Tickets.{IsAskedBy, IsFound, IsFoundAt, IsNamedBy, IsParkedOne, called_by, found_parked, named_by, parked_by};
 
     /// The request that waits, where it has this ticket.
     pub(super) fn asked_by(&self, ticket: u64) -> Result<Asked<'_>, Refusal>
@@ -30,6 +47,53 @@ impl Serving {
             return Err(Refusal::Ticket);
         }
         Ok(asked)
+    }
+
+    /// The request of a ticket, which waits or is parked.
+    fn named_by(&self, ticket: u64) -> Result<Called<'_>, Refusal>
+        ensures named { IsNamedBy (named_by ticket (waits_in self.now.engine) (parked_in self.now.engine)) result }
+        ensures found { IfOk result (λ x. IsFoundAt x.found (waits_in self.now.engine)) }
+    {
+        if let Some(asked) = self.engine.asked() {
+            if ticket_of(asked.number) == ticket {
+                let found = Found::Waits(asked.number, asked.connection);
+                return Ok(Called { found, asked });
+            }
+        }
+        self.parked_by(ticket)
+    }
+
+    /// The request of a ticket, which is parked.
+    fn parked_by(&self, ticket: u64) -> Result<Called<'_>, Refusal>
+        ensures named { IsNamedBy (found_parked ticket (parked_by ticket (parked_in self.now.engine))) result }
+        ensures found { IfOk result (λ x. IsParkedOne x.found) }
+    {
+        if ticket == 0 {
+            return Err(Refusal::Ticket);
+        }
+        let number = ticket - 1;
+        match self.engine.parked(number) {
+            Some(asked) => {
+                let found = Found::Parked(number);
+                Ok(Called { found, asked })
+            }
+            None => Err(Refusal::Ticket),
+        }
+    }
+
+    /// The request of a ticket of which an outcome may be said: not of one that is parked while another waits.
+    pub(super) fn called_by(&self, ticket: u64) -> Result<Called<'_>, Refusal>
+        ensures called { IsNamedBy (called_by ticket (waits_in self.now.engine) (parked_in self.now.engine)) result }
+        ensures found { IfOk result (λ x. IsFound x.found (waits_in self.now.engine)) }
+    {
+        let called = self.named_by(ticket)?;
+        if let Found::Waits(_, _) = called.found {
+            return Ok(called);
+        }
+        if self.engine.is_asking() {
+            return Err(Refusal::Asking);
+        }
+        Ok(called)
     }
 
     /// What the operation is that waits.
@@ -63,8 +127,9 @@ impl Serving {
     }
 
     /// Says what waits.
-    pub fn asked(&self, head: &mut RequestHead) -> u64
-        ensures { OnAsked head.old head.new self.now self.now (Ok result) }
+    pub fn asked(&self, room: &mut [u8]) -> u64
+        ensures does { OnAsked room.old room.new self.now self.now (Ok result) }
+        ensures none { result ≡ 0 → room.new ≡ room.old }
     {
         let Some(asked) = self.engine.asked() else {
             return 0;
@@ -75,14 +140,14 @@ impl Serving {
         let Inbound::Request(version, request) = inbound else {
             return 0;
         };
-        let mut found = RequestHead::none();
-        found.ticket = ticket_of(asked.number);
-        found.connection = asked.connection;
-        found.key_size = count_of(asked.object_key);
-        found.operation_size = count_of(asked.operation);
-        put_question(&mut found, version, &request);
-        self.put_body(&mut found, &asked);
-        *head = found;
+        let mut head = RequestHead::none();
+        head.ticket = ticket_of(asked.number);
+        head.connection = asked.connection;
+        head.key_size = count_of(asked.object_key);
+        head.operation_size = count_of(asked.operation);
+        put_question(&mut head, version, request);
+        self.put_body(&mut head, &asked);
+        head.tell(room);
         1
     }
 
@@ -102,37 +167,27 @@ impl Serving {
         Ok(copied(&octets, room))
     }
 
-    /// Copies the client id of the request that waits.
-    fn client(&self, room: &mut [u8]) -> Result<u64, Refusal>
-        ensures { TellsClient room.old room.new self.now result }
+    /// Copies a part of the request of a ticket.
+    pub fn part(&self, ticket: u64, part: u32, room: &mut [u8]) -> Result<u64, Refusal>
+        ensures { OnPart ticket part room.old room.new self.now self.now result }
     {
-        let Some(inbound) = self.engine.message() else {
-            return Err(Refusal::None);
-        };
-        let Inbound::Request(_, request) = inbound else {
-            return Err(Refusal::None);
-        };
-        match ft_request(&request.contexts) {
-            FtField::Present {
-                client_id,
-                retention_id: _,
-                expiration: _,
-            } => Ok(copied(client_id, room)),
-            _ => Err(Refusal::None),
-        }
-    }
-
-    /// Copies a part of the request that waits.
-    pub fn part(&self, part: u32, room: &mut [u8]) -> Result<u64, Refusal>
-        ensures { OnPart part room.old room.new self.now self.now result }
-    {
-        let asked = self.engine.asked().ok_or(Refusal::Idle)?;
+        let asked = self.named_by(ticket)?.asked;
         match part {
             0 => Ok(copied(asked.object_key, room)),
             1 => Ok(copied(asked.operation, room)),
             2 => self.body(&asked, room),
-            3 => self.client(room),
+            3 => client(&asked, room),
             _ => Err(Refusal::None),
         }
+    }
+}
+
+/// Copies the client id of a request.
+fn client(asked: &Asked<'_>, room: &mut [u8]) -> Result<u64, Refusal>
+    ensures { TellsIfSome (client_of (awaited_lent asked.now).field) room.old room.new result }
+{
+    match &asked.ft_request {
+        Some(ft_request) => Ok(copied(&ft_request.key.client_id, room)),
+        None => Err(Refusal::None),
     }
 }

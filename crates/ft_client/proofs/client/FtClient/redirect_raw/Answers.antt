@@ -7,6 +7,8 @@ use Rattle.ft_client.specs.Calling.{IsRedirectError, call_raw, is_led, raw_until
 use Rattle.ft_client.specs.Clients.{Pending, find_pending, fits, stands_in}
 use Rattle.ft_client.specs.Keeping.{Kept, kept_by, kept_of}
 use Rattle.ft_client.specs.Private.{IsLedAt}
+use Rattle.ft_client.specs.Redirections.{in_place_of}
+use Rattle.ft_client.proofs.Anew.{anew_kept, anew_stands}
 use Rattle.ft_client.proofs.Models.{written_over}
 use Rattle.ft_client.proofs.Octets.{body_within}
 use Rattle.ft_client.proofs.Placing.{fits_is, unfit_is}
@@ -113,4 +115,19 @@ returns-clause-stands c = λ m p st find form operation arguments.
     let k = record (kept_by c.in_ok-kept.kept) { sent = d.sent } in
     let kept = redirected_kept a.id s m c.in_ok-place.place d k m.version c.as_slice.result.now c.in_ok-place.number key call.operation.now (call_raw call).arguments (call_raw call).form f was refl ei ef eo ea (ap (λ (x : Kept). record x { sent = d.sent }) ok.1) in
     redirected_stands s _ m a.id key (find_pending a.id m.pending) (redirected_is m key call.operation.now (call_raw call).arguments (call_raw call).form f.call (find_pending a.id m.pending) f.find ef eo ea f.led placed short) st refl refl refl refl refl refl refl refl
+    (ap each (written_over c.put_for.new.pending s.pending.items _ (c.put_for.ensures.len ∙ c.deref_mut.ensures.len)) ∙ c.put_for.ensures.kept ∙ ap (λ (ps : List CodePending). slice_set (each ps) c.in_ok-place.place k) c.deref_mut.ensures.value ∙ kept)
+
+pub returns-clause-anew : goal.returns-clause-anew
+returns-clause-anew c = λ replied m st.
+    let a = c.args in
+    let s = a.self.now in
+    let call = a.call.now in
+    let key = call.object_key.now in
+    let d = c.index-one.result.now in
+    let f = subst (λ z. IsLedAt z c.args.self.now m c.in_ok-place.place c.in_ok-place.number) (to_z-of_z w32 c.args.id c.ranges.id) (c.in_ok-place.ensures.found m st.fields) in
+    let ei = c.as_slice.ensures.value ∙ st.fields.client_id in
+    let was : kept_by d ≡ kept_of m.version m.client_id f.call = ap kept_by c.index-one.ensures ∙ f.kept d in
+    let k = record (kept_by c.in_ok-kept.kept) { sent = d.sent } in
+    let kept = anew_kept a.id s m c.in_ok-place.place d k m.version c.as_slice.result.now c.in_ok-place.number key call.operation.now (call_raw call).arguments (call_raw call).form f was refl ei (ap (λ (x : Kept). record x { sent = d.sent }) (c.in_ok-kept.ensures m.version).1) in
+    anew_stands a.id key (in_place_of call.operation.now (call_raw call).arguments (call_raw call).form) (λ again. replied) s _ m st refl refl refl refl refl refl refl refl
     (ap each (written_over c.put_for.new.pending s.pending.items _ (c.put_for.ensures.len ∙ c.deref_mut.ensures.len)) ∙ c.put_for.ensures.kept ∙ ap (λ (ps : List CodePending). slice_set (each ps) c.in_ok-place.place k) c.deref_mut.ensures.value ∙ kept)

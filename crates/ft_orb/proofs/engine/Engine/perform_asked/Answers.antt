@@ -4,6 +4,7 @@ use Rattle.std.proofs.lemmas.Result.{err_from_is_err_and}
 use Rattle.ft_log.specs.View.{performed_in}
 use Rattle.ft_objects.specs.Interfaces.{IsOutcomeOf}
 use Rattle.ft_objects.specs.Replies.{IsRenderable}
+use Rattle.ft_objects.specs.facts.Answers.{outcome_is_answer}
 use Rattle.ft_orb.specs.declared.events.Note.TheVariants.{Done, Memory}
 use Rattle.ft_orb.specs.declared.pausing.Ask.{Ask}
 use Rattle.ft_orb.specs.Engines.{CanAnswer, IsFit, awaited_of}
@@ -24,7 +25,7 @@ answer-requires g c =
       can = subst (λ (o : Option Ask). CanAnswer (offer_by g.S.Servant.meaning c.args.self.now.offering.catalogue) (option_map awaited_of (pending_of c.args.self.now.keeper.slot o)) c.in-Some.ask.number (performed_in c.in-Ok.outcome)) (sym c.in-Some.is) (
         refl,
         subst IsRenderable (ap (λ x. x.1) ok) (g.S.Servant.promises.renderable c.args.self.now.offering.catalogue _ _ _ c.known.ensures fit),
-        subst (IsOutcomeOf _) (ap (λ x. x.1) ok) (g.S.Servant.promises.fits c.args.self.now.offering.catalogue _ _ _ c.known.ensures fit),
+        outcome_is_answer _ _ (subst (IsOutcomeOf _) (ap (λ x. x.1) ok) (g.S.Servant.promises.fits c.args.self.now.offering.catalogue _ _ _ c.known.ensures fit)),
       );
     }
 

@@ -16,4 +16,4 @@ returns c =
     let fits : FitsSigned w32 c.in-Ok.id = subst (λ (z : ℤ). FitsSigned w32 z) (sym c.in-Ok.ensures.1) c.in-Ok.ensures.0 in
     let are = asked_are q c.deref.result.now _ c.deref.ensures.value c.in_ok-arguments.ensures.asked in
     let t : Calling = record s { client = c.redirect.new.self } in
-    subst (λ (z : ℤ). OnRedirect z q s t (Ok 0)) (to_z-of_z w32 c.in-Ok.id fits ∙ call) (client_redirects _ q s c.redirect.new.self c.deref.result.now are o.fitting o.stands)
+    subst (λ (z : ℤ). OnRedirect z q s t (Ok 0)) (to_z-of_z w32 c.in-Ok.id fits ∙ call) (client_redirects _ q s c.redirect.new.self c.deref.result.now are o.fitting o.stands o.anew)

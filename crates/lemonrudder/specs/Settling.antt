@@ -1,0 +1,59 @@
+-- What a call does that answers a request that is parked, or declines it: all who wait are told.
+use Rattle.std.specs.Prelude.{◌≡◌, ◌==◌, ℕ, ◌<◌, false, List, [], ◌∷◌, length, None, Result, Ok, Err}
+use Rattle.ft_log.specs.Holding.{Holding, known, parked}
+use Rattle.ft_log.specs.Performed.{Performed}
+use Rattle.ft_objects.specs.Families.{families_offer}
+use Rattle.ft_orb.specs.Deeds.{Told}
+use Rattle.ft_orb.specs.History.{Event, Withdrew}
+use Rattle.ft_orb.specs.Parking.{CanSettle, Settings, Stays, parked_at, parked_in, put_at, told_in}
+use Rattle.ft_orb.specs.Requests.{Call}
+use Rattle.lemonrudder.specs.declared.refusal.Refusal.{Refusal}
+use Rattle.lemonrudder.specs.declared.refusal.Refusal.TheVariants as refusal
+use Rattle.lemonrudder.specs.declared.serving.Serving.{Serving}
+use Rattle.lemonrudder.specs.Late.{WhereStays}
+use Rattle.lemonrudder.specs.Serves.{IsIdle, IsRefused, KeepsCatalogue, KeepsTickets}
+use Rattle.lemonrudder.specs.Telling.{AreDue, AreTold, Scene, after_all}
+
+-- all that is parked stays as it is, but for what is under number n, where nothing is any more
+abbrev pub Unparks : ℕ → Serving → Serving → Type 0
+Unparks n s t = (parked_in t.engine n ≡ None) × ((q : ℕ) → (q == n) ≡ false → (parked_in t.engine q ≡ parked_in s.engine q) × (told_in t.engine q ≡ told_in s.engine q))
+
+-- the outcome is kept, if it is to be: it is that of the call that was parked under the number, and all who waited were told
+abbrev pub SettlesLate : (n : ℕ) → Performed → Serving → Serving → Type 0
+SettlesLate n outcome s t = WhereStays s (λ x held calls past waiting. (i : ℕ) × (i < length calls) × (held i ≡ parked n)
+    × (told : List Told) × let g : Scene = record { past = past; waiting = waiting } in
+    AreTold x n g told × ((after_all x n g told).waiting n ≡ []) × AreDue outcome told s t
+    × Stays families_offer x (put_at i (known outcome) held) calls t.engine (after_all x n g told).past (after_all x n g told).waiting)
+
+-- .. or nothing is kept for that call any more
+abbrev pub WithdrawsLate : (n : ℕ) → Performed → Serving → Serving → Type 0
+WithdrawsLate n outcome s t = WhereStays s (λ x held calls past waiting. (i : ℕ) × (i < length calls) × (held i ≡ parked n)
+    × (told : List Told) × let g : Scene = record { past = Withdrew i ∷ past; waiting = waiting } in
+    AreTold x n g told × ((after_all x n g told).waiting n ≡ []) × AreDue outcome told s t
+    × Stays families_offer x (put_at i (known outcome) held) calls t.engine (after_all x n g told).past (after_all x n g told).waiting)
+
+-- An outcome of the request that is parked under a number is handed in, and n is answered: not where it can't be that of the operation, as
+-- that is on offer now.
+abbrev pub Settles : (number n : ℕ) → Performed → Serving → Serving → Result ℕ Refusal → Type 0
+Settles number n outcome s t r = let Can = CanSettle (families_offer s.engine.offering.catalogue) (parked_at s.engine number) outcome in
+    (¬ Can → IsRefused refusal.Outcome s t r)
+    × (Can → (r ≡ Ok n) × IsIdle t × KeepsCatalogue s t × KeepsTickets s t × Unparks number s t × SettlesLate number outcome s t)
+
+-- It is declined, and nothing of it is kept.
+abbrev pub Withdraws : (number : ℕ) → Performed → Serving → Serving → Result ℕ Refusal → Type 0
+Withdraws number outcome s t r = let Can = CanSettle (families_offer s.engine.offering.catalogue) (parked_at s.engine number) outcome in
+    (¬ Can → IsRefused refusal.Outcome s t r)
+    × (Can → (r ≡ Ok 0) × IsIdle t × KeepsCatalogue s t × KeepsTickets s t × Unparks number s t × WithdrawsLate number outcome s t)
+
+-- Words of private functions.
+
+-- All who waited under a number were told, and the outcome is that of the call that was parked under it.
+pub record TellsAll (x : Settings) (held : ℕ → Holding) (calls : List Call) (n : ℕ) (outcome : Performed) (g : Scene) (s t : Serving) : Type 0 where
+  pub i : ℕ
+  pub taken : i < length calls
+  pub was : held i ≡ parked n
+  pub told : List Told
+  pub are_told : AreTold x n g told
+  pub none : (after_all x n g told).waiting n ≡ []
+  pub are_due : AreDue outcome told s t
+  pub stays : Stays families_offer x (put_at i (known outcome) held) calls t.engine (after_all x n g told).past (after_all x n g told).waiting

@@ -1,0 +1,101 @@
+//! What is set of a client.
+
+ghost use Rattle.std.specs.Prelude.{◌≡◌, if◌then◌else◌, nat_lt, None, Some};
+ghost use Rattle.lemonrudder.specs.Naming.{or_range};
+
+use crate::calling::Calling;
+use crate::named::{limits_of, truth_of, version_of};
+use crate::refusal::Refusal;
+use giop_core::Version;
+use giop_frames::Limits;
+
+/// A number of 32 bits.
+fn narrow(value: u64) -> Result<u32, Refusal>
+    ensures { result ≡ or_range (if nat_lt value 4294967296 then Some value else None) }
+{
+    u32::try_from(value).map_err(|_| Refusal::Range)
+}
+
+impl Calling {
+    ghost use Rattle.std.specs.Option.{option_map};
+    ghost use Rattle.ft_client.specs.Clients.{Kept, KeptForwards};
+    ghost use Rattle.lemonrudder.specs.Calls.{Standing, Stands};
+    ghost use Rattle.lemonrudder.specs.Naming.{truth_named, version_named};
+    ghost use Rattle.lemonrudder.specs.Settings.{Makes, MakesLimited, OnSet, Sets, keeping, message, partials, version};
+
+    /// Sets what a client keeps, or what it is made with.
+    pub fn set(&mut self, what: u32, value: u64) -> Result<u64, Refusal>
+        ensures { OnSet what value self.old self.new result }
+    {
+        match what {
+            1 => self.keep_transient(value),
+            2 => self.keep_forwards(value),
+            3 => self.set_version(value),
+            4 => self.set_message(value),
+            5 => self.set_partials(value),
+            _ => Err(Refusal::Range),
+        }
+    }
+
+    /// Whether TRANSIENT leaves calls pending from now on.
+    fn keep_transient(&mut self, value: u64) -> Result<u64, Refusal>
+        ensures { Sets (option_map (λ keeps. keeping (Kept keeps)) (truth_named value)) self.old self.new result }
+    {
+        let keeps = truth_of(value)?;
+        self.client.keep_on_transient(keeps);
+        Ok(0)
+    }
+
+    /// Whether a forward leaves its call pending from now on.
+    fn keep_forwards(&mut self, value: u64) -> Result<u64, Refusal>
+        ensures { Sets (option_map (λ keeps. keeping (KeptForwards keeps)) (truth_named value)) self.old self.new result }
+    {
+        let keeps = truth_of(value)?;
+        self.client.keep_on_forward(keeps);
+        Ok(0)
+    }
+
+    /// The version of its messages.
+    fn set_version(&mut self, value: u64) -> Result<u64, Refusal>
+        ensures { Sets (option_map version (version_named value)) self.old self.new result }
+    {
+        let version = version_of(narrow(value)?)?;
+        let limits = self.client.limits();
+        self.make_with(version, limits)
+    }
+
+    /// How many octets a message may have that comes.
+    fn set_message(&mut self, value: u64) -> Result<u64, Refusal>
+        ensures { Sets (Some (message value)) self.old self.new result }
+    {
+        let partials = self.client.limits().partials;
+        self.limit(narrow(value)?, u32::from(partials))
+    }
+
+    /// How many messages may be partial at a time.
+    fn set_partials(&mut self, value: u64) -> Result<u64, Refusal>
+        ensures { Sets (Some (partials value)) self.old self.new result }
+    {
+        let message = self.client.limits().message;
+        self.limit(message, narrow(value)?)
+    }
+
+    /// The limits of its connections.
+    fn limit(&mut self, message: u32, partials: u32) -> Result<u64, Refusal>
+        ensures { (x : Standing) → Stands self.old x → MakesLimited message partials x self.new result }
+    {
+        let limits = limits_of(message, partials)?;
+        let version = self.client.version();
+        self.make_with(version, limits)
+    }
+
+    /// What a client is made with that is unused.
+    fn make_with(&mut self, version: Version, limits: Limits) -> Result<u64, Refusal>
+        ensures { (x : Standing) → Stands self.old x → Makes version limits x self.new result }
+    {
+        if !self.client.make_with(version, limits) {
+            return Err(Refusal::Open);
+        }
+        Ok(0)
+    }
+}

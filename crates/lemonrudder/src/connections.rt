@@ -1,0 +1,130 @@
+//! The connections of a server, and what is due on each.
+
+ghost use Rattle.std.specs.Prelude.{◌≡◌, [], ℕ, false, true, drop, length, min, OnErr, OnOk, IfErr};
+ghost use Rattle.lemonrudder.specs.Dues.{IsPlaced, owed};
+
+use crate::due::Due;
+use crate::refusal::Refusal;
+use std::alloc::Global;
+use std::collections::BTreeMap;
+use std::mem;
+
+/// A connection, from when it is opened until it is lost.
+#[derive(Drop)]
+pub struct Connection {
+    due: Due,
+    ghost placed: { IsPlaced due },
+}
+
+/// The connections, by their numbers.
+#[derive(Drop)]
+pub struct Connections {
+    alloc: Global,
+    entries: BTreeMap<u64, Connection>,
+}
+
+impl Connections {
+    ghost use Rattle.lemonrudder.specs.Connected.{AreOthers, AreSame, OnlyDue, is_there, owed_in};
+    ghost use Rattle.lemonrudder.specs.Refusals.{filled};
+
+    /// None.
+    pub fn new(alloc: Global) -> Connections
+        ensures { (c : ℕ) → is_there result c ≡ false }
+    {
+        Connections {
+            alloc,
+            entries: BTreeMap::new(alloc),
+        }
+    }
+
+    /// Whether there is one of a number.
+    pub fn has(&self, connection: u64) -> bool
+        ensures { result ≡ is_there self.now connection }
+    {
+        self.entries.contains_key(&connection)
+    }
+
+    /// Opens one, on which nothing is due, where there is none of the number.
+    pub fn open(&mut self, connection: u64) -> Result<(), Refusal>
+        ensures there { OnOk result (is_there self.new connection ≡ true) }
+        ensures others { AreOthers connection self.old self.new }
+        ensures owed { is_there self.old connection ≡ false → owed_in self.new connection ≡ [] }
+        ensures stays { is_there self.old connection ≡ true → AreSame self.old self.new }
+        ensures err { OnErr result (AreSame self.old self.new) }
+        ensures why { IfErr result (λ e. e ≡ Refusal.Memory) }
+    {
+        if self.has(connection) {
+            return Ok(());
+        }
+        let opened = Connection {
+            due: Due::new(Vec::new(self.alloc)),
+        };
+        self.entries.insert(connection, opened)?;
+        Ok(())
+    }
+
+    /// Forgets one, and what is due on it.
+    pub fn remove(&mut self, connection: u64)
+        ensures gone { is_there self.new connection ≡ false }
+        ensures others { AreOthers connection self.old self.new }
+    {
+        self.entries.remove(&connection);
+    }
+
+    /// Forgets one, unless it was there.
+    pub fn undo(&mut self, connection: u64, was: bool)
+        ensures gone { was ≡ false → is_there self.new connection ≡ false }
+        ensures stays { was ≡ true → AreSame self.old self.new }
+        ensures others { AreOthers connection self.old self.new }
+    {
+        if !was {
+            self.remove(connection);
+        }
+    }
+
+    /// How many octets are due on one.
+    pub fn due_len(&self, connection: u64) -> usize
+        ensures { result ≡ length (owed_in self.now connection) }
+    {
+        match self.entries.get(&connection) {
+            Some(found) => found.due.len(),
+            None => 0,
+        }
+    }
+
+    /// Takes what is due on one, to be put back.
+    pub fn take(&mut self, connection: u64) -> Due
+        ensures owed { owed result ≡ owed_in self.old connection }
+        ensures placed { IsPlaced result }
+        ensures only { OnlyDue connection self.old self.new }
+    {
+        let none = Due::new(Vec::new(self.alloc));
+        match self.entries.get_mut(&connection) {
+            Some(found) => mem::replace(&mut found.due, none),
+            None => none,
+        }
+    }
+
+    /// This is due on one, if there is one.
+    pub fn put(&mut self, connection: u64, due: Due)
+        ensures owed { is_there self.old connection ≡ true → owed_in self.new connection ≡ owed due }
+        ensures only { OnlyDue connection self.old self.new }
+    {
+        if let Some(found) = self.entries.get_mut(&connection) {
+            found.due = due.placed();
+        }
+    }
+
+    /// Moves octets that are due on one into a room, as many as it has, and answers how many.
+    pub fn output(&mut self, connection: u64, room: &mut [u8]) -> u64
+        ensures count { result ≡ min (length (owed_in self.old connection)) (length room.old) }
+        ensures room { room.new ≡ filled (owed_in self.old connection) room.old }
+        ensures owed { owed_in self.new connection ≡ drop result (owed_in self.old connection) }
+        ensures only { OnlyDue connection self.old self.new }
+    {
+        match self.entries.get_mut(&connection) {
+            Some(found) => found.due.output(room),
+            None => 0,
+        }
+    }
+}

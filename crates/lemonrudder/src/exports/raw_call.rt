@@ -1,0 +1,76 @@
+//! Raw calls of a client.
+
+ghost use Rattle.lemonrudder.specs.Answers.{OnClient};
+ghost use Rattle.lemonrudder.specs.RawCalls.{OnCallRaw, OnRecallRaw, raw_question};
+ghost use Rattle.lemonrudder.specs.Slots.{held_in};
+
+use crate::called::raw;
+use crate::calling::RawQuestion;
+use crate::refusal::Refusal;
+use crate::slot::Slot;
+use std::alloc::Global;
+
+/// Calls an operation of an object by a body of octets, and answers the number of the call.
+#[unsafe(no_mangle)]
+pub extern "C" fn lr_client_call_raw(
+    alloc: Global,
+    slot: &mut Slot,
+    now: u64,
+    expiration: u64,
+    wish: u32,
+    key: &[u8],
+    operation: &[u8],
+    order: u32,
+    contexts: &[u8],
+    body: &[u8],
+) -> i64
+    ensures { OnClient (OnCallRaw now expiration (raw_question wish key.now operation.now order contexts.now body.now)) (held_in slot.old) (held_in slot.new) result }
+{
+    let asked = RawQuestion {
+        wish,
+        key,
+        operation,
+        order,
+        contexts,
+        body,
+    };
+    let Some(mut object) = slot.take(alloc) else {
+        return Refusal::Empty.number();
+    };
+    let answer = raw::call(&mut object, now, expiration, &asked);
+    slot.put(object);
+    answer
+}
+
+/// Takes a raw call of before up again, under its own number.
+#[unsafe(no_mangle)]
+pub extern "C" fn lr_client_recall_raw(
+    alloc: Global,
+    slot: &mut Slot,
+    call: i64,
+    now: u64,
+    expiration: u64,
+    wish: u32,
+    key: &[u8],
+    operation: &[u8],
+    order: u32,
+    contexts: &[u8],
+    body: &[u8],
+) -> i64
+    ensures { OnClient (OnRecallRaw call now expiration (raw_question wish key.now operation.now order contexts.now body.now)) (held_in slot.old) (held_in slot.new) result }
+{
+    let asked = RawQuestion {
+        wish,
+        key,
+        operation,
+        order,
+        contexts,
+        body,
+    };
+    let Some(mut object) = slot.take(alloc) else {
+        return Refusal::Empty.number();
+    };
+    let answer = raw::recall(&mut object, call, now, expiration, &asked);
+    slot.put(object);
+    answer
+}

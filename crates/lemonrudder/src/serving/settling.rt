@@ -1,0 +1,107 @@
+//! The outcome of a request that is parked, told to all who wait for it.
+
+ghost use Rattle.std.specs.Prelude.{◌≡◌, ◌==◌, ◌∷◌, [], ℕ, List, ◌<◌, IsSome, None, Some, false};
+ghost use Rattle.ft_log.specs.Holding.{Holding};
+ghost use Rattle.ft_log.specs.Performed.{Performed};
+ghost use Rattle.ft_log.specs.View.{performed_in};
+ghost use Rattle.ft_objects.specs.Families.{families_offer};
+ghost use Rattle.ft_orb.specs.declared.parked.Waiter.{Waiter};
+ghost use Rattle.ft_orb.specs.Deeds.{Told};
+ghost use Rattle.ft_orb.specs.History.{Event};
+ghost use Rattle.ft_orb.specs.Parking.{AreParked, Settings, Stays, left_in, not_now, parked_in, told_in};
+ghost use Rattle.ft_orb.specs.Requests.{Call};
+
+use crate::refusal::Refusal;
+use crate::serving::Serving;
+use ft_log::{Completion, Outcome, SystemName};
+
+impl Serving {
+    ghost use Rattle.lemonrudder.specs.Serves.{IsIdle, KeepsCatalogue, KeepsTickets};
+    ghost use Rattle.lemonrudder.specs.Settling.{Settles, TellsAll, Withdraws};
+    ghost use Rattle.lemonrudder.specs.Telling.{Scene, Tells, who};
+
+    /// Tells the outcome of what is parked to who is next, on its connection, and names that. Where memory is short the
+    /// connection is lost.
+    fn tell(&mut self, number: u64, connection: u64)
+        requires idle { IsIdle self.old }
+        requires told { IsSome (told_in self.old.engine number) }
+        requires left { 0 < left_in self.old.engine number }
+        ensures late { (x : Settings) (held : ℕ → Holding) (calls : List Call) (past : List Event) (waiting : ℕ → List Waiter) (outcome : Performed) (w : Waiter) (rest : List Waiter) → Stays families_offer x held calls self.old.engine past waiting
+            → told_in self.old.engine number ≡ Some outcome → waiting number ≡ w ∷ rest → w.connection ≡ connection
+            → (t : Told) × (who t ≡ w) × Tells x held calls number outcome (record { past = past; waiting = waiting }) (t ∷ []) self.old self.new }
+        ensures parked { AreParked self.old.engine self.new.engine }
+        ensures fewer { left_in self.new.engine number < left_in self.old.engine number }
+        ensures idle { IsIdle self.new }
+        ensures catalogue { KeepsCatalogue self.old self.new }
+        ensures tickets { KeepsTickets self.old self.new }
+    {
+        let mut due = self.connections.take(connection);
+        let before = due.size();
+        if self.engine.reply(number, &mut due.octets).is_err() {
+            self.connections.put(connection, due);
+            return;
+        }
+        if self.ready.insert(connection).is_ok() {
+            self.connections.put(connection, due);
+            return;
+        }
+        due.octets.truncate(before);
+        self.engine.lost(connection);
+        self.connections.put(connection, due);
+    }
+
+    /// .. to all who wait.
+    fn tell_all(&mut self, number: u64)
+        requires idle { IsIdle self.old }
+        ensures late { (x : Settings) (held : ℕ → Holding) (calls : List Call) (past : List Event) (waiting : ℕ → List Waiter) (outcome : Performed) → Stays families_offer x held calls self.old.engine past waiting
+            → told_in self.old.engine number ≡ Some outcome → TellsAll x held calls number outcome (record { past = past; waiting = waiting }) self.old self.new }
+        ensures done { IsSome (told_in self.old.engine number) → parked_in self.new.engine number ≡ None }
+        ensures others { (q : ℕ) → (q == number) ≡ false → (parked_in self.new.engine q ≡ parked_in self.old.engine q) × (told_in self.new.engine q ≡ told_in self.old.engine q) }
+        ensures idle { IsIdle self.new }
+        ensures catalogue { KeepsCatalogue self.old self.new }
+        ensures tickets { KeepsTickets self.old self.new }
+    {
+        while let Some(connection) = self.engine.due(number) {
+            self.tell(number, connection);
+        }
+    }
+
+    /// Takes the outcome of the request that is parked under a number, and answers the count.
+    pub(super) fn settle(
+        &mut self,
+        number: u64,
+        outcome: Outcome,
+        count: u64,
+    ) -> Result<u64, Refusal>
+        requires idle { IsIdle self.old }
+        ensures { Settles number count (performed_in outcome) self.old self.new result }
+    {
+        if !self.engine.can_settle(number, &outcome) {
+            return Err(Refusal::Outcome);
+        }
+        self.engine.settle(number, outcome);
+        self.tell_all(number);
+        Ok(count)
+    }
+
+    /// Declines the request that is parked under a number.
+    pub(super) fn withdraw(
+        &mut self,
+        number: u64,
+        name: SystemName,
+        minor: u32,
+    ) -> Result<u64, Refusal>
+        requires idle { IsIdle self.old }
+        ensures { Withdraws number (not_now name minor) self.old self.new result }
+    {
+        if !self
+            .engine
+            .can_settle(number, &Outcome::System(name, minor, Completion::No))
+        {
+            return Err(Refusal::Outcome);
+        }
+        self.engine.withdraw(number, name, minor);
+        self.tell_all(number);
+        Ok(0)
+    }
+}
