@@ -1,10 +1,13 @@
+mod Asked
 mod Assemblers
+mod Bounded
 mod Catalogues
 mod Clients
 mod Coding
-mod Contexts
+mod ContextLists
 mod Counts
 mod Declaring
+mod Declined
 mod Ended
 mod Finding
 mod Handing
@@ -18,6 +21,7 @@ mod Offered
 mod Owing
 mod OwingLate
 mod Pairs
+mod Parking
 mod Putting
 mod Raising
 mod RawCalls
@@ -28,6 +32,6 @@ mod Resuming
 mod Servers
 mod Settings
 mod Telling
-mod Unparked
+mod Tellings
 mod Values
 mod Written

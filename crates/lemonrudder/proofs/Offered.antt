@@ -14,10 +14,6 @@ use Rattle.lemonrudder.specs.Limited.{Limited, limited}
 use Rattle.lemonrudder.specs.Openings.{IsNew}
 use Rattle.lemonrudder.specs.Setting.{HasOpened, SetsTo}
 
--- where nothing waits
-pub there_if_idle : {C : Type 0} (k : Connections) (e : Engine C) → waits_in e ≡ None → option_map_or (λ (w : Awaited). is_there k w.connection) (waits_in e) true ≡ true
-there_if_idle k e none = ap (λ (x : Option Awaited). option_map_or (λ (w : Awaited). is_there k w.connection) x true) none
-
 -- it had no connection, and is a new one within the limits that were set
 pub set_anew : (o : Option Limited) (terms : Terms) (s t : Serving) (f : Families) → o ≡ Some (limited terms) → (s.setup.opened ≡ true → ⊥) → (IsSome (waits_in s.engine) → ⊥)
     → terms.seed ≡ s.setup.terms.seed → f ≡ s.engine.offering.catalogue → IsNew f terms t → SetsTo o s t (Ok 0)

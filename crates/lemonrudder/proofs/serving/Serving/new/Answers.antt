@@ -3,7 +3,7 @@ use Rattle.ft_objects.specs.Families.{families_offer}
 use Rattle.ft_orb.specs.Offerings.{terms_by}
 use Rattle.ft_orb.specs.Parking.{Settings}
 use Rattle.ft_orb.specs.Requests.{Terms}
-use Rattle.lemonrudder.proofs.Offered.{there_if_idle}
+use Rattle.lemonrudder.proofs.Asked.{asked-idle}
 use Rattle.lemonrudder.proofs.serving.Serving.new.Goals as goal
 
 pub returns : goal.returns
@@ -23,4 +23,4 @@ returns c =
     )
 
 pub invariant_of-result : goal.invariant_of-result
-invariant_of-result c = record { asked = there_if_idle c.new.result c.bound_client_ids.new.self c.bound_client_ids.ensures.idle }
+invariant_of-result c = record { asked = asked-idle c.new.result c.bound_client_ids.new.self c.bound_client_ids.ensures.idle }

@@ -1,10 +1,11 @@
 use Rattle.std.proofs.Common.{refl, rules, true≢false, sym, ◌∙◌}
 use Rattle.lemonrudder.proofs.Idling.{not_so}
-use Rattle.lemonrudder.proofs.Offered.{set_anew, there_if_idle}
+use Rattle.lemonrudder.proofs.Asked.{asked-idle}
+use Rattle.lemonrudder.proofs.Offered.{set_anew}
 use Rattle.lemonrudder.proofs.serving.Serving.set.Goals as goal
 
 pub invariant_of-self : goal.invariant_of-self
-invariant_of-self c = record { asked = there_if_idle c.args.self.now.connections c.change-families.new.self c.change-families.ensures.idle }
+invariant_of-self c = record { asked = asked-idle c.args.self.now.connections c.change-families.new.self c.change-families.ensures.idle }
 
 pub returns : goal.returns
 returns c =

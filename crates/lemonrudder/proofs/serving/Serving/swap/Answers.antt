@@ -1,6 +1,7 @@
-use Rattle.std.proofs.Common.{◌∙◌, ap, refl, rules}
+use Rattle.std.proofs.Common.{refl, rules}
 use Rattle.lemonrudder.proofs.Idling.{not_both, not_so}
-use Rattle.lemonrudder.proofs.Offered.{swapped_with, there_if_idle}
+use Rattle.lemonrudder.proofs.Offered.{swapped_with}
+use Rattle.lemonrudder.proofs.Asked.{asked-idle}
 use Rattle.lemonrudder.proofs.serving.Serving.swap.Goals as goal
 
 pub returns-then-is_asking : goal.returns-then-is_asking
@@ -19,4 +20,4 @@ returns c =
     )
 
 pub invariant_of-self : goal.invariant_of-self
-invariant_of-self c = record { asked = there_if_idle c.args.self.now.connections c.change.new.self c.change.ensures.idle }
+invariant_of-self c = record { asked = asked-idle c.args.self.now.connections c.change.new.self c.change.ensures.idle }
