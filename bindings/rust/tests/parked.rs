@@ -162,7 +162,8 @@ fn goodbye_comes_after_replies() -> Result<(), Error> {
     let due: Vec<_> = server.due().collect();
     assert_eq!((due.len(), due[0].0), (1, 1));
     let said: Vec<_> = messages(&due[0].1)?.into_iter().map(|(kind, id, _)| (kind, id)).collect();
-    let wanted = [(MessageType::Reply, 2), (MessageType::Reply, 1), (MessageType::CloseConnection, 0)];
+    let wanted =
+        [(MessageType::Reply, 2), (MessageType::Reply, 1), (MessageType::CloseConnection, 0)];
     assert_eq!(said, wanted);
     Ok(())
 }
