@@ -173,6 +173,7 @@ class Works:
             self._return(work.asked, task.result())
         self._server._tell()
         if not self._server.is_closed:
+            work.connection.end()
             self._server._wake(work.connection)
 
     def cut(self, work: _Work, name: str) -> None:
@@ -200,6 +201,7 @@ class Works:
             work.is_answered = True
             self._cut_off(work)
             self._server._tell()
+            work.connection.end()
 
     def _raise(self, asked: Asked, raised: BaseException, connection: Connection) -> None:
         """Answers by what a function raised."""
