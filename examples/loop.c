@@ -32,6 +32,7 @@ struct peer {
   short events;        /* what is waited for */
   bool has_turn;       /* it is in `turns` */
   bool is_held;        /* too many of its requests are parked to feed it */
+  bool is_leaving;     /* it is said goodbye to, where nobody waits for an outcome any more, and fed no more */
   bool is_shut;        /* all is sent, and what comes means nothing */
   int64_t until;       /* the second at which it is parted from */
   size_t got, fed;     /* of what came, `got` octets, the first `fed` ones are fed */
@@ -156,6 +157,13 @@ static void drop(struct peer *peer) {
   if (listener_fd >= 0) listen_for(true);
 }
 
+/* Says goodbye to a peer, and lets go of what came. */
+static void leave(struct peer *peer) {
+  hold(peer, false);
+  peer->fed = peer->got;
+  if (lr_server_is_closed(served, peer->connection) == 0) lr_server_farewell(served, peer->connection);
+}
+
 /* Feeds what came, until enough is due or parked. */
 static void feed(struct peer *peer) {
   const unsigned char *came = rooms[slot_of(peer)].came;
@@ -226,7 +234,10 @@ static bool await(struct peer *peer) {
 static bool attend(struct peer *peer) {
   ssize_t got = read_piece(peer);
   if (got < 0) return false;
-  feed(peer);
+  if (peer->is_leaving)
+    leave(peer);
+  else
+    feed(peer);
   ssize_t sent = send_due(peer);
   if (sent < 0) return false;
   bool is_closed = lr_server_is_closed(served, peer->connection) != 0;
@@ -241,7 +252,7 @@ static bool attend(struct peer *peer) {
 
 /* Says goodbye to a peer. */
 static void part_from(struct peer *peer) {
-  lr_server_farewell(served, peer->connection);
+  peer->is_leaving = true;
   if (!attend(peer)) drop(peer);
 }
 
@@ -312,7 +323,7 @@ static void begin(size_t slot, int fd) {
   peer->events = -1;
   peer->until = seconds() + LOOP_IDLE;
   peer->got = peer->fed = peer->size = peer->sent = 0;
-  peer->is_shut = false;
+  peer->is_leaving = peer->is_shut = false;
   setsockopt(fd, IPPROTO_TCP, TCP_NODELAY, &(int){1}, sizeof(int)); /* (a reply waits for no acknowledgement) */
   if (fcntl(fd, F_SETFL, O_NONBLOCK) != 0 || lr_server_connect(served, last_connection) != LR_OK || !await(peer))
     drop(peer);
@@ -358,8 +369,10 @@ static void on_ready(size_t slot, bool is_broken) {
 
 /* What is done once a second. */
 static void pass(int64_t second) {
-  for (struct peer *peer = peers + FIRST; peer < peers + SLOTS; peer++)
+  for (struct peer *peer = peers + FIRST; peer < peers + SLOTS; peer++) {
+    if (peer->fd >= 0 && peer->is_leaving) give_turn(peer);
     if (peer->fd >= 0) part_in_time(peer, second);
+  }
   lr_server_tick(served, moment());
   if (listener_fd >= 0) listen_for(true);
 }

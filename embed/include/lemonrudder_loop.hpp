@@ -132,7 +132,9 @@ class Waiter {
     polls_[slot] = {fd, events, 0};
     return true;
   }
-  void forget(std::size_t slot) noexcept { polls_[slot].fd = -1; }
+  void forget(std::size_t slot) noexcept {
+    if (slot < polls_.size()) polls_[slot].fd = -1;
+  }
   template <class Ready>
   bool wait(int milliseconds, Ready ready) {
     const int count = poll(polls_.data(), static_cast<nfds_t>(polls_.size()), milliseconds);
@@ -315,6 +317,15 @@ class Asked {
     return Later(ticket(), mailbox_);
   }
 
+ private:
+  friend class Loop;
+
+  struct Load {
+    std::uint32_t name;
+    std::uint64_t size;
+    std::vector<std::uint8_t>* octets;
+  };
+
   /* Takes the parts that are lent. */
   Done load() noexcept {
     for (auto [name, size, octets] :
@@ -326,13 +337,6 @@ class Asked {
     }
     return {};
   }
-
- private:
-  struct Load {
-    std::uint32_t name;
-    std::uint64_t size;
-    std::vector<std::uint8_t>* octets;
-  };
 
   Result<std::vector<std::uint8_t>> part(std::uint32_t name, std::uint64_t size) noexcept {
     const auto copy = [&](std::uint8_t* room, std::size_t room_size) {
@@ -371,18 +375,17 @@ class Loop {
 
   /* An object, and the repository id of its type. */
   Done object(Octets key, const char* type) {
-    types_[std::string(key.text())] = type;
-    return catalogue_.object(key).and_then([&] { return catalogue_.repository_id(key, type); });
+    return catalogue_.object(key).and_then([&] { return catalogue_.repository_id(key, type); }).transform([&] {
+      types_[std::string(key.text())] = type;
+    });
   }
   /* An exception of the operation that is added next. */
   Done exception(Octets id, Types members) { return catalogue_.exception(id, members); }
   Done operation(Octets key, std::string_view name, Types arguments, Types results, Servant servant) {
-    servants_[std::string(key.text())][std::string(name)] = std::move(servant);
-    return catalogue_.operation(key, name, arguments, results);
+    return catalogue_.operation(key, name, arguments, results).transform([&] { employ(key, name, servant); });
   }
   Done raw_operation(Octets key, std::string_view name, Servant servant) {
-    servants_[std::string(key.text())][std::string(name)] = std::move(servant);
-    return catalogue_.raw_operation(key, name);
+    return catalogue_.raw_operation(key, name).transform([&] { employ(key, name, servant); });
   }
   /* Who performs what no servant above is named for. */
   void otherwise(Servant servant) { otherwise_ = std::move(servant); }
@@ -504,8 +507,9 @@ class Loop {
     std::uint64_t connection = 0;  // its remainder by the number of slots is the slot
     short events = -1;             // what is waited for
     bool has_turn = false;
-    bool is_held = false;  // too many of its requests are parked to feed it
-    bool is_shut = false;  // all is sent, and what comes means nothing
+    bool is_held = false;     // too many of its requests are parked to feed it
+    bool is_leaving = false;  // it is said goodbye to, where nobody waits for an outcome any more, and fed no more
+    bool is_shut = false;     // all is sent, and what comes means nothing
     detail::LoopClock::time_point until;
     std::size_t got = 0;  // of what came, of which the first `fed` octets are fed
     std::size_t fed = 0;
@@ -517,6 +521,10 @@ class Loop {
     bool has_unfed() const noexcept { return fed < got; }
     bool has_unsent() const noexcept { return sent < size; }
   };
+
+  void employ(Octets key, std::string_view name, Servant& servant) {
+    servants_[std::string(key.text())][std::string(name)] = std::move(servant);
+  }
 
   std::size_t peer_count() const noexcept { return limits_.peers - unused_.size(); }
   std::size_t slot_of(const Peer& peer) const noexcept { return peer.connection % peers_.size(); }
@@ -556,6 +564,13 @@ class Loop {
       if (named != object->second.end()) servant = &named->second;
     }
     if (*servant) static_cast<void>((*servant)(asked));
+  }
+
+  /* Says goodbye to a peer, and lets go of what came. */
+  void leave(Peer& peer) noexcept {
+    hold(peer, false);
+    peer.fed = peer.got;
+    if (!server_.is_closed(peer.connection)) static_cast<void>(server_.farewell(peer.connection));
   }
 
   /* Feeds what came, until enough is due or parked. */
@@ -627,7 +642,10 @@ class Loop {
   bool attend(Peer& peer) {
     const ssize_t got = read_piece(peer);
     if (got < 0) return false;
-    feed(peer);
+    if (peer.is_leaving)
+      leave(peer);
+    else
+      feed(peer);
     const ssize_t sent = send_due(peer);
     if (sent < 0) return false;
     const bool is_closed = server_.is_closed(peer.connection);
@@ -645,7 +663,7 @@ class Loop {
 
   /* Says goodbye to a peer. */
   void part_from(Peer& peer) {
-    static_cast<void>(server_.farewell(peer.connection));
+    peer.is_leaving = true;
     if (!attend(peer)) drop(slot_of(peer));
   }
 
@@ -754,6 +772,7 @@ class Loop {
    * has ended. One that waits for a parked request has more time. */
   void pass(detail::LoopClock::time_point moment) {
     for (std::size_t slot = first; slot < peers_.size(); slot++) {
+      if (peers_[slot] && peers_[slot]->is_leaving) give_turn(*peers_[slot]);
       if (!peers_[slot] || moment < peers_[slot]->until) continue;
       Peer& peer = *peers_[slot];
       if (is_idle(peer))

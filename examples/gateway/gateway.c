@@ -38,6 +38,8 @@
 #define _DEFAULT_SOURCE
 #include <errno.h>
 #include <netdb.h>
+#include <netinet/in.h>
+#include <netinet/tcp.h>
 #include <poll.h>
 #include <stdbool.h>
 #include <stdio.h>
@@ -80,6 +82,7 @@ static bool reach(void) {
   if (getaddrinfo(behind.host, behind.port, &hints, &found) != 0) return false;
   for (struct addrinfo *at = found; at != NULL && behind.fd < 0; at = at->ai_next) {
     behind.fd = socket(at->ai_family, at->ai_socktype, at->ai_protocol);
+    setsockopt(behind.fd, IPPROTO_TCP, TCP_NODELAY, &(int){1}, sizeof(int));
     if (behind.fd >= 0 && connect(behind.fd, at->ai_addr, at->ai_addrlen) == 0) break;
     if (behind.fd >= 0) close(behind.fd);
     behind.fd = -1;
