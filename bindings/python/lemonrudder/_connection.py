@@ -119,6 +119,11 @@ class Connection(asyncio.BufferedProtocol):
         self._is_over = True
         self.end()
 
+    def go_away(self) -> None:
+        """Ends where goodbye waits for who waits here."""
+        if self._is_over and not self._is_said:
+            self.end()
+
     def _say_goodbye(self) -> None:
         """Says goodbye, or does so later where somebody waits here for an outcome."""
         engine = self.server._engine

@@ -185,7 +185,7 @@ class Engine(Held):
         """Parks the request that waits, and returns its ticket: it is answered later, and others are fed.
 
         Raises LemonrudderError (IDLE; PARKS: as many are parked as may be, MEMORY: it waits still)."""
-        asked = self._waiting()
+        asked = self._asked or self._waiting()
         call(library.lr_server_park, self._slot, asked.ticket)
         self._parked[asked.ticket] = asked.key, asked.operation, asked.is_raw
         self._asked = None
