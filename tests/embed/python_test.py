@@ -2559,7 +2559,7 @@ class Bank(Case):
     CLIENTS, DEPOSITS = 50, 12
 
     def test_each_deposit_acts_once(self):
-        with subprocess.Popen(example("bank.py"), stdout=subprocess.PIPE, text=True) as bank:
+        with subprocess.Popen(example("bank.py", "0", "0.01"), stdout=subprocess.PIPE, text=True) as bank:
             try:
                 asyncio.run(asyncio.wait_for(self.play(lr.Ior.parse(bank.stdout.readline())), SECONDS))
             finally:
