@@ -490,10 +490,6 @@ class Loop {
     });
   }
 
-  /* Whether anybody waits for the outcome of a parked request, on the thread of serve(). Where nobody does, and it does
-   * not carry FT_REQUEST, it need not be performed. */
-  bool is_wanted(const Later& later) noexcept { return server_.wanted(later.ticket()).value_or(0) > 0; }
-
  private:
   // octets that are read, fed and sent at a time; how often is sent in a turn, and accepted; and after what time a turn
   // feeds no more
