@@ -44,7 +44,7 @@ def words_of(message: Message) -> Iterator[str]:
 
 def lines_of(capture: Iterable[str]) -> Iterator[str]:
     """The lines to print."""
-    sides = {">": Assembler(), "<": Assembler()}
+    sides = {side: Assembler(partials=16) for side in "><"}
     for line in capture:
         line = line.rstrip("\r\n")
         if not DIGITS.fullmatch(line):

@@ -46,7 +46,7 @@ VALGRIND = ["valgrind", "-q", "--error-exitcode=9", "--leak-check=full"]
 # a program under valgrind may take so many seconds
 PATIENCE = 600
 SEED = 29
-PROGRAMS = ["again.c", "bad.c", "cdr.c", "many.c", "heap.c", "classes.cpp"]
+PROGRAMS = ["again.c", "bad.c", "cdr.c", "many.c", "parked.c", "heap.c", "classes.cpp"]
 # what the shared library takes of others
 TAKES = {"malloc", "realloc", "free", "memcpy", "memmove", "memset", "memcmp", "bcmp"}
 

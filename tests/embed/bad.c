@@ -689,7 +689,6 @@ static void typed_outcomes_are_refused(lr_server *server) {
   WANT(lr_server_answer(server, ticket, LR_ORDER_BIG, "\0\0\0", 3), LR_E_OUTCOME);
   WANT(lr_server_answer(server, ticket, LR_ORDER_BIG, "\0\0\0\1\0", 5), LR_E_OUTCOME);
   WANT(lr_server_answer(server, ticket, LR_ORDER_BIG, NULL, 0), LR_E_OUTCOME);
-  WANT(lr_server_answer_raw(server, ticket, LR_REPLY_NO_EXCEPTION, LR_ORDER_BIG, "\0\0\0\1", 4), LR_E_OUTCOME);
   WANT(lr_server_raise(server, ticket, "IDL:Other:1.0", 13, LR_ORDER_BIG, "\0\0\0\1", 4), LR_E_OUTCOME);
   WANT(lr_server_raise(server, ticket, NULL, 0, LR_ORDER_BIG, "\0\0\0\1", 4), LR_E_OUTCOME);
   WANT(lr_server_raise(server, ticket, OVERFLOW_ID, SIZE(OVERFLOW_ID), LR_ORDER_BIG, "\0\0\0", 3), LR_E_OUTCOME);

@@ -44,10 +44,11 @@ Threads.  An object may be handed from thread to thread. The library is called w
 calls do not overlap; what takes several calls, as feed and then asked, is for one thread at a time. In an interpreter
 without that lock an object is for one thread at a time.
 """
+from ._catalogue import Catalogue, Signature
 from ._cdr import BIG, LITTLE, FormatError, Reader, Writer, pack, type_codes, unpack
 from ._client import Client
 from ._current import Current, current
-from ._engine import Asked, Catalogue, Engine, Signature
+from ._engine import Asked, Engine
 from ._library import LIMIT, PARTIALS, LemonrudderError, moment_of, now
 from ._messages import (FT_REQUEST, Assembler, Body, FtRequest, Message, StreamError, messages, write_cancel,
                         write_close, write_error, write_ft, write_locate_reply, write_locate_request, write_reply,
@@ -56,8 +57,8 @@ from ._outcomes import (Expired, ForwardRequest, GiveUp, NeedsAddressing, Refuse
 from ._references import REFERENCE, Address, Ior, Profile
 from ._servants import Operation, RawReply
 from ._server import Server
-from ._table import (VERSION, Completed, ContextId, Counted, Error, Fault, LocateStatus, MessageType, Order, ReplyStatus,
-                     SystemName, Why, Wish)
+from ._table import (VERSION, Completed, ContextId, Counted, Error, Fault, LocateStatus, MessageType, Order,
+                     ReplyStatus, SystemName, Why, Wish)
 
 __all__ = [
     "BIG", "FT_REQUEST", "LIMIT", "LITTLE", "PARTIALS", "REFERENCE", "VERSION", "Address", "Asked", "Assembler", "Body",

@@ -8,7 +8,7 @@ from dataclasses import dataclass
 from typing import Any, Dict, List, Mapping, Optional, Sequence, Tuple, Union
 
 from ._cdr import BIG, pack, parsed, result_of, type_codes
-from ._library import LIMIT, PARTIALS, LemonrudderError, Octets, Text, call, lent, library, now, octets_of
+from ._library import LIMIT, PARTIALS, LemonrudderError, Octets, Text, lent, now, octets_of
 from ._messages import Body
 from ._outcomes import Expired, ForwardRequest, NeedsAddressing, SystemException, UserException
 from ._references import Ior
@@ -16,6 +16,7 @@ from ._road import Call, Place, Road
 from ._table import Ended, Error, Wish
 
 _LAST = (1 << 31) - 1
+_NOT_EXIST = b"IDL:omg.org/CORBA/OBJECT_NOT_EXIST:1.0\0"
 # how many keys are known to lead elsewhere at most
 _ROUTES = 1024
 
@@ -77,7 +78,7 @@ class Client:
     @classmethod
     def of(cls, reference: Union[Ior, str], client_id: Optional[Text] = None, **options: Any) -> Client:
         """A client of the object that a reference names: of all its addresses under the object key of the first one,
-        which is `key`, in the version of the first at most.
+        which is `key`, in the least of their versions.
 
         Raises LemonrudderError (REFERENCE: also where it has no profile of IIOP; TEXT, RANGE)."""
         ior = reference if isinstance(reference, Ior) else Ior.parse(reference)
@@ -85,8 +86,9 @@ class Client:
         if not addresses:
             raise LemonrudderError(Error.REFERENCE, "the reference has no address of IIOP")
         first = addresses[0]
-        options.setdefault("version", first.minor)
-        options.setdefault("others", [(one.host, one.port) for one in addresses[1:] if one.key == first.key])
+        addresses = [one for one in addresses if one.key == first.key]
+        options.setdefault("version", min(one.minor for one in addresses))
+        options.setdefault("others", [(one.host, one.port) for one in addresses[1:]])
         client = cls(first.host, first.port, client_id, **options)
         client.key = first.key
         return client
@@ -210,8 +212,12 @@ class Client:
                 places, there = self._led(key, Ior.read(body.reader()))
                 hops += 1
             elif how == Ended.EXPIRED:
-                raise Expired(f"no answer up to the expiration; it was sent {made.sent} times", made.sent) from made.cause
+                text = f"no answer up to the expiration; it was sent {made.sent} times"
+                raise Expired(text, made.sent) from made.cause
             else:
+                if how == Ended.SYSTEM and _NOT_EXIST in body.octets[:64]:
+                    # (the next call of the key is asked for as at first)
+                    self._routes.pop(key, None)
                 return how, body
             if how is None or hops > 2:
                 await asyncio.sleep(delay)

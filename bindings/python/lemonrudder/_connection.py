@@ -17,10 +17,9 @@ try:
 except ImportError:  # (Windows has neither)
     fcntl = termios = None  # type: ignore[assignment]
 
-# how long the turn of a connection lasts, in seconds: after that no further message is taken
-_TURN = 0.0003
 # how many octets are read at a time, and written
 _PIECE = 65536
+_NOTHING = memoryview(b"")
 
 
 class Connection(asyncio.BufferedProtocol):
@@ -41,7 +40,7 @@ class Connection(asyncio.BufferedProtocol):
         # why it ends, where its stream does not say
         self.reason = ""
         self._loop = asyncio.get_running_loop()
-        self._room = bytearray()
+        self._room = _NOTHING
         # what came, when, where it lies, and the index of what was not taken yet
         self._came, self._moment, self._address, self._at = b"", 0, 0, 0
         # whether a turn is to come; what was written is not taken; a place for a request is waited for; all that comes
@@ -61,13 +60,15 @@ class Connection(asyncio.BufferedProtocol):
         transport.set_write_buffer_limits(_PIECE)
         self.server._enter(self)
 
-    def get_buffer(self, sizehint: int) -> bytearray:
-        self._room = bytearray(_PIECE)
+    def get_buffer(self, sizehint: int) -> memoryview:
+        # (TLS fills it from slices of it, which of a bytearray would be copies)
+        self._room = memoryview(bytearray(_PIECE))
         return self._room
 
     def buffer_updated(self, nbytes: int) -> None:
-        octets, self._room = bytes(memoryview(self._room)[:nbytes]), bytearray()
+        octets, self._room = bytes(self._room[:nbytes]), _NOTHING
         self.heard = self._loop.time()
+        self.server._hear(self)
         if self._is_over or self.server.is_closed:
             return
         left = self._came[self._at:]
@@ -146,7 +147,7 @@ class Connection(asyncio.BufferedProtocol):
             self._drop()
             return
         try:
-            self._take(time.monotonic() + _TURN)
+            self._take(time.monotonic() + self.server._turn())
         except LemonrudderError as error:
             self.reason = str(error)
             self._drop()
@@ -168,9 +169,12 @@ class Connection(asyncio.BufferedProtocol):
             end = end if end > 0 else len(came)
             taken = engine._feed(self.number, self._address + self._at, self._moment, end - self._at)
             self._at += taken
-            if not server._perform(self):
+            if not server._works.perform(self):
                 server._note(self)
-            self.end()
+                if engine.is_closed(self.number):
+                    return
+                if taken == 0:
+                    self.end()  # (so much is due that it takes no more)
             if time.monotonic() >= until:
                 return
 
@@ -193,7 +197,10 @@ class Connection(asyncio.BufferedProtocol):
 
     def _left(self) -> int:
         """The octets that the peer has not taken, those that the system holds among them where it tells."""
-        left = int(self.transport.get_write_buffer_size())
+        try:
+            left = int(self.transport.get_write_buffer_size())
+        except AttributeError:
+            return 0  # (of 3.8: it is of TLS, and gone)
         if not left or termios is None:
             return left
         try:

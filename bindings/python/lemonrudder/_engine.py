@@ -1,12 +1,13 @@
-"""A server of requests that may be sent again, for a loop of your own: a thin layer over lr_catalogue and lr_server."""
+"""A server of requests that may be sent again, for a loop of your own: a thin layer over lr_server."""
 from __future__ import annotations
 
 import ctypes
 import secrets
 from dataclasses import dataclass
-from typing import Any, Dict, Mapping, NamedTuple, Optional, Tuple, Union
+from typing import Any, Dict, Optional, Tuple, Union
 
-from ._cdr import BIG, pack, type_codes
+from ._catalogue import Catalogue, Signature, Types
+from ._cdr import BIG, pack
 from ._library import (LIMIT, PARTIALS, Held, LemonrudderError, Octets, Text, address_of, call, checked, copied, lent,
                        library, named, now, octets_of, structs)
 from ._messages import Body, FtRequest
@@ -15,125 +16,6 @@ from ._table import Completed, Counted, Error, Fault, Order, Part, ReplyStatus, 
 
 CONTEXTS = 64
 """How many service contexts of a request are read where nothing else is said."""
-
-
-class Signature(NamedTuple):
-    """The types of an operation, as formats.
-
-    arguments: the in and inout parameters in order. results: the return value, and then the inout and out parameters in
-    order. raises: the members of each exception, by its repository id.
-    """
-
-    arguments: str = ""
-    results: str = ""
-    raises: Mapping[str, str] = {}
-
-
-class Fronts:
-    """What stands under keys, and each key that begins with one of these leads to."""
-
-    def __init__(self, found: Mapping[bytes, Any]) -> None:
-        self.found = found
-        self.lengths = sorted({len(key) for key in found}, reverse=True)
-
-    def longest(self, key: bytes) -> Any:
-        """What stands under the longest front of a key, or None."""
-        for length in self.lengths:
-            if length <= len(key) and key[:length] in self.found:
-                return self.found[key[:length]]
-        return None
-
-
-class _Offer:
-    """The types of what a catalogue holds: of each object those of its operations by name, which raw ones lack."""
-
-    def __init__(self) -> None:
-        self.objects: Dict[bytes, Dict[str, Signature]] = {}
-        self.families = Fronts({})
-
-    def signature(self, key: bytes, operation: str) -> Signature:
-        """The types of an operation of the object to which a key leads. Raises KeyError: there is none, or it is raw."""
-        signatures = self.objects.get(key)
-        if signatures is None:
-            signatures = self.families.longest(key) or {}
-        return signatures[operation]
-
-
-class Catalogue(Held):
-    """Which objects and operations a server has. After an error nothing has changed."""
-
-    def __init__(self) -> None:
-        super().__init__()
-        self._offer = _Offer()
-        call(library.lr_catalogue_open, self._slot)
-
-    def add_object(self, key: Text) -> None:
-        """Adds an object without operations. Raises LemonrudderError (TAKEN)."""
-        key = octets_of(key)
-        call(library.lr_catalogue_object, self._slot, *lent(key))
-        self._offer.objects[key] = {}
-
-    def add_raw_object(self, key: Text) -> None:
-        """Adds an object whose every operation is raw. Raises LemonrudderError (TAKEN)."""
-        key = octets_of(key)
-        call(library.lr_catalogue_raw_object, self._slot, *lent(key))
-        self._offer.objects[key] = {}
-
-    def add_default(self) -> None:
-        """Adds an object whose every operation is raw, to which each key leads that leads to no other object.
-
-        Raises LemonrudderError (TAKEN: there is one)."""
-        call(library.lr_catalogue_default, self._slot)
-
-    def add_families(self, families: Catalogue) -> None:
-        """Takes the objects of another catalogue, which is empty afterwards: each key that is no object's own, and
-        begins with the key of one of these, leads to that object, to the one of the longest such key.
-
-        Raises LemonrudderError (TAKEN: it has families already; EMPTY)."""
-        call(library.lr_catalogue_families, self._slot, families._slot)
-        self._offer.families = Fronts(families._offer.objects)
-        families._offer = _Offer()
-
-    def remove(self, key: Text) -> None:
-        """Takes an object away, with its operations. Raises LemonrudderError (OBJECT)."""
-        key = octets_of(key)
-        call(library.lr_catalogue_remove, self._slot, *lent(key))
-        self._offer.objects.pop(key, None)
-
-    def add_operation(self, key: Text, name: str, signature: Signature = Signature()) -> None:
-        """Adds an operation of an object.
-
-        Raises FormatError; LemonrudderError (OBJECT, RAW, TAKEN, TEXT).
-        """
-        key, (arguments, results, raises) = octets_of(key), signature
-        parameters = (*lent(name), *lent(type_codes(arguments)), *lent(type_codes(results)))
-        exceptions = [(*lent(id), *lent(type_codes(members))) for id, members in raises.items()]
-        try:
-            for exception in exceptions:
-                call(library.lr_catalogue_exception, self._slot, *exception)
-        except LemonrudderError:
-            # an operation that is refused forgets the exceptions before
-            library.lr_catalogue_operation(self._slot, *lent(key), *lent("\0"), *lent(""), *lent(""))
-            raise
-        call(library.lr_catalogue_operation, self._slot, *lent(key), *parameters)
-        self._offer.objects[key][name] = signature
-
-    def add_raw_operation(self, key: Text, name: str) -> None:
-        """Adds an operation that is raw: its arguments and its replies are octets.
-
-        Raises LemonrudderError (OBJECT, RAW, TAKEN, TEXT).
-        """
-        call(library.lr_catalogue_raw_operation, self._slot, *lent(key), *lent(name))
-
-    def add_repository_ids(self, key: Text, *ids: Text) -> None:
-        """Names the repository ids of an object. It has the operations _is_a and _non_existent then, which
-        Engine.identify answers. Raises LemonrudderError (OBJECT, RAW, TAKEN, TEXT)."""
-        key, named_ids = octets_of(key), [octets_of(id) for id in ids]
-        if any(b"\0" in id for id in named_ids):
-            raise LemonrudderError(Error.TEXT)
-        together = b"".join(id + b"\0" for id in named_ids)
-        call(library.lr_catalogue_repository_ids, self._slot, *lent(key), *lent(together))
-        self._offer.objects[key].update(_is_a=Signature("s", "?"), _non_existent=Signature("", "?"))
 
 
 @dataclass(frozen=True)
@@ -179,7 +61,8 @@ class Engine(Held):
     how many outcomes are kept for repeats, at most `share` of each client, all of them without one. max_parked: how
     many requests are parked at a time; max_parked_of: of those that came on one connection; max_joined: how many wait
     for the outcome of one, beside the last who came. max_due: of how many octets due on a connection on it is fed no
-    more. max_client_id: the octets of a client's id. Raises LemonrudderError (EMPTY, RANGE): the catalogue is as it was.
+    more. max_client_id: the octets of a client's id.
+    Raises LemonrudderError (EMPTY, RANGE): the catalogue is as it was.
     """
 
     def __init__(self, catalogue: Catalogue, limit: int = LIMIT, partials: int = PARTIALS, capacity: int = 65536,
@@ -207,7 +90,7 @@ class Engine(Held):
                 library.lr_server_swap(self._slot, catalogue._slot)
             self.close()
             raise
-        self._offer, catalogue._offer = catalogue._offer, _Offer()
+        self._offer, catalogue._offer = catalogue._offer, Types()
 
     def connect(self, connection: int) -> None:
         """Opens a connection, whose number is greater than each before.
@@ -263,7 +146,7 @@ class Engine(Held):
         return call(library.lr_server_feed, self._slot, connection, moment, address, size)
 
     def signature(self, key: bytes, operation: str) -> Signature:
-        """The types of an operation of the object to which a key leads. Raises KeyError: there is none, or it is raw."""
+        """The types of an operation of the object that a key leads to. Raises KeyError: it is raw, or there is none."""
         return self._offer.signature(key, operation)
 
     def asked(self) -> Optional[Asked]:
@@ -386,7 +269,7 @@ class Engine(Held):
     def give_up(self) -> None:
         """Gives up the request that waits: you can't perform it now, and have done nothing. Nothing is kept, and its
         connection is gone; it is asked again when it comes again. Raises LemonrudderError (IDLE)."""
-        self._answered(self._waiting().ticket, library.lr_server_give_up)
+        self._answered(self._ticket(None), library.lr_server_give_up)
 
     def goodbye(self) -> None:
         """Gives up the request that waits, and says goodbye first: CloseConnection is due, by which its client knows
@@ -394,7 +277,7 @@ class Engine(Held):
 
         Raises LemonrudderError (IDLE; MEMORY: it waits still).
         """
-        self._answered(self._waiting().ticket, library.lr_server_goodbye)
+        self._answered(self._ticket(None), library.lr_server_goodbye)
 
     def next_due(self) -> Optional[int]:
         """A connection on which octets became due by the outcome of a parked request, or by a goodbye that waited; it
@@ -463,12 +346,19 @@ class Engine(Held):
         return asked
 
     def _ticket(self, ticket: Optional[int]) -> int:
-        """A ticket, which is that of the request that waits where none is given."""
-        return self._waiting().ticket if ticket is None else ticket
+        """A ticket, which is that of the request that waits where none is given. Raises LemonrudderError (IDLE)."""
+        if ticket is not None:
+            return ticket
+        head = self._head
+        if not call(library.lr_server_asked, self._slot, head, ctypes.sizeof(head)):
+            raise LemonrudderError(Error.IDLE)
+        return int(head.ticket)
 
     def _typed(self, ticket: Optional[int]) -> Tuple[int, Signature]:
         """A ticket as of _ticket, and the types of the operation that is asked for."""
-        asked = self.asked()
+        asked = self._asked
+        if asked is None or asked.ticket != ticket:
+            asked = self.asked()
         if asked is not None and ticket in (None, asked.ticket):
             ticket, (key, operation, is_raw) = asked.ticket, (asked.key, asked.operation, asked.is_raw)
         elif ticket is None:

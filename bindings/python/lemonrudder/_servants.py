@@ -4,8 +4,8 @@ from __future__ import annotations
 from dataclasses import dataclass
 from typing import Any, Callable, Dict, Mapping, NamedTuple, Optional, Sequence, Tuple, Union
 
+from ._catalogue import Catalogue, Fronts, Signature
 from ._cdr import BIG, parsed
-from ._engine import Catalogue, Fronts, Signature
 from ._library import LemonrudderError, Octets
 from ._messages import Body
 from ._table import Error, ReplyStatus

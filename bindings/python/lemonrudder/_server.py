@@ -2,25 +2,22 @@
 from __future__ import annotations
 
 import asyncio
-import inspect
 import logging
-from collections import deque
 from functools import partial
-from typing import Any, Awaitable, Callable, Deque, Dict, List, Mapping, Optional, Sequence, Tuple, Union
+from typing import Any, Callable, Dict, List, Mapping, Optional, Sequence, Tuple, Union
 
-from ._cdr import results_of
 from ._connection import Connection
-from ._current import CURRENT, Current
-from ._engine import Asked, Catalogue, Engine
+from ._engine import Catalogue, Engine
 from ._library import LIMIT, PARTIALS, LemonrudderError, Text, octets_of
 from ._messages import Body
-from ._outcomes import GiveUp, Refuse, SystemException, UserException
 from ._references import Ior
-from ._servants import Offer, Operation, Performer, RawReply, Servant, described
-from ._table import Completed, Counted, Error, Fault, SystemName, Why
+from ._servants import Offer, Operation, Performer, described
+from ._table import Counted, Error, Fault, Why
+from ._works import GRACE, Works
 
-# how many seconds an operation that is cut off has to end before it is answered without it
-_GRACE = 1.0
+# how long a turn lasts, in seconds: after that no further message of a connection is taken, nor outcome told. The first
+# counts where others were heard lately, which is so many seconds ago at most
+_TURN, _LONG_TURN, _LATELY = 0.0001, 0.001, 0.1
 # how often, in seconds, idle connections and outcomes that expired are looked for at least
 _SWEEP = 10.0
 # what a request is refused for by a server itself
@@ -42,18 +39,6 @@ _ENDED = {
     Why.GIVEN_UP: "a request was given up",
     Why.MEMORY: "memory is short",
 }
-
-
-class _Work:
-    """A parked request, and the task that performs it."""
-
-    def __init__(self, asked: Asked, connection: Connection, task: asyncio.Future[Any], coroutine: Any) -> None:
-        self.asked, self.connection, self.task, self.coroutine = asked, connection, task, coroutine
-        self.timer: Optional[asyncio.TimerHandle] = None
-        # by which exception it is cut off, and whether it had begun then; whether it is answered before it ends
-        self.cut = ""
-        self.had_begun = True
-        self.is_answered = False
 
 
 class Server:
@@ -84,9 +69,10 @@ class Server:
     Where max_parked requests are parked, an async operation is refused by TRANSIENT; the last quarter of the places is
     for connections that have none. While as many outcomes are kept as may be, requests that are new and may be sent
     again are answered NO_RESOURCES. max_connections: one that comes beyond is dropped. timeout: the seconds that an
-    async operation may take; then it is cancelled, and answered as TIMEOUT, COMPLETED_MAYBE, since it has perhaps acted.
-    idle_timeout: the seconds after which goodbye is said on a connection that has been silent. write_timeout: the
-    seconds that a peer may take nothing of what is due. None: as long as it likes.
+    async operation may take; then it is cancelled, and, unless it says another outcome within a second, answered as
+    TIMEOUT, COMPLETED_MAYBE, since it has perhaps acted. idle_timeout: the seconds after which goodbye is said on a
+    connection that has been silent. write_timeout: the seconds that a peer may take nothing of what is due. None: as
+    long as it likes.
 
     The logger `lemonrudder` has a line for each request that is refused and each connection that ends.
     """
@@ -106,10 +92,14 @@ class Server:
         # what is on offer; before `listen` a catalogue says whether it can be
         self._offer, self._trial = Offer(), Catalogue()
         self._connections: Dict[int, Connection] = {}
-        self._works: Dict[int, _Work] = {}
-        self._waiting: Deque[Connection] = deque()
+        self._works = Works(self, max_parked)
+        # who waits for a place, in order
+        self._waiting: Dict[Connection, None] = {}
         self._refused = dict.fromkeys(_REFUSED, 0)
         self._last = self._turned_away = 0
+        # who was heard last, and since when it was always that one
+        self._heard: Optional[Connection] = None
+        self._heard_at = 0.0
         # from listen on
         self._engine: Any = None
         self._loop: Any = None
@@ -287,6 +277,7 @@ class Server:
 
     def _leave(self, connection: Connection) -> None:
         """A connection is gone."""
+        self._waiting.pop(connection, None)
         if self._connections.pop(connection.number, None) is None or self.is_closed:
             return
         why = self._engine.why(connection.number)
@@ -298,6 +289,15 @@ class Server:
         self._engine.lost(connection.number)
         if not self._connections and not self._emptied.done():
             self._emptied.set_result(None)
+
+    def _hear(self, connection: Connection) -> None:
+        """Octets came on a connection."""
+        if connection is not self._heard:
+            self._heard, self._heard_at = connection, connection.heard
+
+    def _turn(self) -> float:
+        """How long a turn lasts now."""
+        return _TURN if self._loop.time() - self._heard_at < _LATELY else _LONG_TURN
 
     def _note(self, connection: Connection) -> None:
         """Writes a line for each request that was refused since this was called."""
@@ -328,7 +328,7 @@ class Server:
             return False
         if len(self._works) < most - most // 4:
             return True
-        self._waiting.append(connection)
+        self._waiting[connection] = None
         return False
 
     def _wake(self, connection: Connection) -> None:
@@ -338,184 +338,11 @@ class Server:
         free = most - most // 4 - len(self._works) if self._works else len(self._waiting)
         while free > 0 and self._waiting:
             free -= 1
-            self._waiting.popleft().place_is_free()
+            first = next(iter(self._waiting))
+            del self._waiting[first]
+            first.place_is_free()
 
-    # ---- operations ----
-
-    def _perform(self, connection: Connection) -> bool:
-        """Performs the request that waits, if one does, or sees to it that a task does. Whether one waited."""
-        engine = self._engine
-        asked = engine.asked()
-        if asked is None:
-            return False
-        if engine.identify(asked.ticket):
-            return True
-        performer = self._offer.performer(asked.key, asked.operation)
-        ft, ticket = asked.ft, asked.ticket
-        token = CURRENT.set(Current(
-            asked.key, asked.operation, ft and ft.client, ft and ft.retention_id, ft and ft.expiration,
-            connection.number, connection.peer, connection.certificate, engine.contexts() if asked.contexts else (),
-            asked.request_id, asked.version, asked.wish, lambda: self._wanted(ticket)))
-        try:
-            arguments = (asked.body,) if asked.arguments is None else asked.arguments
-            try:
-                returned = performer.function(*arguments)
-            except BaseException as raised:
-                self._raise(asked, raised, connection)
-                if not isinstance(raised, Exception):
-                    raise
-            else:
-                if inspect.isawaitable(returned):
-                    self._begin(asked, connection, performer, returned)
-                else:
-                    self._return(asked, returned)
-        finally:
-            CURRENT.reset(token)
-        if self._works or engine.parked:
-            self._tell()
-        return True
-
-    def _wanted(self, ticket: int) -> int:
-        """How many wait for an outcome, that of a request which waits among them."""
-        try:
-            return int(self._engine.wanted(ticket))
-        except LemonrudderError:
-            asked = None if self.is_closed else self._engine.asked()
-            return int(asked is not None and asked.ticket == ticket)
-
-    def _begin(self, asked: Asked, connection: Connection, performer: Performer, returned: Awaitable[Any]) -> None:
-        """Parks the request that waits, for a task to perform it; refuses it where that can't be."""
-        why = None
-        if len(self._works) >= self._limits["max_parked"]:
-            why = "as many are under way as may be (max_parked)"
-        else:
-            try:
-                if self._engine.asked() is not None:
-                    self._engine.park()
-            except LemonrudderError as error:
-                why = error.text
-        coroutine = returned if inspect.iscoroutine(returned) else None
-        if why is not None:
-            self.log.warning("%s is refused on %s: %s", asked.operation, connection, why)
-            if coroutine is not None:
-                coroutine.close()
-                self._answer(asked, "UNKNOWN", self._engine.refuse, "TRANSIENT")
-            else:
-                # (what was begun elsewhere has perhaps acted)
-                asyncio.ensure_future(returned).cancel()
-                self._answer(asked, "UNKNOWN", self._engine.raise_system, "NO_RESOURCES", 0, Completed.MAYBE)
-            return
-        work = _Work(asked, connection, asyncio.ensure_future(returned), coroutine)
-        self._works[asked.ticket] = work
-        connection.works += 1
-        timeout = self.timeout if performer.timeout is None else performer.timeout
-        if timeout is not None:
-            work.timer = self._loop.call_later(timeout, self._cut, work, "TIMEOUT")
-        work.task.add_done_callback(partial(self._done, work))
-
-    def _done(self, work: _Work, task: asyncio.Future[Any]) -> None:
-        """A task has ended: answers the request by what came of it."""
-        del self._works[work.asked.ticket]
-        work.connection.works -= 1
-        if work.timer is not None:
-            work.timer.cancel()
-        raised = None if task.cancelled() else task.exception()
-        if self.is_closed:
-            return
-        if work.is_answered:
-            self.log.info("%s ended too late: what came of it is dropped", work.asked.operation)
-        elif task.cancelled():
-            self._cut_off(work)
-        elif raised is not None:
-            self._raise(work.asked, raised, work.connection)
-        else:
-            self._return(work.asked, task.result())
-        self._tell()
-        if not self.is_closed:
-            self._wake(work.connection)
-
-    def _cut(self, work: _Work, name: str) -> None:
-        """Cuts an operation off, which is answered by an exception of that name unless it says another outcome."""
-        coroutine = work.coroutine
-        work.cut = name
-        work.had_begun = coroutine is None or inspect.getcoroutinestate(coroutine) != inspect.CORO_CREATED
-        work.task.cancel()
-        work.timer = self._loop.call_later(_GRACE, self._abandon, work)
-
-    def _cut_off(self, work: _Work) -> None:
-        """Answers the request of an operation that was cancelled."""
-        operation = work.asked.operation
-        if not work.had_begun:
-            self.log.info("%s is refused: it was not begun", operation)
-            self._answer(work.asked, "UNKNOWN", self._engine.refuse, "TRANSIENT")
-        else:
-            name = work.cut or "UNKNOWN"
-            self.log.warning("%s was cancelled: it is answered %s, COMPLETED_MAYBE", operation, name)
-            self._answer(work.asked, "UNKNOWN", self._engine.raise_system, name, 0, Completed.MAYBE)
-
-    def _abandon(self, work: _Work) -> None:
-        """Answers the request of an operation that was cut off and does not end."""
-        if not (work.is_answered or self.is_closed):
-            work.is_answered = True
-            self._cut_off(work)
-            self._tell()
-
-    def _raise(self, asked: Asked, raised: BaseException, connection: Connection) -> None:
-        """Answers by what a function raised."""
-        engine, answer = self._engine, partial(self._answer, asked, "UNKNOWN")
-        if isinstance(raised, (Refuse, GiveUp)):
-            name = raised.name if isinstance(raised, Refuse) else "TRANSIENT"
-            name = name if name in SystemName.__members__ else "TRANSIENT"
-            self.log.info("%s is refused on %s: %s", asked.operation, connection, name)
-            waits = engine.asked()
-            if isinstance(raised, GiveUp) and waits is not None and waits.ticket == asked.ticket:
-                engine.give_up()
-            else:
-                answer(engine.refuse, name, raised.minor if isinstance(raised, Refuse) else 0)
-        elif isinstance(raised, UserException):
-            answer(engine.raise_user, raised.id, *raised.values)
-        elif isinstance(raised, SystemException):
-            name = raised.name if raised.name in SystemName.__members__ else "UNKNOWN"
-            answer(engine.raise_system, name, raised.minor, raised.completed)
-        else:
-            self.log.error("%s raised an exception", asked.operation, exc_info=raised)
-            self._fail(asked, "UNKNOWN")
-
-    def _return(self, asked: Asked, returned: Any) -> None:
-        """Answers by what a function returned."""
-        self._answer(asked, "INTERNAL", partial(self._hand_in, asked), returned)
-
-    def _hand_in(self, asked: Asked, returned: Any, ticket: int) -> None:
-        """Hands in what a function returned."""
-        if asked.arguments is not None:
-            results = self._offer.performer(asked.key, asked.operation).signature
-            self._engine.answer(*results_of(results.results if results else "", returned), ticket=ticket)
-        elif isinstance(returned, RawReply):
-            self._engine.answer_raw(*returned, ticket=ticket)
-        else:
-            self._engine.answer_raw(returned, ticket=ticket)
-
-    def _answer(self, asked: Asked, name: str, answer: Callable[..., None], *arguments: Any) -> None:
-        """Answers a request; by a system exception of that name where that is no outcome of its operation."""
-        try:
-            answer(*arguments, ticket=asked.ticket)
-        except BaseException as error:
-            if getattr(error, "number", None) == Error.LOST:
-                raise
-            self.log.error("no outcome of %s", asked.operation, exc_info=error)
-            self._fail(asked, name)
-            if not isinstance(error, Exception):
-                raise
-
-    def _fail(self, asked: Asked, name: str) -> None:
-        """Answers by a system exception, COMPLETED_MAYBE. Where even this fails, for want of memory, the server ends:
-        the request must not be asked again."""
-        try:
-            self._engine.raise_system(name, 0, Completed.MAYBE, ticket=asked.ticket)
-        except LemonrudderError as error:
-            if error.number != Error.LOST:
-                self._stop(error)
-            raise
+    # ---- the end ----
 
     def _tell(self) -> None:
         """Sends what became due by the outcomes of parked requests."""
@@ -527,8 +354,6 @@ class Server:
             if connection is not None:
                 connection.end()
 
-    # ---- the end ----
-
     async def _close(self, timeout: float) -> None:
         """Ends as close says."""
         if self._engine is not None and not self.is_closed:
@@ -537,27 +362,15 @@ class Server:
             for connection in list(self._connections.values()):
                 connection.farewell("the server closes")
             self._tell()
-            await self._ends(timeout)
-            for work in list(self._works.values()):
-                if not work.cut:
-                    self._cut(work, "COMM_FAILURE")
-            await self._ends(2 * _GRACE)
+            await self._works.ends(timeout)
+            self._works.cut_all("COMM_FAILURE")
+            await self._works.ends(2 * GRACE)
             if self._connections and not self.is_closed:
                 # (replies are on their way)
                 if self._emptied.done():
                     self._emptied = self._loop.create_future()
-                await asyncio.wait([self._emptied], timeout=min(timeout, _GRACE))
+                await asyncio.wait([self._emptied], timeout=min(timeout, GRACE))
         self._stop()
-
-    async def _ends(self, timeout: float) -> None:
-        """Waits until what is under way has ended or is answered, so many seconds at most."""
-        until = self._loop.time() + timeout
-        while not self.is_closed:
-            left = [work.task for work in self._works.values() if not work.is_answered]
-            seconds = until - self._loop.time()
-            if not left or seconds <= 0:
-                return
-            await asyncio.wait(left, timeout=min(seconds, 0.05), return_when=asyncio.FIRST_COMPLETED)
 
     def _stop(self, error: Optional[Exception] = None) -> None:
         """Ends at once, with an error or without one."""
@@ -571,8 +384,7 @@ class Server:
         for connection in list(self._connections.values()):
             if not connection.transport.is_closing():
                 connection.transport.abort()
-        for work in list(self._works.values()):
-            work.task.cancel()
+        self._works.cancel()
         self._trial.close()
         if self._engine is not None:
             self._engine.close()

@@ -128,7 +128,6 @@ fn an_outcome_of_another_operation_is_refused() -> Result<(), Error> {
     assert_eq!(request.answer(&long), Err(Error::Outcome));
     assert_eq!(request.raise("IDL:Bank/Other:1.0", &wrong), Err(Error::Outcome));
     assert_eq!(request.raise(OVERDRAWN, &wrong), Err(Error::Outcome));
-    assert_eq!(request.answer_raw(Status::NoException, &wrong), Err(Error::Outcome));
     assert_eq!(server.take_output(1), []);
     let mut request = server.asked()?.expect("it waits still");
     request.system(SystemName::ImpLimit, 3, Completed::No)?;

@@ -18,3 +18,6 @@ on_catalogue P o s t r answer is said holds = subst (λ x. OnCatalogue P (Some x
 pub filled_as : (a b : Offer) (c d : List ℕ → Bool) (e f : List ℕ → Option (List (List ℕ))) (fs : Stock) (rs : List (List ℕ × Forms)) → a ≡ b → c ≡ d → e ≡ f
     → ◌≡◌ {A = Filling} (record { offer = a; raw = c; ids = e; families = fs; raises = rs }) (record { offer = b; raw = d; ids = f; families = fs; raises = rs })
 filled_as a b c d e f fs rs offer raw ids = cc
+
+pub stocked_as : (a b : Offer) (c d : List ℕ → Bool) (e f : List ℕ → Option (List (List ℕ))) → a ≡ b → c ≡ d → e ≡ f → ◌≡◌ {A = Stock} (record { offer = a; raw = c; ids = e }) (record { offer = b; raw = d; ids = f })
+stocked_as a b c d e f offer raw ids = cc

@@ -13,6 +13,7 @@ use Rattle.lemonrudder.specs.declared.object.Object.TheVariants.{Client as AClie
 use Rattle.lemonrudder.specs.declared.refusal.Refusal.{Refusal}
 use Rattle.lemonrudder.specs.Answers.{OnClient}
 use Rattle.lemonrudder.specs.Calls.{OnCancel, Stands, Standing, Takes, happened, head_of, last_end}
+use Rattle.lemonrudder.specs.Layouts.{laid, octets_of_completion}
 use Rattle.lemonrudder.specs.Dues.{IsPlaced, owed}
 use Rattle.lemonrudder.specs.Naming.{or_range}
 use Rattle.lemonrudder.specs.Refusals.{number_in}
@@ -82,16 +83,16 @@ pub nothing_left : (m : Client) → m.completions ≡ [] → record m { completi
 nothing_left m e = ap (λ cs. record m { completions = cs }) (ap (drop 1) e ∙ sym e)
 
 -- no completion is taken, or the first
-pub takes_none : (head : CompletionHead) (x : Standing) (t : Calling) → x.client.completions ≡ [] → FtStands t.client (record x.client { completions = drop 1 x.client.completions }) → IsPlaced t.due → owed t.due ≡ x.due → last_end t ≡ x.last
-    → Takes x.client.completions head head x t (Ok 0)
-takes_none head x t none client placed due last =
-    subst (λ (cs : List (ℕ × Ended)). Takes cs head head x t (Ok 0)) (sym none) (refl, refl, record { client = subst (FtStands t.client) (nothing_left x.client none) client; placed = placed; due = due; last = last })
+pub takes_none : (room : List ℕ) (x : Standing) (t : Calling) → x.client.completions ≡ [] → FtStands t.client (record x.client { completions = drop 1 x.client.completions }) → IsPlaced t.due → owed t.due ≡ x.due → last_end t ≡ x.last
+    → Takes x.client.completions room room x t (Ok 0)
+takes_none room x t none client placed due last =
+    subst (λ (cs : List (ℕ × Ended)). Takes cs room room x t (Ok 0)) (sym none) (refl, refl, record { client = subst (FtStands t.client) (nothing_left x.client none) client; placed = placed; due = due; last = last })
 
-pub takes_one : (head new : CompletionHead) (x : Standing) (t : Calling) (k : ℤ × Ended) (c : ℕ × Ended) (later : List (ℕ × Ended)) → x.client.completions ≡ c ∷ later → k ≡ numbered c → new ≡ head_of k.0 k.1
-    → FtStands t.client (record x.client { completions = drop 1 x.client.completions }) → IsPlaced t.due → owed t.due ≡ x.due → last_end t ≡ Some k.1 → Takes x.client.completions head new x t (Ok 1)
-takes_one head new x t k c later some is told client placed due last =
-    subst (λ (cs : List (ℕ × Ended)). Takes cs head new x t (Ok 1)) (sym some)
-    (refl, told ∙ ap (λ (j : ℤ × Ended). head_of j.0 j.1) is, record { client = client; placed = placed; due = due; last = last ∙ ap (λ (j : ℤ × Ended). Some j.1) is })
+pub takes_one : (room new : List ℕ) (h : CompletionHead) (x : Standing) (t : Calling) (k : ℤ × Ended) (c : ℕ × Ended) (later : List (ℕ × Ended)) → x.client.completions ≡ c ∷ later → k ≡ numbered c → new ≡ laid (octets_of_completion h) room → h ≡ head_of k.0 k.1
+    → FtStands t.client (record x.client { completions = drop 1 x.client.completions }) → IsPlaced t.due → owed t.due ≡ x.due → last_end t ≡ Some k.1 → Takes x.client.completions room new x t (Ok 1)
+takes_one room new h x t k c later some is told said client placed due last =
+    subst (λ (cs : List (ℕ × Ended)). Takes cs room new x t (Ok 1)) (sym some)
+    (refl, told ∙ ap (λ (e : CompletionHead). laid (octets_of_completion e) room) (said ∙ ap (λ (j : ℤ × Ended). head_of j.0 j.1) is), record { client = client; placed = placed; due = due; last = last ∙ ap (λ (j : ℤ × Ended). Some j.1) is })
 
 -- a number that was taken names what it gave
 pub named_ok : {A : Type 0} (o : Option A) (x : A) → ◌≡◌ {A = Result A Refusal} (Ok x) (or_range o) → o ≡ Some x

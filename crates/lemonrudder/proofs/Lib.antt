@@ -1,10 +1,13 @@
+mod Asked
 mod Assemblers
+mod Bounded
 mod Catalogues
 mod Clients
 mod Coding
-mod Contexts
+mod ContextLists
 mod Counts
 mod Declaring
+mod Declined
 mod Ended
 mod Finding
 mod Handing
@@ -14,9 +17,11 @@ mod Idling
 mod Invoking
 mod Lending
 mod Machine
+mod Offered
 mod Owing
 mod OwingLate
 mod Pairs
+mod Parking
 mod Putting
 mod Raising
 mod RawCalls
@@ -27,6 +32,6 @@ mod Resuming
 mod Servers
 mod Settings
 mod Telling
-mod Unparked
+mod Tellings
 mod Values
 mod Written

@@ -1,13 +1,17 @@
 -- What is set of a client.
-use Rattle.std.proofs.Common.{◌≡◌, ◌∙◌, ℕ, true, false, cond, ◌⊎◌, inl, inr, Result, Ok, Err, refl, ap, sym, subst}
+use Rattle.std.proofs.Common.{◌≡◌, ◌∙◌, ℕ, inl, Result, ap, sym, subst}
 use Rattle.giop_core.specs.declared.header.Version.{Version}
 use Rattle.giop_frames.specs.declared.limits.Limits.{Limits}
-use Rattle.ft_client.specs.declared.client.FtClient.{FtClient}
-use Rattle.ft_client.specs.Clients.{Client}
-use Rattle.ft_client.specs.Made.{is_unused, made_with}
-use Rattle.ft_client.specs.Standing.{FtStands}
 use Rattle.lemonrudder.specs.declared.calling.Calling.{Calling}
 use Rattle.lemonrudder.specs.declared.refusal.Refusal.{Refusal}
-use Rattle.lemonrudder.specs.declared.refusal.Refusal.TheVariants as refusal
-use Rattle.lemonrudder.specs.Calls.{Standing, Stands}
-use Rattle.lemonrudder.specs.Settings.{Makes}
+use Rattle.lemonrudder.specs.Calls.{Standing}
+use Rattle.lemonrudder.specs.Naming.{HasLimits}
+use Rattle.lemonrudder.specs.Settings.{Makes, MakesLimited}
+
+-- limits of these numbers, in the version of a client
+pub limited : (messages partial : ℕ) (x : Standing) (t : Calling) (r : Result ℕ Refusal) (version : Version) (limits : Limits) → version ≡ x.client.version → HasLimits messages partial limits → Makes version limits x t r → MakesLimited messages partial x t r
+limited messages partial x t r version limits own has makes = inl (limits, has, subst (λ v. Makes v limits x t r) own makes)
+
+-- numbers that the code passes on
+pub limited_as : (messages partial m p : ℕ) (x : Standing) (t : Calling) (r : Result ℕ Refusal) → m ≡ messages → p ≡ partial → MakesLimited m p x t r → MakesLimited messages partial x t r
+limited_as messages partial m p x t r em ep makes = subst (λ n. MakesLimited n partial x t r) em (subst (λ n. MakesLimited m n x t r) ep makes)

@@ -19,6 +19,7 @@ use Rattle.lemonrudder.specs.declared.refusal.Refusal.{Refusal}
 use Rattle.lemonrudder.specs.declared.refusal.Refusal.TheVariants as refusal
 use Rattle.lemonrudder.specs.Copies.{Copies}
 use Rattle.lemonrudder.specs.Dues.{IsPlaced, owed}
+use Rattle.lemonrudder.specs.Layouts.{laid, octets_of_completion}
 use Rattle.lemonrudder.specs.Naming.{HasLimits, order_number}
 use Rattle.lemonrudder.specs.Refusals.{filled}
 
@@ -116,14 +117,14 @@ head_with call how told = let body = body_or_none told in
 abbrev pub head_of : ℤ → Ended → CompletionHead
 head_of call ended = head_with call (how_ended ended) (told ended)
 
--- the first of these completions is taken, if there is one
-abbrev pub Takes : List (ℕ × Ended) → CompletionHead → CompletionHead → Standing → Calling → Result ℕ Refusal → Type 0
-Takes [] head new x t r = (r ≡ Ok 0) × (new ≡ head) × Stands t x
-Takes (c ∷ later) head new x t r = (r ≡ Ok 1) × (new ≡ head_of (pos c.0) c.1) × Stands t (record x { client = after (down x.client.limits) Taken x.client; last = Some c.1 })
+-- the first of these completions is taken, if there is one, and told, as much of the struct as the room has
+abbrev pub Takes : List (ℕ × Ended) → (room new : List ℕ) → Standing → Calling → Result ℕ Refusal → Type 0
+Takes [] room new x t r = (r ≡ Ok 0) × (new ≡ room) × Stands t x
+Takes (c ∷ later) room new x t r = (r ≡ Ok 1) × (new ≡ laid (octets_of_completion (head_of (pos c.0) c.1)) room) × Stands t (record x { client = after (down x.client.limits) Taken x.client; last = Some c.1 })
 
 -- the next completion is asked for
-abbrev pub OnCompleted : CompletionHead → CompletionHead → Calling → Calling → Result ℕ Refusal → Type 0
-OnCompleted head new s t r = (x : Standing) → Stands s x → Takes x.client.completions head new x t r
+abbrev pub OnCompleted : (room new : List ℕ) → Calling → Calling → Result ℕ Refusal → Type 0
+OnCompleted room new s t r = (x : Standing) → Stands s x → Takes x.client.completions room new x t r
 
 -- the body of the completion that was taken last is copied, if there is one
 abbrev pub OnBody : List ℕ → List ℕ → Calling → Calling → Result ℕ Refusal → Type 0

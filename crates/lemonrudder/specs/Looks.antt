@@ -1,22 +1,21 @@
 -- What a server says of itself: the service contexts of what waits, and its numbers for an operator.
-use Rattle.std.specs.Prelude.{◌≡◌, ℕ, max, List, [], ◌∷◌, length, slice_get, Option, Some, None, Result, Ok, Err}
+use Rattle.std.specs.Prelude.{◌≡◌, ℕ, List, [], ◌∷◌, length, slice_get, Option, Some, None, Result, Ok, Err}
 use Rattle.ft_log.specs.Holding.{Holding}
 use Rattle.ft_log.specs.Keys.{held_of}
-use Rattle.ft_log.specs.Kept.{keys_of, least_expiration, unexpired}
+use Rattle.ft_log.specs.Kept.{keys_of, least_expiration}
 use Rattle.ft_objects.specs.Families.{families_offer}
 use Rattle.ft_orb.specs.declared.counts.Counts.{Counts}
-use Rattle.ft_orb.specs.declared.events.Note.TheVariants.{Refused}
 use Rattle.ft_orb.specs.declared.parked.Waiter.{Waiter}
-use Rattle.ft_orb.specs.Engines.{Awaited, clock_in, counts_in, kept_in}
-use Rattle.ft_orb.specs.History.{Event, Gone, Piece, line}
-use Rattle.ft_orb.specs.Parking.{AsksLate, EndsLate, Settings, parked_count}
+use Rattle.ft_orb.specs.Engines.{Awaited, counts_in, kept_in}
+use Rattle.ft_orb.specs.History.{Event}
+use Rattle.ft_orb.specs.Parking.{AsksLate, Settings, parked_count}
 use Rattle.ft_orb.specs.Requests.{Call}
 use Rattle.lemonrudder.specs.declared.refusal.Refusal.{Refusal}
 use Rattle.lemonrudder.specs.declared.refusal.Refusal.TheVariants as refusal
 use Rattle.lemonrudder.specs.declared.serving.Serving.{Serving}
+use Rattle.lemonrudder.specs.Connected.{how_many}
 use Rattle.lemonrudder.specs.Items.{CopiesItem}
-use Rattle.lemonrudder.specs.Late.{WhereStays}
-use Rattle.lemonrudder.specs.Serves.{IsIdle, KeepsCatalogue, KeepsDue, KeepsTickets, WhereIdle}
+use Rattle.lemonrudder.specs.Serves.{IsIdle, Ticks, WhereIdle}
 
 -- a service context of the request that waits, by its index, is copied, and its id given, if there is one
 abbrev pub OnContext : ℕ → (id given : ℕ) → (room new : List ℕ) → Serving → Serving → Result ℕ Refusal → Type 0
@@ -33,7 +32,7 @@ numbers_of c =
 -- the numbers for an operator, in the order of the header: its connections, what it keeps, what is parked, and what became of all
 -- that came
 abbrev pub numbers_in : Serving → List ℕ
-numbers_in s = length s.connections.entries ∷ length (kept_in s.engine) ∷ parked_count s.engine ∷ numbers_of (counts_in s.engine)
+numbers_in s = how_many s.connections ∷ length (kept_in s.engine) ∷ parked_count s.engine ∷ numbers_of (counts_in s.engine)
 
 abbrev pub number_if : Option ℕ → Result ℕ Refusal
 number_if (Some n) = Ok n
@@ -55,9 +54,7 @@ TellsMoment (Some next) moment new r = (r ≡ Ok 1) × (new ≡ next)
 abbrev pub OnNextExpiry : (moment new : ℕ) → Serving → Serving → Result ℕ Refusal → Type 0
 OnNextExpiry moment new s t r = (t ≡ s) × TellsMoment (least_expiration (kept_in s.engine)) moment new r
 
--- a moment has come, as with a piece without octets on a connection that there is not: what expired before it is forgotten. Not
--- while a request waits
+-- a moment has come, as with a piece without octets on a connection that there is not: what expired before it is forgotten; not while
+-- a request waits
 abbrev pub OnTick : (moment : ℕ) → Serving → Serving → Result ℕ Refusal → Type 0
-OnTick moment s t r = WhereIdle s t r ((r ≡ Ok 0) × IsIdle t × KeepsDue s t × KeepsCatalogue s t × KeepsTickets s t
-    × (clock_in t.engine ≡ max (clock_in s.engine) moment) × (kept_in t.engine ≡ unexpired (clock_in t.engine) (kept_in s.engine))
-    × WhereStays s (λ x held calls past waiting. (c : ℕ) → line past c ≡ Gone → EndsLate families_offer x held calls past waiting (Piece c moment []) Refused t.engine [] []))
+OnTick moment s t r = WhereIdle s t r ((r ≡ Ok 0) × Ticks moment s t)

@@ -11,7 +11,7 @@ use Rattle.ft_log.specs.Holding.{Holding}
 use Rattle.ft_orb.specs.declared.parked.Waiter.{Waiter}
 use Rattle.ft_orb.specs.Engines.{Asks, Awaited, waits_in}
 use Rattle.ft_objects.specs.Families.{families_offer}
-use Rattle.ft_orb.specs.ExactlyOnce.{Absent, Field, Present}
+use Rattle.ft_orb.specs.ExactlyOnce.{Absent, Bad, Field, Present}
 use Rattle.ft_orb.specs.History.{Event}
 use Rattle.ft_objects.specs.Interfaces.{Interface, raw_operation}
 use Rattle.ft_orb.specs.Owners.{Owner}
@@ -74,6 +74,7 @@ TellsBody _ arguments room new r =
 -- the client id, if the request carries one
 abbrev pub client_of : Field → Option (List ℕ)
 client_of Absent = None
+client_of Bad = None
 client_of (Present key expiration) = Some key.client_id
 
 -- of a request that is found this is told

@@ -19,8 +19,6 @@ use Rattle.ft_orb.specs.declared.error.ConnectError.{ConnectError}
 use Rattle.ft_orb.specs.declared.error.ConnectError.TheVariants as connecting
 use Rattle.ft_objects.specs.declared.error.InterfacesError.{InterfacesError}
 use Rattle.ft_objects.specs.declared.error.InterfacesError.TheVariants as offering
-use Rattle.ft_orb.specs.declared.error.ParkError.{ParkError}
-use Rattle.ft_orb.specs.declared.error.ParkError.TheVariants as parking
 use Rattle.ft_orb.specs.declared.error.ServeError.{ServeError}
 use Rattle.ft_orb.specs.declared.error.ServeError.TheVariants as serving
 use Rattle.giop_core.specs.declared.error.WriteError.{WriteError}
@@ -122,11 +120,6 @@ refusal_of_redirecting redirecting.Memory = refusal.Memory
 abbrev pub refusal_of_connecting : ConnectError → Refusal
 refusal_of_connecting connecting.NotNew = refusal.Connection
 refusal_of_connecting connecting.Memory = refusal.Memory
-
-abbrev pub refusal_of_parking : ParkError → Refusal
-refusal_of_parking parking.Full = refusal.Parks
-refusal_of_parking parking.Share = refusal.Parks
-refusal_of_parking parking.Memory = refusal.Memory
 
 abbrev pub refusal_of_serving : ServeError → Refusal
 refusal_of_serving serving.NoConnection = refusal.Connection

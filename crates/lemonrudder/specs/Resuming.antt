@@ -13,11 +13,11 @@ use Rattle.ft_client.specs.Ends.{led_to}
 use Rattle.ft_client.specs.Messages.{typed}
 use Rattle.ft_client.specs.Redirections.{asked_anew, in_place_of}
 use Rattle.lemonrudder.specs.declared.calling.Calling.{Calling}
-use Rattle.lemonrudder.specs.declared.calling.CompletionHead.{CompletionHead}
 use Rattle.lemonrudder.specs.declared.refusal.Refusal.{Refusal}
 use Rattle.lemonrudder.specs.declared.refusal.Refusal.TheVariants as refusal
 use Rattle.lemonrudder.specs.Calls.{Becomes, Standing, Stands, Stays, happened, head_of}
 use Rattle.lemonrudder.specs.Invokes.{AreAsked, IsWhyUnasked, Question, asked}
+use Rattle.lemonrudder.specs.Layouts.{laid, octets_of_completion}
 use Rattle.lemonrudder.specs.Naming.{call_numbered}
 use Rattle.lemonrudder.specs.Refusals.{filled, refusal_of_recalling, refusal_of_redirecting}
 
@@ -49,13 +49,13 @@ OnRecall call now expiration q s t (Ok n) = (n ≡ 0) × (id : ℕ) × (vs : Val
     × ((x : Standing) → Stands s x → (is_resumed now id (asked q vs expiration) x.client ≡ true) × Stands t (happened (Resumed now id (asked q vs expiration)) x))
 OnRecall call now expiration q s t (Err e) = Stays s t × IsWhyUnresumed call now expiration q s e
 
--- the call that is led elsewhere is told of as one that ended so, and the reference to which is copied, as much of it as the room has
-abbrev pub LeadsTo : Option (ℤ × Rest) → (head new : CompletionHead) → (room filled_room : List ℕ) → Result ℕ Refusal → Type 0
+-- the call that is led elsewhere is told of as one that ended so, and the reference to which is copied, as much of each as its room has
+abbrev pub LeadsTo : Option (ℤ × Rest) → (head new : List ℕ) → (room filled_room : List ℕ) → Result ℕ Refusal → Type 0
 LeadsTo None head new room filled_room r = (r ≡ Ok 0) × (new ≡ head) × (filled_room ≡ room)
-LeadsTo (Some l) head new room filled_room r = (r ≡ Ok 1) × (new ≡ head_of l.0 (Told LocationForward l.1)) × (filled_room ≡ filled l.1.octets room)
+LeadsTo (Some l) head new room filled_room r = (r ≡ Ok 1) × (new ≡ laid (octets_of_completion (head_of l.0 (Told LocationForward l.1))) head) × (filled_room ≡ filled l.1.octets room)
 
 -- the first call that is led elsewhere is asked for
-abbrev pub OnForwarded : (head new : CompletionHead) → (room filled_room : List ℕ) → Calling → Calling → Result ℕ Refusal → Type 0
+abbrev pub OnForwarded : (head new : List ℕ) → (room filled_room : List ℕ) → Calling → Calling → Result ℕ Refusal → Type 0
 OnForwarded head new room filled_room s t r = (t ≡ s) × ((x : Standing) → Stands s x → LeadsTo (led_to (first_led x.client.pending)) head new room filled_room r)
 
 -- A call that is led elsewhere is asked for under another key. This is what it asks from now on, whatever it asked before; where it asked

@@ -1,11 +1,9 @@
 -- What a call on a server does.
 use Rattle.std.specs.Prelude.{◌≡◌, ◌==◌, ◌⊎◌, ℕ, ◌+◌, ◌<◌, ◌≤◌, Bool, true, false, not, min, max, List, [], ◌∷◌, ◌++◌, length, drop, IsSome, Option, Some, None, Result, Ok, Err}
 use Rattle.std.specs.Int.{from_bool}
-use Rattle.std.specs.Option.{option_map_or}
 use Rattle.std.specs.Ordering.{nat_cmp}
 use Rattle.std.specs.BTreeSet.{contains}
 use Rattle.ft_log.specs.Kept.{unexpired}
-use Rattle.ft_orb.specs.declared.engine.Engine.{Engine}
 use Rattle.ft_orb.specs.declared.engine.Fed.TheVariants as fed
 use Rattle.ft_orb.specs.declared.engine.Taken.{Taken}
 use Rattle.ft_orb.specs.declared.engine.Taken.TheVariants as taken
@@ -22,7 +20,6 @@ use Rattle.ft_orb.specs.Requests.{Call}
 use Rattle.ft_orb.specs.Standing.{note_of, note_of_opening}
 use Rattle.ft_orb.specs.Bounds.{ComesDue, fed_in, piece_in}
 use Rattle.ft_orb.specs.Parking.{parked_in, waits_on}
-use Rattle.lemonrudder.specs.declared.connections.Connections.{Connections}
 use Rattle.lemonrudder.specs.declared.object.Object.{Object}
 use Rattle.lemonrudder.specs.declared.object.Object.TheVariants.{Server}
 use Rattle.lemonrudder.specs.declared.refusal.Refusal.{Refusal}
@@ -208,9 +205,3 @@ OnOutput c room new s t r =
 abbrev pub HasNoServer : Option Object → Type 0
 HasNoServer (Some (Server s)) = ⊥
 HasNoServer _ = Unit {0}
-
--- Words of private functions.
-
--- the connection of what waits is there, if something waits
-abbrev pub is_asked_there : {C : Type 0} → Connections → Engine C → Bool
-is_asked_there k e = option_map_or (λ (w : Awaited). is_there k w.connection) (waits_in e) true

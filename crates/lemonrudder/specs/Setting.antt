@@ -7,7 +7,7 @@ use Rattle.lemonrudder.specs.declared.serving.Serving.{Serving}
 use Rattle.lemonrudder.specs.declared.terms.Terms.{Terms}
 use Rattle.lemonrudder.specs.Limited.{Limited, limited, set_to}
 use Rattle.lemonrudder.specs.Openings.{IsNew}
-use Rattle.lemonrudder.specs.Serves.{IsIdle, IsRefused}
+use Rattle.lemonrudder.specs.Serves.{IsRefused}
 
 -- it has had a connection
 abbrev pub HasOpened : Serving → Type 0

@@ -1,7 +1,6 @@
 -- Exchanging what a server has on offer and a catalogue.
 use Rattle.std.specs.Prelude.{◌≡◌, ℕ, suc, ◌∷◌, IsSome, Result, Ok}
 use Rattle.ft_objects.specs.Families.{families_offer}
-use Rattle.ft_orb.specs.Counts.{parked_count}
 use Rattle.ft_orb.specs.Engines.{AreEndings, counts_in, waits_in}
 use Rattle.ft_orb.specs.History.{Changed, changes}
 use Rattle.ft_orb.specs.Offerings.{terms_by}

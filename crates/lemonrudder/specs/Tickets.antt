@@ -4,6 +4,7 @@ use Rattle.ft_orb.specs.declared.asked.Asked.{Asked}
 use Rattle.ft_orb.specs.Engines.{Awaited, awaited_lent}
 use Rattle.lemonrudder.specs.declared.refusal.Refusal.{Refusal}
 use Rattle.lemonrudder.specs.declared.refusal.Refusal.TheVariants as refusal
+use Rattle.lemonrudder.specs.declared.serving.questions.Called.{Called}
 use Rattle.lemonrudder.specs.declared.serving.questions.Found.{Found}
 use Rattle.lemonrudder.specs.declared.serving.questions.Found.TheVariants.{Parked, Waits}
 
@@ -45,12 +46,21 @@ IsAskedBy ticket waits (Ok asked) = waiting_by ticket waits ≡ Ok (awaited_lent
 IsAskedBy ticket waits (Err e) = waiting_by ticket waits ≡ Err e
 
 -- .. and what was found
-abbrev pub found_lent : Result (Found × Asked) Refusal → Result (Found × Awaited) Refusal
-found_lent (Ok (found, asked)) = Ok (found, awaited_lent asked)
-found_lent (Err e) = Err e
+abbrev pub IsNamedBy : Result (Found × Awaited) Refusal → Result Called Refusal → Type 0
+IsNamedBy x (Ok called) = x ≡ Ok (called.found, awaited_lent called.asked)
+IsNamedBy x (Err e) = x ≡ Err e
 
 -- what was found is what waits; or nothing waits, and it is parked
-abbrev pub IsFound : Option Awaited → Found → Type 0
-IsFound None (Waits number c) = ⊥
-IsFound (Some w) (Waits number c) = (w.number ≡ number) × (w.connection ≡ c)
-IsFound waits (Parked n) = waits ≡ None
+abbrev pub IsFound : Found → Option Awaited → Type 0
+IsFound (Waits number c) None = ⊥
+IsFound (Waits number c) (Some w) = (w.number ≡ number) × (w.connection ≡ c)
+IsFound (Parked n) waits = waits ≡ None
+
+-- .. or it is parked
+abbrev pub IsFoundAt : Found → Option Awaited → Type 0
+IsFoundAt (Waits number c) waits = IsFound (Waits number c) waits
+IsFoundAt (Parked n) waits = Unit {0}
+
+abbrev pub IsParkedOne : Found → Type 0
+IsParkedOne (Waits number c) = ⊥
+IsParkedOne (Parked n) = Unit {0}

@@ -9,7 +9,7 @@ ghost use Rattle.lemonrudder.specs.Settings.{OnSet};
 
 pub mod raw;
 
-use crate::calling::{CompletionHead, Question};
+use crate::calling::Question;
 use crate::object::Object;
 use crate::refusal::{Refusal, number_of, signed};
 
@@ -100,7 +100,7 @@ pub fn resend(object: &mut Object, now: u64) -> i64
 }
 
 /// Says the first call that is led elsewhere, and copies the reference to which.
-pub fn forwarded(object: &Object, head: &mut CompletionHead, room: &mut [u8]) -> i64
+pub fn forwarded(object: &Object, head: &mut [u8], room: &mut [u8]) -> i64
     ensures told { OnClient (OnForwarded head.old head.new room.old room.new) (Some object.now) (Some object.now) result }
     ensures none { result ≤ℤ pos 0 → head.new ≡ head.old }
     ensures uncopied { result ≤ℤ pos 0 → room.new ≡ room.old }
@@ -152,14 +152,14 @@ pub fn feed(object: &mut Object, octets: &[u8]) -> i64
 }
 
 /// Takes the next completion.
-pub fn completed(object: &mut Object, head: &mut CompletionHead) -> i64
-    ensures taken { OnClient (OnCompleted head.old head.new) (Some object.old) (Some object.new) result }
-    ensures none { result ≤ℤ pos 0 → head.new ≡ head.old }
+pub fn completed(object: &mut Object, room: &mut [u8]) -> i64
+    ensures taken { OnClient (OnCompleted room.old room.new) (Some object.old) (Some object.new) result }
+    ensures none { result ≤ℤ pos 0 → room.new ≡ room.old }
 {
     let Object::Client(client) = object else {
         return Refusal::Empty.number();
     };
-    signed(client.completed(head))
+    signed(client.completed(room))
 }
 
 /// Copies the body of the completion that was taken last.

@@ -9,6 +9,7 @@ mod raw;
 mod setting;
 
 use crate::due::Due;
+use crate::layout::Layout;
 use crate::named::{limits_of, number_of_call, number_of_order};
 use crate::refusal::{Refusal, copied, count_of};
 use cdr_core::has_no_nul;
@@ -24,7 +25,6 @@ const MESSAGE: u32 = 1_048_576;
 const PARTIALS: u32 = 4;
 
 /// A call that ended: `lr_completion`.
-#[repr(C)]
 #[derive(Clone, Copy, Debug, Drop)]
 pub struct CompletionHead {
     pub body_size: u64,
@@ -33,6 +33,24 @@ pub struct CompletionHead {
     pub how: u32,
     pub body_order: u32,
     pub reserved: u32,
+}
+
+impl CompletionHead {
+    ghost use Rattle.lemonrudder.specs.Layouts.{laid, octets_of_completion};
+
+    /// Fills a room: with the octets of the struct, as many as it has, and with zeros behind.
+    fn tell(&self, room: &mut [u8])
+        ensures { room.new ≡ laid (octets_of_completion self.now) room.old }
+    {
+        let mut layout = Layout::new();
+        layout.put_u64(self.body_size);
+        layout.put_u64(self.body_at);
+        layout.put_i32(self.call);
+        layout.put_u32(self.how);
+        layout.put_u32(self.body_order);
+        layout.put_u32(self.reserved);
+        layout.fill(room);
+    }
 }
 
 /// What a call asks.
@@ -194,14 +212,14 @@ impl Calling {
     }
 
     /// Takes the next completion.
-    pub fn completed(&mut self, head: &mut CompletionHead) -> u64
-        ensures taken { OnCompleted head.old head.new self.old self.new (Ok result) }
-        ensures none { result ≡ 0 → head.new ≡ head.old }
+    pub fn completed(&mut self, room: &mut [u8]) -> u64
+        ensures taken { OnCompleted room.old room.new self.old self.new (Ok result) }
+        ensures none { result ≡ 0 → room.new ≡ room.old }
     {
         let Some((call, ended)) = self.client.take_completion() else {
             return 0;
         };
-        *head = head_of(call, &ended);
+        head_of(call, &ended).tell(room);
         self.ended = Some(ended);
         1
     }

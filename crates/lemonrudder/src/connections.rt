@@ -1,9 +1,7 @@
 //! The connections of a server, and what is due on each.
 
 ghost use Rattle.std.specs.Prelude.{◌≡◌, [], ℕ, false, true, drop, length, min, OnErr, OnOk, IfErr};
-ghost use Rattle.lemonrudder.specs.Connected.{AreOthers, AreSame, OnlyDue, is_there, owed_in};
 ghost use Rattle.lemonrudder.specs.Dues.{IsPlaced, owed};
-ghost use Rattle.lemonrudder.specs.Refusals.{filled};
 
 use crate::due::Due;
 use crate::refusal::Refusal;
@@ -26,6 +24,9 @@ pub struct Connections {
 }
 
 impl Connections {
+    ghost use Rattle.lemonrudder.specs.Connected.{AreOthers, AreSame, OnlyDue, how_many, is_there, owed_in};
+    ghost use Rattle.lemonrudder.specs.Refusals.{filled};
+
     /// None.
     pub fn new(alloc: Global) -> Connections
         ensures { (c : ℕ) → is_there result c ≡ false }
@@ -41,6 +42,13 @@ impl Connections {
         ensures { result ≡ is_there self.now connection }
     {
         self.entries.contains_key(&connection)
+    }
+
+    /// How many there are.
+    pub fn len(&self) -> usize
+        ensures { result ≡ how_many self.now }
+    {
+        self.entries.len()
     }
 
     /// Opens one, on which nothing is due, where there is none of the number.
@@ -68,6 +76,17 @@ impl Connections {
         ensures others { AreOthers connection self.old self.new }
     {
         self.entries.remove(&connection);
+    }
+
+    /// Forgets one, unless it was there.
+    pub fn undo(&mut self, connection: u64, was: bool)
+        ensures gone { was ≡ false → is_there self.new connection ≡ false }
+        ensures stays { was ≡ true → AreSame self.old self.new }
+        ensures others { AreOthers connection self.old self.new }
+    {
+        if !was {
+            self.remove(connection);
+        }
     }
 
     /// How many octets are due on one.

@@ -35,6 +35,13 @@ impl Due {
         self.octets.len().saturating_sub(self.taken)
     }
 
+    /// How many octets there are, with those that are gone.
+    pub fn size(&self) -> usize
+        ensures { result ≡ length self.now.octets.items }
+    {
+        self.octets.len()
+    }
+
     /// As many octets as may be, with those that are gone.
     pub fn most(&self, most: usize) -> usize
         ensures { result ≡ min (most + self.now.taken) 18446744073709551615 }

@@ -7,7 +7,7 @@ ghost use Rattle.lemonrudder.specs.Refusals.{error_number, filled, number_in, re
 use cdr_core::{CdrError, Fault, Kind};
 use ft_client::{CallError, RawCallError, RawRecallError, RecallError, RedirectError};
 use ft_objects::InterfacesError;
-use ft_orb::{ConnectError, ParkError, ServeError};
+use ft_orb::{ConnectError, ServeError};
 use giop_core::WriteError;
 use ior_core::IorError;
 use std::alloc::{AllocError, AllocFailed};
@@ -204,18 +204,6 @@ impl From<ConnectError> for Refusal {
         match error {
             ConnectError::NotNew => Refusal::Connection,
             ConnectError::Memory => Refusal::Memory,
-        }
-    }
-}
-
-impl From<ParkError> for Refusal {
-    ghost from_gives = { λ e r. r ≡ refusal_of_parking e };
-
-    fn from(error: ParkError) -> Refusal {
-        match error {
-            ParkError::Full => Refusal::Parks,
-            ParkError::Share => Refusal::Parks,
-            ParkError::Memory => Refusal::Memory,
         }
     }
 }

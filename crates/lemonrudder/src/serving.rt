@@ -1,7 +1,7 @@
 //! A server, with the octets that are due on each of its connections: what it takes and writes.
 
 ghost use Rattle.std.specs.Prelude.{◌≡◌, IsTrue, true};
-ghost use Rattle.lemonrudder.specs.Serves.{is_asked_there};
+ghost use Rattle.lemonrudder.specs.Connected.{is_asked_there};
 
 mod declining;
 mod looking;
@@ -77,14 +77,16 @@ impl Serving {
         }
         let was = self.connections.has(connection);
         self.connections.open(connection)?;
-        if let Err(error) = self.engine.connect(connection) {
-            if !was {
-                self.connections.remove(connection);
+        match self.engine.connect(connection) {
+            Ok(()) => {
+                self.setup.opened = true;
+                Ok(0)
             }
-            return Err(Refusal::from(error));
+            Err(error) => {
+                self.connections.undo(connection, was);
+                Err(Refusal::from(error))
+            }
         }
-        self.setup.opened = true;
-        Ok(0)
     }
 
     /// Forgets a connection, and what is due on it.
@@ -146,7 +148,11 @@ impl Serving {
     }
 
     /// Takes octets of a connection, until as many are due on it as may be.
-    fn serve(&mut self, connection: u64, moment: u64, octets: &[u8]) -> Result<u64, Refusal> {
+    fn serve(&mut self, connection: u64, moment: u64, octets: &[u8]) -> Result<u64, Refusal>
+        requires idle { IsIdle self.old }
+        requires there { is_there self.old.connections connection ≡ true }
+        ensures { Serves connection moment octets.now self.old self.new result }
+    {
         let mut due = self.connections.take(connection);
         let most = due.most(self.setup.terms.due);
         let fed = self

@@ -281,7 +281,7 @@ fn names_have_their_ids(rt: HostRuntime) {
     for (name, text, id, size) in &NAMES {
         assert_named(&rt, is_printed(rt.alloc(), *name, text), text);
         assert_named(&rt, name.repository_id() == *id, text);
-        assert_named(&rt, id.len() == *size - 1, text);
+        assert_named(&rt, id.len() + 1 == *size, text);
     }
 }
 

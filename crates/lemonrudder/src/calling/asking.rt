@@ -5,7 +5,7 @@ ghost use Rattle.cdr_core.specs.View.{values_of};
 ghost use Rattle.cdr_core.specs.Writing.{AreWritable};
 ghost use Rattle.lemonrudder.specs.Invokes.{AreAsked, IsWhyUnasked, question_of};
 
-use crate::calling::{Calling, CompletionHead, Question, head_with};
+use crate::calling::{Calling, Question, head_with};
 use crate::named::{number_of_call, order_of};
 use crate::refusal::{Refusal, copied};
 use crate::types::{types_of, values_of};
@@ -84,7 +84,7 @@ impl Calling {
     }
 
     /// Says the first call that is led elsewhere, and copies the reference to which.
-    pub fn forwarded(&self, head: &mut CompletionHead, room: &mut [u8]) -> u64
+    pub fn forwarded(&self, head: &mut [u8], room: &mut [u8]) -> u64
         ensures told { OnForwarded head.old head.new room.old room.new self.now self.now (Ok result) }
         ensures none { result ≡ 0 → head.new ≡ head.old }
         ensures uncopied { result ≡ 0 → room.new ≡ room.old }
@@ -92,7 +92,7 @@ impl Calling {
         let Some((call, reference)) = self.client.forwarded() else {
             return 0;
         };
-        *head = head_with(call, FORWARDED, Some(reference));
+        head_with(call, FORWARDED, Some(reference)).tell(head);
         copied(&reference.octets, room);
         1
     }

@@ -10,7 +10,7 @@ ghost use Rattle.lemonrudder.specs.Settings.{OnSet};
 ghost use Rattle.lemonrudder.specs.Slots.{held_in};
 
 use crate::called;
-use crate::calling::{Calling, CompletionHead, Question};
+use crate::calling::{Calling, Question};
 use crate::object::Object;
 use crate::opened::open;
 use crate::refusal::Refusal;
@@ -167,12 +167,12 @@ pub extern "C" fn lr_client_resend(alloc: Global, slot: &mut Slot, now: u64) -> 
     answer
 }
 
-/// Says the first call that is led elsewhere, and copies the reference to which.
+/// Says the first call that is led elsewhere, `lr_completion`, and copies the reference to which.
 #[unsafe(no_mangle)]
 pub extern "C" fn lr_client_forwarded(
     alloc: Global,
     slot: &mut Slot,
-    completion: &mut CompletionHead,
+    completion: &mut [u8],
     room: &mut [u8],
 ) -> i64
     ensures told { OnClient (OnForwarded completion.old completion.new room.old room.new) (held_in slot.old) (held_in slot.new) result }
@@ -255,20 +255,16 @@ pub extern "C" fn lr_client_feed(alloc: Global, slot: &mut Slot, octets: &[u8]) 
     answer
 }
 
-/// Takes the next completion.
+/// Takes the next completion: `lr_completion`.
 #[unsafe(no_mangle)]
-pub extern "C" fn lr_client_completed(
-    alloc: Global,
-    slot: &mut Slot,
-    completion: &mut CompletionHead,
-) -> i64
-    ensures taken { OnClient (OnCompleted completion.old completion.new) (held_in slot.old) (held_in slot.new) result }
-    ensures none { result ≤ℤ pos 0 → completion.new ≡ completion.old }
+pub extern "C" fn lr_client_completed(alloc: Global, slot: &mut Slot, room: &mut [u8]) -> i64
+    ensures taken { OnClient (OnCompleted room.old room.new) (held_in slot.old) (held_in slot.new) result }
+    ensures none { result ≤ℤ pos 0 → room.new ≡ room.old }
 {
     let Some(mut object) = slot.take(alloc) else {
         return Refusal::Empty.number();
     };
-    let answer = called::completed(&mut object, completion);
+    let answer = called::completed(&mut object, room);
     slot.put(object);
     answer
 }

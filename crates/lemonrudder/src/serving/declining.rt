@@ -7,6 +7,7 @@ use crate::named::system_name_of;
 use crate::refusal::Refusal;
 use crate::serving::Serving;
 use crate::serving::questions::Found;
+use crate::serving::taken::done_of;
 use ft_log::SystemName;
 use ft_orb::CloseError;
 
@@ -23,14 +24,13 @@ impl Serving {
         name: SystemName,
         minor: u32,
     ) -> Result<u64, Refusal>
-        requires found { IsFound (waits_in self.old.engine) (Waits number connection) }
+        requires found { IsFound (Waits number connection) (waits_in self.old.engine) }
         ensures { DeclinesAsked connection (not_now name minor) self.old self.new result }
     {
         let mut due = self.connections.take(connection);
         let declined = self.engine.decline(number, name, minor, &mut due.octets);
         self.connections.put(connection, due);
-        declined?;
-        Ok(0)
+        done_of(0, declined)
     }
 
     /// Refuses the request of a ticket, for now: the one that waits, or one that is parked.
@@ -38,8 +38,8 @@ impl Serving {
         ensures { OnRefuse ticket name minor self.old self.new result }
     {
         let name = system_name_of(name)?;
-        let (found, _) = self.called_by(ticket)?;
-        match found {
+        let called = self.called_by(ticket)?;
+        match called.found {
             Found::Waits(number, connection) => self.decline(number, connection, name, minor),
             Found::Parked(number) => self.withdraw(number, name, minor),
         }
@@ -58,7 +58,8 @@ impl Serving {
         match given_up {
             Ok(_) => Ok(0),
             Err(CloseError::Waits) => Err(Refusal::Parks),
-            Err(_) => Err(Refusal::Memory),
+            Err(CloseError::NoConnection) => Err(Refusal::Memory),
+            Err(CloseError::Memory) => Err(Refusal::Memory),
         }
     }
 }

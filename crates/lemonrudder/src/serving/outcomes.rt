@@ -12,6 +12,7 @@ use crate::named::{completion_of, order_of, raw_status_of, system_name_of};
 use crate::refusal::Refusal;
 use crate::serving::Serving;
 use crate::serving::questions::Found;
+use crate::serving::taken::done_of;
 use crate::types::values_of;
 use cdr_core::{Order, Ty, Val};
 use ft_log::Outcome;
@@ -31,7 +32,7 @@ impl Serving {
         outcome: Outcome,
         count: u64,
     ) -> Result<u64, Refusal>
-        requires found { IsFound (waits_in self.old.engine) (Waits number connection) }
+        requires found { IsFound (Waits number connection) (waits_in self.old.engine) }
         ensures { AnswersAsked number connection count (performed_in outcome) self.old self.new result }
     {
         if !self.engine.can_answer(number, &outcome) {
@@ -40,13 +41,12 @@ impl Serving {
         let mut due = self.connections.take(connection);
         let answered = self.engine.answer(number, outcome, &mut due.octets);
         self.connections.put(connection, due);
-        answered?;
-        Ok(count)
+        done_of(count, answered)
     }
 
     /// .. of one that waits or is parked.
     fn hand_in(&mut self, found: Found, outcome: Outcome, count: u64) -> Result<u64, Refusal>
-        requires found { IsFound (waits_in self.old.engine) found }
+        requires found { IsFound found (waits_in self.old.engine) }
         ensures { HandsIn found count (performed_in outcome) self.old self.new result }
     {
         match found {
@@ -96,9 +96,9 @@ impl Serving {
         ensures { OnAnswer ticket order octets.now self.old self.new result }
     {
         let order = order_of(order)?;
-        let (found, asked) = self.called_by(ticket)?;
-        let results = self.results(&asked, order, octets)?;
-        self.hand_in(found, Outcome::Returned(results), 0)
+        let called = self.called_by(ticket)?;
+        let results = self.results(&called.asked, order, octets)?;
+        self.hand_in(called.found, Outcome::Returned(results), 0)
     }
 
     /// Answers by an exception that the operation declares.
@@ -112,10 +112,10 @@ impl Serving {
         ensures { OnRaise ticket id.now order octets.now self.old self.new result }
     {
         let order = order_of(order)?;
-        let (found, asked) = self.called_by(ticket)?;
-        let members = self.members(&asked, id, order, octets)?;
+        let called = self.called_by(ticket)?;
+        let members = self.members(&called.asked, id, order, octets)?;
         let id = Vec::from_slice(self.alloc, id)?;
-        self.hand_in(found, Outcome::Raised(id, members), 0)
+        self.hand_in(called.found, Outcome::Raised(id, members), 0)
     }
 
     /// Answers by a system exception.
@@ -130,8 +130,8 @@ impl Serving {
     {
         let name = system_name_of(name)?;
         let completed = completion_of(completed)?;
-        let (found, _) = self.called_by(ticket)?;
-        self.hand_in(found, Outcome::System(name, minor, completed), 0)
+        let called = self.called_by(ticket)?;
+        self.hand_in(called.found, Outcome::System(name, minor, completed), 0)
     }
 
     /// Answers a raw operation.
@@ -146,9 +146,9 @@ impl Serving {
     {
         let status = raw_status_of(status)?;
         let order = order_of(order)?;
-        let (found, _) = self.called_by(ticket)?;
+        let called = self.called_by(ticket)?;
         let body = Vec::from_slice(self.alloc, body)?;
-        self.hand_in(found, Outcome::Raw(status, order, body), 0)
+        self.hand_in(called.found, Outcome::Raw(status, order, body), 0)
     }
 
     /// The answer to a request, where it asks an object that names its repository ids what it is.
@@ -173,12 +173,12 @@ impl Serving {
     pub fn identify(&mut self, ticket: u64) -> Result<u64, Refusal>
         ensures { OnIdentify ticket self.old self.new result }
     {
-        let (found, asked) = self.called_by(ticket)?;
-        let Some(truth) = self.identity(&asked) else {
+        let called = self.called_by(ticket)?;
+        let Some(truth) = self.identity(&called.asked) else {
             return Ok(0);
         };
         let results = vec![in self.alloc; Val::Boolean(truth)]?;
-        self.hand_in(found, Outcome::Returned(results), 1)
+        self.hand_in(called.found, Outcome::Returned(results), 1)
     }
 }
 

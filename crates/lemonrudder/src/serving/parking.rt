@@ -4,6 +4,7 @@ ghost use Rattle.std.specs.Prelude.{Ok};
 
 use crate::refusal::Refusal;
 use crate::serving::Serving;
+use ft_orb::ParkError;
 
 impl Serving {
     ghost use Rattle.lemonrudder.specs.Parks.{OnNextDue, OnPark, OnParked, OnParkedOf};
@@ -13,8 +14,12 @@ impl Serving {
         ensures { OnPark ticket self.old self.new result }
     {
         let number = self.asked_by(ticket)?.number;
-        self.engine.park(number)?;
-        Ok(0)
+        match self.engine.park(number) {
+            Ok(()) => Ok(0),
+            Err(ParkError::Full) => Err(Refusal::Parks),
+            Err(ParkError::Share) => Err(Refusal::Parks),
+            Err(ParkError::Memory) => Err(Refusal::Memory),
+        }
     }
 
     /// How many requests are parked.

@@ -24,10 +24,17 @@ pub(super) enum Found {
     Parked(u64),
 }
 
+/// The request of a ticket, and where it is.
+#[derive(Clone, Copy, Debug)]
+pub(super) struct Called<'e> {
+    pub(super) found: Found,
+    pub(super) asked: Asked<'e>,
+}
+
 impl Serving {
     ghost use Rattle.lemonrudder.specs.Outcomes.{interface_at};
     ghost use Rattle.lemonrudder.specs.Questions.{OnAsked, OnPart, TellsBody, is_raw, with_body};
-    ghost use Rattle.lemonrudder.specs.Tickets.{IsAskedBy, IsFound, called_by, found_lent, named_by};
+    ghost use Rattle.lemonrudder.specs.Tickets.{IsAskedBy, IsFound, IsFoundAt, IsNamedBy, IsParkedOne, called_by, found_parked, named_by, parked_by};
 
     /// The request that waits, where it has this ticket.
     pub(super) fn asked_by(&self, ticket: u64) -> Result<Asked<'_>, Refusal>
@@ -43,31 +50,50 @@ impl Serving {
     }
 
     /// The request of a ticket, which waits or is parked.
-    pub(super) fn named_by(&self, ticket: u64) -> Result<(Found, Asked<'_>), Refusal>
-        ensures { found_lent result ≡ named_by ticket (waits_in self.now.engine) (parked_in self.now.engine) }
+    fn named_by(&self, ticket: u64) -> Result<Called<'_>, Refusal>
+        ensures named { IsNamedBy (named_by ticket (waits_in self.now.engine) (parked_in self.now.engine)) result }
+        ensures found { IfOk result (λ x. IsFoundAt x.found (waits_in self.now.engine)) }
     {
         if let Some(asked) = self.engine.asked() {
             if ticket_of(asked.number) == ticket {
-                return Ok((Found::Waits(asked.number, asked.connection), asked));
+                let found = Found::Waits(asked.number, asked.connection);
+                return Ok(Called { found, asked });
             }
         }
-        let number = ticket.checked_sub(1).ok_or(Refusal::Ticket)?;
+        self.parked_by(ticket)
+    }
+
+    /// The request of a ticket, which is parked.
+    fn parked_by(&self, ticket: u64) -> Result<Called<'_>, Refusal>
+        ensures named { IsNamedBy (found_parked ticket (parked_by ticket (parked_in self.now.engine))) result }
+        ensures found { IfOk result (λ x. IsParkedOne x.found) }
+    {
+        if ticket == 0 {
+            return Err(Refusal::Ticket);
+        }
+        let number = ticket - 1;
         match self.engine.parked(number) {
-            Some(asked) => Ok((Found::Parked(number), asked)),
+            Some(asked) => {
+                let found = Found::Parked(number);
+                Ok(Called { found, asked })
+            }
             None => Err(Refusal::Ticket),
         }
     }
 
-    /// .. of which an outcome may be said: not of one that is parked while another waits.
-    pub(super) fn called_by(&self, ticket: u64) -> Result<(Found, Asked<'_>), Refusal>
-        ensures called { found_lent result ≡ called_by ticket (waits_in self.now.engine) (parked_in self.now.engine) }
-        ensures found { IfOk result (λ x. IsFound (waits_in self.now.engine) x.0) }
+    /// The request of a ticket of which an outcome may be said: not of one that is parked while another waits.
+    pub(super) fn called_by(&self, ticket: u64) -> Result<Called<'_>, Refusal>
+        ensures called { IsNamedBy (called_by ticket (waits_in self.now.engine) (parked_in self.now.engine)) result }
+        ensures found { IfOk result (λ x. IsFound x.found (waits_in self.now.engine)) }
     {
-        let (found, asked) = self.named_by(ticket)?;
-        match found {
-            Found::Parked(_) if self.engine.is_asking() => Err(Refusal::Asking),
-            _ => Ok((found, asked)),
+        let called = self.named_by(ticket)?;
+        if let Found::Waits(_, _) = called.found {
+            return Ok(called);
         }
+        if self.engine.is_asking() {
+            return Err(Refusal::Asking);
+        }
+        Ok(called)
     }
 
     /// What the operation is that waits.
@@ -145,7 +171,7 @@ impl Serving {
     pub fn part(&self, ticket: u64, part: u32, room: &mut [u8]) -> Result<u64, Refusal>
         ensures { OnPart ticket part room.old room.new self.now self.now result }
     {
-        let (_, asked) = self.named_by(ticket)?;
+        let asked = self.named_by(ticket)?.asked;
         match part {
             0 => Ok(copied(asked.object_key, room)),
             1 => Ok(copied(asked.operation, room)),

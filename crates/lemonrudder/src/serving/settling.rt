@@ -36,12 +36,17 @@ impl Serving {
         ensures tickets { KeepsTickets self.old self.new }
     {
         let mut due = self.connections.take(connection);
-        let before = due.octets.len();
-        let told = self.engine.reply(number, &mut due.octets);
-        if told.is_ok() && self.ready.insert(connection).is_err() {
-            due.octets.truncate(before);
-            self.engine.lost(connection);
+        let before = due.size();
+        if self.engine.reply(number, &mut due.octets).is_err() {
+            self.connections.put(connection, due);
+            return;
         }
+        if self.ready.insert(connection).is_ok() {
+            self.connections.put(connection, due);
+            return;
+        }
+        due.octets.truncate(before);
+        self.engine.lost(connection);
         self.connections.put(connection, due);
     }
 

@@ -1,7 +1,8 @@
-//! How many octets of a piece were taken.
+//! What calls answer, by what the engine does.
 
 ghost use Rattle.std.specs.Prelude.{◌≡◌, length};
-ghost use Rattle.lemonrudder.specs.Serves.{taken_of};
+ghost use Rattle.lemonrudder.specs.Refusals.{refusal_of_serving};
+ghost use Rattle.lemonrudder.specs.Serves.{done_of, taken_of};
 
 use crate::refusal::{Refusal, count_of};
 use ft_orb::{Fed, ServeError, Taken};
@@ -16,4 +17,12 @@ pub(super) fn taken_of(octets: &[u8], fed: Result<Taken, ServeError>) -> Result<
             Ok(taken as u64)
         }
     }
+}
+
+/// A count, where the engine has done it.
+pub(super) fn done_of(count: u64, done: Result<(), ServeError>) -> Result<u64, Refusal>
+    ensures { result ≡ done_of count refusal_of_serving done }
+{
+    done?;
+    Ok(count)
 }

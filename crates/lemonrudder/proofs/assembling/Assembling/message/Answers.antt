@@ -3,4 +3,4 @@ use Rattle.lemonrudder.proofs.Lending.{tells-lent}
 use Rattle.lemonrudder.proofs.assembling.Assembling.message.Goals as goal
 
 pub returns-clause-told : goal.returns-clause-told
-returns-clause-told c = (refl, tells-lent _ c.in-Some.message c.args.room.now c.tell.new.room c.head_of-head.result c.count_of_contexts-head.result c.in-Some.ensures.lent c.head_of-head.ensures c.count_of_contexts-head.ensures c.tell.ensures)
+returns-clause-told c = (refl, tells-lent _ c.in-Some.message c.args.room.now c.tell.new.room c.head_of-head.result c.count_of_contexts.result c.in-Some.ensures.lent c.head_of-head.ensures c.count_of_contexts.ensures c.tell.ensures)

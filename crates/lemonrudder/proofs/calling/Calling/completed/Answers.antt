@@ -13,4 +13,4 @@ pub returns-clause-taken : goal.returns-clause-taken
 returns-clause-taken c = λ x st.
     let k = completion_of (c.in-Some.call, c.in-Some.ended) in
     let o = one_taken k x.client.completions (c.in-Some.ensures.given x.client st.client) in
-    takes_one _ _ x _ k o.0 o.1 o.2 o.3 (c.head_of.ensures ∙ ap (λ (z : ℤ). head_of z (ended_of c.in-Some.ended)) (first_of (search rules, omega (arith, ints)))) (c.in-Some.ensures.stands x.client st.client) st.placed st.due (search rules)
+    takes_one _ _ c.head_of.result x _ k o.0 o.1 o.2 o.3 c.tell.ensures (c.head_of.ensures ∙ ap (λ (z : ℤ). head_of z (ended_of c.in-Some.ended)) (first_of (search rules, omega (arith, ints)))) (c.in-Some.ensures.stands x.client st.client) st.placed st.due (search rules)

@@ -1,8 +1,8 @@
 use Rattle.std.proofs.Common.{refl}
 use Rattle.ft_orb.specs.Engines.{awaited_lent, waits_in}
 use Rattle.lemonrudder.specs.Tickets.{waiting_by}
+use Rattle.lemonrudder.proofs.Asked.{asked-idle}
 use Rattle.lemonrudder.proofs.Handing.{by_ticket}
-use Rattle.lemonrudder.proofs.Unparked.{unparked_still}
 use Rattle.lemonrudder.proofs.serving.Serving.give_up.Goals as goal
 
 pub returns : goal.returns
@@ -10,7 +10,7 @@ returns c =
     by_ticket (waiting_by c.args.ticket (waits_in c.args.self.now.engine)) (awaited_lent c.in_ok-number.field-0) _ _ _ _ c.in_ok-number.ensures (
       refl,
       c.give_up.ensures.idle,
-      (refl, refl),
+      (λ q. refl, refl),
       (c.give_up.ensures.catalogue, refl),
       c.give_up.ensures.asks,
       c.give_up.result,
@@ -21,4 +21,4 @@ returns c =
     )
 
 pub invariant_of-self : goal.invariant_of-self
-invariant_of-self c = record { unparked = unparked_still c.args.self.now.engine c.give_up.new.self c.give_up.ensures.parked c.args.self.now.unparked }
+invariant_of-self c = record { asked = asked-idle c.args.self.now.connections c.give_up.new.self c.give_up.ensures.idle }

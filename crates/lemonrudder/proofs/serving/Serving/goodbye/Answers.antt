@@ -1,30 +1,89 @@
-use Rattle.std.proofs.Common.{inr, refl}
+use Rattle.std.proofs.Common.{◌≡◌, ℕ, ◌<◌, List, ◌++◌, drop, OnErr, Ok, Err, Result, inl, inr, ap, refl, sym, ◌∙◌, arith}
+use Rattle.std.proofs.lemmas.Grind.{common_steps}
 use Rattle.giop_link.specs.Linking.{close_connection}
+use Rattle.ft_orb.specs.declared.error.CloseError.TheVariants as closing
 use Rattle.ft_orb.specs.Engines.{awaited_lent, waits_in}
 use Rattle.lemonrudder.specs.Tickets.{waiting_by}
-use Rattle.lemonrudder.proofs.Handing.{by_ticket}
-use Rattle.lemonrudder.proofs.Owing.{grows, stays}
-use Rattle.lemonrudder.proofs.Unparked.{unparked_still}
+use Rattle.lemonrudder.proofs.Asked.{asked-idle, asked-still, asked-there, only-only, only-same, only-there}
+use Rattle.lemonrudder.proofs.Handing.{by_ticket, open_by, waits-are}
+use Rattle.lemonrudder.proofs.Owing.{grows}
 use Rattle.lemonrudder.proofs.serving.Serving.goodbye.Goals as goal
+
+pub goodbye-requires : goal.goodbye-requires
+goodbye-requires c = record { «open» = open_by c.args.ticket (waits_in c.args.self.now.engine) (awaited_lent c.in_ok-asked.asked) c.in_ok-asked.ensures }
 
 pub returns-in-Ok : goal.returns-in-Ok
 returns-in-Ok c =
     let s = c.args.self.now in
-    let due = s.due in
-    let out = c.goodbye.new.out in
-    by_ticket (waiting_by c.args.ticket (waits_in s.engine)) (awaited_lent c.in_ok-number.field-0) _ _ _ _ c.in_ok-number.ensures
-    (inr (
-      refl,
-      c.in-Ok.ensures.idle,
-      refl,
-      λ placed. (stays due.taken due.octets.items close_connection out.items placed c.in-Ok.ensures.closed, grows due.taken due.octets.items close_connection out.items placed c.in-Ok.ensures.closed),
-      (c.goodbye.ensures.catalogue, refl),
-      c.goodbye.ensures.asks,
-      c.in-Ok.field-0,
-      λ owner calls past moment octets written w asks.
-          (c.in-Ok.ensures.table owner calls past moment octets written w asks, c.in-Ok.ensures.once owner calls past moment octets written w asks, c.in-Ok.ensures.now owner calls past moment octets written w asks),
-      λ x held calls past waiting moment octets written w asks. (c.in-Ok.ensures.counts x held calls past waiting moment octets written w asks, c.in-Ok.ensures.late x held calls past waiting moment octets written w asks),
-    ))
+    let w = awaited_lent c.in_ok-asked.asked in
+    let d = c.take-due.result in
+    let waits = waits-are c.args.ticket (waits_in s.engine) w c.in_ok-asked.ensures in
+    let there = asked-there s.connections s.engine w waits s.asked in
+    let new = c.put.ensures.owed (c.take-due.ensures.only.0 ∙ there) in
+    let e = c.in-Ok.ensures in
+    let x = c.in-Ok.field-0 in
+    by_ticket (waiting_by c.args.ticket (waits_in s.engine)) w _ _ _ _ c.in_ok-asked.ensures (
+      λ some. absurd (let y = (c.goodbye-given_up.ensures.waits w waits).1 some in let z : ◌≡◌ {A = Result ℕ _} (Ok x) (Err closing.Waits) = sym c.in-Ok.is ∙ y in cc),
+      λ nobody. inr (
+        refl,
+        e.idle,
+        (only-only w.connection s.connections c.take-due.new.self c.put.new.self c.take-due.ensures.only c.put.ensures.only, refl),
+        new ∙ (grows d.taken d.octets.items close_connection c.goodbye-given_up.new.out.items c.take-due.ensures.placed e.closed ∙ ap (λ (l : List ℕ). l ++ close_connection) c.take-due.ensures.owed),
+        (c.goodbye-given_up.ensures.catalogue, refl),
+        c.goodbye-given_up.ensures.asks,
+        x,
+        λ owner calls past moment octets written v asks. (e.table owner calls past moment octets written v asks, e.once owner calls past moment octets written v asks, e.now owner calls past moment octets written v asks),
+        λ y held calls past waiting moment octets written v asks. (e.counts y held calls past waiting moment octets written v asks, e.late y held calls past waiting moment octets written v asks),
+      ),
+    )
+
+pub returns-in-Err-Waits : goal.returns-in-Err-Waits
+returns-in-Err-Waits c =
+    let s = c.args.self.now in
+    let w = awaited_lent c.in_ok-asked.asked in
+    let d = c.take-due.result in
+    let waits = waits-are c.args.ticket (waits_in s.engine) w c.in_ok-asked.ensures in
+    let there = asked-there s.connections s.engine w waits s.asked in
+    let new = c.put.ensures.owed (c.take-due.ensures.only.0 ∙ there) in
+    let ended : c.goodbye-given_up.result ≡ Err closing.Waits = grind (arith, common_steps) in
+    let same = rw ended at c.goodbye-given_up.ensures.unchanged in
+    let as-it-was = only-same w.connection s.connections c.put.new.self (only-only w.connection s.connections c.take-due.new.self c.put.new.self c.take-due.ensures.only c.put.ensures.only) (new ∙ (ap (drop d.taken) same.1 ∙ c.take-due.ensures.owed)) in
+    by_ticket (waiting_by c.args.ticket (waits_in s.engine)) w _ _ _ _ c.in_ok-asked.ensures (
+      λ some. (refl, (same.0, refl, (as-it-was, refl))),
+      λ nobody. absurd (let y = (c.goodbye-given_up.ensures.waits w waits).0 ended in omega (arith, y, nobody)),
+    )
+
+pub returns-in-Err-NoConnection : goal.returns-in-Err-NoConnection
+returns-in-Err-NoConnection c =
+    let s = c.args.self.now in
+    let w = awaited_lent c.in_ok-asked.asked in
+    let d = c.take-due.result in
+    let waits = waits-are c.args.ticket (waits_in s.engine) w c.in_ok-asked.ensures in
+    let there = asked-there s.connections s.engine w waits s.asked in
+    let new = c.put.ensures.owed (c.take-due.ensures.only.0 ∙ there) in
+    let ended : c.goodbye-given_up.result ≡ Err closing.NoConnection = grind (arith, common_steps) in
+    let same = rw ended at c.goodbye-given_up.ensures.unchanged in
+    let as-it-was = only-same w.connection s.connections c.put.new.self (only-only w.connection s.connections c.take-due.new.self c.put.new.self c.take-due.ensures.only c.put.ensures.only) (new ∙ (ap (drop d.taken) same.1 ∙ c.take-due.ensures.owed)) in
+    by_ticket (waiting_by c.args.ticket (waits_in s.engine)) w _ _ _ _ c.in_ok-asked.ensures (
+      λ some. absurd (c.goodbye-given_up.ensures.there ended),
+      λ nobody. absurd (c.goodbye-given_up.ensures.there ended),
+    )
+
+pub returns-in-Err-Memory : goal.returns-in-Err-Memory
+returns-in-Err-Memory c =
+    let s = c.args.self.now in
+    let w = awaited_lent c.in_ok-asked.asked in
+    let d = c.take-due.result in
+    let waits = waits-are c.args.ticket (waits_in s.engine) w c.in_ok-asked.ensures in
+    let there = asked-there s.connections s.engine w waits s.asked in
+    let new = c.put.ensures.owed (c.take-due.ensures.only.0 ∙ there) in
+    let ended : c.goodbye-given_up.result ≡ Err closing.Memory = grind (arith, common_steps) in
+    let same = rw ended at c.goodbye-given_up.ensures.unchanged in
+    let as-it-was = only-same w.connection s.connections c.put.new.self (only-only w.connection s.connections c.take-due.new.self c.put.new.self c.take-due.ensures.only c.put.ensures.only) (new ∙ (ap (drop d.taken) same.1 ∙ c.take-due.ensures.owed)) in
+    by_ticket (waiting_by c.args.ticket (waits_in s.engine)) w _ _ _ _ c.in_ok-asked.ensures (
+      λ some. absurd (let y = (c.goodbye-given_up.ensures.waits w waits).1 some in let z : ◌≡◌ {A = Result ℕ _} (Err closing.Memory) (Err closing.Waits) = sym ended ∙ y in cc),
+      λ nobody. inl (refl, (same.0, refl, (as-it-was, refl))),
+    )
 
 pub invariant_of-self : goal.invariant_of-self
-invariant_of-self c = record { unparked = unparked_still c.args.self.now.engine c.goodbye.new.self c.goodbye.ensures.parked c.args.self.now.unparked }
+invariant_of-self c = record { asked = asked-idle c.put.new.self c.goodbye-given_up.new.self c.in-Ok.ensures.idle }

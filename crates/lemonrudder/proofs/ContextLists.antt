@@ -1,6 +1,6 @@
 -- Service contexts that are read from octets of the caller.
 use Rattle.std.proofs.Common.{◌≡◌, ◌∙◌, ℕ, ◌<◌, Bool, true, false, ◌==◌, List, [], ◌∷◌, ◌++◌, length, map, take, Result, Ok, Err, ◌⊎◌, inl, inr, refl, ap, sym, subst, append-nil, arith, length-append}
-use Rattle.std.proofs.lemmas.List.{take-append}
+use Rattle.std.proofs.lemmas.Bool.{eqb-true}
 use Rattle.std.specs.Borrow.{Bor}
 use Rattle.cdr_core.specs.declared.fault.CdrError.{CdrError}
 use Rattle.cdr_core.specs.declared.fault.CdrError.TheVariants as reading
@@ -13,7 +13,7 @@ use Rattle.cdr_core.specs.Spelling.{Spells}
 use Rattle.cdr_core.specs.Value as value
 use Rattle.cdr_core.specs.Value.{Value, Values, values}
 use Rattle.cdr_core.proofs.Found.{found}
-use Rattle.cdr_core.proofs.Stops.{fails}
+use Rattle.cdr_core.proofs.Stops.{tells}
 use Rattle.ior_core.specs.Grammar.{tagged}
 use Rattle.ior_core.specs.View.{lent_value}
 use Rattle.ior_core.proofs.Steps.{list_is}
@@ -52,12 +52,21 @@ each_fails order octets n q more f count each = list_is order 0 octets ∙ ap (a
 -- octets with a fault
 pub at_fault : (order : Order) (octets : List ℕ) (f : Fault) → length octets == 0 ≡ false → value_at contexts order 0 octets ≡ Err f → AreNoContexts order octets (refusal_of_fault f)
 at_fault order [] f some e = absurd (let k : true ≡ false = some in cc)
-at_fault order (o ∷ os) f some e = inl (f, refl, fails contexts order 0 (o ∷ os) f e)
+at_fault order (o ∷ os) f some e = inl (f, refl, tells contexts order 0 (o ∷ os) f e)
 
 pub at_error : (order : Order) (octets : List ℕ) (n q : ℕ) (more : List ℕ) (e : CdrError) → length octets == 0 ≡ false → length_at order 0 most 0 octets ≡ Ok (n, q, more)
     → Fails e (each_at (value_at tagged order) n q more) → AreNoContexts order octets (refusal_of_reading e) ⊎ (refusal_of_reading e ≡ refusal.Memory)
 at_error order octets n q more (reading.Bad f) some count each = inl (at_fault order octets f some (each_fails order octets n q more f count each))
 at_error order octets n q more reading.Memory some count each = inr refl
+
+-- a front of octets
+take_front : (xs ys : List ℕ) → take (length xs) (xs ++ ys) ≡ xs
+take_front [] ys = refl
+take_front (x ∷ xs) ys = ap (λ zs. x ∷ zs) (take_front xs ys)
+
+-- some octets are not none
+some_are : (x : ℕ) (xs : List ℕ) → length (x ∷ xs) == 0 ≡ true → ⊥
+some_are x xs e = let none : length (x ∷ xs) ≡ 0 = eqb-true _ _ e in omega arith
 
 -- octets of which some are left over
 pub left_over : (order : Order) (octets : List ℕ) (n q : ℕ) (more : List ℕ) (xs : List (ℕ × Bor (List ℕ))) (p : ℕ) (rest : List ℕ) → length octets == 0 ≡ false → length_at order 0 most 0 octets ≡ Ok (n, q, more)
@@ -68,14 +77,14 @@ left_over order (o ∷ os) n q more xs p (x ∷ rest) some count each left =
     let all = map item_at xs in
     let t = found contexts order 0 (o ∷ os) (list_value all) p (x ∷ rest) (list_reads order (o ∷ os) n q more xs p (x ∷ rest) count each) in
     let long = ap length t.parts ∙ length-append t.front (x ∷ rest) in
-    let front : take (length t.front) (o ∷ os) ≡ t.front = ap (take (length t.front)) t.parts ∙ take-append t.front (x ∷ rest) in
+    let front : take (length t.front) (o ∷ os) ≡ t.front = ap (take (length t.front)) t.parts ∙ take_front t.front (x ∷ rest) in
     inr (all, length t.front, refl, omega (arith, long), subst (λ ys. Spells contexts order (list_value all) 0 ys) (sym front) t.holds)
 
 -- octets that are read whole
 pub read_whole : (order : Order) (octets : List ℕ) (n q : ℕ) (more : List ℕ) (xs : List (ℕ × Bor (List ℕ))) (p : ℕ) (rest : List ℕ) → length octets == 0 ≡ false → length_at order 0 most 0 octets ≡ Ok (n, q, more)
     → each_at (value_at tagged order) n q more ≡ Ok (values (map lent_value xs), p, rest) → length rest == 0 ≡ true → AreContexts order (map item_at xs) octets
 read_whole order [] n q more xs p rest some count each all = absurd (let k : true ≡ false = some in cc)
-read_whole order (o ∷ os) n q more xs p (x ∷ rest) some count each all = absurd (let k : false ≡ true = all in cc)
+read_whole order (o ∷ os) n q more xs p (x ∷ rest) some count each all = absurd (some_are x rest all)
 read_whole order (o ∷ os) n q more xs p [] some count each all =
     let t = found contexts order 0 (o ∷ os) (list_value (map item_at xs)) p [] (list_reads order (o ∷ os) n q more xs p [] count each) in
     subst (λ ys. Spells contexts order (list_value (map item_at xs)) 0 ys) (sym (t.parts ∙ append-nil t.front)) t.holds
@@ -83,4 +92,4 @@ read_whole order (o ∷ os) n q more xs p [] some count each all =
 -- no octets are no contexts
 pub none_read : (order : Order) (octets : List ℕ) (xs : List (ℕ × Bor (List ℕ))) → length octets == 0 ≡ true → xs ≡ [] → AreContexts order (map item_at xs) octets
 none_read order [] xs none is = ap (map item_at) is
-none_read order (o ∷ os) xs none is = absurd (let k : false ≡ true = none in cc)
+none_read order (o ∷ os) xs none is = absurd (some_are o os none)

@@ -1,0 +1,280 @@
+"""The requests that a Server performs: at once, or by tasks while they are parked."""
+from __future__ import annotations
+
+import asyncio
+import inspect
+import time
+from collections import OrderedDict, deque
+from functools import partial
+from typing import TYPE_CHECKING, Any, Awaitable, Callable, Deque, Dict, Optional
+
+from ._cdr import results_of
+from ._connection import Connection
+from ._current import CURRENT, Current
+from ._engine import Asked
+from ._library import LemonrudderError
+from ._outcomes import GiveUp, Refuse, SystemException, UserException
+from ._servants import Performer, RawReply
+from ._table import Completed, Error, SystemName
+
+if TYPE_CHECKING:
+    from ._server import Server
+
+# how many seconds an operation that is cut off has to end before it is answered without it
+GRACE = 1.0
+
+
+class _Work:
+    """A parked request, and the task that performs it."""
+
+    def __init__(self, asked: Asked, connection: Connection, task: asyncio.Future[Any], coroutine: Any) -> None:
+        self.asked, self.connection, self.task, self.coroutine = asked, connection, task, coroutine
+        self.timer: Optional[asyncio.TimerHandle] = None
+        # by which exception it is cut off, and whether it had begun then; whether it is answered before it ends
+        self.cut = ""
+        self.had_begun = True
+        self.is_answered = False
+
+
+class Works:
+    """What a server has under way, at most so many operations at a time."""
+
+    def __init__(self, server: Server, most: int) -> None:
+        self._server, self._most = server, most
+        self.works: Dict[int, _Work] = {}
+        # those whose tasks have ended, of each connection
+        self._done_of: OrderedDict[Connection, Deque[_Work]] = OrderedDict()
+
+    def __len__(self) -> int:
+        return len(self.works)
+
+    def perform(self, connection: Connection) -> bool:
+        """Performs the request that waits, if one does, or sees to it that a task does. Whether one waited."""
+        engine = self._server._engine
+        try:
+            asked = engine.asked()
+            if asked is None:
+                return False
+            if engine.identify(asked.ticket):
+                return True
+            performer = self._server._offer.performer(asked.key, asked.operation)
+            current = self._current(asked, connection)
+        except (LemonrudderError, KeyError):
+            # (memory is short, as when a part is read: nothing was done)
+            self._server.log.exception("a request is refused on %s", connection)
+            engine.refuse("NO_RESOURCES")
+            return True
+        token = CURRENT.set(current)
+        try:
+            arguments = (asked.body,) if asked.arguments is None else asked.arguments
+            try:
+                returned = performer.function(*arguments)
+            except BaseException as raised:
+                self._raise(asked, raised, connection)
+                if not isinstance(raised, Exception):
+                    raise
+            else:
+                if inspect.isawaitable(returned):
+                    self._begin(asked, connection, performer, returned)
+                else:
+                    self._return(asked, returned)
+        finally:
+            CURRENT.reset(token)
+        self._server._tell()
+        return True
+
+    def _current(self, asked: Asked, connection: Connection) -> Current:
+        """What its servant can know of the request that waits."""
+        ft, ticket = asked.ft, asked.ticket
+        contexts = self._server._engine.contexts() if asked.contexts else ()
+        return Current(asked.key, asked.operation, ft and ft.client, ft and ft.retention_id, ft and ft.expiration,
+                       connection.number, connection.peer, connection.certificate, contexts, asked.request_id,
+                       asked.version, asked.wish, lambda: self._wanted(ticket))
+
+    def _wanted(self, ticket: int) -> int:
+        """How many wait for an outcome, that of a request which waits among them."""
+        try:
+            return int(self._server._engine.wanted(ticket))
+        except LemonrudderError:
+            asked = None if self._server.is_closed else self._server._engine.asked()
+            return int(asked is not None and asked.ticket == ticket)
+
+    def _begin(self, asked: Asked, connection: Connection, performer: Performer, returned: Awaitable[Any]) -> None:
+        """Parks the request that waits, for a task to perform it; refuses it where that can't be."""
+        why = None
+        if len(self.works) >= self._most:
+            why = "as many are under way as may be (max_parked)"
+        else:
+            try:
+                if self._server._engine.asked() is not None:
+                    self._server._engine.park()
+            except LemonrudderError as error:
+                why = error.text
+        coroutine = returned if inspect.iscoroutine(returned) else None
+        if why is not None:
+            self._server.log.warning("%a is refused on %s: %s", asked.operation, connection, why)
+            if coroutine is not None:
+                coroutine.close()
+                self._answer(asked, "UNKNOWN", self._server._engine.refuse, "TRANSIENT")
+            else:
+                # (what was begun elsewhere has perhaps acted)
+                asyncio.ensure_future(returned).cancel()
+                self._answer(asked, "UNKNOWN", self._server._engine.raise_system, "NO_RESOURCES", 0, Completed.MAYBE)
+            return
+        work = _Work(asked, connection, asyncio.ensure_future(returned), coroutine)
+        self.works[asked.ticket] = work
+        connection.works += 1
+        timeout = self._server.timeout if performer.timeout is None else performer.timeout
+        if timeout is not None:
+            work.timer = self._server._loop.call_later(timeout, self.cut, work, "TIMEOUT")
+        work.task.add_done_callback(partial(self._done, work))
+
+    def _done(self, work: _Work, task: asyncio.Future[Any]) -> None:
+        """A task has ended: its request is answered in the turn of its connection."""
+        if not self._done_of:
+            self._server._loop.call_soon(self._settle_some)
+        self._done_of.setdefault(work.connection, deque()).append(work)
+
+    def _settle_some(self) -> None:
+        """Answers requests whose tasks have ended for a turn, of one connection after another."""
+        until = time.monotonic() + self._server._turn()
+        try:
+            while self._done_of:
+                connection, works = next(iter(self._done_of.items()))
+                work = works.popleft()
+                if works:
+                    self._done_of.move_to_end(connection)
+                else:
+                    del self._done_of[connection]
+                self._settle(work)
+                if time.monotonic() >= until:
+                    return
+        finally:
+            if self._done_of:
+                self._server._loop.call_soon(self._settle_some)
+
+    def _settle(self, work: _Work) -> None:
+        """Answers a request by what came of its task."""
+        task = work.task
+        del self.works[work.asked.ticket]
+        work.connection.works -= 1
+        if work.timer is not None:
+            work.timer.cancel()
+        raised = None if task.cancelled() else task.exception()
+        if self._server.is_closed:
+            return
+        if work.is_answered:
+            self._server.log.info("%a ended too late: what came of it is dropped", work.asked.operation)
+        elif task.cancelled():
+            self._cut_off(work)
+        elif raised is not None:
+            self._raise(work.asked, raised, work.connection)
+        else:
+            self._return(work.asked, task.result())
+        self._server._tell()
+        if not self._server.is_closed:
+            self._server._wake(work.connection)
+
+    def cut(self, work: _Work, name: str) -> None:
+        """Cuts an operation off, which is answered by an exception of that name unless it says another outcome."""
+        coroutine = work.coroutine
+        work.cut = name
+        work.had_begun = coroutine is None or inspect.getcoroutinestate(coroutine) != inspect.CORO_CREATED
+        work.task.cancel()
+        work.timer = self._server._loop.call_later(GRACE, self._abandon, work)
+
+    def _cut_off(self, work: _Work) -> None:
+        """Answers the request of an operation that was cancelled."""
+        operation = work.asked.operation
+        if not work.had_begun:
+            self._server.log.info("%a is refused: it was not begun", operation)
+            self._answer(work.asked, "UNKNOWN", self._server._engine.refuse, "TRANSIENT")
+        else:
+            name = work.cut or "UNKNOWN"
+            self._server.log.warning("%a was cancelled: it is answered %s, COMPLETED_MAYBE", operation, name)
+            self._answer(work.asked, "UNKNOWN", self._server._engine.raise_system, name, 0, Completed.MAYBE)
+
+    def _abandon(self, work: _Work) -> None:
+        """Answers the request of an operation that was cut off and does not end."""
+        if not (work.is_answered or work.task.done() or self._server.is_closed):
+            work.is_answered = True
+            self._cut_off(work)
+            self._server._tell()
+
+    def _raise(self, asked: Asked, raised: BaseException, connection: Connection) -> None:
+        """Answers by what a function raised."""
+        engine, answer = self._server._engine, partial(self._answer, asked, "UNKNOWN")
+        if isinstance(raised, (Refuse, GiveUp)):
+            name = raised.name if isinstance(raised, Refuse) else "TRANSIENT"
+            name = name if name in SystemName.__members__ else "TRANSIENT"
+            self._server.log.info("%a is refused on %s: %s", asked.operation, connection, name)
+            waits = engine.asked()
+            if isinstance(raised, GiveUp) and waits is not None and waits.ticket == asked.ticket:
+                engine.give_up()
+            else:
+                answer(engine.refuse, name, raised.minor if isinstance(raised, Refuse) else 0)
+        elif isinstance(raised, UserException):
+            answer(engine.raise_user, raised.id, *raised.values)
+        elif isinstance(raised, SystemException):
+            name = raised.name if raised.name in SystemName.__members__ else "UNKNOWN"
+            answer(engine.raise_system, name, raised.minor, raised.completed)
+        else:
+            self._server.log.error("%a raised an exception", asked.operation, exc_info=raised)
+            self._fail(asked, "UNKNOWN")
+
+    def _return(self, asked: Asked, returned: Any) -> None:
+        """Answers by what a function returned."""
+        self._answer(asked, "INTERNAL", partial(self._hand_in, asked), returned)
+
+    def _hand_in(self, asked: Asked, returned: Any, ticket: int) -> None:
+        """Hands in what a function returned."""
+        if asked.arguments is not None:
+            results = self._server._offer.performer(asked.key, asked.operation).signature
+            self._server._engine.answer(*results_of(results.results if results else "", returned), ticket=ticket)
+        elif isinstance(returned, RawReply):
+            self._server._engine.answer_raw(*returned, ticket=ticket)
+        else:
+            self._server._engine.answer_raw(returned, ticket=ticket)
+
+    def _answer(self, asked: Asked, name: str, answer: Callable[..., None], *arguments: Any) -> None:
+        """Answers a request; by a system exception of that name where that is no outcome of its operation."""
+        try:
+            answer(*arguments, ticket=asked.ticket)
+        except BaseException as error:
+            if getattr(error, "number", None) == Error.LOST:
+                raise
+            self._server.log.error("no outcome of %a", asked.operation, exc_info=error)
+            self._fail(asked, name)
+            if not isinstance(error, Exception):
+                raise
+
+    def _fail(self, asked: Asked, name: str) -> None:
+        """Answers by a system exception, COMPLETED_MAYBE. Where even this fails, for want of memory, the server ends:
+        the request must not be asked again."""
+        try:
+            self._server._engine.raise_system(name, 0, Completed.MAYBE, ticket=asked.ticket)
+        except LemonrudderError as error:
+            if error.number != Error.LOST:
+                self._server._stop(error)
+            raise
+
+    def cut_all(self, name: str) -> None:
+        """Cuts all off that are under way and were not."""
+        for work in list(self.works.values()):
+            if not work.cut:
+                self.cut(work, name)
+
+    def cancel(self) -> None:
+        """Cancels all."""
+        for work in list(self.works.values()):
+            work.task.cancel()
+
+    async def ends(self, timeout: float) -> None:
+        """Waits until what is under way has ended or is answered, so many seconds at most."""
+        until = self._server._loop.time() + timeout
+        while not self._server.is_closed:
+            left = [work.task for work in self.works.values() if not work.is_answered]
+            seconds = until - self._server._loop.time()
+            if not left or seconds <= 0:
+                return
+            await asyncio.wait(left, timeout=min(seconds, 0.05), return_when=asyncio.FIRST_COMPLETED)

@@ -1,0 +1,6 @@
+use Rattle.std.proofs.Common.{◌≡◌}
+use Rattle.lemonrudder.proofs.Settings.{limited}
+use Rattle.lemonrudder.proofs.calling.Calling.limit.Goals as goal
+
+pub returns : goal.returns
+returns c = λ x st. limited c.args.message c.args.partials x c.make_with.new.self c.make_with.result c.version-version.result c.in_ok-limits.limits (c.version-version.ensures x.client st.client) c.in_ok-limits.ensures (c.make_with.ensures x st)

@@ -1,0 +1,44 @@
+use Rattle.std.proofs.Common.{◌≡◌, ◌∙◌, ◌⊎◌, ◌==◌, true, false, length, Err, inl, inr, ap, sym, subst}
+use Rattle.std.proofs.lemmas.Result.{err_from_is_err_and}
+use Rattle.lemonrudder.specs.RawCalls.{ReadsContexts}
+use Rattle.lemonrudder.proofs.ContextLists.{at_error, at_fault, count_fails, left_over, read_whole}
+use Rattle.lemonrudder.proofs.contexts.contexts_of.Goals as goal
+
+pub returns-in_err-count : goal.returns-in_err-count
+returns-in_err-count c =
+    let octets = c.args.octets.now in
+    let order = c.args.order in
+    let some : length octets == 0 ≡ false = sym c.is_empty.ensures ∙ c.if-is_empty.false in
+    let h = rw c.new-cursor.ensures at c.in_err-count.ensures in
+    let p = err_from_is_err_and c.from_residual.result c.from_residual.ensures.1 in
+    subst (λ r. ReadsContexts order octets r) (sym (p.1 ∙ ap Err p.2)) (inl (at_fault order octets c.in_err-count.field-0.0 some (count_fails order octets c.in_err-count.field-0.0 h.0)))
+
+pub returns-in_err-contexts : goal.returns-in_err-contexts
+returns-in_err-contexts c =
+    let octets = c.args.octets.now in
+    let order = c.args.order in
+    let some : length octets == 0 ≡ false = sym c.is_empty.ensures ∙ c.if-is_empty.false in
+    let h = rw c.new-cursor.ensures at c.in_ok-count.ensures in
+    let e = rw h.1 at c.in_err-contexts.ensures in
+    let p = err_from_is_err_and c.from_residual-in_err-contexts.result c.from_residual-in_err-contexts.ensures.1 in
+    subst (λ r. ReadsContexts order octets r) (sym (p.1 ∙ ap Err p.2)) (at_error order octets _ _ _ c.in_err-contexts.field-0.0 some h.0 e.0)
+
+pub returns-then-not-is_empty : goal.returns-then-not-is_empty
+returns-then-not-is_empty c =
+    let octets = c.args.octets.now in
+    let order = c.args.order in
+    let some : length octets == 0 ≡ false = sym c.is_empty.ensures ∙ c.if-is_empty.false in
+    let h = rw c.new-cursor.ensures at c.in_ok-count.ensures in
+    let e = rw h.1 at c.in_ok-contexts.ensures in
+    let left : length c.each_of.new.cursor.rest == 0 ≡ false = ap (λ xs. length xs == 0) (sym c.rest.ensures) ∙ sym c.is_empty-2.ensures ∙ c.if-not-is_empty.true in
+    inl (left_over order octets _ _ _ c.in_ok-contexts.contexts.items _ _ some h.0 e.0 left)
+
+pub returns : goal.returns
+returns c =
+    let octets = c.args.octets.now in
+    let order = c.args.order in
+    let some : length octets == 0 ≡ false = sym c.is_empty.ensures ∙ c.if-is_empty.false in
+    let h = rw c.new-cursor.ensures at c.in_ok-count.ensures in
+    let e = rw h.1 at c.in_ok-contexts.ensures in
+    let all : length c.each_of.new.cursor.rest == 0 ≡ true = ap (λ xs. length xs == 0) (sym c.rest.ensures) ∙ sym c.is_empty-2.ensures ∙ c.if-not-is_empty.false in
+    read_whole order octets _ _ _ c.in_ok-contexts.contexts.items _ _ some h.0 e.0 all

@@ -1,0 +1,64 @@
+use Rattle.std.proofs.Common.{◌≡◌, ℕ, ◌<◌, ◌≤◌, [], Option, IsSome, refl, sym, subst, ◌∙◌, arith}
+use Rattle.ft_log.specs.Performed.{Performed}
+use Rattle.lemonrudder.proofs.Asked.{asked-idle}
+use Rattle.lemonrudder.proofs.Tellings.{tells-all, tells-next, tells-none}
+use Rattle.lemonrudder.proofs.serving.Serving.tell_all.Goals as goal
+
+less-by : (a b c : ℕ) → a < b → b ≤ c → a < c
+less-by a b c h k = omega (arith, h, k)
+
+pub loop-connection-init : goal.loop-connection-init
+loop-connection-init c = record {
+  idle = c.requires.idle;
+  catalogue = (refl, refl);
+  tickets = refl;
+  telling = refl;
+  others = λ q apart. (refl, refl);
+  told = λ x held calls past waiting outcome st telling. ([], tells-none x held calls c.args.number outcome _ c.args.self.now st);
+}
+
+pub loop-connection-smaller : goal.loop-connection-smaller
+loop-connection-smaller c = less-by _ _ _ c.tell.ensures.fewer c.in-Some.ensures.left.2
+
+pub tell-requires : goal.tell-requires
+tell-requires c = record {
+  idle = c.due.ensures.waits ∙ c.loop-connection.invariant.idle;
+  told = c.in-Some.ensures.left.0;
+  left = c.in-Some.ensures.left.1;
+}
+
+pub loop-connection-preserved : goal.loop-connection-preserved
+loop-connection-preserved c =
+    let inv = c.loop-connection.invariant in
+    record {
+      idle = c.tell.ensures.idle;
+      catalogue = (c.tell.ensures.catalogue.0 ∙ c.due.ensures.catalogue ∙ inv.catalogue.0, c.tell.ensures.catalogue.1 ∙ inv.catalogue.1);
+      tickets = c.tell.ensures.tickets ∙ c.due.ensures.asks ∙ inv.tickets;
+      telling = (c.tell.ensures.parked c.args.number).1 ∙ (c.in-Some.ensures.parked c.args.number).1 ∙ inv.telling;
+      others = λ q apart.
+          let a = c.tell.ensures.parked q in
+          let b = c.in-Some.ensures.parked q in
+          let x = inv.others q apart in
+          (a.0 ∙ b.0 ∙ x.0, a.1 ∙ b.1 ∙ x.1);
+      told = λ x held calls past waiting outcome st telling.
+          let so = inv.told x held calls past waiting outcome st telling in
+          tells-next x held calls c.args.number outcome _ so.0 c.args.self.now c.loop-connection.self _ c.tell.new.self refl refl so.1 c.in-Some.connection (inv.telling ∙ telling) (c.in-Some.ensures.late x) ((c.in-Some.ensures.parked c.args.number).1) (c.tell.ensures.late x);
+    }
+
+pub returns-clause-late : goal.returns-clause-late
+returns-clause-late c x held calls past waiting outcome st telling =
+    let inv = c.loop-connection.invariant in
+    let so = inv.told x held calls past waiting outcome st telling in
+    tells-all x held calls c.args.number outcome _ so.0 c.args.self.now c.loop-connection.self _ refl refl so.1 (inv.telling ∙ telling) (c.in_default.ensures.late x)
+
+pub returns-clause-done : goal.returns-clause-done
+returns-clause-done c some = c.in_default.ensures.done (subst (λ (o : Option Performed). IsSome o) (sym c.loop-connection.invariant.telling) some) refl
+
+pub returns-clause-others : goal.returns-clause-others
+returns-clause-others c q apart =
+    let a = c.due.ensures.others q apart in
+    let x = c.loop-connection.invariant.others q apart in
+    (a.0 ∙ x.0, a.1 ∙ x.1)
+
+pub invariant_of-self : goal.invariant_of-self
+invariant_of-self c = record { asked = asked-idle c.loop-connection.self.connections c.due.new.self (c.due.ensures.waits ∙ c.loop-connection.invariant.idle) }

@@ -1,0 +1,33 @@
+use Rattle.std.proofs.Common.{IsSome, Option, refl, subst, sym, ◌∙◌, ◌∷◌, ℕ}
+use Rattle.ft_log.specs.Performed.{Performed}
+use Rattle.ft_log.specs.Holding.{known}
+use Rattle.ft_objects.specs.Families.{families_offer}
+use Rattle.ft_orb.specs.History.{Withdrew}
+use Rattle.ft_orb.specs.Parking.{Stays, not_now, put_at}
+use Rattle.lemonrudder.specs.Telling.{after_all}
+use Rattle.lemonrudder.proofs.Idling.{not_so}
+use Rattle.lemonrudder.proofs.serving.Serving.withdraw.Goals as goal
+
+pub returns-then-not-can_settle : goal.returns-then-not-can_settle
+returns-then-not-can_settle c = (λ cannot. (refl, refl), λ can. absurd (not_so c.if-not-can_settle.true (c.can_settle.ensures.1 can)))
+
+pub returns : goal.returns
+returns c = (
+  λ cannot. absurd (cannot (c.can_settle.ensures.0 c.if-not-can_settle.false)),
+  λ can. (
+    refl,
+    c.tell_all.ensures.idle,
+    (c.tell_all.ensures.catalogue.0 ∙ c.withdraw.ensures.catalogue, c.tell_all.ensures.catalogue.1),
+    c.tell_all.ensures.tickets ∙ c.withdraw.ensures.asks,
+    (
+      c.tell_all.ensures.done (subst (λ (o : Option Performed). IsSome o) (sym c.withdraw.ensures.told) refl),
+      λ q apart. let a = c.tell_all.ensures.others q apart in let b = c.withdraw.ensures.others q apart in (a.0 ∙ b.0, a.1 ∙ b.1),
+    ),
+    λ x held calls past waiting st.
+        let y = c.withdraw.ensures.late x held calls past waiting st in
+        let so = c.tell_all.ensures.late x held calls (Withdrew y.i ∷ past) waiting (not_now c.args.name c.args.minor) y.stays c.withdraw.ensures.told in
+        let due = so.are_due in
+        let same = y.stays.parks.once so.i y.i c.args.number so.taken y.taken so.was y.was in
+        (y.i, y.taken, y.was, so.told, (so.are_told, so.none, record { there = due.there; owed = due.owed; named = due.named }, subst (λ (i : ℕ). Stays families_offer x (put_at i (known (not_now c.args.name c.args.minor)) held) calls c.tell_all.new.self.engine (after_all x c.args.number (record { past = Withdrew y.i ∷ past; waiting = waiting }) so.told).past (after_all x c.args.number (record { past = Withdrew y.i ∷ past; waiting = waiting }) so.told).waiting) same so.stays)),
+  ),
+)
