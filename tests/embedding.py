@@ -1200,7 +1200,9 @@ def omniorb_acts_once_through_the_gateway(kit: Kit, gateway: str) -> None:
 BANKS = [bank_deposits_act_once, bank_refusals, bank_locates, bank_serves_a_hundred,
          bank_serves_beside_one_that_reads_nothing, bank_ends_streams, bank_says_goodbye, bank_wants_words,
          bank_sends_at_once, bank_bears_want_of_descriptors, bank_serves_beside_streams_that_ended,
-         bank_drops_streams_that_ended, bank_serves_beside_silent_peers]
+         bank_drops_streams_that_ended]
+# .. which serve a thousand peers at most
+FULL_BANKS = [*BANKS, bank_serves_beside_silent_peers]
 SLOW_BANKS = [slow_deposits_are_made_at_once, slow_deposits_act_once, slow_deposits_are_answered_in_any_order,
               slow_deposits_are_refused_for_now, slow_deposits_lapse, slow_bank_says_goodbye]
 # over poll()
@@ -1295,14 +1297,14 @@ class Plain:
         cls.subject = the_kit().compile(cls.NAME, paths, cls.FLAGS)
 
 
-@of_functions(BANKS)
+@of_functions(FULL_BANKS)
 class BankC(Example, unittest.TestCase):
     """The bank in C."""
 
     NAME, SOURCES = "bank_c", ["bank.c", "loop.c"]
 
 
-@of_functions(BANKS)
+@of_functions(FULL_BANKS)
 class BankCpp(Example, unittest.TestCase):
     """The bank in C++."""
 
