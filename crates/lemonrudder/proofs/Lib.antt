@@ -7,7 +7,6 @@ mod Coding
 mod ContextLists
 mod Counts
 mod Declaring
-mod Declined
 mod Ended
 mod Finding
 mod Handing
