@@ -367,7 +367,8 @@ void servers_tell() {
   const auto gone = server->next_expiry();
   CHECK(gone && !*gone);
   CHECK(families->object("c/") && families->raw_operation("c/", "any") && catalogue->families(*families));
-  CHECK(!families->is_open() && catalogue->default_object() && catalogue->default_object().error() == LR_E_TAKEN);
+  CHECK(families->remove("c/").error() == LR_E_OBJECT && catalogue->default_object());
+  CHECK(catalogue->default_object().error() == LR_E_TAKEN);
   CHECK(server->swap(*catalogue) && catalogue->remove("c") && catalogue->remove("c").error() == LR_E_OBJECT);
   CHECK(*server->why(1) == lr::Why::open && server->why(2).error() == LR_E_CONNECTION);
   CHECK(server->feed(1, later, "GIOX\1\2\0\0\0\0\0\0"_o));
