@@ -640,9 +640,10 @@ LR_API int64_t lr_client_forwarded(lr_client *client, lr_completion *completion,
 
 /* Asks for a call that is led elsewhere by another key, with its number and its expiration: lr_client_resend sends it,
  * or the next lr_client_connected. What is pending is sent on one connection: that it leads there is up to you. The
- * operation and the arguments are those of the call; for others nothing is promised of this client. LR_E_FORWARD (it
- * is not led elsewhere), LR_E_EMPTY, LR_E_RANGE, LR_E_TYPES, LR_E_TEXT, LR_E_SHORT, LR_E_VALUE, LR_E_LONG,
- * LR_E_MEMORY. */
+ * client keeps neither its operation nor its arguments, so give them again: what you give is what it asks from then on,
+ * also where it was a raw call or asked something else. A server that knows its number answers what was asked first.
+ * LR_E_FORWARD (it is not led elsewhere), LR_E_EMPTY, LR_E_RANGE, LR_E_TYPES, LR_E_TEXT, LR_E_SHORT, LR_E_VALUE,
+ * LR_E_LONG, LR_E_MEMORY. */
 LR_API int64_t lr_client_redirect(lr_client *client, int64_t call, const void *key, size_t key_size,
                                   const void *operation, size_t operation_size, const uint8_t *types, size_t types_size,
                                   uint32_t order, const void *arguments, size_t arguments_size);

@@ -185,7 +185,7 @@ class Engine(Held):
         """Parks the request that waits, and returns its ticket: it is answered later, and others are fed.
 
         Raises LemonrudderError (IDLE; PARKS: as many are parked as may be, MEMORY: it waits still)."""
-        asked = self._waiting()
+        asked = self._asked or self._waiting()
         call(library.lr_server_park, self._slot, asked.ticket)
         self._parked[asked.ticket] = asked.key, asked.operation, asked.is_raw
         self._asked = None
@@ -243,8 +243,8 @@ class Engine(Held):
 
     def answer_raw(self, octets: Octets, order: int = BIG, status: int = ReplyStatus.NO_EXCEPTION, *,
                    ticket: Optional[int] = None) -> None:
-        """Answers a raw operation by the body of a Reply: at most 1048576 octets, which are written for a place
-        divisible by 8, and its status, NO_EXCEPTION to LOCATION_FORWARD. Errors as of answer."""
+        """Answers by the body of a Reply, above all a raw operation: at most 1048576 octets, which are written for a
+        place divisible by 8, and its status, NO_EXCEPTION to LOCATION_FORWARD. Errors as of answer."""
         self._answered(self._ticket(ticket), library.lr_server_answer_raw, status, order, *lent(octets))
 
     def identify(self, ticket: Optional[int] = None) -> bool:

@@ -106,10 +106,10 @@ class Works:
             why = "as many are under way as may be (max_parked)"
         else:
             try:
-                if self._server._engine.asked() is not None:
-                    self._server._engine.park()
+                self._server._engine.park()
             except LemonrudderError as error:
-                why = error.text
+                # (it is parked already where its function added an object)
+                why = error.text if error.number != Error.IDLE else None
         coroutine = returned if inspect.iscoroutine(returned) else None
         if why is not None:
             self._server.log.warning("%a is refused on %s: %s", asked.operation, connection, why)
@@ -173,6 +173,7 @@ class Works:
             self._return(work.asked, task.result())
         self._server._tell()
         if not self._server.is_closed:
+            work.connection.go_away()
             self._server._wake(work.connection)
 
     def cut(self, work: _Work, name: str) -> None:
@@ -200,6 +201,7 @@ class Works:
             work.is_answered = True
             self._cut_off(work)
             self._server._tell()
+            work.connection.go_away()
 
     def _raise(self, asked: Asked, raised: BaseException, connection: Connection) -> None:
         """Answers by what a function raised."""

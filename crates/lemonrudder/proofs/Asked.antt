@@ -1,5 +1,5 @@
 -- The connection of what waits is there.
-use Rattle.std.proofs.Common.{◌≡◌, ◌==◌, ◌∙◌, ℕ, Bool, true, false, [], is_some, IsSome, List, Option, Some, None, Result, Ok, Err, ap, refl, subst, sym, arith}
+use Rattle.std.proofs.Common.{◌≡◌, ◌==◌, ◌∙◌, ℕ, Bool, true, false, [], is_some, IsSome, List, Option, Some, None, Result, Ok, Err, OnOk, OnErr, ap, refl, subst, sym, arith}
 use Rattle.std.proofs.lemmas.Grind.{common_steps}
 use Rattle.std.specs.Option.{option_map_or}
 use Rattle.ft_orb.specs.declared.engine.Engine.{Engine}
@@ -103,3 +103,8 @@ asked-left k e c size (Ok fed.Whole) left there = asked-idle k e left
 asked-left k e c size (Ok (fed.Asks taken)) left there = asked-on k e c _ left.5 refl there
 asked-left k e c size (Ok (fed.Repeats taken)) left there = asked-idle k e left.2
 asked-left k e c size (Err y) left there = asked-idle k e left
+
+-- nothing waits after a call that succeeded, and else what waited
+pub asked-after : {C A E X : Type 0} (k l : Connections) (e f : Engine C) (r : Result A E) → OnOk r (waits_in f ≡ None) → OnErr r ((f ≡ e) × X) → ((c : ℕ) → is_there l c ≡ is_there k c) → is_asked_there k e ≡ true → is_asked_there l f ≡ true
+asked-after {C = C} k l e f (Ok y) idle same there asked = asked-idle l f idle
+asked-after {C = C} k l e f (Err y) idle same there asked = asked-still k l e f (ap (λ (g : Engine C). waits_in g) same.0) there asked

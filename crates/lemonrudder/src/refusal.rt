@@ -2,7 +2,7 @@
 
 ghost use Rattle.std.specs.Prelude.{◌≡◌, ◌<◌, ◌≤◌, length};
 ghost use Rattle.lemonrudder.specs.declared.refusal.Refusal.TheVariants.{Memory};
-ghost use Rattle.lemonrudder.specs.Refusals.{error_number, filled, number_in, refusal_of_calling, refusal_of_connecting, refusal_of_fault, refusal_of_offering, refusal_of_parking, refusal_of_raw_calling, refusal_of_raw_recalling, refusal_of_reading, refusal_of_recalling, refusal_of_redirecting, refusal_of_referring, refusal_of_serving, refusal_of_writing, signed_of};
+ghost use Rattle.lemonrudder.specs.Refusals.{error_number, filled, number_in, refusal_of_calling, refusal_of_connecting, refusal_of_fault, refusal_of_offering, refusal_of_raw_calling, refusal_of_raw_recalling, refusal_of_reading, refusal_of_recalling, refusal_of_redirecting, refusal_of_referring, refusal_of_serving, refusal_of_writing, signed_of};
 
 use cdr_core::{CdrError, Fault, Kind};
 use ft_client::{CallError, RawCallError, RawRecallError, RecallError, RedirectError};

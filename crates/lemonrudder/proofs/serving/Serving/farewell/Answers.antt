@@ -19,8 +19,8 @@ use Rattle.lemonrudder.proofs.serving.Serving.farewell.Goals as goal
 pub returns-then-is_asking : goal.returns-then-is_asking
 returns-then-is_asking c = (λ some. (refl, refl), λ idle. absurd (not_both _ (c.is_asking.ensures.0 c.if-is_asking.true) idle))
 
-pub close-requires : goal.close-requires
-close-requires c = record { idle = idle-by c.is_asking.result _ c.is_asking.ensures.1 c.if-is_asking.false }
+pub close-closed-requires : goal.close-closed-requires
+close-closed-requires c = record { idle = idle-by c.is_asking.result _ c.is_asking.ensures.1 c.if-is_asking.false }
 
 pub returns-then-not-has : goal.returns-then-not-has
 returns-then-not-has c = (

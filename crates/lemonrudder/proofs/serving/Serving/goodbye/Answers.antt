@@ -4,13 +4,13 @@ use Rattle.giop_link.specs.Linking.{close_connection}
 use Rattle.ft_orb.specs.declared.error.CloseError.TheVariants as closing
 use Rattle.ft_orb.specs.Engines.{awaited_lent, waits_in}
 use Rattle.lemonrudder.specs.Tickets.{waiting_by}
-use Rattle.lemonrudder.proofs.Asked.{asked-idle, asked-still, asked-there, only-only, only-same, only-there}
+use Rattle.lemonrudder.proofs.Asked.{asked-after, asked-there, only-only, only-same, only-there}
 use Rattle.lemonrudder.proofs.Handing.{by_ticket, open_by, waits-are}
 use Rattle.lemonrudder.proofs.Owing.{grows}
 use Rattle.lemonrudder.proofs.serving.Serving.goodbye.Goals as goal
 
-pub goodbye-requires : goal.goodbye-requires
-goodbye-requires c = record { «open» = open_by c.args.ticket (waits_in c.args.self.now.engine) (awaited_lent c.in_ok-asked.asked) c.in_ok-asked.ensures }
+pub goodbye-given_up-requires : goal.goodbye-given_up-requires
+goodbye-given_up-requires c = record { «open» = open_by c.args.ticket (waits_in c.args.self.now.engine) (awaited_lent c.in_ok-asked.asked) c.in_ok-asked.ensures }
 
 pub returns-in-Ok : goal.returns-in-Ok
 returns-in-Ok c =
@@ -86,4 +86,7 @@ returns-in-Err-Memory c =
     )
 
 pub invariant_of-self : goal.invariant_of-self
-invariant_of-self c = record { asked = asked-idle c.put.new.self c.goodbye-given_up.new.self c.in-Ok.ensures.idle }
+invariant_of-self c =
+    let s = c.args.self.now in
+    let w = awaited_lent c.in_ok-asked.asked in
+    record { asked = asked-after s.connections c.put.new.self s.engine c.goodbye-given_up.new.self c.goodbye-given_up.result c.goodbye-given_up.ensures.idle c.goodbye-given_up.ensures.unchanged (only-there s.connections c.put.new.self w.connection (only-only w.connection s.connections c.take-due.new.self c.put.new.self c.take-due.ensures.only c.put.ensures.only)) s.asked }
