@@ -138,7 +138,7 @@ def headers_stand_alone(kit: Kit) -> None:
 def declarations_can_be_marked(kit: Kit) -> None:
     """LR_API stands before each function that the library has, and may be an attribute; the number is one for #if."""
     text = kit.header()
-    named = set(re.findall(r"\b(lr_\w+)\(", text)) - set(re.findall(r"static inline void (lr_\w+)\(", text))
+    named = set(re.findall(r"\b(lr_\w+)\(", text)) - set(re.findall(r"static inline \w+ (lr_\w+)\(", text))
     marked = set(re.findall(r"^LR_API [^;(]*?\b(lr_\w+)\([^;{}]*\);", text, re.M))
     if marked != named:
         raise Wrong(f"not marked: {named - marked}")
@@ -318,7 +318,7 @@ def defined_names(archive: str) -> set[str]:
 
 def names_are_exported(kit: Kit) -> None:
     """The map and both libraries have the functions of the header and no others; what they take of others is little."""
-    text = re.sub(r"static inline void lr_\w+\(.*?\}", "", kit.header())
+    text = re.sub(r"^static inline \w+ lr_\w+\(.*?\}$", "", kit.header(), flags=re.S | re.M)
     declared = set(re.findall(r"\b(lr_\w+)\(", text))
     with open(os.path.join(ROOT, "embed", "lemonrudder.map"), encoding="ascii") as file:
         nodes = re.findall(r"^(\w+) \{(.*?)^\}", re.sub(r"/\*.*?\*/", "", file.read(), flags=re.S), re.M | re.S)
