@@ -12,7 +12,7 @@ from ._library import (LIMIT, PARTIALS, Held, LemonrudderError, Octets, Text, ad
                        library, named, now, octets_of, structs)
 from ._messages import Body, FtRequest
 from ._outcomes import system_number
-from ._table import Completed, Counted, Error, Fault, Order, Part, ReplyStatus, ServerSetting, Why, Wish
+from ._table import Completed, Counted, Error, Order, Part, ReplyStatus, ServerSetting, Wish
 
 CONTEXTS = 64
 """How many service contexts of a request are read where nothing else is said."""
@@ -119,14 +119,6 @@ class Engine(Held):
         closed once what is due is sent. No, while a goodbye waits for replies."""
         return call(library.lr_server_is_closed, self._slot, connection) == 1
 
-    def why(self, connection: int) -> Union[Why, Fault]:
-        """Why nothing more is heard of a connection, a fault of its stream or another reason, until it is lost.
-
-        Raises LemonrudderError (CONNECTION)."""
-        number = call(library.lr_server_why, self._slot, connection)
-        reason: Union[Why, Fault] = named(Fault if 0 < number < Why.DIRECTION else Why, number)
-        return reason
-
     def feed(self, connection: int, octets: Octets, moment: Optional[int] = None, start: int = 0) -> int:
         """Takes octets of a connection from an index on, which came at a moment, now if none is given. Returns the
         index after those that were taken: all; those up to a request that waits; or fewer, where `max_due` octets are
@@ -199,12 +191,6 @@ class Engine(Held):
     def parked_of(self, connection: int) -> int:
         """How many of those are parked that came on a connection."""
         return call(library.lr_server_parked_of, self._slot, connection)
-
-    def wanted(self, ticket: int) -> int:
-        """How many wait for the outcome of a parked request, on connections that go on.
-
-        Raises LemonrudderError (TICKET)."""
-        return call(library.lr_server_wanted, self._slot, ticket)
 
     def answer(self, *results: Any, ticket: Optional[int] = None) -> None:
         """Answers a request by its results, one for each type.
