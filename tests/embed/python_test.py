@@ -989,6 +989,7 @@ class Engines(Case):
         self.assertEqual((self.reply(engine, 1).request_id, self.reply(engine, 2).request_id), (1, 8))
         self.fails(Error.TICKET, engine.answer, 7, ticket=first)
         self.fails(Error.TICKET, engine.raise_system, "UNKNOWN", ticket=first)
+        self.fails(Error.PARKS, engine.farewell, 1)
         self.assertFalse(engine.is_closed(1))
         self.fails(Error.OUTCOME, engine.raise_user, OVERFLOW, ticket=second)
         engine.refuse("TIMEOUT", 3, ticket=second)
