@@ -318,7 +318,8 @@ def defined_names(archive: str) -> set[str]:
 
 def names_are_exported(kit: Kit) -> None:
     """The map and both libraries have the functions of the header and no others; what they take of others is little."""
-    text = re.sub(r"^static inline \w+ lr_\w+\(.*?\}$", "", kit.header(), flags=re.S | re.M)
+    inline = r"static inline (?:void lr_\w+\(.*?\}|int64_t lr_\w+\(.*?^\})"
+    text = re.sub(inline, "", kit.header(), flags=re.M | re.S)
     declared = set(re.findall(r"\b(lr_\w+)\(", text))
     with open(os.path.join(ROOT, "embed", "lemonrudder.map"), encoding="ascii") as file:
         nodes = re.findall(r"^(\w+) \{(.*?)^\}", re.sub(r"/\*.*?\*/", "", file.read(), flags=re.S), re.M | re.S)
