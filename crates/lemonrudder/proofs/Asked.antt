@@ -105,6 +105,6 @@ asked-left k e c size (Ok (fed.Repeats taken)) left there = asked-idle k e left.
 asked-left k e c size (Err y) left there = asked-idle k e left
 
 -- nothing waits after a call that succeeded, and else what waited
-pub asked-after : {C A E X : Type 0} (k l : Connections) (e f : Engine C) (r : Result A E) → OnOk r (waits_in f ≡ None) → OnErr r ((f ≡ e) × X) → ((c : ℕ) → is_there l c ≡ is_there k c) → is_asked_there k e ≡ true → is_asked_there l f ≡ true
-asked-after {C = C} k l e f (Ok y) idle same there asked = asked-idle l f idle
-asked-after {C = C} k l e f (Err y) idle same there asked = asked-still k l e f (ap (λ (g : Engine C). waits_in g) same.0) there asked
+pub asked-after : {C A E : Type 0} (X : Type 0) (k l : Connections) (e f : Engine C) (r : Result A E) → OnOk r (waits_in f ≡ None) → OnErr r ((f ≡ e) × X) → ((c : ℕ) → is_there l c ≡ is_there k c) → is_asked_there k e ≡ true → is_asked_there l f ≡ true
+asked-after {C = C} X k l e f (Ok y) idle same there asked = asked-idle l f idle
+asked-after {C = C} X k l e f (Err y) idle same there asked = asked-still k l e f (ap (λ (g : Engine C). waits_in g) same.0) there asked

@@ -8,7 +8,6 @@ mod Coding
 mod ContextLists
 mod Counts
 mod Declaring
-mod Declined
 mod Ended
 mod Finding
 mod Handing

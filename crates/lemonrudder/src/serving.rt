@@ -1,6 +1,6 @@
 //! A server, with the octets that are due on each of its connections: what it takes and writes.
 
-ghost use Rattle.std.specs.Prelude.{◌≡◌, IsTrue, true};
+ghost use Rattle.std.specs.Prelude.{◌≡◌, ◌↔◌, IsTrue, true};
 ghost use Rattle.lemonrudder.specs.Connected.{is_asked_there};
 
 mod declining;
@@ -37,7 +37,7 @@ pub struct Serving {
 impl Serving {
     ghost use Rattle.lemonrudder.specs.Openings.{IsNew};
     ghost use Rattle.lemonrudder.specs.Connected.{is_there};
-    ghost use Rattle.lemonrudder.specs.Serves.{IsIdle, OnConnect, OnFarewell, OnFeed, OnGiveUp, OnIsClosed, OnLost, OnOutput, Serves};
+    ghost use Rattle.lemonrudder.specs.Serves.{IsFull, IsIdle, OnConnect, OnFarewell, OnFeed, OnGiveUp, OnIsClosed, OnLost, OnOutput, Serves};
 
     /// A server to which nothing has happened.
     pub fn new(alloc: Global, families: Families, terms: Terms, hasher: RandomState) -> Serving
@@ -141,10 +141,17 @@ impl Serving {
             self.engine.tick(moment);
             return Err(Refusal::Connection);
         }
-        if self.connections.due_len(connection) >= self.setup.terms.due {
+        if self.is_full(connection) {
             return Ok(0);
         }
         self.serve(connection, moment, octets)
+    }
+
+    /// Whether as many octets are due on a connection as may be.
+    fn is_full(&self, connection: u64) -> bool
+        ensures { IsTrue result ↔ IsFull connection self.now }
+    {
+        self.connections.due_len(connection) >= self.setup.terms.due
     }
 
     /// Takes octets of a connection, until as many are due on it as may be.

@@ -7,7 +7,6 @@ use crate::named::system_name_of;
 use crate::refusal::Refusal;
 use crate::serving::Serving;
 use crate::serving::questions::Found;
-use crate::serving::taken::done_of;
 use ft_log::SystemName;
 use ft_orb::CloseError;
 
@@ -30,7 +29,10 @@ impl Serving {
         let mut due = self.connections.take(connection);
         let declined = self.engine.decline(number, name, minor, &mut due.octets);
         self.connections.put(connection, due);
-        done_of(0, declined)
+        match declined {
+            Ok(()) => Ok(0),
+            Err(error) => Err(Refusal::from(error)),
+        }
     }
 
     /// Refuses the request of a ticket, for now: the one that waits, or one that is parked.

@@ -97,8 +97,9 @@ impl Serving {
     {
         let order = order_of(order)?;
         let called = self.called_by(ticket)?;
+        let found = called.found;
         let results = self.results(&called.asked, order, octets)?;
-        self.hand_in(called.found, Outcome::Returned(results), 0)
+        self.hand_in(found, Outcome::Returned(results), 0)
     }
 
     /// Answers by an exception that the operation declares.
@@ -113,9 +114,10 @@ impl Serving {
     {
         let order = order_of(order)?;
         let called = self.called_by(ticket)?;
+        let found = called.found;
         let members = self.members(&called.asked, id, order, octets)?;
         let id = Vec::from_slice(self.alloc, id)?;
-        self.hand_in(called.found, Outcome::Raised(id, members), 0)
+        self.hand_in(found, Outcome::Raised(id, members), 0)
     }
 
     /// Answers by a system exception.
@@ -131,7 +133,8 @@ impl Serving {
         let name = system_name_of(name)?;
         let completed = completion_of(completed)?;
         let called = self.called_by(ticket)?;
-        self.hand_in(called.found, Outcome::System(name, minor, completed), 0)
+        let found = called.found;
+        self.hand_in(found, Outcome::System(name, minor, completed), 0)
     }
 
     /// Answers a raw operation.
@@ -147,8 +150,9 @@ impl Serving {
         let status = raw_status_of(status)?;
         let order = order_of(order)?;
         let called = self.called_by(ticket)?;
+        let found = called.found;
         let body = Vec::from_slice(self.alloc, body)?;
-        self.hand_in(called.found, Outcome::Raw(status, order, body), 0)
+        self.hand_in(found, Outcome::Raw(status, order, body), 0)
     }
 
     /// The answer to a request, where it asks an object that names its repository ids what it is.
@@ -174,11 +178,12 @@ impl Serving {
         ensures { OnIdentify ticket self.old self.new result }
     {
         let called = self.called_by(ticket)?;
+        let found = called.found;
         let Some(truth) = self.identity(&called.asked) else {
             return Ok(0);
         };
         let results = vec![in self.alloc; Val::Boolean(truth)]?;
-        self.hand_in(called.found, Outcome::Returned(results), 1)
+        self.hand_in(found, Outcome::Returned(results), 1)
     }
 }
 

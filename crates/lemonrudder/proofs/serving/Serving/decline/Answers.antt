@@ -1,29 +1,59 @@
-use Rattle.std.proofs.Common.{List, ℕ, drop, ap, refl, sym, ◌∙◌}
+use Rattle.std.proofs.Common.{List, ℕ, drop, Ok, Err, ap, refl, sym, ◌∙◌}
 use Rattle.ft_objects.specs.Families.{families_offer}
 use Rattle.ft_orb.specs.Engines.{handled_in}
 use Rattle.ft_orb.specs.Parking.{DeclinesLate, not_now}
+use Rattle.lemonrudder.specs.Connected.{owed_in}
+use Rattle.lemonrudder.specs.Serves.{owed_on}
 use Rattle.lemonrudder.proofs.Asked.{asked-idle, carry, found-there, only-only}
-use Rattle.lemonrudder.proofs.Declined.{declines-by}
 use Rattle.lemonrudder.proofs.OwingLate.{declines-late-owed}
 use Rattle.lemonrudder.proofs.serving.Serving.decline.Goals as goal
 
-pub returns : goal.returns
-returns c =
+pub returns-in-Ok : goal.returns-in-Ok
+returns-in-Ok c =
     let s = c.args.self.now in
     let d = c.take-due.result in
+    let n = d.taken in
+    let before = d.octets.items in
     let out = c.decline-declined.new.out.items in
     let placed = c.take-due.ensures.placed in
     let there = found-there s.connections s.engine c.args.number c.args.connection c.requires.found s.asked in
     let old = c.take-due.ensures.owed in
     let new = c.put.ensures.owed (c.take-due.ensures.only.0 ∙ there) in
-    let e = c.decline-declined.ensures in (
-      c.decline-declined.result,
-      c.done_of.ensures,
+    let e = c.decline-declined.ensures in
+    let refusal = not_now c.args.name c.args.minor in (
+      Ok (tt {0}),
+      refl,
       e.idle,
       (only-only c.args.connection s.connections c.take-due.new.self c.put.new.self c.take-due.ensures.only c.put.ensures.only, refl),
       (e.catalogue, refl),
       e.asks,
-      declines-by c.args.connection (not_now c.args.name c.args.minor) s _ d.taken d.octets.items out placed (handled_in s.engine) c.decline-declined.result old new e.late e.given_up e.err e.due e.counts e.unwritten,
+      λ x held calls past waiting moment octets written w asks.
+          carry (λ a b. DeclinesLate families_offer x held calls past waiting moment octets written w refusal c.decline-declined.new.self a b) (drop n before) (drop n out) (owed_on s c.args.connection) (owed_in c.put.new.self c.args.connection) old new
+          (declines-late-owed families_offer x held calls past waiting n before out placed moment octets written w refusal c.decline-declined.new.self (c.in-Ok.ensures.late x held calls past waiting moment octets written w asks)),
+    )
+
+pub returns-in-Err : goal.returns-in-Err
+returns-in-Err c =
+    let s = c.args.self.now in
+    let d = c.take-due.result in
+    let there = found-there s.connections s.engine c.args.number c.args.connection c.requires.found s.asked in
+    let old = c.take-due.ensures.owed in
+    let new = c.put.ensures.owed (c.take-due.ensures.only.0 ∙ there) in
+    let e = c.decline-declined.ensures in
+    let none = c.in-Err.ensures.unwritten in (
+      Err c.in-Err.error,
+      ap Err c.from.ensures,
+      e.idle,
+      (only-only c.args.connection s.connections c.take-due.new.self c.put.new.self c.take-due.ensures.only c.put.ensures.only, refl),
+      (e.catalogue, refl),
+      e.asks,
+      (
+        new ∙ (ap (drop d.taken) none ∙ old),
+        handled_in s.engine,
+        c.in-Err.ensures.err,
+        λ x held calls past waiting moment octets written w asks. (c.in-Err.ensures.counts x held calls past waiting moment octets written w asks, c.in-Err.ensures.given_up x held calls past waiting moment octets written w asks),
+        c.in-Err.ensures.due,
+      ),
     )
 
 pub invariant_of-self : goal.invariant_of-self

@@ -1,5 +1,4 @@
-use Rattle.std.proofs.Common.{refl, ◌∙◌, sym, arith}
-use Rattle.std.proofs.lemmas.Grind.{common_steps}
+use Rattle.std.proofs.Common.{refl, ◌∙◌, sym}
 use Rattle.lemonrudder.proofs.Asked.{asked-idle, idle-by}
 use Rattle.lemonrudder.proofs.Idling.{not_both, not_so}
 use Rattle.lemonrudder.proofs.serving.Serving.feed.Goals as goal
@@ -23,12 +22,12 @@ returns-then-not-has c =
       ),
     )
 
-pub returns-then-due_len-due : goal.returns-then-due_len-due
-returns-then-due_len-due c = (
+pub returns-then-is_full : goal.returns-then-is_full
+returns-then-is_full c = (
   λ some. absurd (not_so c.if-is_asking.false (c.is_asking.ensures.1 some)),
   λ idle. (
     λ none. absurd (not_so none (sym c.has.ensures ∙ c.if-not-has.false)),
-    λ there. (λ full. (refl, refl), λ room. absurd (room (let h = c.due_len.ensures in grind (arith, common_steps)))),
+    λ there. (λ full. (refl, refl), λ room. absurd (room (c.is_full.ensures.0 c.if-is_full.true))),
   ),
 )
 
@@ -37,7 +36,7 @@ returns c = (
   λ some. absurd (not_so c.if-is_asking.false (c.is_asking.ensures.1 some)),
   λ idle. (
     λ none. absurd (not_so none (sym c.has.ensures ∙ c.if-not-has.false)),
-    λ there. (λ full. absurd (let h = c.due_len.ensures in grind (arith, common_steps)), λ room. c.serve.ensures),
+    λ there. (λ full. absurd (not_so c.if-is_full.false (c.is_full.ensures.1 full)), λ room. c.serve.ensures),
   ),
 )
 

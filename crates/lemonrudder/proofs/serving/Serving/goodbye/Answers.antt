@@ -89,4 +89,4 @@ pub invariant_of-self : goal.invariant_of-self
 invariant_of-self c =
     let s = c.args.self.now in
     let w = awaited_lent c.in_ok-asked.asked in
-    record { asked = asked-after s.connections c.put.new.self s.engine c.goodbye-given_up.new.self c.goodbye-given_up.result c.goodbye-given_up.ensures.idle c.goodbye-given_up.ensures.unchanged (only-there s.connections c.put.new.self w.connection (only-only w.connection s.connections c.take-due.new.self c.put.new.self c.take-due.ensures.only c.put.ensures.only)) s.asked }
+    record { asked = asked-after _ s.connections c.put.new.self s.engine c.goodbye-given_up.new.self c.goodbye-given_up.result c.goodbye-given_up.ensures.idle c.goodbye-given_up.ensures.unchanged (only-there s.connections c.put.new.self w.connection (only-only w.connection s.connections c.take-due.new.self c.put.new.self c.take-due.ensures.only c.put.ensures.only)) s.asked }
