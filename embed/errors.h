@@ -7,7 +7,7 @@
   E(CONNECTION, "there is no such connection, or the number of a new one is not greater than each before") \
   E(ASKING, "a request waits for its outcome") \
   E(IDLE, "no request waits") \
-  E(PARKS, "as many requests are parked as may be, in all or of the connection") \
+  E(PARKS, "as many requests are parked as may be, or somebody waits there for one that is") \
   E(OUTCOME, "no outcome of the operation, or one that can't be sent") \
   E(ROOM, "the room is too small") \
   E(SHORT, "octets are missing at the end") \

@@ -27,8 +27,8 @@ async def main():
         reply = await from_server.read(4096)
         if len(connections) > 1:
             writer.write(reply)
-        else:
-            writer.close()
+        writer.close()
+        to_server.close()
 
     listener = await asyncio.start_server(relay, "127.0.0.1", 0)
     client = Client("127.0.0.1", listener.sockets[0].getsockname()[1])
@@ -36,6 +36,7 @@ async def main():
     print(f"add returned {result}, the total is {counter.total}")
     await client.close()
     await server.close()
+    listener.close()
 
 
 asyncio.run(main())

@@ -1,7 +1,8 @@
 /*
  * The loop of loop.h, over epoll where there is epoll, and else, or with LOOP_POLL defined, over poll(). Sockets don't
- * block. Peers take turns: in each one a peer is read, fed and sent a few thousand octets. While anything is due to it
- * nothing is read, and nothing is fed while LOOP_DUE octets are due or LOOP_PARKED requests parked.
+ * block. Peers take turns: in each one a peer is read and fed 4,096 octets at most, for a tenth of a millisecond, and
+ * sent what is due. While anything is due to it nothing is read, and nothing is fed while LOOP_DUE octets are due or
+ * LOOP_PARKED requests parked.
  */
 #define _DEFAULT_SOURCE
 #include "loop.h"
@@ -19,8 +20,9 @@
 #include <time.h>
 #include <unistd.h>
 
-/* What is read and sent at a time, and how much of these a turn has. */
-enum { PIECE = 4096, ROOM = 16384, SENDS = 4, ACCEPTS = 16 };
+/* Octets that are read, fed and sent at a time; how often is sent in a turn, and accepted; and the nanoseconds after
+ * which a turn feeds no more. */
+enum { PIECE = 4096, STEP = 1024, ROOM = 16384, SENDS = 4, ACCEPTS = 16, SLICE = 100000 };
 /* Seconds: what a peer has to close once its stream has ended, and a pause where nobody can be accepted. */
 enum { LINGER = 5, PAUSE = 1 };
 /* What is waited for: the pipe by which the loop is woken, the socket that listens, and peers. */
@@ -123,8 +125,13 @@ static struct timespec time_by(clockid_t clock) {
   return time;
 }
 
-/* The present second, by a clock that nobody sets. */
+/* The present second, and nanosecond, by a clock that nobody sets. */
 static int64_t seconds(void) { return time_by(CLOCK_MONOTONIC).tv_sec; }
+
+static int64_t nanoseconds(void) {
+  struct timespec time = time_by(CLOCK_MONOTONIC);
+  return (int64_t)time.tv_sec * 1000000000 + time.tv_nsec;
+}
 
 /* The present moment. */
 static uint64_t moment(void) {
@@ -164,19 +171,21 @@ static void leave(struct peer *peer) {
   if (lr_server_is_closed(served, peer->connection) == 0) lr_server_farewell(served, peer->connection);
 }
 
-/* Feeds what came, until enough is due or parked. */
+/* Feeds what came, until enough is due or parked, or the turn is over. */
 static void feed(struct peer *peer) {
   const unsigned char *came = rooms[slot_of(peer)].came;
   uint64_t now = moment();
+  int64_t end = nanoseconds() + SLICE;
   lr_request asked;
   while (peer->fed < peer->got) {
     hold(peer, lr_server_parked_of(served, peer->connection) >= LOOP_PARKED);
     if (peer->is_held) return;
-    int64_t taken = lr_server_feed(served, peer->connection, now, came + peer->fed, peer->got - peer->fed);
+    size_t left = peer->got - peer->fed;
+    int64_t taken = lr_server_feed(served, peer->connection, now, came + peer->fed, left < STEP ? left : STEP);
     if (lr_server_asked(served, &asked, sizeof asked) == 1) performs(served, &asked);
     if (lr_server_asked(served, &asked, sizeof asked) == 1) lr_server_refuse(served, asked.ticket, LR_EX_TRANSIENT, 0);
-    if (taken == 0) return;
     peer->fed = taken < 0 ? peer->got : peer->fed + (size_t)taken; /* (where it is gone, what was answered is sent) */
+    if (taken == 0 || nanoseconds() > end) return;
   }
 }
 
@@ -284,6 +293,14 @@ static void go_on(void) {
   for (size_t slot = FIRST; held_count > 0 && slot < SLOTS; slot++)
     if (peers[slot].is_held && lr_server_parked_of(served, peers[slot].connection) < LOOP_PARKED)
       give_turn(&peers[slot]);
+}
+
+/* Moves the first of the turns behind the others: who has more to feed lets those go first who were ready meanwhile. */
+static void put_back(size_t count) {
+  for (; count > 0; count--) {
+    turns[(next_turn + turn_count) % SLOTS] = turns[next_turn];
+    next_turn = (next_turn + 1) % SLOTS;
+  }
 }
 
 /* Takes the turns that were given; what is given meanwhile is for the next round. */
@@ -407,11 +424,13 @@ int loop_serve(lr_server *server, int listener, void (*perform)(lr_server *serve
   int64_t last = seconds(), end = INT64_MAX; /* (which is set at SIGTERM) */
   performs = perform;
   while (is_well && (end == INT64_MAX || unused_count < LOOP_PEERS) && last < end) {
+    size_t before = turn_count;
     is_called = is_woken = false;
-    is_well = wait_for(turn_count > 0 ? 0 : 1000);
+    is_well = wait_for(before > 0 ? 0 : 1000);
     int64_t second = seconds(); /* (performing may take long, and what comes meanwhile is read by the next turn) */
     if (settle != NULL && (is_woken || second != last)) settle(server);
     go_on();
+    put_back(before);
     take_turns();
     go_on();
     if (is_called && listener_fd >= 0) accept_peers();

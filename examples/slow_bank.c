@@ -34,7 +34,7 @@ struct account {
 struct job {
   struct job *next;
   uint64_t ticket;
-  bool may_lapse; /* where nobody waits for it any more, it need not be begun */
+  uint64_t connection; /* where this is gone the deposit need not be begun; 0 where it must be */
   char name[NAME];
   int64_t amount, balance;
   enum { DEPOSITED, OVERDREW, REFUSED } end;
@@ -116,7 +116,7 @@ static void *work(void *nothing) {
 static void give(lr_server *server) {
   struct job *job;
   while (working < WORKERS && (job = pop(&waiting)) != NULL) {
-    if (job->may_lapse && lr_server_wanted(server, job->ticket) == 0) {
+    if (job->connection != 0 && lr_server_is_closed(server, job->connection) == 1) {
       lr_server_refuse(server, job->ticket, LR_EX_TRANSIENT, 0);
       free(job);
       continue;
@@ -139,7 +139,7 @@ static void park(lr_server *server, const lr_request *asked, const char *name, i
     return;
   }
   *job = (struct job){.ticket = asked->ticket, .amount = amount};
-  job->may_lapse = !asked->has_client && asked->wish != LR_WISH_NONE;
+  if (!asked->has_client && asked->wish != LR_WISH_NONE) job->connection = asked->connection;
   memcpy(job->name, name, NAME);
   push(&waiting, job);
   give(server);

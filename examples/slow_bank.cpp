@@ -113,7 +113,7 @@ class Bank {
     lr::Later later;
     std::string account;
     std::int64_t amount;
-    bool may_lapse;  // where nobody waits for it any more, it need not be begun
+    std::uint64_t connection;  // where this is gone the deposit need not be begun; 0 where it must be
   };
 
   /* Answers what became of a deposit, now or later. */
@@ -138,7 +138,8 @@ class Bank {
     auto later = asked.later();
     if (!later) return later.error();
     const bool may_lapse = !asked.request().has_client && asked.request().wished() != lr::Wish::none;
-    waiting_.push_back(std::make_shared<Job>(Job{*std::move(later), account, amount, may_lapse}));
+    const std::uint64_t connection = may_lapse ? asked.request().connection : 0;
+    waiting_.push_back(std::make_shared<Job>(Job{*std::move(later), account, amount, connection}));
     begin();
     return {};
   }
@@ -149,7 +150,7 @@ class Bank {
     while (working_ < most_workers && !waiting_.empty()) {
       const auto job = std::move(waiting_.front());
       waiting_.pop_front();
-      if (job->may_lapse && !loop_.is_wanted(job->later)) {
+      if (job->connection != 0 && loop_.server().is_closed(job->connection)) {
         job->later.refuse();
         continue;
       }

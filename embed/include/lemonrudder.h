@@ -86,7 +86,7 @@ enum {
   LR_E_CONNECTION = -5, /* there is no such connection, or the number of a new one is not greater than each before */
   LR_E_ASKING = -6,     /* a request waits for its outcome */
   LR_E_IDLE = -7,       /* no request waits */
-  LR_E_PARKS = -8,      /* as many requests are parked as may be, in all or of the connection */
+  LR_E_PARKS = -8,      /* as many requests are parked as may be, or somebody waits there for one that is */
   LR_E_OUTCOME = -9,    /* no outcome of the operation, or one that can't be sent */
   LR_E_ROOM = -10,      /* the room is too small */
   LR_E_SHORT = -11,     /* octets are missing at the end */
@@ -270,7 +270,7 @@ LR_API int64_t lr_catalogue_raw_operation(lr_catalogue *catalogue, const void *k
 LR_API int64_t lr_catalogue_repository_ids(lr_catalogue *catalogue, const void *key, size_t key_size,
                                            const void *ids, size_t ids_size);
 
-/* Takes the objects of `families`, which is empty afterwards. Each key that is no object's own, and begins with the key
+/* Takes the objects of `families`, which has none afterwards. Each key that is no object's own, and begins with the key
  * of one of these, leads to that object: to the one of the longest such key. So one object stands for many, as for
  * each account; LR_PART_KEY says for which. Exceptions that were declared in `families` for an operation to come are
  * forgotten. LR_E_EMPTY, LR_E_TAKEN (one of the two has families already, or a default object). */
@@ -323,7 +323,7 @@ enum {
   LR_SET_PARKED_OF = 6, /* .. of those that came on one connection: 64 */
   LR_SET_JOINED = 7,    /* who may wait for the outcome of a parked one, beside the last who came: 8 */
   LR_SET_DUE = 8,       /* octets due on a connection from which on it is fed no more: 1048576 */
-  LR_SET_CLIENT_ID = 9  /* octets of a client's id at most; FT_REQUEST with a longer one is not valid: 256 */
+  LR_SET_CLIENT_ID = 9  /* octets of a client's id at most; who has a longer one is answered BAD_CONTEXT: 256 */
 };
 
 /* Sets a limit of a server of which no connection was opened: a number of the range above; where none is given, of 32
@@ -339,13 +339,14 @@ LR_API int64_t lr_server_connect(lr_server *server, uint64_t connection);
  * outcome. LR_E_EMPTY, LR_E_ASKING. */
 LR_API int64_t lr_server_lost(lr_server *server, uint64_t connection);
 
-/* Says goodbye: CloseConnection is due (CORBA 3.3 Part 2, 9.4.7), unless the connection's stream has ended. It is due
- * at once where nobody waits there for the outcome of a parked request, else behind the last of these replies. What
- * comes on it from now on means nothing. LR_E_EMPTY, LR_E_ASKING, LR_E_CONNECTION, LR_E_LOST. */
+/* Says goodbye: CloseConnection is due (CORBA 3.3 Part 2, 9.4.7), unless the connection's stream has ended. What comes
+ * on it afterwards has no meaning. A client that gets it knows that what was not answered was not performed: so it is
+ * LR_E_PARKS while somebody waits there for the outcome of a parked request. Feed it no more then, and say goodbye when
+ * those are answered. LR_E_EMPTY, LR_E_ASKING, LR_E_CONNECTION, LR_E_PARKS, LR_E_LOST. */
 LR_API int64_t lr_server_farewell(lr_server *server, uint64_t connection);
 
 /* 1 where the connection was never opened, is gone, has ended or was said goodbye to, so that its socket is to be
- * closed once what is due is sent; else 0, as while a goodbye waits for replies. LR_E_EMPTY. */
+ * closed once what is due is sent; else 0. LR_E_EMPTY. */
 LR_API int64_t lr_server_is_closed(lr_server *server, uint64_t connection);
 
 /* Takes octets of a connection that came at a moment, and answers how many it took: all of them; those up to a request
@@ -417,8 +418,9 @@ LR_API int64_t lr_server_raise(lr_server *server, uint64_t ticket, const void *i
  * Errors as of lr_server_answer. */
 LR_API int64_t lr_server_system(lr_server *server, uint64_t ticket, uint32_t name, uint32_t minor, uint32_t completed);
 
-/* Answers a raw operation by the body of a Reply: its status, LR_REPLY_NO_EXCEPTION to LR_REPLY_LOCATION_FORWARD, its
- * order, and at most 1048576 octets, written for a place divisible by 8. Errors as of lr_server_answer. */
+/* Answers by the body of a Reply: its status, LR_REPLY_NO_EXCEPTION to LR_REPLY_LOCATION_FORWARD, its order, and at
+ * most 1048576 octets, written for a place divisible by 8. The types of the operation are not looked at: you answer for
+ * them. Errors as of lr_server_answer. */
 LR_API int64_t lr_server_answer_raw(lr_server *server, uint64_t ticket, uint32_t status, uint32_t order,
                                     const void *body, size_t size);
 
@@ -445,9 +447,9 @@ LR_API int64_t lr_server_refuse(lr_server *server, uint64_t ticket, uint32_t nam
  * connection for the outcome of a parked request. */
 LR_API int64_t lr_server_goodbye(lr_server *server, uint64_t ticket);
 
-/* A connection on which octets became due by the outcome of a parked request, or by a goodbye that waited: 1, and it is
- * named no more for these; 0 where none is left, and `connection` is as it was. LR_E_EMPTY. Use it after each call that
- * answers or refuses a parked request: while (lr_server_next_due(&server, &connection) == 1) flush(connection); */
+/* A connection on which octets became due by the outcome of a parked request: 1, and it is named no more for these; 0
+ * where none is left, and `connection` is as it was. LR_E_EMPTY. Use it after each call that answers or refuses a
+ * parked request: while (lr_server_next_due(&server, &connection) == 1) flush(connection); */
 LR_API int64_t lr_server_next_due(lr_server *server, uint64_t *connection);
 
 /* Moves octets that are due on a connection into the room, as many as it has, and answers how many: 0 where none are
@@ -456,15 +458,15 @@ LR_API int64_t lr_server_output(lr_server *server, uint64_t connection, void *ro
 
 /* What lr_server_count counts: as it is now, and what became of requests since the server was opened. */
 enum {
-  LR_COUNT_CONNECTIONS = 0, /* connections that are open */
-  LR_COUNT_KEPT = 1,        /* outcomes that are kept */
+  LR_COUNT_CONNECTIONS = 0, /* connections that were opened and not lost */
+  LR_COUNT_KEPT = 1,        /* outcomes that are kept, or will be, of what is parked */
   LR_COUNT_PARKED_NOW = 2,  /* requests that are parked */
   LR_COUNT_ASKED = 3,       /* came to you */
   LR_COUNT_REPEATED = 4,    /* were answered by what was kept */
   LR_COUNT_JOINED = 5,      /* repeats of a parked one */
   LR_COUNT_EXPIRED = 6,     /* were past their expiration */
   LR_COUNT_MALFORMED = 7,   /* FT_REQUEST was not valid */
-  LR_COUNT_INVALID = 8,     /* nothing of that name, or arguments not valid */
+  LR_COUNT_INVALID = 8,     /* nothing of that name, arguments not valid, or a client's id too long */
   LR_COUNT_LOG_FULL = 9,    /* no room: the capacity is used up */
   LR_COUNT_SHARE_FULL = 10, /* no room: the client's share is used up */
   LR_COUNT_LOCATED = 11,    /* LocateRequests */
@@ -480,7 +482,7 @@ enum {
 /* One of these numbers. LR_E_EMPTY, LR_E_RANGE. */
 LR_API int64_t lr_server_count(lr_server *server, uint32_t what);
 
-/* How many outcomes are kept of a client, by its id: so much of its share it holds. LR_E_EMPTY. */
+/* How many outcomes are kept of a client, or will be, by its id: so much of its share it holds. LR_E_EMPTY. */
 LR_API int64_t lr_server_held_by(lr_server *server, const void *client, size_t size);
 
 /* The first expiration of what is kept: 1, or 0 where nothing is, and `moment` is as it was. LR_E_EMPTY. */
@@ -638,9 +640,10 @@ LR_API int64_t lr_client_forwarded(lr_client *client, lr_completion *completion,
 
 /* Asks for a call that is led elsewhere by another key, with its number and its expiration: lr_client_resend sends it,
  * or the next lr_client_connected. What is pending is sent on one connection: that it leads there is up to you. The
- * operation and the arguments are those of the call; for others nothing is promised of this client. LR_E_FORWARD (it
- * is not led elsewhere), LR_E_EMPTY, LR_E_RANGE, LR_E_TYPES, LR_E_TEXT, LR_E_SHORT, LR_E_VALUE, LR_E_LONG,
- * LR_E_MEMORY. */
+ * client keeps neither its operation nor its arguments, so give them again: what you give is what it asks from then on,
+ * also where it was a raw call or asked something else. A server that knows its number answers what was asked first.
+ * LR_E_FORWARD (it is not led elsewhere), LR_E_EMPTY, LR_E_RANGE, LR_E_TYPES, LR_E_TEXT, LR_E_SHORT, LR_E_VALUE,
+ * LR_E_LONG, LR_E_MEMORY. */
 LR_API int64_t lr_client_redirect(lr_client *client, int64_t call, const void *key, size_t key_size,
                                   const void *operation, size_t operation_size, const uint8_t *types, size_t types_size,
                                   uint32_t order, const void *arguments, size_t arguments_size);

@@ -836,7 +836,7 @@ class Server : public Slot<lr_server> {
     return detail::done(lr_server_system(slot(), ticket, static_cast<std::uint32_t>(name), minor,
                                          static_cast<std::uint32_t>(completed)));
   }
-  /* Answers a raw operation by a status, `no_exception` to `location_forward`, and the body of a Reply. */
+  /* Answers by a status, `no_exception` to `location_forward`, and the body of a Reply. */
   Done answer_raw(std::uint64_t ticket, ReplyStatus status, Order order, Octets body) noexcept {
     return detail::done(lr_server_answer_raw(slot(), ticket, static_cast<std::uint32_t>(status),
                                              static_cast<std::uint32_t>(order), body.data(), body.size()));

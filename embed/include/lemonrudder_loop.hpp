@@ -454,13 +454,16 @@ class Loop {
     if (!waiter_.watch(wake, mailbox_->fd(), POLLIN, -1) || !listen_for(true)) return detail::error_of_system();
     auto end = detail::LoopClock::time_point::max();
     for (auto passed = detail::LoopClock::now(); !is_stopping_ || (peer_count() > 0 && passed < end);) {
+      const auto before = static_cast<std::ptrdiff_t>(turns_.size());
       is_called_ = is_woken_ = false;
-      if (!waiter_.wait(turns_.empty() ? 1000 : 0, [this](auto slot, bool is_broken) { on_ready(slot, is_broken); }))
+      if (!waiter_.wait(before == 0 ? 1000 : 0, [this](auto slot, bool is_broken) { on_ready(slot, is_broken); }))
         return detail::error_of_system();
       const auto now = detail::LoopClock::now();
       const bool is_second = now - passed >= 1s;
       if (is_woken_ || is_second) take_tasks(is_second);
       go_on();
+      // (who has more to feed lets those go first who were ready meanwhile)
+      std::rotate(turns_.begin(), turns_.begin() + before, turns_.end());
       take_turns();
       go_on();
       if (is_called_ && listener_.is_open()) accept_peers();
@@ -487,14 +490,13 @@ class Loop {
     });
   }
 
-  /* Whether anybody waits for the outcome of a parked request, on the thread of serve(). Where nobody does, and it does
-   * not carry FT_REQUEST, it need not be performed. */
-  bool is_wanted(const Later& later) noexcept { return server_.wanted(later.ticket()).value_or(0) > 0; }
-
  private:
-  // what is read and sent at a time, and how much of these a turn has
+  // octets that are read, fed and sent at a time; how often is sent in a turn, and accepted; and after what time a turn
+  // feeds no more
   static constexpr std::size_t piece = 4096;
+  static constexpr std::size_t step = 1024;
   static constexpr std::size_t room = 16384;
+  static constexpr std::chrono::microseconds slice{100};
   static constexpr int sends = 4;
   static constexpr int accepts = 16;
   // what is waited for: the pipe by which the loop is woken, the socket that listens, and peers
@@ -566,6 +568,8 @@ class Loop {
     if (*servant) static_cast<void>((*servant)(asked));
   }
 
+  static Octets left_of(const Peer& peer) noexcept { return {peer.came + peer.fed, peer.got - peer.fed}; }
+
   /* Says goodbye to a peer, and lets go of what came. */
   void leave(Peer& peer) noexcept {
     hold(peer, false);
@@ -573,19 +577,20 @@ class Loop {
     if (!server_.is_closed(peer.connection)) static_cast<void>(server_.farewell(peer.connection));
   }
 
-  /* Feeds what came, until enough is due or parked. */
+  /* Feeds what came, until enough is due or parked, or the turn is over. */
   void feed(Peer& peer) {
     const std::uint64_t moment = now();
+    const auto end = detail::LoopClock::now() + slice;
     while (peer.has_unfed()) {
       hold(peer, parked_of(peer) >= most_parked_);
       if (peer.is_held) return;
-      const auto taken = server_.feed(peer.connection, moment, {peer.came + peer.fed, peer.got - peer.fed});
+      const auto taken = server_.feed(peer.connection, moment, left_of(peer).first(step));
       perform();
       if (const auto left = server_.asked(); left.ok() && *left)
         static_cast<void>(server_.refuse((*left)->ticket, SystemException::transient, 0));
-      if (taken && *taken == 0) return;
       // (where the connection is gone, what was answered is sent)
       peer.fed = taken ? peer.fed + *taken : peer.got;
+      if ((taken && *taken == 0) || detail::LoopClock::now() > end) return;
     }
   }
 

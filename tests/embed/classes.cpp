@@ -112,19 +112,26 @@ lr::Result<lr::Server> open_server() {
   CHECK(catalogue->raw_object("raw"));
   CHECK(catalogue->object("c").error() == LR_E_TAKEN);
   CHECK(catalogue->operation("c", "bad", {LR_TYPE_SEQUENCE}, {}).error() == LR_E_TYPES);
-  CHECK(lr::Server::open(*catalogue, {1, 1}, {}, {1, 2}).error() == LR_E_RANGE);
-  CHECK(catalogue->is_open());
-  auto server = lr::Server::open(*catalogue, limits, {100, 100}, {1, 2});
+  auto other = lr::Catalogue::open();
+  lr::Settings settings;
+  settings.partials = 0;
+  CHECK(other && lr::Server::open(*other, {1, 2}, settings).error() == LR_E_RANGE);
+  settings = {};
+  settings.message = 4096;
+  settings.capacity = 100;
+  settings.parked_of_one = 2;
+  auto server = lr::Server::open(*catalogue, {1, 2}, settings);
   CHECK(server && !catalogue->is_open());
+  CHECK(server && server->set(LR_SET_DUE, 1 << 16) && server->set(LR_SET_DUE + 2, 1).error() == LR_E_RANGE);
   return server;
 }
 
-/* All that is due on one side. */
-template <class Side>
-std::vector<std::uint8_t> due_of(Side& side) {
+/* All that is due on one side: of a client, or of a connection of a server. */
+template <class Side, class... Connection>
+std::vector<std::uint8_t> due_of(Side& side, Connection... connection) {
   std::vector<std::uint8_t> all;
   std::array<std::uint8_t, 7> room;
-  for (auto count = side.output(room); count && *count > 0; count = side.output(room))
+  for (auto count = side.output(connection..., room); count && *count > 0; count = side.output(connection..., room))
     all.insert(all.end(), room.begin(), room.begin() + static_cast<std::ptrdiff_t>(*count));
   return all;
 }
@@ -150,7 +157,7 @@ void objects_move() {
 /* A client calls, its connection is lost, and it is answered on the next. */
 void a_call_acts_once() {
   auto server = open_server();
-  auto client = lr::Client::open("A", 2, limits);
+  auto client = lr::Client::open("A");
   if (!server || !client) return CHECK(false);
   CHECK(client->call(now, {"c", "add", later, one_long, lr::Octets("\5\0\0\0", 4), lr::Order::little}).ok());
   CHECK(!client->is_connected());
@@ -166,14 +173,14 @@ void a_call_acts_once() {
       asked_times++;
       CHECK((*asked)->connection == connection && (*asked)->has_client == 1);
       CHECK((*asked)->wished() == lr::Wish::full && (*asked)->byte_order() == lr::Order::big);
-      const auto id = server->part(lr::Part::client);
+      const auto id = server->part((*asked)->ticket, lr::Part::client);
       CHECK(id && lr::Octets(*id).text() == "A");
-      const auto body = server->part(lr::Part::body);
+      const auto body = server->part((*asked)->ticket, lr::Part::body);
       CHECK(body && *body == (std::vector<std::uint8_t>{0, 0, 0, 5}));
       CHECK(server->answer((*asked)->ticket, lr::Order::big, "").error() == LR_E_OUTCOME);
       CHECK(server->answer((*asked)->ticket, lr::Order::big, lr::Octets("\0\0\0\6", 4)));
     }
-    const auto down = due_of(*server);
+    const auto down = due_of(*server, connection);
     if (connection == 2) CHECK(client->feed(down));
     CHECK(client->lost());
     CHECK(server->lost(connection) && server->is_closed(connection));
@@ -192,7 +199,7 @@ void a_call_acts_once() {
 
 /* A call of before is forwarded, and asked for by another key. */
 void a_call_goes_on() {
-  auto client = lr::Client::open("A", 2, limits);
+  auto client = lr::Client::open("A");
   if (!client) return CHECK(false);
   const lr::Call call{"c", "add", later, one_long, lr::Octets("\0\0\0\5", 4)};
   std::array<std::uint8_t, 9> room{};
@@ -232,11 +239,14 @@ void a_body_is_made_once() {
   std::array<std::uint8_t, 256> room;
   const auto size = lr::write_request(room, {}, lr::Wish::full, "c", "add", lr::Octets("\0\0\0\5", 4));
   CHECK(size && server->feed(1, now, lr::Octets(room).first(*size)));
+  const auto asked = server->asked();
+  if (!asked || !*asked) return CHECK(false);
+  const std::uint64_t ticket = (*asked)->ticket;
   const long before = allocations;
-  CHECK(server->part(lr::Part::body, room));
+  CHECK(server->part(ticket, lr::Part::body, room));
   const long once = allocations - before;
   CHECK(once > 0);
-  const auto body = server->part(lr::Part::body);
+  const auto body = server->part(ticket, lr::Part::body);
   CHECK(body && *body == (std::vector<std::uint8_t>{0, 0, 0, 5}));
   CHECK(allocations - before == 2 * once);
 }
@@ -255,7 +265,7 @@ void requests_are_answered() {
     ticket = asked && *asked ? (*asked)->ticket : 0;
   };
   const auto status = [&] {
-    const auto due = due_of(*server);
+    const auto due = due_of(*server, std::uint64_t{1});
     return due.size() < 24 ? -1 : static_cast<int>(due[19]);
   };
   ask("c", "none", {});
@@ -275,16 +285,115 @@ void requests_are_answered() {
   ask("c", "_non_existent", {});
   const auto is_identified = server->identify(ticket);
   CHECK(is_identified.ok() && *is_identified && status() == LR_REPLY_NO_EXCEPTION);
-  CHECK(server->identify(ticket).error() == LR_E_IDLE);
+  CHECK(server->identify(ticket).error() == LR_E_TICKET);
   ask("raw", "any", "abc");
   CHECK(server->refuse(ticket, lr::SystemException::transient, 0) && status() == LR_REPLY_SYSTEM_EXCEPTION);
   CHECK(!server->is_closed(1));
   ask("raw", "any", "abc");
-  CHECK(server->goodbye(ticket) && due_of(*server).size() == 12 && server->is_closed(1));
+  CHECK(server->goodbye(ticket) && due_of(*server, std::uint64_t{1}).size() == 12 && server->is_closed(1));
   CHECK(server->connect(2));
-  CHECK(server->farewell(2) && due_of(*server).size() == 12 && server->is_closed(2));
+  CHECK(server->farewell(2) && due_of(*server, std::uint64_t{2}).size() == 12 && server->is_closed(2));
   CHECK(server->connect(3));
   CHECK(server->give_up(ticket).error() == LR_E_IDLE);
+}
+
+/* Writes a request of a client's number, which adds 5. */
+Vector request_of(std::uint32_t request_id, std::int32_t number) {
+  std::array<std::uint8_t, 64> ft;
+  Vector octets(256);
+  const auto context = lr::write_ft(ft, lr::Order::big, "A", number, later);
+  const auto size =
+      lr::write_request(octets, {2, lr::Order::big, request_id}, lr::Wish::full, "c", "add", lr::Octets("\0\0\0\5", 4),
+                        {LR_CONTEXT_FT_REQUEST, lr::Octets(ft).first(context.value_or(0))});
+  CHECK(context && size);
+  octets.resize(size.value_or(0));
+  return octets;
+}
+
+/* Feeds a request on a connection, which is parked where it is asked, and answers its ticket, or 0. */
+std::uint64_t parked(lr::Server& server, std::uint64_t connection, const Vector& octets) {
+  CHECK(server.feed(connection, now, octets));
+  const auto asked = server.asked().value_or(std::nullopt);
+  if (!asked) return 0;
+  CHECK(server.park(asked->ticket));
+  return asked->ticket;
+}
+
+/* Requests are parked, joined by a repeat, and answered in another order, each where it is waited for. */
+void requests_are_parked() {
+  auto server = open_server();
+  if (!server || !server->connect(1) || !server->connect(2)) return CHECK(false);
+  const auto first = parked(*server, 1, request_of(1, 1));
+  const auto second = parked(*server, 1, request_of(2, 2));
+  CHECK(first != 0 && second != 0 && parked(*server, 2, request_of(3, 1)) == 0);
+  CHECK(*server->parked() == 2 && *server->parked_of(1) == 2 && *server->parked_of(2) == 0);
+  CHECK(*server->wanted(first) == 2 && *server->wanted(second) == 1 && server->wanted(99).error() == LR_E_TICKET);
+  const auto client = server->part(second, lr::Part::client);
+  const auto body = server->part(second, lr::Part::body);
+  CHECK(client && lr::Octets(*client).text() == "A" && body && body->size() == 4);
+  CHECK(server->feed(1, now, request_of(4, 4)));
+  const auto third = server->asked().value_or(std::nullopt).value_or(lr::Request{}).ticket;
+  CHECK(server->park(third).error() == LR_E_PARKS);
+  CHECK(server->answer(second, lr::Order::big, "\0\0\0\6"_o).error() == LR_E_ASKING);
+  const auto context = server->context(0);
+  CHECK(context && context->id == LR_CONTEXT_FT_REQUEST && server->context(1).error() == LR_E_NONE);
+  CHECK(server->refuse(third, lr::SystemException::transient, 0) && !due_of(*server, std::uint64_t{1}).empty());
+  CHECK(server->answer(second, lr::Order::big, "\0\0\0\6"_o));
+  CHECK(server->answer(first, lr::Order::big, "\0\0\0\7"_o));
+  std::uint64_t named = 0;
+  for (const auto connection : server->due()) {
+    named += connection;
+    const auto octets = due_of(*server, connection);
+    CHECK(octets.size() == (connection == 1 ? 56u : 28u) && octets.back() == 7);
+  }
+  CHECK(named == 3 && server->due().begin() == server->due().end());
+  const auto none = server->next_due();
+  CHECK(none && !*none && server->answer(first, lr::Order::big, "\0\0\0\7"_o).error() == LR_E_TICKET);
+}
+
+/* What a server says of itself, and what it exchanges. */
+void servers_tell() {
+  auto server = open_server();
+  auto catalogue = lr::Catalogue::open();
+  auto families = lr::Catalogue::open();
+  if (!server || !catalogue || !families || !server->connect(1)) return CHECK(false);
+  CHECK(server->feed(1, now, request_of(1, 1)));
+  const auto asked = server->asked().value_or(std::nullopt).value_or(lr::Request{});
+  CHECK(asked.contexts == 1 && server->answer(asked.ticket, lr::Order::big, "\0\0\0\6"_o));
+  CHECK(*server->count(lr::Counted::asked) == 1 && *server->count(lr::Counted::kept) == 1);
+  const auto expiry = server->next_expiry();
+  CHECK(*server->held_by("A") == 1 && *server->held_by("B") == 0 && expiry && *expiry == later);
+  CHECK(server->tick(later + 1) && *server->count(lr::Counted::kept) == 0);
+  const auto gone = server->next_expiry();
+  CHECK(gone && !*gone);
+  CHECK(families->object("c/") && families->raw_operation("c/", "any") && catalogue->families(*families));
+  CHECK(families->remove("c/").error() == LR_E_OBJECT && catalogue->default_object());
+  CHECK(catalogue->default_object().error() == LR_E_TAKEN);
+  CHECK(server->swap(*catalogue) && catalogue->remove("c") && catalogue->remove("c").error() == LR_E_OBJECT);
+  CHECK(*server->why(1) == lr::Why::open && server->why(2).error() == LR_E_CONNECTION);
+  CHECK(server->feed(1, later, "GIOX\1\2\0\0\0\0\0\0"_o));
+  const auto why = server->why(1);
+  CHECK(why && lr::fault_of(*why) == lr::Fault::magic && lr::fault_of(lr::Why::farewell) == lr::Fault::none);
+}
+
+/* A call whose arguments are octets, and one that wants no reply. */
+void calls_are_raw() {
+  lr::ClientSettings settings;
+  settings.version = 1;
+  settings.partials = 17;
+  CHECK(lr::Client::open("A", settings).error() == LR_E_RANGE);
+  settings.partials = 3;
+  settings.keep_forward = true;
+  auto client = lr::Client::open("A", settings);
+  if (!client) return CHECK(false);
+  lr::RawCall call{"ccccc", "add", later, "\0\0\0\5"_o};
+  CHECK(client->call_raw(now, call).value_or(0) == 1 && client->connected(now) && !due_of(*client).empty());
+  call.wish = lr::Wish::none;
+  CHECK(client->recall_raw(1, now, call).error() == LR_E_TAKEN && client->recall_raw(4, now, call));
+  CHECK(!due_of(*client).empty());
+  const auto sent = client->completed();
+  CHECK(sent && *sent && (*sent)->call == 4 && (*sent)->ended() == lr::Ended::sent);
+  CHECK(client->set(LR_CLIENT_VERSION, 2).error() == LR_E_OPEN);
 }
 
 void messages_are_read() {
@@ -363,11 +472,13 @@ void values_are_read() {
   lr::Writer out(room, lr::Order::little, 3);
   CHECK(out.put_octet(1) && out.put_char('A') && out.put_boolean(true) && out.put_short(-2) && out.put_ushort(3));
   CHECK(out.put_long(-4) && out.put_ulong(5) && out.put_longlong(-6) && out.put_ulonglong(7));
+  CHECK(out.put_float(1.5F) && out.put_double(-2.25));
   CHECK(out.put_string("text") && out.put_octets(lr::Octets("\1\0\2\0", 4)));
   lr::Reader in(out.octets(), lr::Order::little, 3);
   CHECK(*in.get_octet() == 1 && *in.get_char() == 'A' && *in.get_boolean());
   CHECK(*in.get_short() == -2 && *in.get_ushort() == 3 && *in.get_long() == -4 && *in.get_ulong() == 5);
-  CHECK(*in.get_longlong() == -6 && *in.get_ulonglong() == 7 && *in.get_string() == "text");
+  CHECK(*in.get_longlong() == -6 && *in.get_ulonglong() == 7);
+  CHECK(*in.get_float() == 1.5F && *in.get_double() == -2.25 && *in.get_string() == "text");
   auto inner = in.get_encapsulation();
   CHECK(inner && in.rest().empty());
   const auto two = inner->get_ushort();
@@ -471,10 +582,12 @@ void write_all(Out& out, const std::string& text) {
   static_cast<void>(out.put_longlong(-6));
   static_cast<void>(out.put_octet(8));
   static_cast<void>(out.put_ulonglong(7));
+  static_cast<void>(out.put_float(1.5F));
+  static_cast<void>(out.put_double(-2.25));
   static_cast<void>(out.put_string(text));
   static_cast<void>(out.put_octets(text));
-  static_cast<void>(out.put_enumerator(Colour::blue));
-  static_cast<void>(out.put_enumerator(1));
+  static_cast<void>(out.put_enum(Colour::blue));
+  static_cast<void>(out.put_enum(1));
   static_cast<void>(out.put_count(2));
 }
 
@@ -496,10 +609,10 @@ void octets_grow() {
   }
   lr::GrowingWriter out;
   CHECK(out.octets().empty());
-  CHECK(out.put_string("ann").put_longlong(5).put_enumerator(Colour::green).done());
+  CHECK(out.put_string("ann").put_longlong(5).put_enum(Colour::green).done());
   lr::Reader in(out.octets());
   CHECK(in.get_string().value_or("") == "ann" && in.get_longlong().value_or(0) == 5);
-  CHECK(in.get_enumerator(1).error() == LR_E_VALUE && in.get_enumerator(2).value_or(0) == 1 && in.rest().empty());
+  CHECK(in.get_enum(1).error() == LR_E_VALUE && in.get_enum(2).value_or(0) == 1 && in.rest().empty());
   lr::GrowingWriter other = std::move(out);
   CHECK(out.octets().empty() && other.octets().size() == 20);
   out.put_octet(1);
@@ -580,6 +693,9 @@ int main() {
   a_call_goes_on();
   a_body_is_made_once();
   requests_are_answered();
+  requests_are_parked();
+  servers_tell();
+  calls_are_raw();
   messages_are_read();
   messages_have_names();
   references_are_printed();

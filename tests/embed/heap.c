@@ -305,6 +305,111 @@ static void serves(void) {
   lr_close(&server);
 }
 
+/* ---- parked requests ---- */
+
+/* Parks a request that comes on a connection, and answers its ticket; 0 where it did not come, since the connection is
+ * gone. */
+static uint64_t park(uint64_t on, const struct exchange *exchange) {
+  lr_request asked = {.ticket = 0};
+  int64_t taken = lr_server_feed(&server, on, NOW, exchange->request.all, exchange->request.size);
+  if (taken == LR_E_LOST) {
+    CHECK(tell());
+    return 0;
+  }
+  WANT(taken, (int64_t)exchange->request.size);
+  WANT(lr_server_asked(&server, &asked, sizeof asked), 1);
+  AGAIN(lr_server_park(&server, asked.ticket), LR_OK);
+  return asked.ticket;
+}
+
+/* Parks it on the connection that is open, or on the next where that is gone. */
+static uint64_t park_surely(const struct exchange *exchange) {
+  uint64_t parked = park(connection, exchange);
+  if (parked != 0) return parked;
+  reconnect();
+  return park(connection, exchange);
+}
+
+/* What is due on a connection is these octets, or nothing where it is gone, which is told once. */
+static void is_due_or_lost(uint64_t on, const struct octets *wanted) {
+  int64_t size = lr_server_output(&server, on, room, sizeof room);
+  if (size == 0 && lr_server_is_closed(&server, on) == 1) {
+    CHECK(tell());
+    return;
+  }
+  CHECK(size >= 0 && equal(room, (size_t)size, wanted));
+}
+
+/* Two requests are parked, one is joined by its repeat on another connection, and they are answered in another order:
+ * each counts, and where the memory for a reply is short its connection alone is lost. */
+static void parks(void) {
+  struct exchange one, two, repeat;
+  server = (lr_server)LR_INIT;
+  connection = 1;
+  open_server();
+  AGAIN(lr_server_connect(&server, connection), LR_OK);
+  make_exchange(&one, 1, "c", "add", "A", returns);
+  make_exchange(&two, 2, "c", "add", "B", raises);
+  make_exchange(&repeat, 1, "c", "add", "A", returns);
+  uint64_t first = park_surely(&one);
+  uint64_t second = park_surely(&two);
+  uint64_t of_second = connection++;
+  AGAIN(lr_server_connect(&server, connection), LR_OK);
+  int64_t taken = lr_server_feed(&server, connection, NOW, repeat.request.all, repeat.request.size);
+  if (taken == LR_E_LOST) {
+    CHECK(tell());
+    reconnect();
+    taken = lr_server_feed(&server, connection, NOW, repeat.request.all, repeat.request.size);
+  }
+  WANT(taken, (int64_t)repeat.request.size);
+  WANT(lr_server_parked(&server), 2);
+  uint64_t due = 0;
+  ticket = second;
+  AGAIN(two.answer(), LR_OK);
+  while (lr_server_next_due(&server, &due) == 1) CHECK(due == of_second);
+  is_due_or_lost(of_second, &two.reply);
+  ticket = first;
+  AGAIN(one.answer(), LR_OK);
+  while (lr_server_next_due(&server, &due) == 1) CHECK(due <= connection);
+  is_due_or_lost(connection, &repeat.reply);
+  WANT(lr_server_parked(&server), 0);
+  connection++;
+  AGAIN(lr_server_connect(&server, connection), LR_OK);
+  send_until_answered(&one); /* (it is kept, so it is not asked) */
+  send_until_answered(&two);
+  CHECK(one.asked == 0 && two.asked == 0);
+  make_exchange(&one, 3, "c", "add", "A", returns);
+  ticket = park_surely(&one);
+  WANT(lr_server_refuse(&server, ticket, LR_EX_TRANSIENT, 0), LR_OK);
+  struct octets refusal;
+  system_reply(&refusal, 2, 3, "IDL:omg.org/CORBA/TRANSIENT:1.0", LR_COMPLETED_NO);
+  is_due_or_lost(connection, &refusal);
+  if (lr_server_is_closed(&server, connection) == 1) reconnect();
+  says_goodbye();
+  WANT(lr_server_lost(&server, connection), LR_OK);
+  lr_close(&server);
+}
+
+/* What a server is set to, and what is exchanged with a catalogue. */
+static void changes(void) {
+  lr_catalogue other = LR_INIT, families = LR_INIT;
+  server = (lr_server)LR_INIT;
+  open_server();
+  for (uint32_t what = LR_SET_MESSAGE; what <= LR_SET_CLIENT_ID; what++)
+    AGAIN(lr_server_set(&server, what, what == LR_SET_PARTIALS ? 3 : 5000), LR_OK);
+  AGAIN(lr_catalogue_open(&other), LR_OK);
+  AGAIN(lr_catalogue_open(&families), LR_OK);
+  AGAIN(lr_catalogue_raw_object(&families, "f/", 2), LR_OK);
+  AGAIN(lr_catalogue_families(&other, &families), LR_OK);
+  AGAIN(lr_catalogue_default(&other), LR_OK);
+  AGAIN(lr_server_swap(&server, &other), LR_OK);
+  AGAIN(lr_catalogue_remove(&other, "c", 1), LR_OK);
+  AGAIN(lr_server_tick(&server, LATER), LR_OK);
+  lr_close(&families);
+  lr_close(&other);
+  lr_close(&server);
+}
+
 /* ---- a client ---- */
 
 static lr_client client;
@@ -428,6 +533,30 @@ static void goes_on(void) {
   lr_close(&client);
 }
 
+/* A raw call with a service context, and a oneway. */
+static void calls_raw(void) {
+  static const unsigned char contexts[] = {0, 0, 0, 1, 0, 0, 0, LR_CONTEXT_SECURITY, 0, 0, 0, 1, 7};
+  client = (lr_client)LR_INIT;
+  memset(completed, 0, sizeof completed);
+  AGAIN(lr_client_open(&client, "A", 1), LR_OK);
+  for (uint32_t what = LR_CLIENT_VERSION; what <= LR_CLIENT_PARTIALS; what++)
+    AGAIN(lr_client_set(&client, what, what == LR_CLIENT_MESSAGE ? 4096 : 2), LR_OK);
+  AGAIN(lr_client_call_raw(&client, NOW, LATER, LR_WISH_FULL, "c", 1, "add", 3, LR_ORDER_BIG, contexts, sizeof contexts,
+                           "\0\0\0\5", 4),
+        1);
+  AGAIN(lr_client_recall_raw(&client, 4, NOW, LATER, LR_WISH_NONE, "c", 1, "tell", 4, LR_ORDER_BIG, NULL, 0, NULL, 0),
+        LR_OK);
+  connect_client();
+  if (!reply_to_all(room, (size_t)lr_client_output(&client, room, sizeof room))) {
+    take_completions();
+    connect_client();
+    CHECK(reply_to_all(room, (size_t)lr_client_output(&client, room, sizeof room)));
+  }
+  take_completions();
+  CHECK(completed[1] == 1 && completed[4] == 1);
+  lr_close(&client);
+}
+
 /* ---- a stream ---- */
 
 /* Feeds a request in two frames, and what it is; false where there was no memory, and the stream is at its end. */
@@ -524,6 +653,9 @@ static const struct {
   const char *name;
   void (*script)(void);
 } scripts[] = {{"serves", serves},
+               {"parks", parks},
+               {"changes", changes},
+               {"calls_raw", calls_raw},
                {"calls", calls},
                {"goes_on", goes_on},
                {"reads_a_stream", reads_a_stream},

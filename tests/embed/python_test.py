@@ -60,6 +60,10 @@ KINDS = {
 }
 
 
+# the words of `giop show` for statuses that have another name in the library
+STATUSES = {(lr.MessageType.LOCATE_REPLY, name): f"LOC_{name}" for name in ("SYSTEM_EXCEPTION", "NEEDS_ADDRESSING_MODE")}
+
+
 class Dice(random.Random):
     """Random numbers by a seed, with what Python 3.8 lacks."""
 
@@ -325,7 +329,8 @@ def lines_of_message(message):
     if message.operation is not None:
         words.append(f"operation {text(message.operation.encode('latin-1'))}")
     if message.status is not None:
-        words.append(f"status {message.status.name}")
+        name = message.status.name
+        words.append(f"status {STATUSES.get((message.type, name), name)}")
     if message.body is not None:
         words.append(f"body {word(message.body.octets)}")
     yield " ".join(words)
@@ -734,7 +739,7 @@ class Engines(Case):
             catalogue = counting()
             self.fails(Error.RANGE, lr.Engine, catalogue, *terms)
             lr.Engine(catalogue).close()
-        for wrong in ({"capacity": 1 << 32}, {"max_parked": 1 << 32}, {"max_client_id": 1 << 32}):
+        for wrong in ({"capacity": 1 << 32}, {"max_parked": 1 << 32}, {"max_joined": 1 << 32}):
             self.fails(Error.RANGE, lr.Engine, counting(), **wrong)
         with self.assertRaises(ValueError):
             lr.Engine(counting(), capacity=1 << 64)
@@ -860,7 +865,6 @@ class Engines(Case):
         engine.feed(1, octets, LONG_AGO)
         engine.give_up()
         self.assertEqual(engine.output(1), b"")
-        self.assertIs(engine.why(1), lr.Why.GIVEN_UP)
         self.assertTrue(engine.is_closed(1))
         engine.connect(2)
         engine.feed(2, octets, LONG_AGO)
@@ -896,7 +900,6 @@ class Engines(Case):
         engine.farewell(1)
         self.assertEqual(self.reply(engine).type, lr.MessageType.CLOSE_CONNECTION)
         self.assertTrue(engine.is_closed(1))
-        self.assertIs(engine.why(1), lr.Why.FAREWELL)
         engine.farewell(1)
         self.assertEqual(engine.output(1), b"")
         octets = asked_for(1, "get")
@@ -908,9 +911,7 @@ class Engines(Case):
         engine.feed(1, b"GIOQ" + bytes(8), LONG_AGO)
         self.assertEqual(self.reply(engine).type, lr.MessageType.ERROR)
         self.assertTrue(engine.is_closed(1))
-        self.assertIs(engine.why(1), lr.Fault.MAGIC)
         self.assertTrue(engine.is_closed(7))
-        self.fails(Error.CONNECTION, engine.why, 7)
 
     def test_identity(self):
         catalogue = counting()
@@ -973,7 +974,7 @@ class Engines(Case):
         self.assertIsNone(engine.asked())
         engine.feed(1, asked_for(2, "get"), LONG_AGO)
         second = engine.park()
-        self.assertEqual((engine.parked, engine.parked_of(1), engine.parked_of(2), engine.wanted(first)), (2, 2, 0, 1))
+        self.assertEqual((engine.parked, engine.parked_of(1), engine.parked_of(2)), (2, 2, 0))
         engine.feed(2, asked_for(9, "get"), LONG_AGO)
         self.fails(Error.PARKS, engine.park)
         self.fails(Error.ASKING, engine.answer, 1, ticket=first)
@@ -981,7 +982,6 @@ class Engines(Case):
         self.assertEqual(self.reply(engine, 2).body.unpack("q"), (5,))
         engine.feed(2, asked_for(8, "add", lr.pack("l", 7), retention=1), LONG_AGO)
         self.assertIsNone(engine.asked())
-        self.assertEqual(engine.wanted(first), 2)
         self.assertIsNone(engine.next_due())
         engine.answer(7, ticket=first)
         self.assertEqual({engine.next_due(), engine.next_due()}, {1, 2})
@@ -989,12 +989,12 @@ class Engines(Case):
         self.assertEqual((self.reply(engine, 1).request_id, self.reply(engine, 2).request_id), (1, 8))
         self.fails(Error.TICKET, engine.answer, 7, ticket=first)
         self.fails(Error.TICKET, engine.raise_system, "UNKNOWN", ticket=first)
-        self.fails(Error.TICKET, engine.wanted, first)
-        engine.farewell(1)
+        self.fails(Error.PARKS, engine.farewell, 1)
         self.assertFalse(engine.is_closed(1))
         self.fails(Error.OUTCOME, engine.raise_user, OVERFLOW, ticket=second)
         engine.refuse("TIMEOUT", 3, ticket=second)
         self.assertEqual([engine.next_due(), engine.next_due()], [1, None])
+        engine.farewell(1)
         reply, close = lr.messages(engine.output(1))
         self.assertEqual(reply.body.unpack("sLL"), ("IDL:omg.org/CORBA/TIMEOUT:1.0", 3, 1))
         self.assertIs(close.type, lr.MessageType.CLOSE_CONNECTION)
@@ -1026,7 +1026,7 @@ class Engines(Case):
         families.add_operation(b"acct/of/", "get", Signature("", "s"))
         catalogue = counting()
         catalogue.add_families(families)
-        self.fails(Error.EMPTY, families.add_object, b"x")
+        self.fails(Error.OBJECT, families.remove, b"acct/")
         self.fails(Error.TAKEN, catalogue.add_families, counting())
         engine = self.engine(catalogue)
         for key, answer, format in ((b"acct/7", 7, "q"), (b"acct/of/x", "x", "s"), (b"c", 1, "q")):
@@ -1867,9 +1867,9 @@ class Waits(Case):
             asked, go = [], asyncio.Event()
 
             async def function():
-                asked.append(lr.current().wanted)
+                asked.append("begun")
                 await go.wait()
-                asked.append(lr.current().wanted)
+                asked.append("ended")
                 return 5
 
             server, client = await self.pair({"op": ("", "l", function)})
@@ -1887,7 +1887,7 @@ class Waits(Case):
                 reader, writer = await asyncio.open_connection(client.host, client.port)
                 writer.write(request)
                 message, = lr.messages(await reader.read(4096))
-                self.assertEqual((message.body.unpack("l"), asked), ((5,), [1, 0]))
+                self.assertEqual((message.body.unpack("l"), asked), ((5,), ["begun", "ended"]))
                 writer.close()
         self.run_async(main())
 
@@ -2277,10 +2277,10 @@ class Bounds(Case):
                                              capacity=1)
             ft = lr.write_ft("A", 1, 5)
             cases = {
-                "nonsense, and so on": "its stream has a fault, MAGIC",
-                lr.write_reply(1): "its peer sent a message that only a server sends",
-                lr.write_close(): "its peer said CloseConnection",
-                lr.write_error(): "its peer said MessageError",
+                "nonsense, and so on": "its stream has ended",
+                lr.write_reply(1): "its stream has ended",
+                lr.write_close(): "its stream has ended",
+                lr.write_error(): "its stream has ended",
                 lr.write_request(1, "k", "op", context=(lr.FT_REQUEST, ft)): "refused on connection 5 (127.0.0.1:",
                 lr.write_request(1, "k", "none"): "there is no such object or operation",
                 lr.write_request(1, "k", "not_now"): "'not_now' is refused on connection 7",
@@ -2554,7 +2554,7 @@ class Bank(Case):
     CLIENTS, DEPOSITS = 50, 12
 
     def test_each_deposit_acts_once(self):
-        with subprocess.Popen(example("bank.py"), stdout=subprocess.PIPE, text=True) as bank:
+        with subprocess.Popen(example("bank.py", "0", "0.01"), stdout=subprocess.PIPE, text=True) as bank:
             try:
                 asyncio.run(asyncio.wait_for(self.play(lr.Ior.parse(bank.stdout.readline())), SECONDS))
             finally:

@@ -7,6 +7,7 @@ import time
 from typing import TYPE_CHECKING, Any, Optional
 
 from ._library import LemonrudderError, address_of, now
+from ._table import Error
 
 if TYPE_CHECKING:
     from ._server import Server
@@ -44,8 +45,8 @@ class Connection(asyncio.BufferedProtocol):
         # what came, when, where it lies, and the index of what was not taken yet
         self._came, self._moment, self._address, self._at = b"", 0, 0, 0
         # whether a turn is to come; what was written is not taken; a place for a request is waited for; all that comes
-        # means nothing
-        self._has_turn = self._is_full = self._waits = self._is_over = False
+        # means nothing, and goodbye was said
+        self._has_turn = self._is_full = self._waits = self._is_over = self._is_said = False
         self._watch: Optional[asyncio.TimerHandle] = None
 
     def __str__(self) -> str:
@@ -115,19 +116,32 @@ class Connection(asyncio.BufferedProtocol):
         """Says goodbye, behind what is parked, and closes the connection then."""
         self._drop()
         self.reason = self.reason or reason
-        engine = self.server._engine
-        try:
-            if not self._is_over and not engine.is_closed(self.number):
-                engine.farewell(self.number)
-        except LemonrudderError as error:
-            self.reason = str(error)
         self._is_over = True
         self.end()
+
+    def go_away(self) -> None:
+        """Ends where goodbye waits for who waits here."""
+        if self._is_over and not self._is_said:
+            self.end()
+
+    def _say_goodbye(self) -> None:
+        """Says goodbye, or does so later where somebody waits here for an outcome."""
+        engine = self.server._engine
+        try:
+            if not engine.is_closed(self.number):
+                engine.farewell(self.number)
+        except LemonrudderError as error:
+            if error.number == Error.PARKS:
+                return
+            self.reason = str(error)
+        self._is_said = True
 
     def end(self) -> None:
         """Sends what is due, and closes the connection where it has ended."""
         if self.server.is_closed or self.transport.is_closing():
             return
+        if self._is_over and not self._is_said:
+            self._say_goodbye()
         engine = self.server._engine
         while not self._is_full:
             octets = engine.output(self.number, _PIECE)

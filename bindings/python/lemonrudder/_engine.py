@@ -12,7 +12,7 @@ from ._library import (LIMIT, PARTIALS, Held, LemonrudderError, Octets, Text, ad
                        library, named, now, octets_of, structs)
 from ._messages import Body, FtRequest
 from ._outcomes import system_number
-from ._table import Completed, Counted, Error, Fault, Order, Part, ReplyStatus, ServerSetting, Why, Wish
+from ._table import Completed, Counted, Error, Order, Part, ReplyStatus, ServerSetting, Wish
 
 CONTEXTS = 64
 """How many service contexts of a request are read where nothing else is said."""
@@ -107,25 +107,18 @@ class Engine(Held):
         call(library.lr_server_lost, self._slot, connection)
 
     def farewell(self, connection: int) -> None:
-        """Says goodbye: CloseConnection is due, unless the connection's stream has ended, behind the last reply to who
-        waits there for the outcome of a parked request. What comes on it afterwards has no meaning.
+        """Says goodbye: CloseConnection is due, unless the connection's stream has ended. What comes on it afterwards
+        has no meaning.
 
-        Raises LemonrudderError (ASKING, CONNECTION, LOST).
+        Raises LemonrudderError (ASKING; PARKS: somebody waits there for the outcome of a parked request: feed it no
+        more, and say goodbye when that is answered; CONNECTION, LOST).
         """
         call(library.lr_server_farewell, self._slot, connection)
 
     def is_closed(self, connection: int) -> bool:
         """Whether a connection was never opened, is gone, has ended or was said goodbye to, so that its socket is to be
-        closed once what is due is sent. No, while a goodbye waits for replies."""
+        closed once what is due is sent."""
         return call(library.lr_server_is_closed, self._slot, connection) == 1
-
-    def why(self, connection: int) -> Union[Why, Fault]:
-        """Why nothing more is heard of a connection, a fault of its stream or another reason, until it is lost.
-
-        Raises LemonrudderError (CONNECTION)."""
-        number = call(library.lr_server_why, self._slot, connection)
-        reason: Union[Why, Fault] = named(Fault if 0 < number < Why.DIRECTION else Why, number)
-        return reason
 
     def feed(self, connection: int, octets: Octets, moment: Optional[int] = None, start: int = 0) -> int:
         """Takes octets of a connection from an index on, which came at a moment, now if none is given. Returns the
@@ -185,7 +178,7 @@ class Engine(Held):
         """Parks the request that waits, and returns its ticket: it is answered later, and others are fed.
 
         Raises LemonrudderError (IDLE; PARKS: as many are parked as may be, MEMORY: it waits still)."""
-        asked = self._waiting()
+        asked = self._asked or self._waiting()
         call(library.lr_server_park, self._slot, asked.ticket)
         self._parked[asked.ticket] = asked.key, asked.operation, asked.is_raw
         self._asked = None
@@ -199,12 +192,6 @@ class Engine(Held):
     def parked_of(self, connection: int) -> int:
         """How many of those are parked that came on a connection."""
         return call(library.lr_server_parked_of, self._slot, connection)
-
-    def wanted(self, ticket: int) -> int:
-        """How many wait for the outcome of a parked request, on connections that go on.
-
-        Raises LemonrudderError (TICKET)."""
-        return call(library.lr_server_wanted, self._slot, ticket)
 
     def answer(self, *results: Any, ticket: Optional[int] = None) -> None:
         """Answers a request by its results, one for each type.
@@ -243,8 +230,9 @@ class Engine(Held):
 
     def answer_raw(self, octets: Octets, order: int = BIG, status: int = ReplyStatus.NO_EXCEPTION, *,
                    ticket: Optional[int] = None) -> None:
-        """Answers a raw operation by the body of a Reply: at most 1048576 octets, which are written for a place
-        divisible by 8, and its status, NO_EXCEPTION to LOCATION_FORWARD. Errors as of answer."""
+        """Answers by the body of a Reply, above all a raw operation: at most 1048576 octets, which are written for a
+        place divisible by 8, and its status, NO_EXCEPTION to LOCATION_FORWARD. The types of the operation are not
+        looked at. Errors as of answer."""
         self._answered(self._ticket(ticket), library.lr_server_answer_raw, status, order, *lent(octets))
 
     def identify(self, ticket: Optional[int] = None) -> bool:
@@ -275,13 +263,13 @@ class Engine(Held):
         """Gives up the request that waits, and says goodbye first: CloseConnection is due, by which its client knows
         that nothing was done. An ORB connects again at once and sends it again: for draining and restarts alone.
 
-        Raises LemonrudderError (IDLE; MEMORY: it waits still).
+        Raises LemonrudderError (IDLE; MEMORY, or PARKS: somebody else waits on its connection: it waits still).
         """
         self._answered(self._ticket(None), library.lr_server_goodbye)
 
     def next_due(self) -> Optional[int]:
-        """A connection on which octets became due by the outcome of a parked request, or by a goodbye that waited; it
-        is named no more for these. None where none is left."""
+        """A connection on which octets became due by the outcome of a parked request; it is named no more for these.
+        None where none is left."""
         number = ctypes.c_uint64()
         return number.value if call(library.lr_server_next_due, self._slot, number) else None
 

@@ -12,7 +12,7 @@ from ._library import LIMIT, PARTIALS, LemonrudderError, Text, octets_of
 from ._messages import Body
 from ._references import Ior
 from ._servants import Offer, Operation, Performer, described
-from ._table import Counted, Error, Fault, Why
+from ._table import Counted, Error
 from ._works import GRACE, Works
 
 # how long a turn lasts, in seconds: after that no further message of a connection is taken, nor outcome told. The first
@@ -28,16 +28,6 @@ _REFUSED = {
     Counted.LOG_FULL: "as many outcomes are kept as may be (capacity)",
     Counted.SHARE_FULL: "as many outcomes of its client are kept as may be (share)",
     Counted.DROPPED: "memory is short",
-}
-# why nothing more is heard of a connection
-_ENDED = {
-    Why.OPEN: "it is lost",
-    Why.DIRECTION: "its peer sent a message that only a server sends",
-    Why.GOODBYE: "its peer said CloseConnection",
-    Why.ERROR: "its peer said MessageError",
-    Why.FAREWELL: "goodbye was said",
-    Why.GIVEN_UP: "a request was given up",
-    Why.MEMORY: "memory is short",
 }
 
 
@@ -280,12 +270,9 @@ class Server:
         self._waiting.pop(connection, None)
         if self._connections.pop(connection.number, None) is None or self.is_closed:
             return
-        why = self._engine.why(connection.number)
-        is_fault = isinstance(why, Fault)
-        text = f"its stream has a fault, {why.name}" if is_fault else _ENDED.get(why, str(why))
-        if connection.reason and why in (Why.OPEN, Why.FAREWELL):
-            text = connection.reason
-        self.log.log(logging.WARNING if is_fault else logging.INFO, "%s ended: %s", connection, text)
+        is_ended = self._engine.is_closed(connection.number)
+        text = connection.reason or ("its stream has ended" if is_ended else "it is lost")
+        self.log.info("%s ended: %s", connection, text)
         self._engine.lost(connection.number)
         if not self._connections and not self._emptied.done():
             self._emptied.set_result(None)

@@ -27,7 +27,7 @@ class Error(enum.IntEnum):
     IDLE = -7
     """no request waits"""
     PARKS = -8
-    """as many requests are parked as may be, in all or of the connection"""
+    """as many requests are parked as may be, or somebody waits there for one that is"""
     OUTCOME = -9
     """no outcome of the operation, or one that can't be sent"""
     ROOM = -10
@@ -234,16 +234,16 @@ class ServerSetting(enum.IntEnum):
     DUE = 8
     """octets due on a connection from which on it is fed no more: 1048576"""
     CLIENT_ID = 9
-    """octets of a client's id at most; FT_REQUEST with a longer one is not valid: 256"""
+    """octets of a client's id at most; who has a longer one is answered BAD_CONTEXT: 256"""
 
 
 class Counted(enum.IntEnum):
     """What lr_server_count counts: as it is now, and what became of requests since the server was opened."""
 
     CONNECTIONS = 0
-    """connections that are open"""
+    """connections that were opened and not lost"""
     KEPT = 1
-    """outcomes that are kept"""
+    """outcomes that are kept, or will be, of what is parked"""
     PARKED_NOW = 2
     """requests that are parked"""
     ASKED = 3
@@ -257,7 +257,7 @@ class Counted(enum.IntEnum):
     MALFORMED = 7
     """FT_REQUEST was not valid"""
     INVALID = 8
-    """nothing of that name, or arguments not valid"""
+    """nothing of that name, arguments not valid, or a client's id too long"""
     LOG_FULL = 9
     """no room: the capacity is used up"""
     SHARE_FULL = 10

@@ -85,19 +85,11 @@ class Works:
 
     def _current(self, asked: Asked, connection: Connection) -> Current:
         """What its servant can know of the request that waits."""
-        ft, ticket = asked.ft, asked.ticket
+        ft = asked.ft
         contexts = self._server._engine.contexts() if asked.contexts else ()
         return Current(asked.key, asked.operation, ft and ft.client, ft and ft.retention_id, ft and ft.expiration,
                        connection.number, connection.peer, connection.certificate, contexts, asked.request_id,
-                       asked.version, asked.wish, lambda: self._wanted(ticket))
-
-    def _wanted(self, ticket: int) -> int:
-        """How many wait for an outcome, that of a request which waits among them."""
-        try:
-            return int(self._server._engine.wanted(ticket))
-        except LemonrudderError:
-            asked = None if self._server.is_closed else self._server._engine.asked()
-            return int(asked is not None and asked.ticket == ticket)
+                       asked.version, asked.wish)
 
     def _begin(self, asked: Asked, connection: Connection, performer: Performer, returned: Awaitable[Any]) -> None:
         """Parks the request that waits, for a task to perform it; refuses it where that can't be."""
@@ -106,10 +98,10 @@ class Works:
             why = "as many are under way as may be (max_parked)"
         else:
             try:
-                if self._server._engine.asked() is not None:
-                    self._server._engine.park()
+                self._server._engine.park()
             except LemonrudderError as error:
-                why = error.text
+                # (it is parked already where its function added an object)
+                why = error.text if error.number != Error.IDLE else None
         coroutine = returned if inspect.iscoroutine(returned) else None
         if why is not None:
             self._server.log.warning("%a is refused on %s: %s", asked.operation, connection, why)
@@ -173,6 +165,7 @@ class Works:
             self._return(work.asked, task.result())
         self._server._tell()
         if not self._server.is_closed:
+            work.connection.go_away()
             self._server._wake(work.connection)
 
     def cut(self, work: _Work, name: str) -> None:
@@ -200,6 +193,7 @@ class Works:
             work.is_answered = True
             self._cut_off(work)
             self._server._tell()
+            work.connection.go_away()
 
     def _raise(self, asked: Asked, raised: BaseException, connection: Connection) -> None:
         """Answers by what a function raised."""

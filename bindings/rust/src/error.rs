@@ -54,7 +54,7 @@ errors! {
     Asking = LR_E_ASKING,
     /// No request waits.
     Idle = LR_E_IDLE,
-    /// As many requests are parked as may be, in all or of the connection.
+    /// As many requests are parked as may be, or somebody waits there for one that is.
     Parks = LR_E_PARKS,
     /// No outcome of the operation, or one that can't be sent.
     Outcome = LR_E_OUTCOME,

@@ -215,9 +215,9 @@ numbers! {
     /// What a [`Server`](crate::Server) counts: as it is now, and what became of requests since it
     /// was opened.
     Counted {
-        /// Connections that are open.
+        /// Connections that were opened and not lost.
         Connections = LR_COUNT_CONNECTIONS,
-        /// Outcomes that are kept.
+        /// Outcomes that are kept, or will be, of what is parked.
         Kept = LR_COUNT_KEPT,
         /// Requests that are parked.
         ParkedNow = LR_COUNT_PARKED_NOW,
@@ -231,7 +231,7 @@ numbers! {
         Expired = LR_COUNT_EXPIRED,
         /// FT_REQUEST was not valid.
         Malformed = LR_COUNT_MALFORMED,
-        /// Nothing of that name, or arguments not valid.
+        /// Nothing of that name, arguments not valid, or a client's id too long.
         Invalid = LR_COUNT_INVALID,
         /// No room: the capacity is used up.
         LogFull = LR_COUNT_LOG_FULL,

@@ -66,8 +66,8 @@ impl Settings {
         joined: u32 = LR_SET_JOINED;
         /// How many octets are due on a connection from which on it is fed no more. Else 1048576.
         due: u64 = LR_SET_DUE;
-        /// How many octets a client's id may have; FT_REQUEST with a longer one is not valid. Else
-        /// 256.
+        /// How many octets a client's id may have; who has a longer one is answered BAD_CONTEXT.
+        /// Else 256.
         client_id: u64 = LR_SET_CLIENT_ID;
     }
 }
@@ -185,19 +185,19 @@ impl Server {
         done(sys::lr_server_lost(&mut self.slot, connection))
     }
 
-    /// Says goodbye: CloseConnection is due, unless the connection's stream has ended: at once where
-    /// nobody waits there for the outcome of a parked request, else behind the last of these
-    /// replies. What comes on it from now on means nothing.
+    /// Says goodbye: CloseConnection is due, unless the connection's stream has ended. What comes on
+    /// it afterwards has no meaning.
     ///
     /// # Errors
     ///
-    /// `Asking`, `Connection`, `Lost`.
+    /// `Asking`, `Connection`, `Lost`; and `Parks`, while somebody waits there for the outcome of a
+    /// parked request: feed it no more then, and say goodbye when those are answered.
     pub fn farewell(&mut self, connection: u64) -> Result<(), Error> {
         done(sys::lr_server_farewell(&mut self.slot, connection))
     }
 
     /// Whether the connection was never opened, is gone, has ended or was said goodbye to, so that
-    /// its socket is to be closed once what is due is sent; not while a goodbye waits for replies.
+    /// its socket is to be closed once what is due is sent.
     pub fn is_closed(&mut self, connection: u64) -> bool {
         sure(sys::lr_server_is_closed(&mut self.slot, connection)) != 0
     }
@@ -396,8 +396,8 @@ impl Server {
         done(sys::lr_server_system(&mut self.slot, ticket.0, name, minor, completed))
     }
 
-    /// Answers a raw operation by the body of a Reply, of at most 1048576 octets: its status is
-    /// `NoException` to `LocationForward`.
+    /// Answers by the body of a Reply, of at most 1048576 octets, whose status is `NoException` to
+    /// `LocationForward`. The types of the operation are not looked at: you answer for them.
     ///
     /// # Errors
     ///
@@ -478,8 +478,8 @@ impl Server {
         count(sys::lr_server_wanted(&mut self.slot, ticket.0))
     }
 
-    /// A connection on which octets became due by the outcome of a parked request, or by a goodbye
-    /// that waited, if there is one: it is named no more for these.
+    /// A connection on which octets became due by the outcome of a parked request, if there is one:
+    /// it is named no more for these.
     pub fn next_due(&mut self) -> Option<u64> {
         let mut connection = 0;
         let found = sys::lr_server_next_due(&mut self.slot, &mut connection);
@@ -737,8 +737,8 @@ impl Request<'_> {
         self.server.system(self.ticket(), name, minor, completed)
     }
 
-    /// Answers a raw operation by the body of a Reply, of at most 1048576 octets: its status is
-    /// `NoException` to `LocationForward`.
+    /// Answers by the body of a Reply, of at most 1048576 octets, whose status is `NoException` to
+    /// `LocationForward`. The types of the operation are not looked at: you answer for them.
     ///
     /// # Errors
     ///

@@ -148,28 +148,23 @@ fn as_many_are_parked_as_may_be() -> Result<(), Error> {
 }
 
 #[test]
-fn goodbye_waits_for_replies() -> Result<(), Error> {
+fn goodbye_comes_after_replies() -> Result<(), Error> {
     let mut server = connected(&Settings::default())?;
     let parked = park(&mut server, 1, &[deposit(1, 1)?, deposit(2, 2)?].concat())?;
+    for (ticket, result) in [(parked[1], 2), (parked[0], 1)] {
+        assert_eq!(server.farewell(1), Err(Error::Parks));
+        assert!(!server.is_closed(1));
+        server.answer(ticket, &long(result)?)?;
+    }
     server.farewell(1)?;
-    assert!(!server.is_closed(1));
-    assert_eq!(server.take_output(1), []);
-    server.answer(parked[1], &long(2)?)?;
-    assert!(!server.is_closed(1));
-    server.answer(parked[0], &long(1)?)?;
     assert!(server.is_closed(1));
     assert_eq!(server.why(1), Ok(Why::Farewell));
-    let (mut due, mut octets) = (0, Vec::new());
-    for (connection, more) in server.due() {
-        assert_eq!(connection, 1);
-        octets.extend(more);
-        due += 1;
-    }
-    assert_eq!(due, 1);
-    let types: Vec<_> = messages(&octets)?.into_iter().map(|(kind, id, _)| (kind, id)).collect();
+    let due: Vec<_> = server.due().collect();
+    assert_eq!((due.len(), due[0].0), (1, 1));
+    let said: Vec<_> = messages(&due[0].1)?.into_iter().map(|(kind, id, _)| (kind, id)).collect();
     let wanted =
         [(MessageType::Reply, 2), (MessageType::Reply, 1), (MessageType::CloseConnection, 0)];
-    assert_eq!(types, wanted);
+    assert_eq!(said, wanted);
     Ok(())
 }
 

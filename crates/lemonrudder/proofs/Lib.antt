@@ -1,4 +1,5 @@
 mod Asked
+mod Adjusting
 mod Assemblers
 mod Bounded
 mod Catalogues
@@ -29,7 +30,6 @@ mod References
 mod Refusing
 mod Resuming
 mod Servers
-mod Settings
 mod Telling
 mod Tellings
 mod Values

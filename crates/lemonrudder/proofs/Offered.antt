@@ -1,15 +1,12 @@
 -- A server whose limits were set, and one with something else on offer.
-use Rattle.std.proofs.Common.{◌≡◌, ◌∙◌, ◌⊎◌, inl, inr, ℕ, true, Option, Some, None, Ok, ap, refl, subst, sym}
-use Rattle.std.specs.Option.{IsSome, option_map_or}
+use Rattle.std.proofs.Common.{◌≡◌, ◌∙◌, inl, inr, true, Option, Some, Ok, ap, refl, subst, sym}
+use Rattle.std.specs.Option.{IsSome}
 use Rattle.ft_objects.specs.declared.families.Families.{Families}
-use Rattle.ft_orb.specs.declared.engine.Engine.{Engine}
 use Rattle.ft_orb.specs.declared.offering.Offering.{Offering}
-use Rattle.ft_orb.specs.Engines.{Awaited, waits_in}
+use Rattle.ft_orb.specs.Engines.{waits_in}
 use Rattle.lemonrudder.specs.declared.cataloguing.Cataloguing.{Cataloguing}
-use Rattle.lemonrudder.specs.declared.connections.Connections.{Connections}
 use Rattle.lemonrudder.specs.declared.serving.Serving.{Serving}
 use Rattle.lemonrudder.specs.declared.terms.Terms.{Terms}
-use Rattle.lemonrudder.specs.Connected.{is_there}
 use Rattle.lemonrudder.specs.Limited.{Limited, limited}
 use Rattle.lemonrudder.specs.Openings.{IsNew}
 use Rattle.lemonrudder.specs.Setting.{HasOpened, SetsTo}

@@ -1,5 +1,5 @@
 -- A call on two objects, in the words of the slots that hold them.
-use Rattle.std.proofs.Common.{◌≡◌, ℕ, ℤ, Option, Some, None, Result, refl, subst, sym}
+use Rattle.std.proofs.Common.{◌≡◌, ℕ, ℤ, Some, None, Result, refl, subst, sym}
 use Rattle.lemonrudder.specs.declared.cataloguing.Cataloguing.{Cataloguing}
 use Rattle.lemonrudder.specs.declared.object.Object.{Object}
 use Rattle.lemonrudder.specs.declared.object.Object.TheVariants.{Assembler, Catalogue, Client, Reference, Server}

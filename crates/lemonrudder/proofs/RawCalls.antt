@@ -1,5 +1,5 @@
 -- Raw calls that a client makes or takes up again, in the words of what it stands for.
-use Rattle.std.proofs.Common.{◌≡◌, ◌∙◌, inl, inr, ℕ, suc, ℤ, true, List, ◌++◌, map, Some, Result, Ok, Err, Vec, Global, refl, ap, subst, sym}
+use Rattle.std.proofs.Common.{◌≡◌, ◌∙◌, ◌⊎◌, inl, inr, ℕ, suc, ℤ, true, List, ◌++◌, map, Some, Result, Ok, Err, Vec, Global, refl, ap, subst, sym}
 use Rattle.giop_core.specs.declared.header.Version.{Version}
 use Rattle.ft_client.specs.declared.client.FtClient.{FtClient}
 use Rattle.ft_client.specs.declared.error.RawCallError.{RawCallError}

@@ -1,11 +1,8 @@
 -- What waits is a request that came, and says what its question says.
-use Rattle.std.proofs.Common.{◌≡◌, ◌∙◌, ℕ, ℤ, List, Bor, Option, Some, None, option_map, ap, refl, sym}
+use Rattle.std.proofs.Common.{◌≡◌, ◌∙◌, ℕ, Option, Some, None, option_map, ap, refl, sym}
 use Rattle.std.proofs.lemmas.Option.{none-some}
-use Rattle.giop_core.specs.declared.ft.FtField.{FtField}
-use Rattle.giop_core.specs.declared.ft.FtField.TheVariants as field
 use Rattle.giop_core.specs.declared.header.Version.{Version}
 use Rattle.giop_core.specs.declared.request.Request.{Request}
-use Rattle.giop_core.specs.Ft.{ft_seen}
 use Rattle.giop_core.specs.Items.{contexts_left}
 use Rattle.giop_core.specs.Lent.{addressed_by, rest_of}
 use Rattle.giop_link.specs.declared.inbound.Inbound.{Inbound}
@@ -14,7 +11,6 @@ use Rattle.giop_link.specs.Hearing.{Meaning, Question, asks, question_in, says}
 use Rattle.giop_link.specs.Linking.{meaning_at}
 use Rattle.lemonrudder.specs.declared.request.RequestHead.{RequestHead}
 use Rattle.lemonrudder.specs.Asking.{no_request}
-use Rattle.lemonrudder.specs.Questions.{client_in}
 
 pub never-none : (m : Option Inbound) (x : Meaning) → option_map meaning_at m ≡ Some x → m ≡ None → ⊥
 never-none None x told is = none-some x told
@@ -41,12 +37,6 @@ question_of v r = question_in v r.request_id r.reply (addressed_by r.target) r.o
 pub question-is : (m : Option Inbound) (i : Inbound) (v : Version) (r : Request) (q : Question) → option_map meaning_at m ≡ Some (says (asks q)) → m ≡ Some i → i ≡ inbound.Request v r → question_of v r ≡ q
 question-is m i v r q told is request =
     let e : says (asks (question_of v r)) ≡ says (asks q) = sym (ap meaning_at request) ∙ told-some m i (says (asks q)) told is in cc
-
--- no client is named
-pub no-client : (f : FtField) → ((c : Bor (List ℕ)) (r : ℤ) (e : ℕ) → f ≡ field.Present c r e → ⊥) → client_in (ft_seen f) ≡ None
-no-client field.Absent never = refl
-no-client field.Bad never = refl
-no-client (field.Present c r e) never = absurd (never c r e refl)
 
 -- a head with the ticket, the connection and the sizes of what waits
 pub base-is : (n : RequestHead) (t c k o t' k' o' : ℕ) → n ≡ no_request → t ≡ t' → k ≡ k' → o ≡ o'

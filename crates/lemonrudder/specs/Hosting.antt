@@ -1,5 +1,5 @@
 -- Opening a server of the objects of a catalogue.
-use Rattle.std.specs.Prelude.{◌≡◌, ℕ, ℤ, pos, Option, Some, None, Result, Ok, Err}
+use Rattle.std.specs.Prelude.{◌≡◌, ℤ, pos, Option, Some, None, Result, Ok, Err}
 use Rattle.lemonrudder.specs.declared.object.Object.{Object}
 use Rattle.lemonrudder.specs.declared.object.Object.TheVariants.{Catalogue, Server}
 use Rattle.lemonrudder.specs.declared.refusal.Refusal.{Refusal}

@@ -1,5 +1,5 @@
 -- A server to which nothing has happened.
-use Rattle.std.specs.Prelude.{◌≡◌, ℕ, false, List, [], ◌∷◌, Some, None}
+use Rattle.std.specs.Prelude.{◌≡◌, ℕ, false, [], ◌∷◌, Some, None}
 use Rattle.ft_log.specs.Holding.{Holding}
 use Rattle.ft_objects.specs.declared.families.Families.{Families}
 use Rattle.ft_objects.specs.Families.{families_offer}

@@ -1,5 +1,5 @@
 -- What the exports answer that take two slots, by what these held before, and what they hold after.
-use Rattle.std.specs.Prelude.{◌≡◌, ℕ, ℤ, Option, Some, None, Result}
+use Rattle.std.specs.Prelude.{◌≡◌, ℕ, ℤ, Option, Some, Result}
 use Rattle.lemonrudder.specs.declared.cataloguing.Cataloguing.{Cataloguing}
 use Rattle.lemonrudder.specs.declared.object.Object.{Object}
 use Rattle.lemonrudder.specs.declared.object.Object.TheVariants.{Catalogue, Server}

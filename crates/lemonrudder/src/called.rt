@@ -5,7 +5,7 @@ ghost use Rattle.lemonrudder.specs.Answers.{OnClient};
 ghost use Rattle.lemonrudder.specs.Calls.{OnBody, OnCancel, OnCompleted, OnConnected, OnFeed, OnIsConnected, OnLost, OnOutput, OnTick};
 ghost use Rattle.lemonrudder.specs.Invokes.{OnCall, question_of};
 ghost use Rattle.lemonrudder.specs.Resuming.{OnForwarded, OnRecall, OnRedirect, OnResend, OnSkip};
-ghost use Rattle.lemonrudder.specs.Settings.{OnSet};
+ghost use Rattle.lemonrudder.specs.Adjusts.{OnSet};
 
 pub mod raw;
 

@@ -31,7 +31,7 @@ pub struct Setup {
 }
 
 /// A number that is to have 32 bits.
-fn in_32_bits(value: u64) -> Result<u32, Refusal>
+pub fn in_32_bits(value: u64) -> Result<u32, Refusal>
     ensures ok { IfOk result (λ n. (n ≡ value) × (value ≤ 4294967295)) }
     ensures err { IfErr result (λ e. (e ≡ Refusal.Range) × (4294967296 ≤ value)) }
 {

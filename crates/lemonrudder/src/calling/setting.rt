@@ -1,27 +1,19 @@
 //! What is set of a client.
 
-ghost use Rattle.std.specs.Prelude.{◌≡◌, if◌then◌else◌, nat_lt, None, Some};
-ghost use Rattle.lemonrudder.specs.Naming.{or_range};
-
 use crate::calling::Calling;
 use crate::named::{limits_of, truth_of, version_of};
 use crate::refusal::Refusal;
+use crate::terms::in_32_bits;
 use giop_core::Version;
 use giop_frames::Limits;
 
-/// A number of 32 bits.
-fn narrow(value: u64) -> Result<u32, Refusal>
-    ensures { result ≡ or_range (if nat_lt value 4294967296 then Some value else None) }
-{
-    u32::try_from(value).map_err(|_| Refusal::Range)
-}
-
 impl Calling {
+    ghost use Rattle.std.specs.Prelude.{Some};
     ghost use Rattle.std.specs.Option.{option_map};
     ghost use Rattle.ft_client.specs.Clients.{Kept, KeptForwards};
     ghost use Rattle.lemonrudder.specs.Calls.{Standing, Stands};
     ghost use Rattle.lemonrudder.specs.Naming.{truth_named, version_named};
-    ghost use Rattle.lemonrudder.specs.Settings.{Makes, MakesLimited, OnSet, Sets, keeping, message, partials, version};
+    ghost use Rattle.lemonrudder.specs.Adjusts.{Makes, MakesLimited, OnSet, Sets, keeping, message, partials, version};
 
     /// Sets what a client keeps, or what it is made with.
     pub fn set(&mut self, what: u32, value: u64) -> Result<u64, Refusal>
@@ -59,7 +51,7 @@ impl Calling {
     fn set_version(&mut self, value: u64) -> Result<u64, Refusal>
         ensures { Sets (option_map version (version_named value)) self.old self.new result }
     {
-        let version = version_of(narrow(value)?)?;
+        let version = version_of(in_32_bits(value)?)?;
         let limits = self.client.limits();
         self.make_with(version, limits)
     }
@@ -69,7 +61,7 @@ impl Calling {
         ensures { Sets (Some (message value)) self.old self.new result }
     {
         let partials = self.client.limits().partials;
-        self.limit(narrow(value)?, u32::from(partials))
+        self.limit(in_32_bits(value)?, u32::from(partials))
     }
 
     /// How many messages may be partial at a time.
@@ -77,7 +69,7 @@ impl Calling {
         ensures { Sets (Some (partials value)) self.old self.new result }
     {
         let message = self.client.limits().message;
-        self.limit(message, narrow(value)?)
+        self.limit(message, in_32_bits(value)?)
     }
 
     /// The limits of its connections.

@@ -6,7 +6,7 @@ ghost use Rattle.lemonrudder.specs.Calls.{IsMade, OnBody, OnCancel, OnCompleted,
 ghost use Rattle.lemonrudder.specs.Invokes.{OnCall, question};
 ghost use Rattle.lemonrudder.specs.Opening.{OpensMade};
 ghost use Rattle.lemonrudder.specs.Resuming.{OnForwarded, OnRecall, OnRedirect, OnResend, OnSkip};
-ghost use Rattle.lemonrudder.specs.Settings.{OnSet};
+ghost use Rattle.lemonrudder.specs.Adjusts.{OnSet};
 ghost use Rattle.lemonrudder.specs.Slots.{held_in};
 
 use crate::called;

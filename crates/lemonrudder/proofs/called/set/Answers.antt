@@ -1,5 +1,5 @@
 use Rattle.std.proofs.Common.{rules}
-use Rattle.lemonrudder.specs.Settings.{OnSet}
+use Rattle.lemonrudder.specs.Adjusts.{OnSet}
 use Rattle.lemonrudder.proofs.Clients.{on_client}
 use Rattle.lemonrudder.proofs.called.set.Goals as goal
 

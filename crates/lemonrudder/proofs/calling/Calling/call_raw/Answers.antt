@@ -35,7 +35,7 @@ returns-in_err-number c =
     let read = subst (λ xs. AreContexts m.order (map item_at xs) q.contexts) (sym c.deref.ensures.value) c.in_ok-contexts.ensures in
     let are = raw_is c.version.result q m (map item_at c.deref.result.now) c.in_ok-manner.ensures read in
     raw_refused c.args.now c.args.expiration q s (record s { client = c.call_raw.new.self; due = record s.due { octets = c.call_raw.new.out } }) c.version.result c.version.ensures
-    (raw_in m (map item_at c.deref.result.now)) are (call_raw c.call.result) c.call.ensures.asked c.in_err-number.field-0.0 _ e.err
+    (raw_in m (map item_at c.deref.result.now)) are (call_raw c.call-call.result) c.call-call.ensures.asked c.in_err-number.field-0.0 _ e.err
     (λ x st. stands_unwritten s c.call_raw.new.self c.call_raw.new.out x x.client st (e.same x.client st.client) e.unwritten) (p.1 ∙ ap Err p.2)
 
 pub returns : goal.returns
@@ -48,5 +48,5 @@ returns c =
     let are = raw_is c.version.result q m (map item_at c.deref.result.now) c.in_ok-manner.ensures read in
     let same : to_z w32 (of_z w32 c.in_ok-number.number) ≡ c.in_ok-number.number = first_of (search rules, omega (arith, ints)) in
     let number : c.unsigned_abs.result ≡ unsigned_abs c.in_ok-number.number = c.unsigned_abs.ensures.value ∙ ap (λ (z : ℤ). unsigned_abs z) same in
-    raw_taken c.args.now c.args.expiration q s c.version.result c.version.ensures (raw_in m (map item_at c.deref.result.now)) are (call_raw c.call.result) c.call.ensures.asked c.call_raw.new.self c.call_raw.new.out _
+    raw_taken c.args.now c.args.expiration q s c.version.result c.version.ensures (raw_in m (map item_at c.deref.result.now)) are (call_raw c.call-call.result) c.call-call.ensures.asked c.call_raw.new.self c.call_raw.new.out _
     (λ n st. c.from.ensures ∙ number ∙ ap (λ (z : ℤ). unsigned_abs z) (o.number n st)) o.taken o.stands o.out

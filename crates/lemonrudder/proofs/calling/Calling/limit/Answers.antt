@@ -1,5 +1,5 @@
 use Rattle.std.proofs.Common.{◌≡◌}
-use Rattle.lemonrudder.proofs.Settings.{limited}
+use Rattle.lemonrudder.proofs.Adjusting.{limited}
 use Rattle.lemonrudder.proofs.calling.Calling.limit.Goals as goal
 
 pub returns : goal.returns

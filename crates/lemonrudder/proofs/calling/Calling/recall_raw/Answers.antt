@@ -35,7 +35,7 @@ returns-in_err-recall_raw c =
     let read = subst (λ xs. AreContexts m.order (map item_at xs) q.contexts) (sym c.deref.ensures.value) c.in_ok-contexts.ensures in
     let are = raw_is c.version.result q m (map item_at c.deref.result.now) c.in_ok-manner.ensures read in
     raw_left c.args.now c.args.expiration q s (record s { client = c.recall_raw.new.self; due = record s.due { octets = c.recall_raw.new.out } }) c.version.result c.version.ensures
-    (raw_in m (map item_at c.deref.result.now)) are (call_raw c.call.result) c.call.ensures.asked c.args.call c.in_ok-number.number c.in_err-recall_raw.field-0.0 _ number e.err
+    (raw_in m (map item_at c.deref.result.now)) are (call_raw c.call-call.result) c.call-call.ensures.asked c.args.call c.in_ok-number.number c.in_err-recall_raw.field-0.0 _ number e.err
     (λ x st. stands_unwritten s c.recall_raw.new.self c.recall_raw.new.out x x.client st (e.same x.client st.client) e.unwritten) (p.1 ∙ ap Err p.2)
 
 pub returns : goal.returns
@@ -47,5 +47,5 @@ returns c =
     let number = numbered_as c.args.call _ c.in_ok-number.number (to_z-of_z w64 c.args.call c.ranges.call) c.in_ok-number.ensures in
     let read = subst (λ xs. AreContexts m.order (map item_at xs) q.contexts) (sym c.deref.ensures.value) c.in_ok-contexts.ensures in
     let are = raw_is c.version.result q m (map item_at c.deref.result.now) c.in_ok-manner.ensures read in
-    raw_resumed c.args.now c.args.expiration q s c.version.result c.version.ensures (raw_in m (map item_at c.deref.result.now)) are (call_raw c.call.result) c.call.ensures.asked c.args.call c.in_ok-number.number c.recall_raw.new.self c.recall_raw.new.out number
+    raw_resumed c.args.now c.args.expiration q s c.version.result c.version.ensures (raw_in m (map item_at c.deref.result.now)) are (call_raw c.call-call.result) c.call-call.ensures.asked c.args.call c.in_ok-number.number c.recall_raw.new.self c.recall_raw.new.out number
     o.taken o.stands o.out

@@ -1,4 +1,4 @@
-use Rattle.std.proofs.Common.{◌≡◌, ◌∙◌, List, Ok, Option, ap, option_map, refl, rules, slice_get, subst, sym, ℕ}
+use Rattle.std.proofs.Common.{◌≡◌, ◌∙◌, List, Ok, Option, ap, option_map, refl, rules, slice_get, subst, ℕ}
 use Rattle.giop_core.specs.Items.{item_at}
 use Rattle.giop_link.specs.Hearing.{Question}
 use Rattle.lemonrudder.specs.Items.{CopiesItem}

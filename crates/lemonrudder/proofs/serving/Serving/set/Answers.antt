@@ -1,4 +1,4 @@
-use Rattle.std.proofs.Common.{refl, rules, true≢false, sym, ◌∙◌}
+use Rattle.std.proofs.Common.{rules}
 use Rattle.lemonrudder.proofs.Idling.{not_so}
 use Rattle.lemonrudder.proofs.Asked.{asked-idle}
 use Rattle.lemonrudder.proofs.Offered.{set_anew}

@@ -1,4 +1,4 @@
-use Rattle.std.proofs.Common.{◌≡◌, Option, true, ap, refl}
+use Rattle.std.proofs.Common.{Option, true, ap, refl}
 use Rattle.std.specs.Option.{option_map_or}
 use Rattle.ft_orb.specs.Engines.{Awaited}
 use Rattle.lemonrudder.specs.Connected.{is_there}

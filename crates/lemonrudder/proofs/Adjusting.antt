@@ -6,7 +6,7 @@ use Rattle.lemonrudder.specs.declared.calling.Calling.{Calling}
 use Rattle.lemonrudder.specs.declared.refusal.Refusal.{Refusal}
 use Rattle.lemonrudder.specs.Calls.{Standing}
 use Rattle.lemonrudder.specs.Naming.{HasLimits}
-use Rattle.lemonrudder.specs.Settings.{Makes, MakesLimited}
+use Rattle.lemonrudder.specs.Adjusts.{Makes, MakesLimited}
 
 -- limits of these numbers, in the version of a client
 pub limited : (messages partial : ℕ) (x : Standing) (t : Calling) (r : Result ℕ Refusal) (version : Version) (limits : Limits) → version ≡ x.client.version → HasLimits messages partial limits → Makes version limits x t r → MakesLimited messages partial x t r
