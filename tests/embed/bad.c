@@ -212,7 +212,6 @@ static lr_catalogue given;
   CALL(server_held_by, SERVER, lr_server_held_by(slot, "A", 1))                                                        \
   CALL(server_next_expiry, SERVER, lr_server_next_expiry(slot, &got_number))                                           \
   CALL(server_tick, SERVER, lr_server_tick(slot, NOW))                                                                 \
-  CALL(server_why, SERVER, lr_server_why(slot, 1))                                                                     \
   CALL(server_swap, SERVER, lr_server_swap(slot, &given))                                                              \
   CALL(client_connected, CLIENT, lr_client_connected(slot, NOW))                                                       \
   CALL(client_lost, CLIENT, lr_client_lost(slot))                                                                      \
@@ -546,7 +545,6 @@ static void idle_servers_refuse(lr_server *server) {
   WANT(lr_server_parked_of(server, fed), 0);
   WANT(lr_server_count(server, LR_COUNT_WITHDRAWN + 1), LR_E_RANGE);
   WANT(lr_server_count(server, UINT32_MAX), LR_E_RANGE);
-  WANT(lr_server_why(server, UINT64_MAX), LR_E_CONNECTION);
   got_number = 77;
   WANT(lr_server_next_due(server, &got_number), 0);
   CHECK(got_number == 77);
