@@ -492,20 +492,6 @@ LR_API int64_t lr_server_next_expiry(lr_server *server, uint64_t *moment);
  * for long, this gives memory back. LR_E_EMPTY, LR_E_ASKING. */
 LR_API int64_t lr_server_tick(lr_server *server, uint64_t moment);
 
-/* Why nothing more is heard of a connection: LR_FAULT_.. of its stream, or one of these. */
-enum {
-  LR_WHY_OPEN = 0,       /* it goes on */
-  LR_WHY_DIRECTION = 32, /* its peer sent a message that only a server sends */
-  LR_WHY_GOODBYE = 33,   /* its peer sent CloseConnection */
-  LR_WHY_ERROR = 34,     /* its peer sent MessageError */
-  LR_WHY_FAREWELL = 35,  /* you said goodbye on it */
-  LR_WHY_GIVEN_UP = 36,  /* you gave up a request that came on it */
-  LR_WHY_MEMORY = 37     /* an allocation failed */
-};
-
-/* Which of these, until lr_server_lost. LR_E_EMPTY, LR_E_CONNECTION. */
-LR_API int64_t lr_server_why(lr_server *server, uint64_t connection);
-
 /* Exchanges what the server has on offer and a catalogue: so objects are added and taken away while it serves. What is
  * kept stays, and is what repeats get. A parked request is answered by an outcome of its operation as that is on offer
  * then, or by a system exception. LR_E_EMPTY, LR_E_ASKING. */

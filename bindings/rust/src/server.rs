@@ -5,8 +5,7 @@ use crate::contexts::Contexts;
 use crate::error::{self, copied, count, done, sure};
 use crate::sys::{self, lr_request, lr_slot};
 use crate::{
-    Catalogue, Completed, Counted, Error, Moment, Order, Part, Status, SystemName, Version, Why,
-    Wish,
+    Catalogue, Completed, Counted, Error, Moment, Order, Part, Status, SystemName, Version, Wish,
 };
 use alloc::vec::Vec;
 use core::mem::size_of;
@@ -541,16 +540,6 @@ impl Server {
     /// `Asking`.
     pub fn tick(&mut self, moment: Moment) -> Result<(), Error> {
         done(sys::lr_server_tick(&mut self.slot, moment.0))
-    }
-
-    /// Why nothing more is heard of a connection, until it is [`lost`](Server::lost).
-    ///
-    /// # Errors
-    ///
-    /// `Connection`; and `Range`, where this version of the crate has no name for it.
-    pub fn why(&mut self, connection: u64) -> Result<Why, Error> {
-        let number = count(sys::lr_server_why(&mut self.slot, connection))?;
-        u32::try_from(number).map_err(|_| Error::Range).and_then(Why::of)
     }
 
     /// Exchanges what it has on offer and a catalogue: so objects are added and taken away while it
