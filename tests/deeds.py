@@ -65,12 +65,16 @@ def request_words(asked):
 
 
 class Owned(Engine):
-    """An engine, its owner, and the lines that it is given and that are printed. What the owner does of each request that
-    it is asked for stands in `manners`, by the request's id."""
+    """An engine, its owner, and the lines that it is given and that are printed, for a list of a maker. What the owner
+    does of each request that it is asked for stands in `manners`, by the request's id."""
 
-    def __init__(self, terms, places, manners):
+    # what is said of a request for which there is no place to park it
+    UNPARKED = "unparked full"
+
+    def __init__(self, maker):
+        terms, places = maker.terms, maker.places
         super().__init__(terms, {}, places)
-        self.manners, self.is_hidden, self.longest, self.client = manners, False, None, b""
+        self.manners, self.is_hidden, self.longest, self.client = maker.manners, False, None, b""
         counts = (places.parked, places.parked, places.joined, terms.capacity, terms.share)
         self.given = [f"engine {' '.join(map(str, counts))}"]
 
@@ -116,7 +120,7 @@ class Owned(Engine):
                 self.parked[number] = Parked(asked.call)
                 self.wait(connection, asked, self.parked[number])
                 return self.parked[number]
-            self.refused("park", "unparked full")
+            self.refused("park", self.UNPARKED)
             manner = "answer"
         if manner == "look":
             for line in ("hide", "drop", "bound 0", "opened 1000"):
@@ -282,6 +286,30 @@ class Maker:
         return self.steps
 
 
+def fault_of(player, engine, steps):
+    """What is wrong with what a program prints for the steps of a list, or None: the lines that were given, and those that
+    were printed."""
+    for step in steps:
+        engine.take(step)
+    given = "".join(line + "\n" for line in engine.given)
+    run = base.ran(player, given=given.encode())
+    got = run.stdout.decode().splitlines()
+    if run.returncode == 0 and got == engine.lines:
+        return None
+    error = f"status {run.returncode} {run.stderr.decode()}"
+    return "\n".join([f"{given}wanted:", *engine.lines, "got:", *got, error])
+
+
+def judge(player, maker, model):
+    """Raises an error where a program prints something else for a list than a model says: with as few steps as are
+    found."""
+    def fault(steps):
+        return fault_of(player, model(maker), steps)
+    if fault(maker.made()):
+        fewer = smallest(maker.steps, fault)
+        raise AssertionError(f"{len(fewer)} of {len(maker.steps)} steps, {fault(fewer)}")
+
+
 class Lists(unittest.TestCase):
     """An owner's deeds, and changes of what an engine serves, on random lists."""
 
@@ -289,23 +317,7 @@ class Lists(unittest.TestCase):
     def setUpClass(cls):
         cls.player = programs.program("DEEDS_PLAYER")
 
-    def fault_of(self, maker, steps):
-        """What is wrong with a list, or None: the lines that were given, and those that were printed."""
-        engine = Owned(maker.terms, maker.places, maker.manners)
-        for step in steps:
-            engine.take(step)
-        given = "".join(line + "\n" for line in engine.given)
-        run = base.ran(self.player, given=given.encode())
-        got = run.stdout.decode().splitlines()
-        if run.returncode == 0 and got == engine.lines:
-            return None
-        error = f"status {run.returncode} {run.stderr.decode()}"
-        return "\n".join([f"{given}wanted:", *engine.lines, "got:", *got, error])
-
     @base.each_seed(SEED, COUNT, PLAYERS)
     def test_lists(self, seed):
         """What is written for each deed is what the model says, also where what is on offer changes."""
-        maker = Maker(random.Random(seed))
-        if self.fault_of(maker, maker.made()):
-            fewer = smallest(maker.steps, lambda some: self.fault_of(maker, some))
-            self.fail(f"{len(fewer)} of {len(maker.steps)} steps, {self.fault_of(maker, fewer)}")
+        judge(self.player, Maker(random.Random(seed)), Owned)
