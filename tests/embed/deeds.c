@@ -5,10 +5,13 @@
  *
  * - `park` that is refused: `unparked`; LR_E_PARKS does not say which places are taken.
  * - `bound N` is a limit of the server: once a connection was opened it prints `too late`.
- * - There is no `heard`.
+ * - There is no `heard` and no `ending`: the header tells neither.
  * - What is told of a parked request is printed by the numbers of the connections, and on each as it is due.
  * - `goodbye`: the request that waits is given up, and CloseConnection is due on its connection. Where somebody waits
  *   there for a parked one it is refused: `waits`.
+ * - `restore` offers the counter again, also where requests are parked.
+ * - `parked` prints how many requests are parked, and of each connection C/COUNT, where any is; `wanted` prints of each
+ *   that is parked NUMBER/COUNT, how many wait for its outcome.
  *
  * Octets are read and written without the library. What is due where no deed says so is printed too.
  */
@@ -30,14 +33,9 @@ static size_t deed_count;
 /* the tickets of what was asked for, in order: their places are the numbers of requests */
 static uint64_t tickets[ASKS];
 static size_t ask_count;
-/* the connections that were opened, and why each ended as far as that was seen */
-static struct connection {
-  uint64_t number;
-  int64_t why;
-} connections[CONNECTIONS];
+/* the connections that were opened */
+static uint64_t connections[CONNECTIONS];
 static size_t connection_count;
-/* the one that ended last */
-static struct connection last;
 static uint64_t now;
 /* how many requests and locates had been handled when the last piece came */
 static int64_t handled_before;
@@ -269,12 +267,8 @@ static void print_told(void) {
 /* Nothing is named or due after a deed. */
 static void print_odd(void) {
   uint64_t named;
-  unsigned char room[1];
   while (lr_server_next_due(&server, &named) == 1) printf("%" PRIu64 " is named\n", named);
-  for (size_t index = 0; index < connection_count; index++) {
-    uint64_t connection = connections[index].number;
-    if (lr_server_output(&server, connection, room, sizeof room) != 0) print_entry(connection, "is due");
-  }
+  for (size_t index = 0; index < connection_count; index++) print_due(connections[index], "is due", true);
 }
 
 /* ---- deeds ---- */
@@ -299,17 +293,6 @@ static lr_request waiting(void) {
   return asked;
 }
 
-/* Notes that a connection has ended, if it has. */
-static void note_end(uint64_t connection) {
-  for (size_t index = 0; index < connection_count; index++) {
-    struct connection *at = &connections[index];
-    int64_t why = lr_server_why(&server, at->number);
-    if (at->number != connection || at->why != LR_WHY_OPEN || why <= LR_WHY_OPEN) continue;
-    at->why = why;
-    last = *at;
-  }
-}
-
 /* How many requests and locates were handled. */
 static int64_t handled(void) {
   static const uint32_t counted[] = {LR_COUNT_REPEATED, LR_COUNT_EXPIRED,    LR_COUNT_MALFORMED, LR_COUNT_INVALID,
@@ -325,7 +308,7 @@ static struct ended do_opened(uint64_t connection) {
   if (answer != LR_OK && answer != LR_E_CONNECTION) return refused(answer);
   if (answer == LR_OK) {
     if (connection_count == CONNECTIONS) stop("too many connections");
-    connections[connection_count++] = (struct connection){connection, LR_WHY_OPEN};
+    connections[connection_count++] = connection;
   }
   print_entry(connection, answer == LR_OK ? "done" : "refused");
   return done;
@@ -342,7 +325,6 @@ static struct ended do_close(uint64_t connection) {
   int64_t answer = lr_server_farewell(&server, connection);
   if (answer == LR_E_PARKS) return refused_by("waits");
   if (answer != LR_OK && answer != LR_E_CONNECTION) return refused(answer);
-  note_end(connection);
   print_entry(connection, answer == LR_OK ? "done" : "refused");
   return done;
 }
@@ -363,7 +345,6 @@ static struct ended do_piece(uint64_t connection, uint64_t moment, const struct 
   if (now < moment) now = moment;
   handled_before = before;
   note_ask();
-  note_end(connection);
   print_entry(connection, answer < 0 ? "refused" : "done");
   if (answer >= 0 && (uint64_t)answer < piece->size) ended.taken = answer;
   return ended;
@@ -426,7 +407,6 @@ static struct ended do_give_up(bool is_goodbye) {
   if (answer == LR_E_PARKS) return refused_by("waits");
   if (answer != LR_OK) return refused(answer);
   long long count = (long long)(handled() - handled_before);
-  note_end(asked.connection);
   snprintf(how, sizeof how, "lost %lld %lld", count, count);
   print_entry(asked.connection, how);
   return done;
@@ -510,7 +490,6 @@ static void open_server(char *words) {
   for (size_t index = 0; index < sizeof limits / sizeof limits[0]; index++)
     must(lr_server_set(&server, limits[index], number(parted(&words, ' '))));
   deed_count = ask_count = connection_count = 0;
-  last = (struct connection){0, LR_WHY_OPEN};
   now = 0;
 }
 
@@ -563,14 +542,22 @@ static void print_counts(void) {
   printf("\n");
 }
 
-/* Why a connection ended, if it is the one that did last. */
-static void print_ending(uint64_t connection) {
-  static const char *const ways[] = {"faulty wrong direction", "peer closed", "peer error",
-                                     "closed",                 "given up",    "memory"};
-  if (last.why == LR_WHY_OPEN || last.number != connection) printf("ending none\n");
-  else if (last.why == LR_FAULT_MAGIC) printf("ending faulty bad magic\n");
-  else if (last.why < LR_WHY_DIRECTION) printf("ending faulty %" PRId64 "\n", last.why);
-  else printf("ending %s\n", ways[last.why - LR_WHY_DIRECTION]);
+static void print_parked(void) {
+  printf("parked %" PRId64, lr_server_parked(&server));
+  for (size_t index = 0; index < connection_count; index++) {
+    int64_t count = lr_server_parked_of(&server, connections[index]);
+    if (count != 0) printf(" %" PRIu64 "/%" PRId64, connections[index], count);
+  }
+  printf("\n");
+}
+
+static void print_wanted(void) {
+  printf("wanted");
+  for (size_t asked = 0; asked < ask_count; asked++) {
+    int64_t count = lr_server_wanted(&server, tickets[asked]);
+    if (count != LR_E_TICKET) printf(" %zu/%" PRId64, asked, count);
+  }
+  printf("\n");
 }
 
 static void note_deed(const char *line) {
@@ -588,10 +575,12 @@ static void take_line(char *line) {
   else if (strcmp(name, "hide") == 0) offer_unwanted(true);
   else if (strcmp(name, "show") == 0) offer_unwanted(false);
   else if (strcmp(name, "drop") == 0) offer(true);
+  else if (strcmp(name, "restore") == 0) offer(false);
   else if (strcmp(name, "bound") == 0) bound(number(words));
   else if (strcmp(name, "counts") == 0) print_counts();
-  else if (strcmp(name, "ending") == 0) print_ending(number(words));
   else if (strcmp(name, "tick") == 0) tick(number(words));
+  else if (strcmp(name, "parked") == 0) print_parked();
+  else if (strcmp(name, "wanted") == 0) print_wanted();
   else note_deed(line);
 }
 

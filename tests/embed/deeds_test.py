@@ -7,7 +7,7 @@ has no such thing, or another:
 - An error says that there is no place to park a request, and not which places are taken.
 - The greatest length of a client's id is set before the first connection is opened: a list has `bound` first of all, and
   afterwards it is too late, also while a request waits. Rows in which it changes later are left out.
-- What became of each request (`heard`) is not told, but counted.
+- What became of each request (`heard`) is not told, but counted; why a connection ended (`ending`) is not told.
 - The connections on which octets became due by the outcome of a parked request are named in no order that is promised:
   what is told is compared by the numbers of the connections, and in its order on each.
 """
@@ -20,7 +20,7 @@ import unittest
 from collections.abc import Iterator
 
 from tests import base, deeds, embedding, programs
-from tests.engine_model import Asked, Parked
+from tests.engine_model import Asked, GivenUp, Parked
 
 ROWS = os.path.join(programs.ROOT, "crates", "deeds_player")
 # the greatest length of a client's id where none is set
@@ -28,11 +28,29 @@ LONGEST = 256
 
 
 class Maker(deeds.Maker):
-    """Makes the steps of a list, which begins with the greatest length of a client's id."""
+    """Makes the steps of a list, also those that only the header has."""
 
-    def made(self) -> list:
+    def __init__(self, dice: random.Random) -> None:
+        super().__init__(dice)
+        self.of_one = dice.choice([self.places.parked, self.places.parked, 1, 2])
+
+    def request(self) -> deeds.Asking:
+        asking = super().request()
+        number = asking.asked.request_id
+        if self.manners[number] == "give_up" and self.dice.random() < 0.5:
+            self.manners[number] = "goodbye"
+        return asking
+
+    def step(self) -> tuple:
+        dice = self.dice
+        if dice.random() < 0.75:
+            return super().step()
+        tick = "tick", self.now + dice.choice([0, 1, 10])
+        return dice.choice([("counts",), ("parked",), ("wanted",), ("restore",), tick])
+
+    def made(self) -> list[tuple]:
         longest = self.dice.choice([0, 1, 2, 6, 255, *[LONGEST] * 5])
-        self.steps = [("bound", longest), *super().made()]
+        self.steps = [("bound", longest), *super().made(), ("parked",), ("counts",)]
         return self.steps
 
 
@@ -53,18 +71,41 @@ class Embedded(deeds.Owned):
             return self.do_bound(int(line.split()[1]))
         return super().while_asking(line)
 
+    def give_up(self, manner: str, connection: int, asked: Asked) -> str:
+        if manner == "give_up":
+            return super().give_up(manner, connection, asked)
+        if self.waits_on(connection):
+            self.refused("goodbye", "waits")
+            return self.answer_asked("answer", connection, asked)
+        self.deed("goodbye", f"{connection} lost 0 0 close")
+        self.counts["given_up"] += 1
+        raise GivenUp
+
     def do_bound(self, octets: int) -> None:
         if self.greatest < 0:
             return super().do_bound(octets)
         self.give(f"bound {octets}")
         self.lines.append("too late")
 
+    def do_restore(self) -> None:
+        self.give("restore")
+        self.is_hidden = False
+
+    def do_parked(self) -> None:
+        self.give("parked")
+        counts = [(number, self.parked_of(number)) for number in sorted(set(self.origins.values()))]
+        self.lines.append(" ".join([f"parked {len(self.parked)}", *(f"{c}/{count}" for c, count in counts if count)]))
+
+    def do_wanted(self) -> None:
+        self.give("wanted")
+        self.lines.append(" ".join(["wanted", *(f"{n}/{len(self.going(self.parked[n]))}" for n in sorted(self.parked))]))
+
 
 def blocks(name: str) -> list[list[str]]:
-    """The lines of a file of rows, by their rows, but for what became of each request."""
+    """The lines of a file of rows, by their rows, but for what is not told."""
     with open(os.path.join(ROWS, name), encoding="ascii") as file:
         rows = file.read().rstrip("\n").split("\n\n")
-    return [[line for line in row.splitlines() if not line.startswith("heard")] for row in rows]
+    return [[line for line in row.splitlines() if line.split(" ")[0] not in ("heard", "ending")] for row in rows]
 
 
 def is_bounded_late(given: list[str]) -> bool:
@@ -123,5 +164,10 @@ class Lists(unittest.TestCase):
 
     @base.each_seed(deeds.SEED, deeds.COUNT, deeds.PLAYERS)
     def test_lists(self, seed: int) -> None:
-        """What is written for each deed is what the model says."""
+        """What is written for each deed of the lists that an engine plays is what the model says."""
+        deeds.judge(self.player, deeds.Maker(random.Random(seed)), Embedded)
+
+    @base.each_seed(deeds.SEED, deeds.COUNT, deeds.PLAYERS)
+    def test_lists_of_the_header(self, seed: int) -> None:
+        """So is what is written for each deed that the header has."""
         deeds.judge(self.player, Maker(random.Random(seed)), Embedded)
