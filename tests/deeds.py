@@ -12,7 +12,7 @@ import unittest
 from collections import Counter, namedtuple
 
 from tests import base, giop, programs
-from tests.ends_model import Call, refused
+from tests.ends_model import Call, arguments_body, refused
 from tests.engine_model import FULL, NONE, NOT_NOW, Asked, Engine, GivenUp, Parked, Places, Terms
 from tests.schedules import NAMES
 from tests.smaller import smallest
@@ -66,6 +66,14 @@ def request_words(asked):
     oneway = "oneway " if asked.wish == NONE else ""
     arguments = "".join(f" {argument}" for argument in call.arguments)
     return f"{oneway}{asked.request_id} {asked.version} {key} {call.operation.decode()}{arguments}"
+
+
+def size_of(asked):
+    """How many octets a request has."""
+    call = asked.call
+    contexts = [giop.ft_request(*asked.field, call.expiration)] if asked.field else []
+    return len(giop.request(asked.request_id, call.key, call.operation, arguments_body(call.arguments),
+                            minor=int(asked.version[2]), contexts=contexts))
 
 
 class Owned(Engine):
@@ -140,7 +148,7 @@ class Owned(Engine):
         """Asks for a request: what comes of it, by what the owner does."""
         number, self.asks = self.asks, self.asks + 1
         self.asking = True
-        self.lines += [f"{connection} done", "done"]
+        self.end_piece(connection)
         manner = self.manners[asked.request_id]
         if manner == "park":
             if len(self.parked) < self.places.parked and self.parked_of(connection) < self.of_one:
@@ -164,7 +172,7 @@ class Owned(Engine):
 
     def give_up(self, manner, connection, asked):
         """Gives up the request that waits."""
-        self.deed(manner, f"{connection} lost 0 0")
+        self.deed(manner, f"{connection} lost {self.handled} {self.handled}")
         self.counts["given_up"] += 1
         raise GivenUp
 
@@ -197,27 +205,45 @@ class Owned(Engine):
     def take(self, step):
         """Takes a step of a list."""
         if isinstance(step, Asking):
-            return self.hear(*step)
+            return self.do_asks(step.connection, step.now, [step.asked])
         name, *words = step
         return getattr(self, f"do_{name}")(*words)
 
-    def hear(self, connection, now, asked):
-        """A request comes on a connection at a moment."""
-        line = f"asks {connection} {now} {request_words(asked)}"
-        self.clock = max(self.clock, now)
-        wire = self.wires.get(connection)
-        if wire is None or wire.is_shut:
-            return self.deed(line, f"{connection} {'refused' if wire is None else 'done'}")
-        self.given += [line, "play"]
-        self.asking = False
-        try:
-            came = self.came_of(connection, asked)
-        except GivenUp:
-            self.lose(connection)
-            return None
-        if not self.asking:
-            self.lines += [f"{connection} done{self.reply_words(asked, came)}", "done"]
+    def do_asks(self, connection, now, some):
+        """Requests come on a connection at a moment, in one piece; what is not taken of it comes again."""
+        while some:
+            line = f"asks {connection} {now} {','.join(map(request_words, some))}"
+            self.clock = max(self.clock, now)
+            wire = self.wires.get(connection)
+            if wire is None or wire.is_shut:
+                return self.deed(line, f"{connection} {'refused' if wire is None else 'done'}")
+            self.given += [line, "play"]
+            try:
+                some = self.take_piece(connection, some)
+            except GivenUp:
+                return self.lose(connection)
         return None
+
+    def take_piece(self, connection, some):
+        """Takes a piece, up to the first request that is asked for or that repeats a parked one, and gives what is left."""
+        self.said, self.handled, self.size, self.rest, self.asking = "", 0, 0, some, False
+        while self.rest:
+            asked, *self.rest = self.rest
+            self.size += size_of(asked)
+            stops = self.stops
+            came = self.came_of(connection, asked)
+            if self.asking:
+                return self.rest
+            self.said += self.reply_words(asked, came)
+            self.handled += 1
+            if stops != self.stops:
+                break
+        self.end_piece(connection)
+        return self.rest
+
+    def end_piece(self, connection):
+        """Prints what is written for a piece, and how many octets of it are taken, where some are left."""
+        self.lines += [f"{connection} done{self.said}", f"left 1 {self.size}" if self.rest else "done"]
 
     def do_opened(self, number):
         is_new = self.greatest < number

@@ -41,9 +41,17 @@ class Maker(deeds.Maker):
             self.manners[number] = "goodbye"
         return asking
 
+    def piece(self) -> tuple:
+        """Requests that come at once, on any connection."""
+        some = [self.request().asked for _ in range(self.dice.randint(2, 4))]
+        return "asks", self.dice.randint(1, self.last), self.now, some
+
     def step(self) -> tuple:
         dice = self.dice
-        if dice.random() < 0.75:
+        chance = dice.random()
+        if chance < 0.1:
+            return self.piece()
+        if chance < 0.8:
             return super().step()
         tick = "tick", self.now + dice.choice([0, 1, 10])
         return dice.choice([("counts",), ("parked",), ("wanted",), ("restore",), tick])
@@ -77,7 +85,7 @@ class Embedded(deeds.Owned):
         if self.waits_on(connection):
             self.refused("goodbye", "waits")
             return self.answer_asked("answer", connection, asked)
-        self.deed("goodbye", f"{connection} lost 0 0 close")
+        self.deed("goodbye", f"{connection} lost {self.handled} {self.handled} close")
         self.counts["given_up"] += 1
         raise GivenUp
 
