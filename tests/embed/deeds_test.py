@@ -20,7 +20,7 @@ import unittest
 from collections.abc import Iterator
 
 from tests import base, deeds, embedding, programs
-from tests.engine_model import Asked, GivenUp, Parked
+from tests.engine_model import Asked, GivenUp, Parked, Places
 
 ROWS = os.path.join(programs.ROOT, "crates", "deeds_player")
 # the greatest length of a client's id where none is set
@@ -32,14 +32,15 @@ class Maker(deeds.Maker):
 
     def __init__(self, dice: random.Random) -> None:
         super().__init__(dice)
+        self.places = Places(dice.choice([1, 2, 3, 100]), dice.choice([0, 1, 2, 10]))
         self.of_one = dice.choice([self.places.parked, self.places.parked, 1, 2])
 
     def request(self) -> deeds.Asking:
-        asking = super().request()
+        asking, dice = super().request(), self.dice
         number = asking.asked.request_id
-        if self.manners[number] == "give_up" and self.dice.random() < 0.5:
+        if self.manners[number] == "give_up" and dice.random() < 0.5:
             self.manners[number] = "goodbye"
-        return asking
+        return asking._replace(connection=dice.choice([asking.connection, dice.randint(1, self.last)]))
 
     def piece(self) -> tuple:
         """Requests that come at once, on any connection."""
@@ -51,13 +52,15 @@ class Maker(deeds.Maker):
         chance = dice.random()
         if chance < 0.1:
             return self.piece()
-        if chance < 0.8:
+        if chance < 0.2:
+            return self.opened()
+        if chance < 0.85:
             return super().step()
         tick = "tick", self.now + dice.choice([0, 1, 10])
         return dice.choice([("counts",), ("parked",), ("wanted",), ("restore",), tick])
 
     def made(self) -> list[tuple]:
-        longest = self.dice.choice([0, 1, 2, 6, 255, *[LONGEST] * 5])
+        longest = self.dice.choice([0, 2, 6, 255, *[LONGEST] * 20])
         self.steps = [("bound", longest), *super().made(), ("parked",), ("counts",)]
         return self.steps
 
