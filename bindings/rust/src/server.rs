@@ -202,9 +202,9 @@ impl Server {
     }
 
     /// Takes octets of a connection that came at a moment, and answers how many it took: all of
-    /// them; those up to a request that waits for its outcome; or fewer where
-    /// [`Settings::due`] octets are due on it. The rest is to be fed at the same moment, when it is
-    /// answered, or less is due.
+    /// them; those up to a request that waits for its outcome, or to a repeat of a parked one; or
+    /// fewer where [`Settings::due`] octets are due on it. The rest is to be fed at the same moment,
+    /// when what waits is answered, or less is due.
     ///
     /// # Errors
     ///
@@ -296,9 +296,13 @@ impl Server {
         let mut taken = 0;
         loop {
             let left = octets.get(taken..).unwrap_or(&[]);
-            taken += self.feed(connection, moment, left)?;
+            let fed = self.feed(connection, moment, left)?;
+            taken += fed;
             let Some(said) = self.waiting() else {
-                return Ok(taken);
+                if fed == 0 || taken == octets.len() {
+                    return Ok(taken);
+                }
+                continue; // (up to a repeat of a parked request, or until enough is due)
             };
             match self.identify(Ticket(said.ticket)) {
                 Ok(true) => {}
