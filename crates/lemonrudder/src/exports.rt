@@ -11,6 +11,7 @@ mod client;
 mod ior;
 mod looking;
 mod message;
+mod parking;
 mod raw_call;
 mod server;
 

@@ -6,7 +6,6 @@ ghost use Rattle.lemonrudder.specs.Declining.{OnGoodbye, OnRefuse};
 ghost use Rattle.lemonrudder.specs.Hosting.{Hosts, Leaves, OpensServer};
 ghost use Rattle.lemonrudder.specs.Outcomes.{OnAnswer, OnAnswerRaw, OnIdentify, OnRaise, OnSystem};
 ghost use Rattle.lemonrudder.specs.Pairs.{OnServerAndCatalogue};
-ghost use Rattle.lemonrudder.specs.Parks.{OnNextDue, OnPark, OnParked, OnParkedOf};
 ghost use Rattle.lemonrudder.specs.Setting.{OnSet};
 ghost use Rattle.lemonrudder.specs.Swapping.{OnSwap};
 ghost use Rattle.lemonrudder.specs.Questions.{OnAsked, OnPart};
@@ -376,59 +375,6 @@ pub extern "C" fn lr_server_output(
         return Refusal::Empty.number();
     };
     let answer = served::output(&mut object, connection, room);
-    slot.put(object);
-    answer
-}
-
-/// Parks the request that waits.
-#[unsafe(no_mangle)]
-pub extern "C" fn lr_server_park(alloc: Global, slot: &mut Slot, ticket: u64) -> i64
-    ensures { OnServer (OnPark ticket) (held_in slot.old) (held_in slot.new) result }
-{
-    let Some(mut object) = slot.take(alloc) else {
-        return Refusal::Empty.number();
-    };
-    let answer = served::park(&mut object, ticket);
-    slot.put(object);
-    answer
-}
-
-/// How many requests are parked.
-#[unsafe(no_mangle)]
-pub extern "C" fn lr_server_parked(alloc: Global, slot: &mut Slot) -> i64
-    ensures { OnServer OnParked (held_in slot.old) (held_in slot.new) result }
-{
-    let Some(object) = slot.take(alloc) else {
-        return Refusal::Empty.number();
-    };
-    let answer = served::parked(&object);
-    slot.put(object);
-    answer
-}
-
-/// How many of the parked requests came on a connection.
-#[unsafe(no_mangle)]
-pub extern "C" fn lr_server_parked_of(alloc: Global, slot: &mut Slot, connection: u64) -> i64
-    ensures { OnServer (OnParkedOf connection) (held_in slot.old) (held_in slot.new) result }
-{
-    let Some(object) = slot.take(alloc) else {
-        return Refusal::Empty.number();
-    };
-    let answer = served::parked_of(&object, connection);
-    slot.put(object);
-    answer
-}
-
-/// Names a connection on which octets came due that no call on it brought.
-#[unsafe(no_mangle)]
-pub extern "C" fn lr_server_next_due(alloc: Global, slot: &mut Slot, connection: &mut u64) -> i64
-    ensures does { OnServer (OnNextDue connection.old connection.new) (held_in slot.old) (held_in slot.new) result }
-    ensures connection { HasNoServer (held_in slot.old) → connection.new ≡ connection.old }
-{
-    let Some(mut object) = slot.take(alloc) else {
-        return Refusal::Empty.number();
-    };
-    let answer = served::next_due(&mut object, connection);
     slot.put(object);
     answer
 }
