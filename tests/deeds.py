@@ -1,11 +1,12 @@
 """Plays random lists of an owner's deeds with the program `deeds_player`, and compares with a model.
 
-A list is requests for the counter and what the owner does of each, by a seed; what is parked is settled or withdrawn
-later, and meanwhile the counter is hidden, or taken away all the same, and offered again, and the ids of clients are
-bounded. What is parked and lost its object is settled with a system exception. The lines of a list are those of
-crates/deeds_player/src/lines.rt. All that is printed must be what the model says (tests/engine_model.py): for
-each deed its connection, how it ended, and what was written. A list that fails is printed with as few lines as are found
-with which it still does, as the program takes them.
+A list is requests for the counter, one or more in a piece, and what the owner does of each, by a seed; what is parked is
+settled or withdrawn later, and meanwhile the counter is hidden, or taken away all the same, and offered again, and the
+ids of clients are bounded. What is parked and lost its object is settled with a system exception. The lines of a list
+are those of crates/deeds_player/src/lines.rt. All that is printed must be what the model says (tests/engine_model.py):
+for each deed its connection, how it ended, and what was written; at each moment that is told, what is kept; and what
+was counted. A list that fails is printed with as few lines as are found with which it still does, as the program takes
+them. tests/embed/deeds_test.py plays these lists with a library.
 """
 import random
 import unittest
@@ -27,8 +28,8 @@ LIMIT = 1048576
 GONE = refused("UNKNOWN", 0, giop.MAYBE)
 
 # what an engine counts, in the order in which it prints these
-COUNTED = ["asked", "repeated", "joined", "expired", "invalid", "log_full", "share_full", "answered", "parked", "settled",
-           "given_up", "declined", "withdrawn"]
+COUNTED = ["asked", "repeated", "joined", "expired", "invalid", "log_full", "share_full", "answered", "parked",
+           "settled", "given_up", "declined", "withdrawn"]
 
 # a line of a request: its connection, its moment, and what it asks. A deed or a change is (NAME, WORDS..)
 Asking = namedtuple("Asking", "connection now asked")
@@ -79,9 +80,6 @@ def size_of(asked):
 class Owned(Engine):
     """An engine, its owner, and the lines that it is given and that are printed, for a list of a maker. What the owner
     does of each request that it is asked for stands in `manners`, by the request's id."""
-
-    # what is said of a request for which there is no place to park it
-    UNPARKED = "unparked full"
 
     def __init__(self, maker):
         terms, places = maker.terms, maker.places
@@ -151,9 +149,10 @@ class Owned(Engine):
         self.end_piece(connection)
         manner = self.manners[asked.request_id]
         if manner == "park":
-            if len(self.parked) < self.places.parked and self.parked_of(connection) < self.of_one:
+            full = self.full(connection)
+            if full is None:
                 return self.park(number, connection, asked)
-            self.refused("park", self.UNPARKED)
+            self.refused("park", full)
             manner = "answer"
         if manner == "look":
             self.look(connection, asked)
@@ -161,6 +160,12 @@ class Owned(Engine):
         if manner in ("give_up", "goodbye"):
             return self.give_up(manner, connection, asked)
         return self.answer_asked(manner, connection, asked)
+
+    def full(self, connection):
+        """What is said where there is no place to park a request of a connection, or None."""
+        if self.places.parked <= len(self.parked):
+            return "unparked full"
+        return "unparked share" if self.of_one <= self.parked_of(connection) else None
 
     def park(self, number, connection, asked):
         """Parks the request that waits."""
@@ -186,11 +191,10 @@ class Owned(Engine):
 
     def look(self, connection, asked):
         """Gives lines that do nothing while a request waits, and an outcome that is not its."""
-        for line in ("hide", "drop", "bound 0", "tick 1000000", "opened 1000", f"close {connection}", f"lost {connection}"):
+        ends = [f"close {connection}", f"lost {connection}"]
+        late = [line for number in list(self.parked)[:1] for line in (f"settle {number} 0", f"withdraw {number}")]
+        for line in ("hide", "drop", "bound 0", "tick 1000000", "opened 1000", *ends, *late):
             self.while_asking(line)
-        for number in list(self.parked)[:1]:
-            self.while_asking(f"settle {number} 0")
-            self.while_asking(f"withdraw {number}")
         if asked.call.operation == b"get":
             self.refused("answer overflow", "not fit")
 
@@ -225,7 +229,7 @@ class Owned(Engine):
         return None
 
     def take_piece(self, connection, some):
-        """Takes a piece, up to the first request that is asked for or that repeats a parked one, and gives what is left."""
+        """Takes a piece up to the first request that is asked for, or that repeats a parked one, and gives the rest."""
         self.said, self.handled, self.size, self.rest, self.asking = "", 0, 0, some, False
         while self.rest:
             asked, *self.rest = self.rest
@@ -311,7 +315,8 @@ class Owned(Engine):
 
     def do_counts(self):
         self.give("counts")
-        self.lines.append(" ".join(["counts", *(f"{name} {self.counts[name]}" for name in COUNTED if self.counts[name])]))
+        some = [f"{name} {self.counts[name]}" for name in COUNTED if self.counts[name]]
+        self.lines.append(" ".join(["counts", *some]))
 
 
 class Maker:
@@ -322,7 +327,7 @@ class Maker:
         capacity, share = dice.choice([(1024, 1024)] * 3 + [(2, 2), (3, 1), (1, 1), (0, 0), (5, 2)])
         self.terms = Terms(capacity, share, 0, LIMIT, 16)
         self.places = Places(dice.choice([0, 1, 2, 3, 100]), dice.choice([0, 1, 2, 10]))
-        self.of_one = self.places.parked
+        self.of_one = dice.choice([self.places.parked, self.places.parked, 1, 2])
         self.keyed, self.manners, self.steps = [], {}, []
 
     def new_request(self):
@@ -354,11 +359,20 @@ class Maker:
         self.last += 1
         return "opened", self.last
 
+    def piece(self):
+        """Requests that come at once."""
+        some = [self.request().asked for _ in range(self.dice.randint(2, 4))]
+        return "asks", self.dice.randint(1, self.last), self.now, some
+
     def step(self):
         """A step: mostly a request."""
         dice, chance = self.dice, self.dice.random()
-        if chance < 0.62:
+        if chance < 0.47:
             return self.request()
+        if chance < 0.55:
+            return self.piece()
+        if chance < 0.62:
+            return dice.choice([("counts",), ("tick", self.now + dice.choice([0, 1, 10]))])
         if chance < 0.76:
             return "late", dice.choice(["settle", "settle", "withdraw"]), dice.randrange(64)
         if chance < 0.84:
@@ -377,12 +391,13 @@ class Maker:
             self.ids += 1
             self.manners[self.ids] = "answer"
             self.steps.append(Asking(self.last, self.now, asked._replace(request_id=self.ids, wish=FULL)))
+        self.steps.append(("counts",))
         return self.steps
 
 
 def fault_of(player, engine, steps):
-    """What is wrong with what a program prints for the steps of a list, or None: the lines that were given, and those that
-    were printed."""
+    """What is wrong with what a program prints for the steps of a list, or None: the lines that were given, wanted and
+    printed."""
     for step in steps:
         engine.take(step)
     given = "".join(line + "\n" for line in engine.given)

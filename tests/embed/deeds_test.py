@@ -5,8 +5,8 @@ those that crates/deeds_player has, and are printed as they stand there. Both by
 has no such thing, or another:
 
 - An error says that there is no place to park a request, and not which places are taken.
-- The greatest length of a client's id is set before the first connection is opened: a list has `bound` first of all, and
-  afterwards it is too late, also while a request waits. Rows in which it changes later are left out.
+- The greatest length of a client's id is set before the first connection is opened: afterwards `bound` is too late,
+  also while a request waits. Rows in which it changes later are left out.
 - What became of each request (`heard`) is not told, but counted; why a connection ended (`ending`) is not told.
 - The connections on which octets became due by the outcome of a parked request are named in no order that is promised:
   what is told is compared by the numbers of the connections, and in its order on each.
@@ -33,7 +33,7 @@ class Maker(deeds.Maker):
     def __init__(self, dice: random.Random) -> None:
         super().__init__(dice)
         self.places = Places(dice.choice([1, 2, 3, 100]), dice.choice([0, 1, 2, 10]))
-        self.of_one = dice.choice([self.places.parked, self.places.parked, 1, 2])
+        self.of_one = dice.choice([self.places.parked, 1, 2])
 
     def request(self) -> deeds.Asking:
         asking, dice = super().request(), self.dice
@@ -42,37 +42,29 @@ class Maker(deeds.Maker):
             self.manners[number] = "goodbye"
         return asking._replace(connection=dice.choice([asking.connection, dice.randint(1, self.last)]))
 
-    def piece(self) -> tuple:
-        """Requests that come at once, on any connection."""
-        some = [self.request().asked for _ in range(self.dice.randint(2, 4))]
-        return "asks", self.dice.randint(1, self.last), self.now, some
-
     def step(self) -> tuple:
-        dice = self.dice
-        chance = dice.random()
+        chance = self.dice.random()
         if chance < 0.1:
-            return self.piece()
-        if chance < 0.2:
             return self.opened()
         if chance < 0.85:
             return super().step()
-        tick = "tick", self.now + dice.choice([0, 1, 10])
-        return dice.choice([("counts",), ("parked",), ("wanted",), ("restore",), tick])
+        return self.dice.choice([("parked",), ("wanted",), ("restore",)])
 
     def made(self) -> list[tuple]:
         longest = self.dice.choice([0, 2, 6, 255, *[LONGEST] * 20])
-        self.steps = [("bound", longest), *super().made(), ("parked",), ("counts",)]
+        self.steps = [("bound", longest), *super().made(), ("parked",)]
         return self.steps
 
 
 class Embedded(deeds.Owned):
     """A server of the library, and its owner."""
 
-    UNPARKED = "unparked"
-
     def __init__(self, maker: Maker) -> None:
         super().__init__(maker)
         self.longest = LONGEST
+
+    def full(self, connection: int) -> str | None:
+        return None if super().full(connection) is None else "unparked"
 
     def going(self, parked: Parked) -> list[tuple[int, Asked]]:
         return sorted(super().going(parked), key=lambda waiter: waiter[0])
@@ -109,7 +101,8 @@ class Embedded(deeds.Owned):
 
     def do_wanted(self) -> None:
         self.give("wanted")
-        self.lines.append(" ".join(["wanted", *(f"{n}/{len(self.going(self.parked[n]))}" for n in sorted(self.parked))]))
+        some = [f"{number}/{len(self.going(parked))}" for number, parked in sorted(self.parked.items())]
+        self.lines.append(" ".join(["wanted", *some]))
 
 
 def blocks(name: str) -> list[list[str]]:
