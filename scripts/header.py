@@ -48,7 +48,7 @@ FAMILIES = [
     Family("LR_REPLY_", "u32", "ReplyStatus"), Family("LR_LOCATE_", "u32", "LocateStatus"),
     Family("LR_EX_", "u32", "SystemName"), Family("LR_COMPLETED_", "u32", "Completed"),
     Family("LR_PART_", "u32", "Part"), Family("LR_CONTEXT_", "u32", "ContextId"), Family("LR_TYPE_", "u8", "Code"),
-    Family("LR_SET_", "u32", "ServerSetting"), Family("LR_COUNT_", "u32", "Counted"), Family("LR_WHY_", "u32", "Why"),
+    Family("LR_SET_", "u32", "ServerSetting"), Family("LR_COUNT_", "u32", "Counted"),
     Family("LR_CLIENT_", "u32", "ClientSetting"), Family("LR_ENDED_", "u32", "Ended"),
     Family("LR_FAULT_", "u32", "Fault"), Family("LR_MSG_", "u32", "MessageType"), Family("LR_IOR_", "u32", "IorPart"),
 ]

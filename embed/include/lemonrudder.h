@@ -3,8 +3,8 @@
  * of Fault Tolerant CORBA, as a library of proved functions. C99 or later, C++11 or later.
  *
  * The library opens no socket, reads no clock, starts no thread and calls nobody back. It takes octets and moments,
- * and gives octets and what is to be done. Nothing in it is global but
- * the heap (lr_set_heap), and no call ends the process.
+ * and gives octets and what is to be done. Nothing in it is global but the heap (lr_set_heap), and no call ends the
+ * process.
  *
  * Slots.  An object lives in a slot of yours: lr_server, lr_client and so on, whose members are not yours. All
  * zero is an empty slot, so that `lr_server s = LR_INIT;` is right. lr_close empties a slot and frees what it held;
@@ -291,7 +291,7 @@ LR_API int64_t lr_catalogue_remove(lr_catalogue *catalogue, const void *key, siz
  * says what it asks for; you perform it, and hand in what came of it by lr_server_answer or one of its like, which
  * keeps it for repeats and makes the reply. Octets that are due go out by lr_server_output after each call. The first
  * of these that holds decides what a request is answered: FT_REQUEST not valid, expired, repeated (by what was kept),
- * nothing of that name, arguments not valid, no room. Else it comes to you.
+ * its client's id too long, nothing of that name, arguments not valid, no room. Else it comes to you.
  *
  * One request waits at a time. While it does, lr_server_feed, lr_server_connect, lr_server_lost, lr_server_farewell,
  * lr_server_tick and lr_server_swap answer LR_E_ASKING. What takes its time is parked by lr_server_park: it waits no
@@ -350,10 +350,11 @@ LR_API int64_t lr_server_farewell(lr_server *server, uint64_t connection);
 LR_API int64_t lr_server_is_closed(lr_server *server, uint64_t connection);
 
 /* Takes octets of a connection that came at a moment, and answers how many it took: all of them; those up to a request
- * that waits for its outcome; or fewer where LR_SET_DUE octets are due on it. Feed the rest at the same moment, when it
- * is answered, or less is due. Of a connection that has ended, or was said goodbye to, it takes all: they mean nothing.
- * LR_E_EMPTY, LR_E_ASKING, LR_E_CONNECTION (nothing is taken, but the clock has moved to the moment), and LR_E_LOST,
- * where what was answered before is due. */
+ * that waits for its outcome, or to a repeat of one that is parked; or, where LR_SET_DUE octets are due on it, those up
+ * to the answer with which they are, and none while they are. Feed the rest at the same moment, once what waits is
+ * answered, and less is due. Of a connection that has ended, or was said goodbye to, it takes all then: they mean
+ * nothing. LR_E_EMPTY, LR_E_ASKING, LR_E_CONNECTION (nothing is taken, but the clock has moved to the moment), and
+ * LR_E_LOST, where what was answered before is due. */
 LR_API int64_t lr_server_feed(lr_server *server, uint64_t connection, uint64_t moment, const void *octets, size_t size);
 
 /* A request that waits for its outcome. */
@@ -491,20 +492,6 @@ LR_API int64_t lr_server_next_expiry(lr_server *server, uint64_t *moment);
 /* A moment has come: what expired before it is forgotten. So does each request that carries FT_REQUEST; where none come
  * for long, this gives memory back. LR_E_EMPTY, LR_E_ASKING. */
 LR_API int64_t lr_server_tick(lr_server *server, uint64_t moment);
-
-/* Why nothing more is heard of a connection: LR_FAULT_.. of its stream, or one of these. */
-enum {
-  LR_WHY_OPEN = 0,       /* it goes on */
-  LR_WHY_DIRECTION = 32, /* its peer sent a message that only a server sends */
-  LR_WHY_GOODBYE = 33,   /* its peer sent CloseConnection */
-  LR_WHY_ERROR = 34,     /* its peer sent MessageError */
-  LR_WHY_FAREWELL = 35,  /* you said goodbye on it */
-  LR_WHY_GIVEN_UP = 36,  /* you gave up a request that came on it */
-  LR_WHY_MEMORY = 37     /* an allocation failed */
-};
-
-/* Which of these, until lr_server_lost. LR_E_EMPTY, LR_E_CONNECTION. */
-LR_API int64_t lr_server_why(lr_server *server, uint64_t connection);
 
 /* Exchanges what the server has on offer and a catalogue: so objects are added and taken away while it serves. What is
  * kept stays, and is what repeats get. A parked request is answered by an outcome of its operation as that is on offer

@@ -496,20 +496,6 @@ enum class Fault : std::uint32_t {
   memory = LR_FAULT_MEMORY
 };
 
-/* Why nothing more is heard of a connection: one of these, or a Fault of its stream, which fault_of gives. */
-enum class Why : std::uint32_t {
-  open = LR_WHY_OPEN,
-  direction = LR_WHY_DIRECTION,
-  goodbye = LR_WHY_GOODBYE,
-  error = LR_WHY_ERROR,
-  farewell = LR_WHY_FAREWELL,
-  given_up = LR_WHY_GIVEN_UP,
-  memory = LR_WHY_MEMORY
-};
-
-/* The fault that this is, or `none`. */
-constexpr Fault fault_of(Why why) noexcept { return why < Why::direction ? static_cast<Fault>(why) : Fault::none; }
-
 /* What a server counts. */
 enum class Counted : std::uint32_t {
   connections = LR_COUNT_CONNECTIONS,
@@ -879,12 +865,6 @@ class Server : public Slot<lr_server> {
   }
   /* Forgets what expired before a moment. */
   Done tick(std::uint64_t moment) noexcept { return detail::done(lr_server_tick(slot(), moment)); }
-  /* Why nothing more is heard of a connection. */
-  Result<Why> why(std::uint64_t connection) noexcept {
-    const std::int64_t answer = lr_server_why(slot(), connection);
-    if (answer < 0) return Error(answer);
-    return static_cast<Why>(answer);
-  }
   /* Exchanges what is on offer and a catalogue. */
   Done swap(Catalogue& catalogue) noexcept { return detail::done(lr_server_swap(slot(), catalogue.slot())); }
 

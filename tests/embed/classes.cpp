@@ -370,10 +370,6 @@ void servers_tell() {
   CHECK(families->remove("c/").error() == LR_E_OBJECT && catalogue->default_object());
   CHECK(catalogue->default_object().error() == LR_E_TAKEN);
   CHECK(server->swap(*catalogue) && catalogue->remove("c") && catalogue->remove("c").error() == LR_E_OBJECT);
-  CHECK(*server->why(1) == lr::Why::open && server->why(2).error() == LR_E_CONNECTION);
-  CHECK(server->feed(1, later, "GIOX\1\2\0\0\0\0\0\0"_o));
-  const auto why = server->why(1);
-  CHECK(why && lr::fault_of(*why) == lr::Fault::magic && lr::fault_of(lr::Why::farewell) == lr::Fault::none);
 }
 
 /* A call whose arguments are octets, and one that wants no reply. */

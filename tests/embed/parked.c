@@ -404,7 +404,6 @@ static void goodbye_comes_after_replies(void) {
   make_reply(1, 1);
   put_octets(&wanted, goodbye, sizeof goodbye);
   CHECK(is_due(1));
-  WANT(lr_server_why(&server, 1), LR_WHY_FAREWELL);
 }
 
 /* ---- what is due ---- */
@@ -588,30 +587,6 @@ static void counts_are_told(void) {
   moment = 77;
   WANT(lr_server_next_expiry(&server, &moment), 0);
   CHECK(moment == 77);
-}
-
-/* Why nothing more is heard of a connection, until it is lost. */
-static void ends_have_reasons(void) {
-  static const unsigned char error[] = {'G', 'I', 'O', 'P', 1, 0, 0, 6, 0, 0, 0, 0};
-  open_server();
-  connect(7);
-  make_reply(1, 1);
-  WANT(lr_server_feed(&server, 1, NOW, "GIOX\1\2\0\0\0\0\0\0", 12), 12);
-  WANT(lr_server_feed(&server, 2, NOW, wanted.all, wanted.size), (int64_t)wanted.size);
-  WANT(lr_server_feed(&server, 3, NOW, goodbye, sizeof goodbye), sizeof goodbye);
-  WANT(lr_server_feed(&server, 4, NOW, error, sizeof error), sizeof error);
-  WANT(lr_server_farewell(&server, 5), LR_OK);
-  make_request(1, "c", "add", 1, LR_WISH_FULL);
-  WANT(lr_server_give_up(&server, fed(6)), LR_OK);
-  static const int64_t why[] = {LR_FAULT_MAGIC,  LR_WHY_DIRECTION, LR_WHY_GOODBYE, LR_WHY_ERROR,
-                                LR_WHY_FAREWELL, LR_WHY_GIVEN_UP,  LR_WHY_OPEN};
-  for (uint64_t connection = 1; connection <= 7; connection++) {
-    if (!WANT(lr_server_why(&server, connection), why[connection - 1])) printf("connection %d\n", (int)connection);
-    WANT(lr_server_is_closed(&server, connection), connection != 7);
-    WANT(lr_server_lost(&server, connection), LR_OK);
-    WANT(lr_server_why(&server, connection), LR_E_CONNECTION);
-  }
-  WANT(lr_server_why(&server, 8), LR_E_CONNECTION);
 }
 
 /* The service contexts of a request, and none of one that waits no more. */
@@ -799,7 +774,6 @@ int main(void) {
   families_lead_many_keys();
   offers_change_while_requests_are_parked();
   counts_are_told();
-  ends_have_reasons();
   contexts_are_read();
   ids_are_limited();
   structs_have_the_callers_size();

@@ -122,8 +122,9 @@ class Engine(Held):
 
     def feed(self, connection: int, octets: Octets, moment: Optional[int] = None, start: int = 0) -> int:
         """Takes octets of a connection from an index on, which came at a moment, now if none is given. Returns the
-        index after those that were taken: all; those up to a request that waits; or fewer, where `max_due` octets are
-        due. Feed the rest after it is answered, or less is due, at the same moment.
+        index after those that were taken: all; those up to a request that waits, or to a repeat of one that is parked;
+        or fewer, where `max_due` octets are due. Feed the rest after what waits is answered, or less is due, at the
+        same moment.
 
         Raises LemonrudderError (ASKING, CONNECTION; LOST: what was answered before is due).
         """

@@ -280,25 +280,6 @@ class Counted(enum.IntEnum):
     """you refused while they were parked"""
 
 
-class Why(enum.IntEnum):
-    """Why nothing more is heard of a connection: LR_FAULT_.. of its stream, or one of these."""
-
-    OPEN = 0
-    """it goes on"""
-    DIRECTION = 32
-    """its peer sent a message that only a server sends"""
-    GOODBYE = 33
-    """its peer sent CloseConnection"""
-    ERROR = 34
-    """its peer sent MessageError"""
-    FAREWELL = 35
-    """you said goodbye on it"""
-    GIVEN_UP = 36
-    """you gave up a request that came on it"""
-    MEMORY = 37
-    """an allocation failed"""
-
-
 class ClientSetting(enum.IntEnum):
     """What lr_client_set sets, and what it is where nothing is set."""
 
@@ -514,13 +495,6 @@ CONSTANTS: Dict[str, int] = {
     "LR_COUNT_GIVEN_UP": 16,
     "LR_COUNT_DECLINED": 17,
     "LR_COUNT_WITHDRAWN": 18,
-    "LR_WHY_OPEN": 0,
-    "LR_WHY_DIRECTION": 32,
-    "LR_WHY_GOODBYE": 33,
-    "LR_WHY_ERROR": 34,
-    "LR_WHY_FAREWELL": 35,
-    "LR_WHY_GIVEN_UP": 36,
-    "LR_WHY_MEMORY": 37,
     "LR_CLIENT_KEEP_TRANSIENT": 1,
     "LR_CLIENT_KEEP_FORWARD": 2,
     "LR_CLIENT_VERSION": 3,
@@ -640,7 +614,6 @@ FUNCTIONS: Dict[str, Tuple[str, Tuple[str, ...]]] = {
     "lr_server_held_by": ("int64_t", ("lr_server *", "const void *", "size_t")),
     "lr_server_next_expiry": ("int64_t", ("lr_server *", "uint64_t *")),
     "lr_server_tick": ("int64_t", ("lr_server *", "uint64_t")),
-    "lr_server_why": ("int64_t", ("lr_server *", "uint64_t")),
     "lr_server_swap": ("int64_t", ("lr_server *", "lr_catalogue *")),
     "lr_client_open": ("int64_t", ("lr_client *", "const void *", "size_t")),
     "lr_client_set": ("int64_t", ("lr_client *", "uint32_t", "uint64_t")),

@@ -51,7 +51,7 @@ pub use limits::Limits;
 pub use moment::Moment;
 pub use numbers::{
     Completed, Counted, Ended, Fault, LocateStatus, MessageType, Order, Part, Status, SystemName,
-    Version, Why, Wish,
+    Version, Wish,
 };
 pub use server::{Due, FtRequest, Request, Server, Settings, Ticket};
 pub use types::Type;

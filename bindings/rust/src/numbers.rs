@@ -318,44 +318,6 @@ numbers! {
     }
 }
 
-/// Why nothing more is heard of a connection of a [`Server`](crate::Server).
-#[derive(Clone, Copy, Debug, PartialEq, Eq, Hash)]
-#[non_exhaustive]
-pub enum Why {
-    /// It goes on.
-    Open,
-    /// Its stream has a fault.
-    Fault(Fault),
-    /// Its peer sent a message that only a server sends.
-    Direction,
-    /// Its peer sent CloseConnection.
-    Goodbye,
-    /// Its peer sent MessageError.
-    Error,
-    /// The owner said goodbye on it.
-    Farewell,
-    /// The owner gave up a request that came on it.
-    GivenUp,
-    /// An allocation failed.
-    Memory,
-}
-
-impl Why {
-    /// What has a number that the library gave.
-    pub(crate) fn of(number: u32) -> Result<Why, Error> {
-        match number {
-            LR_WHY_OPEN => Ok(Why::Open),
-            LR_WHY_DIRECTION => Ok(Why::Direction),
-            LR_WHY_GOODBYE => Ok(Why::Goodbye),
-            LR_WHY_ERROR => Ok(Why::Error),
-            LR_WHY_FAREWELL => Ok(Why::Farewell),
-            LR_WHY_GIVEN_UP => Ok(Why::GivenUp),
-            LR_WHY_MEMORY => Ok(Why::Memory),
-            fault => Fault::of(fault).map(Why::Fault),
-        }
-    }
-}
-
 impl Order {
     /// The order of this machine.
     pub const NATIVE: Order = if cfg!(target_endian = "big") { Order::Big } else { Order::Little };
@@ -416,7 +378,6 @@ mod tests {
         are_named("LR_ENDED_", Ended::from_number);
         are_named("LR_FAULT_", Fault::from_number);
         are_named("LR_MSG_", MessageType::from_number);
-        are_named("LR_WHY_", |number| Why::of(number).ok());
     }
 
     #[test]
@@ -429,7 +390,5 @@ mod tests {
         }
         assert_eq!(Version::of(2).map(|version| version.to_string()), Ok("1.2".to_string()));
         assert_eq!(Version::of(3), Err(Error::Range));
-        assert_eq!(Why::of(9), Ok(Why::Fault(Fault::TwiceStarted)));
-        assert_eq!(Why::of(14), Err(Error::Range));
     }
 }

@@ -5,8 +5,7 @@ use crate::contexts::Contexts;
 use crate::error::{self, copied, count, done, sure};
 use crate::sys::{self, lr_request, lr_slot};
 use crate::{
-    Catalogue, Completed, Counted, Error, Moment, Order, Part, Status, SystemName, Version, Why,
-    Wish,
+    Catalogue, Completed, Counted, Error, Moment, Order, Part, Status, SystemName, Version, Wish,
 };
 use alloc::vec::Vec;
 use core::mem::size_of;
@@ -203,9 +202,9 @@ impl Server {
     }
 
     /// Takes octets of a connection that came at a moment, and answers how many it took: all of
-    /// them; those up to a request that waits for its outcome; or fewer where
-    /// [`Settings::due`] octets are due on it. The rest is to be fed at the same moment, when it is
-    /// answered, or less is due.
+    /// them; those up to a request that waits for its outcome, or to a repeat of a parked one; or
+    /// fewer where [`Settings::due`] octets are due on it. The rest is to be fed at the same moment,
+    /// when what waits is answered, or less is due.
     ///
     /// # Errors
     ///
@@ -297,9 +296,13 @@ impl Server {
         let mut taken = 0;
         loop {
             let left = octets.get(taken..).unwrap_or(&[]);
-            taken += self.feed(connection, moment, left)?;
+            let fed = self.feed(connection, moment, left)?;
+            taken += fed;
             let Some(said) = self.waiting() else {
-                return Ok(taken);
+                if fed == 0 || taken == octets.len() {
+                    return Ok(taken);
+                }
+                continue; // (up to a repeat of a parked request, or until enough is due)
             };
             match self.identify(Ticket(said.ticket)) {
                 Ok(true) => {}
@@ -541,16 +544,6 @@ impl Server {
     /// `Asking`.
     pub fn tick(&mut self, moment: Moment) -> Result<(), Error> {
         done(sys::lr_server_tick(&mut self.slot, moment.0))
-    }
-
-    /// Why nothing more is heard of a connection, until it is [`lost`](Server::lost).
-    ///
-    /// # Errors
-    ///
-    /// `Connection`; and `Range`, where this version of the crate has no name for it.
-    pub fn why(&mut self, connection: u64) -> Result<Why, Error> {
-        let number = count(sys::lr_server_why(&mut self.slot, connection))?;
-        u32::try_from(number).map_err(|_| Error::Range).and_then(Why::of)
     }
 
     /// Exchanges what it has on offer and a catalogue: so objects are added and taken away while it

@@ -7,7 +7,7 @@ use lemonrudder::cdr::Writer;
 use lemonrudder::write::{self, Request};
 use lemonrudder::{
     Assembler, Catalogue, Counted, Error, FtRequest, Limits, MessageType, Moment, Order, Part,
-    Server, Settings, Signature, Status, SystemName, Ticket, Type, Version, Why, Wish,
+    Server, Settings, Signature, Status, SystemName, Ticket, Type, Version, Wish,
 };
 
 const NOW: Moment = Moment(50);
@@ -158,7 +158,6 @@ fn goodbye_comes_after_replies() -> Result<(), Error> {
     }
     server.farewell(1)?;
     assert!(server.is_closed(1));
-    assert_eq!(server.why(1), Ok(Why::Farewell));
     let due: Vec<_> = server.due().collect();
     assert_eq!((due.len(), due[0].0), (1, 1));
     let said: Vec<_> = messages(&due[0].1)?.into_iter().map(|(kind, id, _)| (kind, id)).collect();
@@ -198,7 +197,7 @@ fn no_more_is_taken_while_enough_is_due() -> Result<(), Error> {
 }
 
 #[test]
-fn a_server_says_what_it_keeps_and_why_connections_end() -> Result<(), Error> {
+fn a_server_says_what_it_keeps() -> Result<(), Error> {
     let mut server = connected(&Settings::default())?;
     assert_eq!((server.next_expiry(), server.held_by("A")), (None, 0));
     server.serve(1, NOW, &deposit(1, 1)?, |request| request.answer(&long(1)?))?;
@@ -209,13 +208,6 @@ fn a_server_says_what_it_keeps_and_why_connections_end() -> Result<(), Error> {
     assert_eq!((server.count(Counted::Kept), server.count(Counted::Connections)), (1, 2));
     server.tick(Moment(101))?;
     assert_eq!((server.count(Counted::Kept), server.next_expiry()), (0, None));
-    assert_eq!((server.why(1), server.why(3)), (Ok(Why::Open), Err(Error::Connection)));
-    server.feed(1, NOW, b"GIOX\x01\x02\0\0\0\0\0\0")?;
-    assert_eq!(server.why(1), Ok(Why::Fault(lemonrudder::Fault::Magic)));
-    server.feed(2, NOW, &write::close_connection()?)?;
-    assert_eq!(server.why(2), Ok(Why::Goodbye));
-    server.lost(2)?;
-    assert_eq!(server.why(2), Err(Error::Connection));
     Ok(())
 }
 

@@ -159,14 +159,6 @@ pub const LR_COUNT_GIVEN_UP: u32 = 16;
 pub const LR_COUNT_DECLINED: u32 = 17;
 pub const LR_COUNT_WITHDRAWN: u32 = 18;
 
-pub const LR_WHY_OPEN: u32 = 0;
-pub const LR_WHY_DIRECTION: u32 = 32;
-pub const LR_WHY_GOODBYE: u32 = 33;
-pub const LR_WHY_ERROR: u32 = 34;
-pub const LR_WHY_FAREWELL: u32 = 35;
-pub const LR_WHY_GIVEN_UP: u32 = 36;
-pub const LR_WHY_MEMORY: u32 = 37;
-
 pub const LR_CLIENT_KEEP_TRANSIENT: u32 = 1;
 pub const LR_CLIENT_KEEP_FORWARD: u32 = 2;
 pub const LR_CLIENT_VERSION: u32 = 3;
@@ -420,7 +412,6 @@ unsafe extern "C" {
     pub fn lr_server_held_by(server: &mut lr_slot, client: *const c_void, size: usize) -> i64;
     pub safe fn lr_server_next_expiry(server: &mut lr_slot, moment: &mut u64) -> i64;
     pub safe fn lr_server_tick(server: &mut lr_slot, moment: u64) -> i64;
-    pub safe fn lr_server_why(server: &mut lr_slot, connection: u64) -> i64;
     pub safe fn lr_server_swap(server: &mut lr_slot, catalogue: &mut lr_slot) -> i64;
     pub fn lr_client_open(client: &mut lr_slot, id: *const c_void, id_size: usize) -> i64;
     pub safe fn lr_client_set(client: &mut lr_slot, what: u32, value: u64) -> i64;
