@@ -13,7 +13,7 @@ import unittest
 from collections import Counter, namedtuple
 
 from tests import base, giop, programs
-from tests.ends_model import Call, arguments_body, refused
+from tests.ends_model import Call, arguments_body, refused, size_of
 from tests.engine_model import FULL, NONE, NOT_NOW, Asked, Engine, GivenUp, Parked, Places, Terms
 from tests.schedules import NAMES
 from tests.smaller import smallest
@@ -69,12 +69,12 @@ def request_words(asked):
     return f"{oneway}{asked.request_id} {asked.version} {key} {call.operation.decode()}{arguments}"
 
 
-def size_of(asked):
-    """How many octets a request has."""
+def octets_of(asked):
+    """The octets of a request."""
     call = asked.call
     contexts = [giop.ft_request(*asked.field, call.expiration)] if asked.field else []
-    return len(giop.request(asked.request_id, call.key, call.operation, arguments_body(call.arguments),
-                            minor=int(asked.version[2]), contexts=contexts))
+    return giop.request(asked.request_id, call.key, call.operation, arguments_body(call.arguments),
+                        minor=int(asked.version[2]), contexts=contexts)
 
 
 class Owned(Engine):
@@ -97,8 +97,19 @@ class Owned(Engine):
     def deed(self, line, *printed):
         """Gives a deed, played by itself, and prints what comes of it."""
         self.given += [line, "play"]
-        self.lines += printed
-        self.lines.append("done")
+        self.lines += [*printed, "done"]
+        self.flush()
+
+    def flush(self):
+        """What was written is sent."""
+
+    def written(self, _connection, words, _size):
+        """A message is written on a connection, of so many octets: what is printed of it in the entry."""
+        return words
+
+    def is_choked(self, _connection):
+        """Whether so much is due on a connection that it is fed no more."""
+        return False
 
     def refused(self, line, why):
         """Gives a deed that is refused."""
@@ -136,11 +147,11 @@ class Owned(Engine):
         """How many of the parked requests came on a connection."""
         return sum(self.origins[number] == connection for number in self.parked)
 
-    def reply_words(self, asked, came):
+    def reply_words(self, connection, asked, came):
         """What is written at once, in words."""
         if isinstance(came, Parked) or asked.wish == NONE:
             return ""
-        return f" reply {asked.request_id} {outcome_words(came)}"
+        return self.written(connection, f" reply {asked.request_id} {outcome_words(came)}", size_of(came))
 
     def ask(self, connection, asked):
         """Asks for a request: what comes of it, by what the owner does."""
@@ -186,7 +197,7 @@ class Owned(Engine):
         outcome = self.apply(asked.call) if manner == "answer" else NOT_NOW
         line = f"answer {outcome_in(outcome)}" if manner == "answer" else "decline"
         self.counts["answered" if manner == "answer" else "declined"] += 1
-        self.deed(line, f"{connection} done{self.reply_words(asked, outcome)}")
+        self.deed(line, f"{connection} done{self.reply_words(connection, asked, outcome)}")
         return outcome
 
     def look(self, connection, asked):
@@ -222,6 +233,10 @@ class Owned(Engine):
             if wire is None or wire.is_shut:
                 return self.deed(line, f"{connection} {'refused' if wire is None else 'done'}")
             self.given += [line, "play"]
+            if self.is_choked(connection):
+                self.lines += [f"{connection} done", "left 1 0"]
+                self.do_flow()
+                continue
             try:
                 some = self.take_piece(connection, some)
             except GivenUp:
@@ -233,14 +248,14 @@ class Owned(Engine):
         self.said, self.handled, self.size, self.rest, self.asking = "", 0, 0, some, False
         while self.rest:
             asked, *self.rest = self.rest
-            self.size += size_of(asked)
+            self.size += len(octets_of(asked))
             stops = self.stops
             came = self.came_of(connection, asked)
             if self.asking:
                 return self.rest
-            self.said += self.reply_words(asked, came)
+            self.said += self.reply_words(connection, asked, came)
             self.handled += 1
-            if stops != self.stops:
+            if stops != self.stops or self.is_choked(connection):
                 break
         self.end_piece(connection)
         return self.rest
@@ -248,6 +263,7 @@ class Owned(Engine):
     def end_piece(self, connection):
         """Prints what is written for a piece, and how many octets of it are taken, where some are left."""
         self.lines += [f"{connection} done{self.said}", f"left 1 {self.size}" if self.rest else "done"]
+        self.flush()
 
     def do_opened(self, number):
         is_new = self.greatest < number
@@ -264,7 +280,8 @@ class Owned(Engine):
         if self.is_going(number) and self.waits_on(number):
             return self.refused(f"close {number}", "waits")
         written, _ = self.close(number)
-        return self.deed(f"close {number}", f"{number} done{' close' if written else ''}")
+        said = self.written(number, " close", len(written)) if written else ""
+        return self.deed(f"close {number}", f"{number} done{said}")
 
     def do_late(self, verb, pick):
         """What is parked is settled or withdrawn, or what is not parked."""
@@ -278,8 +295,12 @@ class Owned(Engine):
         kept = [(key, end, came) for key, end, came in self.performed if verb == "settle" or came is not parked]
         self.performed = [(key, end, outcome if came is parked else came) for key, end, came in kept]
         del self.parked[number]
-        told = [f"{c} done reply {asked.request_id} {outcome_words(outcome)}" for c, asked in self.going(parked)]
+        told = self.told([(c, self.reply_words(c, asked, outcome)) for c, asked in self.going(parked)])
         return self.deed(f"{verb} {number}{' ' + outcome_in(outcome) if verb == 'settle' else ''}", *told)
+
+    def told(self, replies):
+        """What is printed of what those are told who waited, each on its connection."""
+        return [f"{connection} done{words}" for connection, words in replies]
 
     def outcome_of(self, number, parked):
         """The outcome of what is parked: a system exception where its object is gone, and nothing else is taken."""

@@ -9,6 +9,9 @@
  * - What is told of a parked request is printed by the numbers of the connections, and on each as it is due.
  * - `goodbye`: the request that waits is given up, and CloseConnection is due on its connection. Where somebody waits
  *   there for a parked one it is refused: `waits`.
+ * - `due N` is how many octets are due on a connection from which on it is fed no more, set before the first one is
+ *   opened. After `hold` what is due is left so, up to `flow`, which prints all of it; the connections on which parked
+ *   requests are answered meanwhile are `named`.
  * - `restore` offers the counter again, also where requests are parked.
  * - `parked` prints how many requests are parked, and of each connection C/COUNT, where any is; `wanted` prints of each
  *   that is parked NUMBER/COUNT, how many wait for its outcome.
@@ -37,6 +40,7 @@ static size_t ask_count;
 static uint64_t connections[CONNECTIONS];
 static size_t connection_count;
 static uint64_t now;
+static bool is_held;
 /* how many requests and locates had been handled when the last piece came */
 static int64_t handled_before;
 
@@ -252,8 +256,13 @@ static void print_due(uint64_t connection, const char *how, bool is_each) {
   if (!is_each) printf("\n");
 }
 
-/* Prints an entry of what was written. */
-static void print_entry(uint64_t connection, const char *how) { print_due(connection, how, false); }
+/* Prints an entry of what was written; what is due stays so where it is held. */
+static void print_entry(uint64_t connection, const char *how) {
+  if (is_held)
+    printf("%" PRIu64 " %s\n", connection, how);
+  else
+    print_due(connection, how, false);
+}
 
 static int by_number(const void *one, const void *other) {
   uint64_t a = *(const uint64_t *)one, b = *(const uint64_t *)other;
@@ -266,14 +275,24 @@ static void print_told(void) {
   size_t count = 0;
   while (count < CONNECTIONS && lr_server_next_due(&server, &named[count]) == 1) count++;
   qsort(named, count, sizeof named[0], by_number);
-  for (size_t index = 0; index < count; index++) print_due(named[index], "done", true);
+  for (size_t index = 0; index < count; index++) {
+    if (is_held)
+      printf("%" PRIu64 " named\n", named[index]);
+    else
+      print_due(named[index], "done", true);
+  }
 }
 
-/* Nothing is named or due after a deed. */
+/* Prints all that is due. */
+static void print_all_due(const char *how) {
+  for (size_t index = 0; index < connection_count; index++) print_due(connections[index], how, true);
+}
+
+/* Nothing is named or due after a deed, but for what is held. */
 static void print_odd(void) {
   uint64_t named;
   while (lr_server_next_due(&server, &named) == 1) printf("%" PRIu64 " is named\n", named);
-  for (size_t index = 0; index < connection_count; index++) print_due(connections[index], "is due", true);
+  if (!is_held) print_all_due("is due");
 }
 
 /* ---- deeds ---- */
@@ -496,6 +515,7 @@ static void open_server(char *words) {
     must(lr_server_set(&server, limits[index], number(parted(&words, ' '))));
   deed_count = ask_count = connection_count = 0;
   now = 0;
+  is_held = false;
 }
 
 /* Exchanges what is on offer, by the counter or by nothing. */
@@ -518,8 +538,8 @@ static void offer_unwanted(bool is_hidden) {
     offer(is_hidden);
 }
 
-static void bound(uint64_t octets) {
-  int64_t answer = lr_server_set(&server, LR_SET_CLIENT_ID, octets);
+static void set_limit(uint32_t what, uint64_t value) {
+  int64_t answer = lr_server_set(&server, what, value);
   if (answer == LR_E_OPEN)
     printf("too late\n");
   else
@@ -588,6 +608,14 @@ static bool is_offer(const char *name) {
   return true;
 }
 
+/* Whether a line says whether what is due is held. */
+static bool is_hold(const char *name) {
+  if (strcmp(name, "hold") != 0 && strcmp(name, "flow") != 0) return false;
+  is_held = name[0] == 'h';
+  if (!is_held) print_all_due("due");
+  return true;
+}
+
 /* Whether a line asks what a server has. */
 static bool is_question(const char *name) {
   bool is_counts = strcmp(name, "counts") == 0, is_parked = strcmp(name, "parked") == 0;
@@ -611,10 +639,12 @@ static void take_line(char *line) {
   else if (strcmp(name, "play") == 0)
     play();
   else if (strcmp(name, "bound") == 0)
-    bound(number(words));
+    set_limit(LR_SET_CLIENT_ID, number(words));
+  else if (strcmp(name, "due") == 0)
+    set_limit(LR_SET_DUE, number(words));
   else if (strcmp(name, "tick") == 0)
     tick(number(words));
-  else if (!is_offer(name) && !is_question(name))
+  else if (!is_offer(name) && !is_hold(name) && !is_question(name))
     note_deed(line);
 }
 

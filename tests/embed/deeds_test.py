@@ -10,6 +10,8 @@ has no such thing, or another:
 - What became of each request (`heard`) is not told, but counted; why a connection ended (`ending`) is not told.
 - The connections on which octets became due by the outcome of a parked request are named in no order that is promised:
   what is told is compared by the numbers of the connections, and in its order on each.
+- Where so much is due on a connection that it is fed no more, and its stream has ended too, either may come first: what
+  is due is taken before something comes there.
 """
 from __future__ import annotations
 
@@ -21,10 +23,13 @@ from collections.abc import Iterator
 
 from tests import base, deeds, embedding, programs
 from tests.engine_model import Asked, GivenUp, Parked, Places
+from tests.giop import HEADER
 
 ROWS = os.path.join(programs.ROOT, "crates", "deeds_player")
 # the greatest length of a client's id where none is set
 LONGEST = 256
+# .. and how many octets are due on a connection from which on it is fed no more
+DUE = 1048576
 
 
 class Maker(deeds.Maker):
@@ -48,11 +53,12 @@ class Maker(deeds.Maker):
             return self.opened()
         if chance < 0.85:
             return super().step()
-        return self.dice.choice([("parked",), ("wanted",), ("restore",)])
+        return self.dice.choice([("parked",), ("wanted",), ("restore",), ("hold",), ("flow",)])
 
     def made(self) -> list[tuple]:
         longest = self.dice.choice([0, 2, 6, 255, *[LONGEST] * 20])
-        self.steps = [("bound", longest), *super().made(), ("parked",)]
+        due = self.dice.choice([1, 32, 33, 100, DUE, DUE])
+        self.steps = [("bound", longest), ("due", due), *super().made(), ("parked",), ("flow",)]
         return self.steps
 
 
@@ -62,6 +68,44 @@ class Embedded(deeds.Owned):
     def __init__(self, maker: Maker) -> None:
         super().__init__(maker)
         self.longest = LONGEST
+        # how many octets are due on a connection from which on it is fed no more; what is due on each, with its octets;
+        # and whether it is left there
+        self.limit, self.due, self.is_held = DUE, {}, False
+
+    def written(self, connection: int, words: str, size: int) -> str:
+        self.due.setdefault(connection, []).append((words, size))
+        return "" if self.is_held else words
+
+    def flush(self) -> None:
+        if not self.is_held:
+            self.due.clear()
+
+    def is_choked(self, connection: int) -> bool:
+        return self.limit <= sum(size for _, size in self.due.get(connection, []))
+
+    def told(self, replies: list[tuple[int, str]]) -> list[str]:
+        if self.is_held:
+            return [f"{connection} named" for connection in sorted({connection for connection, _ in replies})]
+        return super().told(replies)
+
+    def do_asks(self, connection: int, now: int, some: list[Asked]) -> None:
+        if not self.is_going(connection):
+            self.do_flow()
+        super().do_asks(connection, now, some)
+
+    def do_hold(self) -> None:
+        self.give("hold")
+        self.is_held = True
+
+    def do_flow(self) -> None:
+        self.give("flow")
+        self.is_held = False
+        self.lines += [f"{connection} due{words}" for connection in sorted(self.due) for words, _ in self.due[connection]]
+        self.due.clear()
+
+    def do_lost(self, number: int) -> None:
+        self.due.pop(number, None)
+        super().do_lost(number)
 
     def full(self, connection: int) -> str | None:
         return None if super().full(connection) is None else "unparked"
@@ -80,15 +124,24 @@ class Embedded(deeds.Owned):
         if self.waits_on(connection):
             self.refused("goodbye", "waits")
             return self.answer_asked("answer", connection, asked)
-        self.deed("goodbye", f"{connection} lost {self.handled} {self.handled} close")
+        said = self.written(connection, " close", HEADER)
+        self.deed("goodbye", f"{connection} lost {self.handled} {self.handled}{said}")
         self.counts["given_up"] += 1
         raise GivenUp
 
+    def is_late(self, line: str) -> bool:
+        """Gives a line that sets a limit, and says whether a connection was opened."""
+        self.give(line)
+        self.lines += ["too late"] if self.greatest >= 0 else []
+        return self.greatest >= 0
+
     def do_bound(self, octets: int) -> None:
-        if self.greatest < 0:
-            return super().do_bound(octets)
-        self.give(f"bound {octets}")
-        self.lines.append("too late")
+        if not self.is_late(f"bound {octets}"):
+            self.longest = octets
+
+    def do_due(self, octets: int) -> None:
+        if not self.is_late(f"due {octets}"):
+            self.limit = octets
 
     def do_restore(self) -> None:
         self.give("restore")
