@@ -1,12 +1,12 @@
 """Plays random lists of an owner's deeds with the program `deeds_player`, and compares with a model.
 
-A list is requests for the counter, one or more in a piece, and what the owner does of each, by a seed; what is parked is
-settled or withdrawn later, and meanwhile the counter is hidden, or taken away all the same, and offered again, and the
-ids of clients are bounded. What is parked and lost its object is settled with a system exception. The lines of a list
-are those of crates/deeds_player/src/lines.rt. All that is printed must be what the model says (tests/engine_model.py):
-for each deed its connection, how it ended, and what was written; at each moment that is told, what is kept; and what
-was counted. A list that fails is printed with as few lines as are found with which it still does, as the program takes
-them. tests/embed/deeds_test.py plays these lists with a library.
+A list is requests for the counter, one or more in a piece, and what the owner does of each, by a seed; what is parked
+is settled or withdrawn later, and meanwhile the counter is hidden, or taken away all the same, and offered again, and
+the ids of clients are bounded. What is parked and lost its object is settled with a system exception. The lines of a
+list are those of crates/deeds_player/src/lines.rt. All that is printed must be what the model says
+(tests/engine_model.py): for each deed its connection, how it ended, and what was written; at a moment that is told,
+what is kept; and what was counted. A list that fails is printed with as few lines as are found with which it still does, as
+the program takes them. tests/embed/deeds_test.py plays these lists with a library.
 """
 import random
 import unittest

@@ -14,7 +14,7 @@
  *   requests are answered meanwhile are `named`.
  * - `restore` offers the counter again, also where requests are parked.
  * - `parked` prints how many requests are parked, and of each connection C/COUNT, where any is; `wanted` prints of each
- *   that is parked NUMBER/COUNT, how many wait for its outcome.
+ *   that is parked NUMBER/COUNT, how many wait for its outcome; `connections` how many there are, and which are closed.
  *
  * Octets are read and written without the library. What is due where no deed says so is printed too.
  */
@@ -574,7 +574,9 @@ static void print_counts(void) {
 }
 
 static void print_parked(void) {
-  printf("parked %" PRId64, lr_server_parked(&server));
+  int64_t parked = lr_server_parked(&server), counted = lr_server_count(&server, LR_COUNT_PARKED_NOW);
+  printf("parked %" PRId64, parked);
+  if (counted != parked) printf(" but %" PRId64 " are counted", counted);
   for (size_t index = 0; index < connection_count; index++) {
     int64_t count = lr_server_parked_of(&server, connections[index]);
     if (count != 0) printf(" %" PRIu64 "/%" PRId64, connections[index], count);
@@ -588,6 +590,14 @@ static void print_wanted(void) {
     int64_t count = lr_server_wanted(&server, tickets[asked]);
     if (count != LR_E_TICKET) printf(" %zu/%" PRId64, asked, count);
   }
+  printf("\n");
+}
+
+/* How many connections there are, and which of those that were opened are closed. */
+static void print_connections(void) {
+  printf("connections %" PRId64, lr_server_count(&server, LR_COUNT_CONNECTIONS));
+  for (size_t index = 0; index < connection_count; index++)
+    if (lr_server_is_closed(&server, connections[index]) != 0) printf(" %" PRIu64, connections[index]);
   printf("\n");
 }
 
@@ -618,13 +628,17 @@ static bool is_hold(const char *name) {
 
 /* Whether a line asks what a server has. */
 static bool is_question(const char *name) {
-  bool is_counts = strcmp(name, "counts") == 0, is_parked = strcmp(name, "parked") == 0;
-  if (is_counts) print_counts();
-  if (is_parked) print_parked();
-  if (is_counts || is_parked) return true;
-  if (strcmp(name, "wanted") != 0) return false;
-  print_wanted();
-  return true;
+  static const struct {
+    const char *name;
+    void (*print)(void);
+  } questions[] = {
+      {"counts", print_counts}, {"parked", print_parked}, {"wanted", print_wanted}, {"connections", print_connections}};
+  for (size_t index = 0; index < sizeof questions / sizeof questions[0]; index++) {
+    if (strcmp(name, questions[index].name) != 0) continue;
+    questions[index].print();
+    return true;
+  }
+  return false;
 }
 
 /* Takes a line. */

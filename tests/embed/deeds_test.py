@@ -53,12 +53,12 @@ class Maker(deeds.Maker):
             return self.opened()
         if chance < 0.85:
             return super().step()
-        return self.dice.choice([("parked",), ("wanted",), ("restore",), ("hold",), ("flow",)])
+        return self.dice.choice([("parked",), ("wanted",), ("connections",), ("restore",), ("hold",), ("flow",)])
 
     def made(self) -> list[tuple]:
         longest = self.dice.choice([0, 2, 6, 255, *[LONGEST] * 20])
         due = self.dice.choice([1, 32, 33, 100, DUE, DUE])
-        self.steps = [("bound", longest), ("due", due), *super().made(), ("parked",), ("flow",)]
+        self.steps = [("bound", longest), ("due", due), *super().made(), ("parked",), ("connections",), ("flow",)]
         return self.steps
 
 
@@ -71,6 +71,8 @@ class Embedded(deeds.Owned):
         # how many octets are due on a connection from which on it is fed no more; what is due on each, with its octets;
         # and whether it is left there
         self.limit, self.due, self.is_held = DUE, {}, False
+        # the connections that were opened, and those of them that were not lost
+        self.opened, self.known = set(), set()
 
     def written(self, connection: int, words: str, size: int) -> str:
         self.due.setdefault(connection, []).append((words, size))
@@ -100,12 +102,23 @@ class Embedded(deeds.Owned):
     def do_flow(self) -> None:
         self.give("flow")
         self.is_held = False
-        self.lines += [f"{connection} due{words}" for connection in sorted(self.due) for words, _ in self.due[connection]]
+        self.lines += [f"{number} due{words}" for number, messages in sorted(self.due.items()) for words, _ in messages]
         self.due.clear()
+
+    def do_opened(self, number: int) -> None:
+        new = {number} if self.greatest < number else set()
+        self.opened, self.known = self.opened | new, self.known | new
+        super().do_opened(number)
 
     def do_lost(self, number: int) -> None:
         self.due.pop(number, None)
+        self.known.discard(number)
         super().do_lost(number)
+
+    def do_connections(self) -> None:
+        self.give("connections")
+        closed = [str(number) for number in sorted(self.opened) if not self.is_going(number)]
+        self.lines.append(" ".join([f"connections {len(self.known)}", *closed]))
 
     def full(self, connection: int) -> str | None:
         return None if super().full(connection) is None else "unparked"
