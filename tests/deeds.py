@@ -9,10 +9,10 @@ with which it still does, as the program takes them.
 """
 import random
 import unittest
-from collections import namedtuple
+from collections import Counter, namedtuple
 
 from tests import base, giop, programs
-from tests.ends_model import Call, refused
+from tests.ends_model import Call, arguments_body, refused
 from tests.engine_model import FULL, NONE, NOT_NOW, Asked, Engine, GivenUp, Parked, Places, Terms
 from tests.schedules import NAMES
 from tests.smaller import smallest
@@ -25,6 +25,10 @@ LIMIT = 1048576
 
 # what is known of a call whose object was taken away meanwhile
 GONE = refused("UNKNOWN", 0, giop.MAYBE)
+
+# what an engine counts, in the order in which it prints these
+COUNTED = ["asked", "repeated", "joined", "expired", "invalid", "log_full", "share_full", "answered", "parked", "settled",
+           "given_up", "declined", "withdrawn"]
 
 # a line of a request: its connection, its moment, and what it asks. A deed or a change is (NAME, WORDS..)
 Asking = namedtuple("Asking", "connection now asked")
@@ -64,14 +68,28 @@ def request_words(asked):
     return f"{oneway}{asked.request_id} {asked.version} {key} {call.operation.decode()}{arguments}"
 
 
-class Owned(Engine):
-    """An engine, its owner, and the lines that it is given and that are printed. What the owner does of each request that
-    it is asked for stands in `manners`, by the request's id."""
+def size_of(asked):
+    """How many octets a request has."""
+    call = asked.call
+    contexts = [giop.ft_request(*asked.field, call.expiration)] if asked.field else []
+    return len(giop.request(asked.request_id, call.key, call.operation, arguments_body(call.arguments),
+                            minor=int(asked.version[2]), contexts=contexts))
 
-    def __init__(self, terms, places, manners):
+
+class Owned(Engine):
+    """An engine, its owner, and the lines that it is given and that are printed, for a list of a maker. What the owner
+    does of each request that it is asked for stands in `manners`, by the request's id."""
+
+    # what is said of a request for which there is no place to park it
+    UNPARKED = "unparked full"
+
+    def __init__(self, maker):
+        terms, places = maker.terms, maker.places
         super().__init__(terms, {}, places)
-        self.manners, self.is_hidden, self.longest, self.client = manners, False, None, b""
-        counts = (places.parked, places.parked, places.joined, terms.capacity, terms.share)
+        self.manners, self.is_hidden, self.longest, self.client = maker.manners, False, None, b""
+        # how many of one connection may be parked, and on which each came
+        self.of_one, self.origins, self.counts = maker.of_one, {}, Counter()
+        counts = (places.parked, maker.of_one, places.joined, terms.capacity, terms.share)
         self.given = [f"engine {' '.join(map(str, counts))}"]
 
     def give(self, line):
@@ -94,9 +112,31 @@ class Owned(Engine):
             return refused("BAD_CONTEXT")
         return refused("OBJECT_NOT_EXIST") if self.is_hidden else super().refusal_of(call)
 
+    def live(self):
+        """What is kept, or will be, of what is parked: its key, its expiration, and what came of it."""
+        return [entry for entry in self.performed if self.clock <= entry[1]]
+
+    def decision(self, asked):
+        """What becomes of a request, as it is counted."""
+        if asked.field and asked.call.expiration < self.clock:
+            return "expired"
+        for key, _, came in self.performed:
+            if key == asked.field:
+                return "joined" if isinstance(came, Parked) else "repeated"
+        if self.refusal_of(asked.call):
+            return "invalid"
+        if asked.field is None or self.has_room(asked.field):
+            return "asked"
+        return "log_full" if self.capacity <= len(self.live()) else "share_full"
+
     def came_of(self, connection, asked):
         self.client = asked.field[0] if asked.field else b""
+        self.counts[self.decision(asked)] += 1
         return super().came_of(connection, asked)
+
+    def parked_of(self, connection):
+        """How many of the parked requests came on a connection."""
+        return sum(self.origins[number] == connection for number in self.parked)
 
     def reply_words(self, asked, came):
         """What is written at once, in words."""
@@ -108,31 +148,55 @@ class Owned(Engine):
         """Asks for a request: what comes of it, by what the owner does."""
         number, self.asks = self.asks, self.asks + 1
         self.asking = True
-        self.lines += [f"{connection} done", "done"]
+        self.end_piece(connection)
         manner = self.manners[asked.request_id]
         if manner == "park":
-            if len(self.parked) < self.places.parked:
-                self.deed("park")
-                self.parked[number] = Parked(asked.call)
-                self.wait(connection, asked, self.parked[number])
-                return self.parked[number]
-            self.refused("park", "unparked full")
+            if len(self.parked) < self.places.parked and self.parked_of(connection) < self.of_one:
+                return self.park(number, connection, asked)
+            self.refused("park", self.UNPARKED)
             manner = "answer"
         if manner == "look":
-            for line in ("hide", "drop", "bound 0", "opened 1000"):
-                self.while_asking(line)
+            self.look(connection, asked)
             manner = "answer"
-        if manner == "give_up":
-            self.deed("give_up", f"{connection} lost 0 0")
-            raise GivenUp
+        if manner in ("give_up", "goodbye"):
+            return self.give_up(manner, connection, asked)
+        return self.answer_asked(manner, connection, asked)
+
+    def park(self, number, connection, asked):
+        """Parks the request that waits."""
+        self.deed("park")
+        self.counts["parked"] += 1
+        self.parked[number], self.origins[number] = Parked(asked.call), connection
+        self.wait(connection, asked, self.parked[number])
+        return self.parked[number]
+
+    def give_up(self, manner, connection, asked):
+        """Gives up the request that waits."""
+        self.deed(manner, f"{connection} lost {self.handled} {self.handled}")
+        self.counts["given_up"] += 1
+        raise GivenUp
+
+    def answer_asked(self, manner, connection, asked):
+        """Answers the request that waits, or declines it."""
         outcome = self.apply(asked.call) if manner == "answer" else NOT_NOW
         line = f"answer {outcome_in(outcome)}" if manner == "answer" else "decline"
+        self.counts["answered" if manner == "answer" else "declined"] += 1
         self.deed(line, f"{connection} done{self.reply_words(asked, outcome)}")
         return outcome
 
+    def look(self, connection, asked):
+        """Gives lines that do nothing while a request waits, and an outcome that is not its."""
+        for line in ("hide", "drop", "bound 0", "tick 1000000", "opened 1000", f"close {connection}", f"lost {connection}"):
+            self.while_asking(line)
+        for number in list(self.parked)[:1]:
+            self.while_asking(f"settle {number} 0")
+            self.while_asking(f"withdraw {number}")
+        if asked.call.operation == b"get":
+            self.refused("answer overflow", "not fit")
+
     def while_asking(self, line):
         """Gives a line that does nothing while a request waits."""
-        if line.startswith("opened"):
+        if line.split()[0] in ("opened", "close", "lost", "settle", "withdraw"):
             self.refused(line, "asking")
         else:
             self.give(line)
@@ -141,27 +205,45 @@ class Owned(Engine):
     def take(self, step):
         """Takes a step of a list."""
         if isinstance(step, Asking):
-            return self.hear(*step)
+            return self.do_asks(step.connection, step.now, [step.asked])
         name, *words = step
         return getattr(self, f"do_{name}")(*words)
 
-    def hear(self, connection, now, asked):
-        """A request comes on a connection at a moment."""
-        line = f"asks {connection} {now} {request_words(asked)}"
-        self.clock = max(self.clock, now)
-        wire = self.wires.get(connection)
-        if wire is None or wire.is_shut:
-            return self.deed(line, f"{connection} {'refused' if wire is None else 'done'}")
-        self.given += [line, "play"]
-        self.asking = False
-        try:
-            came = self.came_of(connection, asked)
-        except GivenUp:
-            self.lose(connection)
-            return None
-        if not self.asking:
-            self.lines += [f"{connection} done{self.reply_words(asked, came)}", "done"]
+    def do_asks(self, connection, now, some):
+        """Requests come on a connection at a moment, in one piece; what is not taken of it comes again."""
+        while some:
+            line = f"asks {connection} {now} {','.join(map(request_words, some))}"
+            self.clock = max(self.clock, now)
+            wire = self.wires.get(connection)
+            if wire is None or wire.is_shut:
+                return self.deed(line, f"{connection} {'refused' if wire is None else 'done'}")
+            self.given += [line, "play"]
+            try:
+                some = self.take_piece(connection, some)
+            except GivenUp:
+                return self.lose(connection)
         return None
+
+    def take_piece(self, connection, some):
+        """Takes a piece, up to the first request that is asked for or that repeats a parked one, and gives what is left."""
+        self.said, self.handled, self.size, self.rest, self.asking = "", 0, 0, some, False
+        while self.rest:
+            asked, *self.rest = self.rest
+            self.size += size_of(asked)
+            stops = self.stops
+            came = self.came_of(connection, asked)
+            if self.asking:
+                return self.rest
+            self.said += self.reply_words(asked, came)
+            self.handled += 1
+            if stops != self.stops:
+                break
+        self.end_piece(connection)
+        return self.rest
+
+    def end_piece(self, connection):
+        """Prints what is written for a piece, and how many octets of it are taken, where some are left."""
+        self.lines += [f"{connection} done{self.said}", f"left 1 {self.size}" if self.rest else "done"]
 
     def do_opened(self, number):
         is_new = self.greatest < number
@@ -188,6 +270,7 @@ class Owned(Engine):
         if parked is None:
             return self.refused(f"{verb} {number}{' 0' if verb == 'settle' else ''}", "not parked")
         outcome = self.outcome_of(number, parked) if verb == "settle" else NOT_NOW
+        self.counts["settled" if verb == "settle" else "withdrawn"] += 1
         kept = [(key, end, came) for key, end, came in self.performed if verb == "settle" or came is not parked]
         self.performed = [(key, end, outcome if came is parked else came) for key, end, came in kept]
         del self.parked[number]
@@ -196,6 +279,8 @@ class Owned(Engine):
 
     def outcome_of(self, number, parked):
         """The outcome of what is parked: a system exception where its object is gone, and nothing else is taken."""
+        if parked.call.operation == b"get":
+            self.refused(f"settle {number} overflow", "not parked")
         if not self.is_hidden:
             return self.apply(parked.call)
         self.refused(f"settle {number} 0", "not parked")
@@ -216,6 +301,18 @@ class Owned(Engine):
         self.give(f"bound {octets}")
         self.longest = octets
 
+    def do_tick(self, now):
+        self.give(f"tick {now}")
+        self.clock = max(self.clock, now)
+        ends = [end for _, end, _ in self.live()]
+        own = sum(client == b"A" for (client, _), _, _ in self.live())
+        till = f", till {min(ends)}" if ends else ""
+        self.lines.append(f"at {self.clock} keeps {len(ends)}, {own} of A{till}")
+
+    def do_counts(self):
+        self.give("counts")
+        self.lines.append(" ".join(["counts", *(f"{name} {self.counts[name]}" for name in COUNTED if self.counts[name])]))
+
 
 class Maker:
     """Makes the steps of a list."""
@@ -225,6 +322,7 @@ class Maker:
         capacity, share = dice.choice([(1024, 1024)] * 3 + [(2, 2), (3, 1), (1, 1), (0, 0), (5, 2)])
         self.terms = Terms(capacity, share, 0, LIMIT, 16)
         self.places = Places(dice.choice([0, 1, 2, 3, 100]), dice.choice([0, 1, 2, 10]))
+        self.of_one = self.places.parked
         self.keyed, self.manners, self.steps = [], {}, []
 
     def new_request(self):
@@ -282,6 +380,30 @@ class Maker:
         return self.steps
 
 
+def fault_of(player, engine, steps):
+    """What is wrong with what a program prints for the steps of a list, or None: the lines that were given, and those that
+    were printed."""
+    for step in steps:
+        engine.take(step)
+    given = "".join(line + "\n" for line in engine.given)
+    run = base.ran(player, given=given.encode())
+    got = run.stdout.decode().splitlines()
+    if run.returncode == 0 and got == engine.lines:
+        return None
+    error = f"status {run.returncode} {run.stderr.decode()}"
+    return "\n".join([f"{given}wanted:", *engine.lines, "got:", *got, error])
+
+
+def judge(player, maker, model):
+    """Raises an error where a program prints something else for a list than a model says: with as few steps as are
+    found."""
+    def fault(steps):
+        return fault_of(player, model(maker), steps)
+    if fault(maker.made()):
+        fewer = smallest(maker.steps, fault)
+        raise AssertionError(f"{len(fewer)} of {len(maker.steps)} steps, {fault(fewer)}")
+
+
 class Lists(unittest.TestCase):
     """An owner's deeds, and changes of what an engine serves, on random lists."""
 
@@ -289,23 +411,7 @@ class Lists(unittest.TestCase):
     def setUpClass(cls):
         cls.player = programs.program("DEEDS_PLAYER")
 
-    def fault_of(self, maker, steps):
-        """What is wrong with a list, or None: the lines that were given, and those that were printed."""
-        engine = Owned(maker.terms, maker.places, maker.manners)
-        for step in steps:
-            engine.take(step)
-        given = "".join(line + "\n" for line in engine.given)
-        run = base.ran(self.player, given=given.encode())
-        got = run.stdout.decode().splitlines()
-        if run.returncode == 0 and got == engine.lines:
-            return None
-        error = f"status {run.returncode} {run.stderr.decode()}"
-        return "\n".join([f"{given}wanted:", *engine.lines, "got:", *got, error])
-
     @base.each_seed(SEED, COUNT, PLAYERS)
     def test_lists(self, seed):
         """What is written for each deed is what the model says, also where what is on offer changes."""
-        maker = Maker(random.Random(seed))
-        if self.fault_of(maker, maker.made()):
-            fewer = smallest(maker.steps, lambda some: self.fault_of(maker, some))
-            self.fail(f"{len(fewer)} of {len(maker.steps)} steps, {self.fault_of(maker, fewer)}")
+        judge(self.player, Maker(random.Random(seed)), Owned)

@@ -29,7 +29,10 @@ OF_PROGRAMS = [
     "tests.schedules", "tests.engine", "tests.deeds", "tests.compare_server", "tests.echo",
     "tests.bounded_allocations", "tests.refused_allocations",
 ]
-OF_LIBRARY = ["tests.embedding", "tests.embed.first_programs", "tests.embed.python_test", "tests.embed.rust_test"]
+OF_LIBRARY = [
+    "tests.embedding", "tests.embed.deeds_test", "tests.embed.first_programs", "tests.embed.python_test",
+    "tests.embed.rust_test",
+]
 
 
 def modules_of_tests() -> Iterator[str]:

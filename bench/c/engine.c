@@ -14,19 +14,19 @@
 #include <string.h>
 
 /* A Request of GIOP 1.2 without contexts: `add` with 7, of the object with the key `c`. */
-static const unsigned char add_message[52] = {
-    'G', 'I', 'O', 'P', 1, 2, 0, 0, 0, 0, 0, 0x28, 0,   0,   0, 5, 3, 0, 0, 0, 0, 0, 0, 0, 0, 0,
-    0,   1,   'c', 0,   0, 0, 0, 0, 0, 4, 'a', 'd', 'd', 0, 0, 0, 0, 0, 0, 0, 0, 0, 0, 0, 0, 7};
+static const unsigned char add_message[52] = {'G', 'I', 'O', 'P', 1, 2, 0, 0, 0, 0, 0,   0x28, 0, 0, 0, 5, 3, 0,
+                                              0,   0,   0,   0,   0, 0, 0, 0, 0, 1, 'c', 0,    0, 0, 0, 0, 0, 4,
+                                              'a', 'd', 'd', 0,   0, 0, 0, 0, 0, 0, 0,   0,    0, 0, 0, 7};
 
 /* The same with an FT_REQUEST context. */
 static const unsigned char keyed_message[84] = {
-    'G', 'I', 'O', 'P', 1, 2, 0, 0, 0, 0, 0, 0x48, 0,   0,   0, 5, 3, 0, 0, 0, 0, 0, 0, 0, 0,    0, 0, 1,
-    'c', 0,   0,   0,   0, 0, 0, 4, 'a', 'd', 'd', 0,   0,   0, 0, 1, 0, 0, 0, 13, 0, 0, 0, 0x18, 0, 0, 0, 0,
-    0,   0,   0,   2,   'A', 0, 0, 0, 0, 0, 0, 1,  0,   0,   0, 0, 0, 0, 0, 0x64, 0, 0, 0, 0,    0, 0, 0, 7};
+    'G', 'I', 'O', 'P', 1,   2, 0, 0, 0,   0,   0,   0x48, 0, 0, 0, 5, 3, 0, 0, 0,    0, 0, 0, 0,    0, 0, 0, 1,
+    'c', 0,   0,   0,   0,   0, 0, 4, 'a', 'd', 'd', 0,    0, 0, 0, 1, 0, 0, 0, 13,   0, 0, 0, 0x18, 0, 0, 0, 0,
+    0,   0,   0,   2,   'A', 0, 0, 0, 0,   0,   0,   1,    0, 0, 0, 0, 0, 0, 0, 0x64, 0, 0, 0, 0,    0, 0, 0, 7};
 
 /* A LocateRequest of the same key. */
-static const unsigned char locate_message[25] = {
-    'G', 'I', 'O', 'P', 1, 2, 0, 3, 0, 0, 0, 13, 0, 0, 0, 1, 0, 0, 0, 0, 0, 0, 0, 1, 'c'};
+static const unsigned char locate_message[25] = {'G', 'I', 'O', 'P', 1, 2, 0, 3, 0, 0, 0, 13, 0,
+                                                 0,   0,   1,   0,   0, 0, 0, 0, 0, 0, 1, 'c'};
 
 enum calls { FEW, LOOP };
 
@@ -112,8 +112,8 @@ static void put(unsigned char *at, uint64_t number, int size) {
   while (size-- > 0) *at++ = (unsigned char)(number >> 8 * size);
 }
 
-/* The last moment at which the outcome of a message is kept: one expires with each that comes after the first `entries`,
- * in the order in which they were kept, or in another. */
+/* The last moment at which the outcome of a message is kept: one expires with each that comes after the first
+ * `entries`, in the order in which they were kept, or in another. */
 static uint64_t expiration(uint64_t index, uint64_t entries, bool is_scattered) {
   uint64_t place = index & (entries - 1);
   uint64_t turn = is_scattered ? (place * 40503 + 97) & (entries - 1) : place;

@@ -1,8 +1,8 @@
 /*
  * What a server takes of the heap: memory
  *
- * Each line is a measure: how many octets were asked for, how many the malloc of glibc takes for these on a machine of 64
- * bits, in how many blocks, and what they are for. What is counted comes through lr_set_heap.
+ * Each line is a measure: how many octets were asked for, how many the malloc of glibc takes for these on a machine of
+ * 64 bits, in how many blocks, and what they are for. What is counted comes through lr_set_heap.
  */
 #include <lemonrudder.h>
 #include <stdbool.h>
@@ -94,12 +94,14 @@ static void open_server(void) {
 }
 
 /* A request of a client's number, which expires at a moment. Answers its size. */
-static size_t request(unsigned char *room, const char *operation, const char *client, int32_t number, uint64_t expiration) {
+static size_t request(unsigned char *room, const char *operation, const char *client, int32_t number,
+                      uint64_t expiration) {
   static const unsigned char seven[] = {0, 0, 0, 7};
   unsigned char context[64];
   int64_t size = sure(lr_write_ft(context, sizeof context, LR_ORDER_BIG, client, strlen(client), number, expiration));
-  return (size_t)sure(lr_write_request(room, ROOM, 2, LR_ORDER_BIG, 1, LR_WISH_FULL, "c", 1, operation, strlen(operation),
-                                       LR_CONTEXT_FT_REQUEST, context, (size_t)size, seven, sizeof seven));
+  return (size_t)sure(lr_write_request(room, ROOM, 2, LR_ORDER_BIG, 1, LR_WISH_FULL, "c", 1, operation,
+                                       strlen(operation), LR_CONTEXT_FT_REQUEST, context, (size_t)size, seven,
+                                       sizeof seven));
 }
 
 /* Takes octets of a connection to their end, answers what is asked by so many octets, and drops what is due. */
@@ -112,7 +114,8 @@ static void take(uint64_t connection, uint64_t now, const unsigned char *octets,
     size -= (size_t)taken;
     bool is_asking = sure(lr_server_asked(&server, &asked, sizeof asked)) == 1;
     uint64_t ticket = asked.ticket;
-    if (is_asking && asked.is_raw) sure(lr_server_answer_raw(&server, ticket, LR_REPLY_NO_EXCEPTION, LR_ORDER_BIG, room, result));
+    if (is_asking && asked.is_raw)
+      sure(lr_server_answer_raw(&server, ticket, LR_REPLY_NO_EXCEPTION, LR_ORDER_BIG, room, result));
     if (is_asking && !asked.is_raw) sure(lr_server_answer(&server, ticket, LR_ORDER_BIG, room, result));
     while (sure(lr_server_output(&server, connection, room, sizeof room)) > 0) continue;
   }

@@ -332,25 +332,23 @@ static void servers_want_a_catalogue(void) {
 
 /* ---- numbers, names and types ---- */
 
-/* Limits that are none, and the nearest that are. */
-static const struct {
+/* Numbers that limits are set to, and what is answered: those that are none, and the nearest that are. */
+struct setting {
   uint64_t number;
   int64_t answer;
-} messages[] =
-    {{4096, LR_OK},   {16777216, LR_OK},        {4095, LR_E_RANGE},       {16777217, LR_E_RANGE},
-     {0, LR_E_RANGE}, {UINT32_MAX, LR_E_RANGE}, {UINT64_MAX, LR_E_RANGE}, {(UINT64_C(1) << 32) + 4096, LR_E_RANGE}},
-  partials[] = {{1, LR_OK},
-                {16, LR_OK},
-                {0, LR_E_RANGE},
-                {17, LR_E_RANGE},
-                {257, LR_E_RANGE},
-                {UINT32_MAX, LR_E_RANGE},
-                {UINT64_MAX, LR_E_RANGE},
-                {(UINT64_C(1) << 32) + 1, LR_E_RANGE}},
-  counts[] = {{0, LR_OK}, {1, LR_OK}, {UINT32_MAX, LR_OK}, {UINT64_C(1) << 32, LR_E_RANGE}, {UINT64_MAX, LR_E_RANGE}},
-  versions[] =
-      {{0, LR_OK}, {1, LR_OK}, {2, LR_OK}, {3, LR_E_RANGE}, {UINT64_MAX, LR_E_RANGE}, {UINT64_C(1) << 32, LR_E_RANGE}},
-  truths[] = {{0, LR_OK}, {1, LR_OK}, {2, LR_E_RANGE}, {UINT64_MAX, LR_E_RANGE}, {UINT64_C(1) << 32, LR_E_RANGE}};
+};
+#define GOOD(number) \
+  { (number), LR_OK }
+#define BAD(number) \
+  { (number), LR_E_RANGE }
+static const struct setting messages[] = {
+    GOOD(4096), GOOD(16777216),  BAD(4095),       BAD(16777217),
+    BAD(0),     BAD(UINT32_MAX), BAD(UINT64_MAX), BAD((UINT64_C(1) << 32) + 4096)};
+static const struct setting partials[] = {GOOD(1),  GOOD(16),        BAD(0),          BAD(17),
+                                          BAD(257), BAD(UINT32_MAX), BAD(UINT64_MAX), BAD((UINT64_C(1) << 32) + 1)};
+static const struct setting counts[] = {GOOD(0), GOOD(1), GOOD(UINT32_MAX), BAD(UINT64_C(1) << 32), BAD(UINT64_MAX)};
+static const struct setting versions[] = {GOOD(0), GOOD(1), GOOD(2), BAD(3), BAD(UINT64_C(1) << 32), BAD(UINT64_MAX)};
+static const struct setting truths[] = {GOOD(0), GOOD(1), BAD(2), BAD(UINT64_C(1) << 32), BAD(UINT64_MAX)};
 
 /* Sets each of these numbers. */
 #define SETS(set, slot, what, numbers)                    \

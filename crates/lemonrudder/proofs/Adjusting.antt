@@ -1,5 +1,5 @@
 -- What is set of a client.
-use Rattle.std.proofs.Common.{◌≡◌, ◌∙◌, ℕ, inl, Result, ap, sym, subst}
+use Rattle.std.proofs.Common.{◌≡◌, ℕ, inl, Result, subst}
 use Rattle.giop_core.specs.declared.header.Version.{Version}
 use Rattle.giop_frames.specs.declared.limits.Limits.{Limits}
 use Rattle.lemonrudder.specs.declared.calling.Calling.{Calling}

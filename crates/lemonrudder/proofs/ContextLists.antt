@@ -1,5 +1,5 @@
 -- Service contexts that are read from octets of the caller.
-use Rattle.std.proofs.Common.{◌≡◌, ◌∙◌, ℕ, ◌<◌, Bool, true, false, ◌==◌, List, [], ◌∷◌, ◌++◌, length, map, take, Result, Ok, Err, ◌⊎◌, inl, inr, refl, ap, sym, subst, append-nil, arith, length-append}
+use Rattle.std.proofs.Common.{◌≡◌, ◌∙◌, ℕ, true, false, ◌==◌, List, [], ◌∷◌, ◌++◌, length, map, take, Ok, Err, ◌⊎◌, inl, inr, refl, ap, sym, subst, append-nil, arith, length-append}
 use Rattle.std.proofs.lemmas.Bool.{eqb-true}
 use Rattle.std.specs.Borrow.{Bor}
 use Rattle.cdr_core.specs.declared.fault.CdrError.{CdrError}
@@ -19,7 +19,6 @@ use Rattle.ior_core.specs.View.{lent_value}
 use Rattle.ior_core.proofs.Steps.{list_is}
 use Rattle.giop_core.specs.Items.{item_at, list_value, tagged_value}
 use Rattle.giop_core.specs.Rows.{contexts}
-use Rattle.lemonrudder.specs.declared.refusal.Refusal.{Refusal}
 use Rattle.lemonrudder.specs.declared.refusal.Refusal.TheVariants as refusal
 use Rattle.lemonrudder.specs.RawCalls.{AreContexts, AreNoContexts}
 use Rattle.lemonrudder.specs.Refusals.{refusal_of_fault, refusal_of_reading}

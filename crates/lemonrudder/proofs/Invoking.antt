@@ -19,7 +19,7 @@ use Rattle.ft_client.specs.Redirections.{asked_anew, in_place_of}
 use Rattle.ft_client.specs.Standing.{FtStands, down}
 use Rattle.lemonrudder.specs.declared.calling.Calling.{Calling}
 use Rattle.lemonrudder.specs.declared.refusal.Refusal.{Refusal}
-use Rattle.lemonrudder.specs.Calls.{Standing, Stands, Stays}
+use Rattle.lemonrudder.specs.Calls.{Stays}
 use Rattle.lemonrudder.specs.Declares.{Spell}
 use Rattle.lemonrudder.specs.Invokes.{AreArguments, AreAsked, OnCall, Question, asked}
 use Rattle.lemonrudder.specs.Naming.{call_numbered, or_range, order_named}

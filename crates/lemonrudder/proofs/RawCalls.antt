@@ -1,5 +1,5 @@
 -- Raw calls that a client makes or takes up again, in the words of what it stands for.
-use Rattle.std.proofs.Common.{◌≡◌, ◌∙◌, ◌⊎◌, inl, inr, ℕ, suc, ℤ, true, List, ◌++◌, map, Some, Result, Ok, Err, Vec, Global, refl, ap, subst, sym}
+use Rattle.std.proofs.Common.{◌≡◌, ◌∙◌, ◌⊎◌, inl, inr, ℕ, suc, ℤ, true, List, ◌++◌, Some, Result, Ok, Err, Vec, Global, refl, ap, subst, sym}
 use Rattle.giop_core.specs.declared.header.Version.{Version}
 use Rattle.ft_client.specs.declared.client.FtClient.{FtClient}
 use Rattle.ft_client.specs.declared.error.RawCallError.{RawCallError}
@@ -13,7 +13,7 @@ use Rattle.lemonrudder.specs.declared.calling.Calling.{Calling}
 use Rattle.lemonrudder.specs.declared.calling.raw.RawManner.{RawManner}
 use Rattle.lemonrudder.specs.declared.refusal.Refusal.{Refusal}
 use Rattle.lemonrudder.specs.declared.refusal.Refusal.TheVariants as refusal
-use Rattle.lemonrudder.specs.Calls.{Standing, Stands, Stays}
+use Rattle.lemonrudder.specs.Calls.{Stays}
 use Rattle.lemonrudder.specs.Naming.{call_numbered}
 use Rattle.lemonrudder.specs.RawCalls.{AreContexts, AreNoContexts, IsRawAsked, IsRawManner, IsWhyUnaskedRaw, OnCallRaw, OnRecallRaw, RawQuestion, raw_asked, raw_in}
 use Rattle.lemonrudder.specs.Refusals.{refusal_of_raw_calling, refusal_of_raw_recalling}

@@ -1,5 +1,5 @@
 -- What a server says of itself: the service contexts of what waits, and its numbers for an operator.
-use Rattle.std.specs.Prelude.{◌≡◌, ℕ, List, [], ◌∷◌, length, slice_get, Option, Some, None, Result, Ok, Err}
+use Rattle.std.specs.Prelude.{◌≡◌, ℕ, ◌-◌, List, [], ◌∷◌, length, slice_get, Option, Some, None, Result, Ok, Err}
 use Rattle.ft_log.specs.Holding.{Holding}
 use Rattle.ft_log.specs.Keys.{held_of}
 use Rattle.ft_log.specs.Kept.{keys_of, least_expiration}
@@ -8,7 +8,7 @@ use Rattle.ft_orb.specs.declared.counts.Counts.{Counts}
 use Rattle.ft_orb.specs.declared.parked.Waiter.{Waiter}
 use Rattle.ft_orb.specs.Engines.{Awaited, counts_in, kept_in}
 use Rattle.ft_orb.specs.History.{Event}
-use Rattle.ft_orb.specs.Parking.{AsksLate, Settings, parked_count}
+use Rattle.ft_orb.specs.Parking.{AsksLate, Settings, parked_count, parked_in, wanted_in}
 use Rattle.ft_orb.specs.Requests.{Call}
 use Rattle.lemonrudder.specs.declared.refusal.Refusal.{Refusal}
 use Rattle.lemonrudder.specs.declared.refusal.Refusal.TheVariants as refusal
@@ -16,12 +16,21 @@ use Rattle.lemonrudder.specs.declared.serving.Serving.{Serving}
 use Rattle.lemonrudder.specs.Connected.{how_many}
 use Rattle.lemonrudder.specs.Items.{CopiesItem}
 use Rattle.lemonrudder.specs.Serves.{IsIdle, Ticks, WhereIdle}
+use Rattle.lemonrudder.specs.Tickets.{parked_by}
 
 -- a service context of the request that waits, by its index, is copied, and its id given, if there is one
 abbrev pub OnContext : ℕ → (id given : ℕ) → (room new : List ℕ) → Serving → Serving → Result ℕ Refusal → Type 0
 OnContext index id given room new s t r = (t ≡ s) × (IsIdle s → (r ≡ Err refusal.Idle) × (given ≡ id) × (new ≡ room))
     × ((x : Settings) (held : ℕ → Holding) (calls : List Call) (past : List Event) (waiting : ℕ → List Waiter) (moment : ℕ) (octets written : List ℕ) (w : Awaited) → (a : AsksLate families_offer x held calls s.engine past waiting moment octets written w)
     → CopiesItem (slice_get a.asks.question.contexts index) id given room new r)
+
+abbrev pub wanted_if : Option Awaited → ℕ → Result ℕ Refusal
+wanted_if (Some w) n = Ok n
+wanted_if None n = Err refusal.Ticket
+
+-- it is reported how many wait for the outcome of the request of a ticket, which is parked, on connections that go on
+abbrev pub OnWanted : (ticket : ℕ) → Serving → Serving → Result ℕ Refusal → Type 0
+OnWanted ticket s t r = (t ≡ s) × (r ≡ wanted_if (parked_by ticket (parked_in s.engine)) (wanted_in s.engine (ticket - 1)))
 
 -- what became of requests and locates, counted, in the order of the header
 abbrev pub numbers_of : Counts → List ℕ

@@ -1,5 +1,5 @@
 -- Numbers of the header, and what they name.
-use Rattle.std.specs.Prelude.{◌≡◌, ℕ, ◌≤◌, nat_lt, ℤ, pos, negsuc, Bool, true, false, [], ◌∷◌, slice_get, Option, Some, None, Result, Ok, Err, ◌==◌, if◌then◌else◌}
+use Rattle.std.specs.Prelude.{◌≡◌, ℕ, ◌≤◌, nat_lt, ℤ, pos, negsuc, Bool, true, false, List, [], ◌∷◌, slice_get, Option, Some, None, Result, Ok, Err, ◌==◌, if◌then◌else◌}
 use Rattle.cdr_core.specs.declared.order.Order.{Order}
 use Rattle.cdr_core.specs.declared.order.Order.TheVariants.{Big, Little}
 use Rattle.giop_core.specs.declared.header.Version.{Version}
@@ -85,6 +85,9 @@ raw_status_named n = slice_get (NoException ∷ UserException ∷ SystemExceptio
 abbrev pub completion_named : ℕ → Option Completion
 completion_named n = slice_get (Yes ∷ No ∷ Maybe ∷ []) n
 
--- a system exception, by the number of the header
+-- the system exceptions, by the numbers of the header
+abbrev pub system_names : List SystemName
+system_names = system.Marshal ∷ system.BadContext ∷ system.NoResources ∷ system.BadOperation ∷ system.ObjectNotExist ∷ system.Unknown ∷ system.BadParam ∷ system.NoPermission ∷ system.ImpLimit ∷ system.Internal ∷ system.Transient ∷ system.NoMemory ∷ system.CommFailure ∷ system.InvObjref ∷ system.Initialize ∷ system.NoImplement ∷ system.BadTypecode ∷ system.NoResponse ∷ system.PersistStore ∷ system.BadInvOrder ∷ system.FreeMem ∷ system.InvIdent ∷ system.InvFlag ∷ system.IntfRepos ∷ system.ObjAdapter ∷ system.DataConversion ∷ system.TransactionRequired ∷ system.TransactionRolledback ∷ system.InvalidTransaction ∷ system.InvPolicy ∷ system.CodesetIncompatible ∷ system.Rebind ∷ system.Timeout ∷ system.TransactionUnavailable ∷ system.TransactionMode ∷ system.BadQos ∷ system.InvalidActivity ∷ system.ActivityCompleted ∷ system.ActivityRequired ∷ system.ThreadCancelled ∷ []
+
 abbrev pub system_name_named : ℕ → Option SystemName
-system_name_named n = slice_get (system.Marshal ∷ system.BadContext ∷ system.NoResources ∷ system.BadOperation ∷ system.ObjectNotExist ∷ system.Unknown ∷ system.BadParam ∷ system.NoPermission ∷ system.ImpLimit ∷ system.Internal ∷ system.Transient ∷ system.NoMemory ∷ system.CommFailure ∷ system.InvObjref ∷ system.Initialize ∷ system.NoImplement ∷ system.BadTypecode ∷ system.NoResponse ∷ system.PersistStore ∷ system.BadInvOrder ∷ system.FreeMem ∷ system.InvIdent ∷ system.InvFlag ∷ system.IntfRepos ∷ system.ObjAdapter ∷ system.DataConversion ∷ system.TransactionRequired ∷ system.TransactionRolledback ∷ system.InvalidTransaction ∷ system.InvPolicy ∷ system.CodesetIncompatible ∷ system.Rebind ∷ system.Timeout ∷ system.TransactionUnavailable ∷ system.TransactionMode ∷ system.BadQos ∷ system.InvalidActivity ∷ system.ActivityCompleted ∷ system.ActivityRequired ∷ system.ThreadCancelled ∷ []) n
+system_name_named n = slice_get system_names n

@@ -2,7 +2,7 @@
 
 ghost use Rattle.std.specs.Prelude.{◌≡◌, ◌<ℤ◌, ◌≤ℤ◌, pos, Some};
 ghost use Rattle.lemonrudder.specs.Answers.{OnServer};
-ghost use Rattle.lemonrudder.specs.Looks.{OnContext, OnCount, OnHeldBy, OnNextExpiry, OnTick};
+ghost use Rattle.lemonrudder.specs.Looks.{OnContext, OnCount, OnHeldBy, OnNextExpiry, OnTick, OnWanted};
 
 use crate::object::Object;
 use crate::refusal::{Refusal, number_of, signed};
@@ -16,6 +16,16 @@ pub fn context(object: &Object, index: u32, id: &mut u32, room: &mut [u8]) -> i6
         return Refusal::Empty.number();
     };
     number_of(server.context(index, id, room))
+}
+
+/// How many wait for the outcome of a parked request.
+pub fn wanted(object: &Object, ticket: u64) -> i64
+    ensures { OnServer (OnWanted ticket) (Some object.now) (Some object.now) result }
+{
+    let Object::Server(server) = object else {
+        return Refusal::Empty.number();
+    };
+    number_of(server.wanted(ticket))
 }
 
 /// A number for an operator.

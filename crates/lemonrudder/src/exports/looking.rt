@@ -2,7 +2,7 @@
 
 ghost use Rattle.std.specs.Prelude.{◌≡◌, ◌<ℤ◌, ◌≤ℤ◌, pos};
 ghost use Rattle.lemonrudder.specs.Answers.{OnServer};
-ghost use Rattle.lemonrudder.specs.Looks.{OnContext, OnCount, OnHeldBy, OnNextExpiry, OnTick};
+ghost use Rattle.lemonrudder.specs.Looks.{OnContext, OnCount, OnHeldBy, OnNextExpiry, OnTick, OnWanted};
 ghost use Rattle.lemonrudder.specs.Slots.{held_in};
 
 use crate::looked;
@@ -26,6 +26,19 @@ pub extern "C" fn lr_server_context(
         return Refusal::Empty.number();
     };
     let answer = looked::context(&object, index, id, room);
+    slot.put(object);
+    answer
+}
+
+/// How many wait for the outcome of a parked request, on connections that go on.
+#[unsafe(no_mangle)]
+pub extern "C" fn lr_server_wanted(alloc: Global, slot: &mut Slot, ticket: u64) -> i64
+    ensures { OnServer (OnWanted ticket) (held_in slot.old) (held_in slot.new) result }
+{
+    let Some(object) = slot.take(alloc) else {
+        return Refusal::Empty.number();
+    };
+    let answer = looked::wanted(&object, ticket);
     slot.put(object);
     answer
 }

@@ -10,7 +10,7 @@ use giop_link::Inbound;
 
 impl Serving {
     ghost use Rattle.std.specs.Prelude.{Ok, OnErr};
-    ghost use Rattle.lemonrudder.specs.Looks.{OnContext, OnCount, OnHeldBy, OnNextExpiry, OnTick};
+    ghost use Rattle.lemonrudder.specs.Looks.{OnContext, OnCount, OnHeldBy, OnNextExpiry, OnTick, OnWanted};
 
     /// Copies a service context of the request that waits, and gives its id.
     pub fn context(&self, index: u32, id: &mut u32, room: &mut [u8]) -> Result<u64, Refusal>
@@ -30,6 +30,20 @@ impl Serving {
         let (found, data) = context_of(content, index).ok_or(Refusal::None)?;
         *id = found;
         Ok(copied(data, room))
+    }
+
+    /// How many wait for the outcome of the request of a ticket, which is parked, on connections that go on.
+    pub fn wanted(&self, ticket: u64) -> Result<u64, Refusal>
+        ensures { OnWanted ticket self.now self.now result }
+    {
+        if ticket == 0 {
+            return Err(Refusal::Ticket);
+        }
+        let number = ticket - 1;
+        match self.engine.parked(number) {
+            Some(_) => Ok(self.engine.wanted(number) as u64),
+            None => Err(Refusal::Ticket),
+        }
     }
 
     /// A number for an operator, by which of them the header says it is.

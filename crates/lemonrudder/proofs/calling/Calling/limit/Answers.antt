@@ -1,4 +1,3 @@
-use Rattle.std.proofs.Common.{◌≡◌}
 use Rattle.lemonrudder.proofs.Adjusting.{limited}
 use Rattle.lemonrudder.proofs.calling.Calling.limit.Goals as goal
 

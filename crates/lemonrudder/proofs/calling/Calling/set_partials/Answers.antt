@@ -1,4 +1,4 @@
-use Rattle.std.proofs.Common.{◌≡◌, ◌∙◌, ap}
+use Rattle.std.proofs.Common.{ap}
 use Rattle.giop_frames.specs.declared.limits.Limits.{Limits}
 use Rattle.lemonrudder.proofs.Adjusting.{limited_as}
 use Rattle.lemonrudder.proofs.calling.Calling.set_partials.Goals as goal

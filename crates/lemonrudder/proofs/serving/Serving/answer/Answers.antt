@@ -18,11 +18,11 @@ returns-in_err-order c =
 
 pub returns-in_err-called : goal.returns-in_err-called
 returns-in_err-called c =
-    let p = err_from_is_err_and c.from_residual-in_err-called.result c.from_residual-in_err-called.ensures.called.1 in
+    let p = err_from_is_err_and c.from_residual-in_err-called.result c.from_residual-in_err-called.ensures.1 in
     let s = c.args.self.now in
     let r = c.from_residual-in_err-called.result in
     named _ c.in_ok-order.order s s r (λ o. ByCalled c.args.ticket s s r (λ f w. HandsInValues f (result_types (interface_at s w)) o c.args.octets.now returned s s r)) (sym c.order_of.ensures ∙ c.in_ok-order.was)
-    (not_called (called_by c.args.ticket (waits_in s.engine) (parked_in s.engine)) c.in_err-called.field-0.0 s r (λ f w. HandsInValues f (result_types (interface_at s w)) c.in_ok-order.order c.args.octets.now returned s s r) c.in_err-called.ensures.0 (p.1 ∙ ap Err p.2))
+    (not_called (called_by c.args.ticket (waits_in s.engine) (parked_in s.engine)) c.in_err-called.field-0.0 s r (λ f w. HandsInValues f (result_types (interface_at s w)) c.in_ok-order.order c.args.octets.now returned s s r) c.in_err-called.ensures.called (p.1 ∙ ap Err p.2))
 
 pub returns-in_err-results : goal.returns-in_err-results
 returns-in_err-results c =

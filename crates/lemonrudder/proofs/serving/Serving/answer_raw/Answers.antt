@@ -27,12 +27,12 @@ returns-in_err-order c =
 
 pub returns-in_err-called : goal.returns-in_err-called
 returns-in_err-called c =
-    let p = err_from_is_err_and c.from_residual-in_err-called.result c.from_residual-in_err-called.ensures.called.1 in
+    let p = err_from_is_err_and c.from_residual-in_err-called.result c.from_residual-in_err-called.ensures.1 in
     let s = c.args.self.now in
     let r = c.from_residual-in_err-called.result in
     named _ c.in_ok-status.status s s r (λ n. ByName (order_named c.args.order) s s r (λ o. ByCalled c.args.ticket s s r (λ f w. UnlessShort s s r (HandsIn f 0 (raw n o c.args.body.now) s s r)))) (sym c.raw_status_of.ensures ∙ c.in_ok-status.was)
     (named _ c.in_ok-order.order s s r (λ o. ByCalled c.args.ticket s s r (λ f w. UnlessShort s s r (HandsIn f 0 (raw c.in_ok-status.status o c.args.body.now) s s r))) (sym c.order_of.ensures ∙ c.in_ok-order.was)
-    (not_called (called_by c.args.ticket (waits_in s.engine) (parked_in s.engine)) c.in_err-called.field-0.0 s r (λ f w. UnlessShort s s r (HandsIn f 0 (raw c.in_ok-status.status c.in_ok-order.order c.args.body.now) s s r)) c.in_err-called.ensures.0 (p.1 ∙ ap Err p.2)))
+    (not_called (called_by c.args.ticket (waits_in s.engine) (parked_in s.engine)) c.in_err-called.field-0.0 s r (λ f w. UnlessShort s s r (HandsIn f 0 (raw c.in_ok-status.status c.in_ok-order.order c.args.body.now) s s r)) c.in_err-called.ensures.called (p.1 ∙ ap Err p.2)))
 
 pub returns-in_err-body : goal.returns-in_err-body
 returns-in_err-body c =

@@ -28,7 +28,7 @@ returns-in_err-called c =
     let s = c.args.self.now in
     let r = c.from_residual-in_err-called.result in
     named _ c.in_ok-name.name s s r (λ n. ByCalled c.args.ticket s s r (λ f w. Refuses f (not_now n c.args.minor) s s r)) (sym c.system_name_of.ensures ∙ c.in_ok-name.was)
-    (not_called (called_by c.args.ticket (waits_in s.engine) (parked_in s.engine)) c.in_err-called.field-0.0 s r (λ f w. Refuses f (not_now c.in_ok-name.name c.args.minor) s s r) c.in_err-called.ensures.0 (p.1 ∙ ap Err p.2))
+    (not_called (called_by c.args.ticket (waits_in s.engine) (parked_in s.engine)) c.in_err-called.field-0.0 s r (λ f w. Refuses f (not_now c.in_ok-name.name c.args.minor) s s r) c.in_err-called.ensures.called (p.1 ∙ ap Err p.2))
 
 pub returns-in-Waits : goal.returns-in-Waits
 returns-in-Waits c =

@@ -27,12 +27,12 @@ returns-in_err-completed c =
 
 pub returns-in_err-called : goal.returns-in_err-called
 returns-in_err-called c =
-    let p = err_from_is_err_and c.from_residual-in_err-called.result c.from_residual-in_err-called.ensures.called.1 in
+    let p = err_from_is_err_and c.from_residual-in_err-called.result c.from_residual-in_err-called.ensures.1 in
     let s = c.args.self.now in
     let r = c.from_residual-in_err-called.result in
     named _ c.in_ok-name.name s s r (λ n. ByName (completion_named c.args.completed) s s r (λ x. ByCalled c.args.ticket s s r (λ f w. HandsIn f 0 (system n c.args.minor x) s s r))) (sym c.system_name_of.ensures ∙ c.in_ok-name.was)
     (named _ c.in_ok-completed.completed s s r (λ x. ByCalled c.args.ticket s s r (λ f w. HandsIn f 0 (system c.in_ok-name.name c.args.minor x) s s r)) (sym c.completion_of.ensures ∙ c.in_ok-completed.was)
-    (not_called (called_by c.args.ticket (waits_in s.engine) (parked_in s.engine)) c.in_err-called.field-0.0 s r (λ f w. HandsIn f 0 (system c.in_ok-name.name c.args.minor c.in_ok-completed.completed) s s r) c.in_err-called.ensures.0 (p.1 ∙ ap Err p.2)))
+    (not_called (called_by c.args.ticket (waits_in s.engine) (parked_in s.engine)) c.in_err-called.field-0.0 s r (λ f w. HandsIn f 0 (system c.in_ok-name.name c.args.minor c.in_ok-completed.completed) s s r) c.in_err-called.ensures.called (p.1 ∙ ap Err p.2)))
 
 pub returns : goal.returns
 returns c =

@@ -1,0 +1,184 @@
+"""Plays lists of an owner's deeds with tests/embed/deeds.c, a player over the header for C, and compares.
+
+The random lists are those of tests/deeds.py, and what is printed for each must be what its model says. The rows are
+those that crates/deeds_player has, and are printed as they stand there. Both by these rules, which say where the header
+has no such thing, or another:
+
+- An error says that there is no place to park a request, and not which places are taken.
+- The greatest length of a client's id is set before the first connection is opened: a list has `bound` first of all, and
+  afterwards it is too late, also while a request waits. Rows in which it changes later are left out.
+- What became of each request (`heard`) is not told, but counted; why a connection ended (`ending`) is not told.
+- The connections on which octets became due by the outcome of a parked request are named in no order that is promised:
+  what is told is compared by the numbers of the connections, and in its order on each.
+"""
+from __future__ import annotations
+
+import os
+import random
+import re
+import unittest
+from collections.abc import Iterator
+
+from tests import base, deeds, embedding, programs
+from tests.engine_model import Asked, GivenUp, Parked, Places
+
+ROWS = os.path.join(programs.ROOT, "crates", "deeds_player")
+# the greatest length of a client's id where none is set
+LONGEST = 256
+
+
+class Maker(deeds.Maker):
+    """Makes the steps of a list, also those that only the header has."""
+
+    def __init__(self, dice: random.Random) -> None:
+        super().__init__(dice)
+        self.places = Places(dice.choice([1, 2, 3, 100]), dice.choice([0, 1, 2, 10]))
+        self.of_one = dice.choice([self.places.parked, self.places.parked, 1, 2])
+
+    def request(self) -> deeds.Asking:
+        asking, dice = super().request(), self.dice
+        number = asking.asked.request_id
+        if self.manners[number] == "give_up" and dice.random() < 0.5:
+            self.manners[number] = "goodbye"
+        return asking._replace(connection=dice.choice([asking.connection, dice.randint(1, self.last)]))
+
+    def piece(self) -> tuple:
+        """Requests that come at once, on any connection."""
+        some = [self.request().asked for _ in range(self.dice.randint(2, 4))]
+        return "asks", self.dice.randint(1, self.last), self.now, some
+
+    def step(self) -> tuple:
+        dice = self.dice
+        chance = dice.random()
+        if chance < 0.1:
+            return self.piece()
+        if chance < 0.2:
+            return self.opened()
+        if chance < 0.85:
+            return super().step()
+        tick = "tick", self.now + dice.choice([0, 1, 10])
+        return dice.choice([("counts",), ("parked",), ("wanted",), ("restore",), tick])
+
+    def made(self) -> list[tuple]:
+        longest = self.dice.choice([0, 2, 6, 255, *[LONGEST] * 20])
+        self.steps = [("bound", longest), *super().made(), ("parked",), ("counts",)]
+        return self.steps
+
+
+class Embedded(deeds.Owned):
+    """A server of the library, and its owner."""
+
+    UNPARKED = "unparked"
+
+    def __init__(self, maker: Maker) -> None:
+        super().__init__(maker)
+        self.longest = LONGEST
+
+    def going(self, parked: Parked) -> list[tuple[int, Asked]]:
+        return sorted(super().going(parked), key=lambda waiter: waiter[0])
+
+    def while_asking(self, line: str) -> None:
+        if line.startswith("bound"):
+            return self.do_bound(int(line.split()[1]))
+        return super().while_asking(line)
+
+    def give_up(self, manner: str, connection: int, asked: Asked) -> str:
+        if manner == "give_up":
+            return super().give_up(manner, connection, asked)
+        if self.waits_on(connection):
+            self.refused("goodbye", "waits")
+            return self.answer_asked("answer", connection, asked)
+        self.deed("goodbye", f"{connection} lost {self.handled} {self.handled} close")
+        self.counts["given_up"] += 1
+        raise GivenUp
+
+    def do_bound(self, octets: int) -> None:
+        if self.greatest < 0:
+            return super().do_bound(octets)
+        self.give(f"bound {octets}")
+        self.lines.append("too late")
+
+    def do_restore(self) -> None:
+        self.give("restore")
+        self.is_hidden = False
+
+    def do_parked(self) -> None:
+        self.give("parked")
+        counts = [(number, self.parked_of(number)) for number in sorted(set(self.origins.values()))]
+        self.lines.append(" ".join([f"parked {len(self.parked)}", *(f"{c}/{count}" for c, count in counts if count)]))
+
+    def do_wanted(self) -> None:
+        self.give("wanted")
+        self.lines.append(" ".join(["wanted", *(f"{n}/{len(self.going(self.parked[n]))}" for n in sorted(self.parked))]))
+
+
+def blocks(name: str) -> list[list[str]]:
+    """The lines of a file of rows, by their rows, but for what is not told."""
+    with open(os.path.join(ROWS, name), encoding="ascii") as file:
+        rows = file.read().rstrip("\n").split("\n\n")
+    return [[line for line in row.splitlines() if line.split(" ")[0] not in ("heard", "ending")] for row in rows]
+
+
+def is_bounded_late(given: list[str]) -> bool:
+    """Whether the greatest length of a client's id changes once a connection was opened."""
+    words = [line.split(" ")[0] for line in given]
+    return "bound" in words and "opened" in words[:words.index("bound")]
+
+
+def rows() -> tuple[list[str], list[str]]:
+    """The lines of the rows that the header can play, and what is printed for them."""
+    given, printed = blocks("stdin"), blocks("stdout")
+    assert len(given) == len(printed), "another number of rows"
+    pairs = [pair for pair in zip(given, printed) if not is_bounded_late(pair[0])]
+    lines = [line for _, row in pairs for line in row]
+    return [line for row, _ in pairs for line in row], [re.sub(r"unparked \w+$", "unparked", line) for line in lines]
+
+
+def compiled(way: str) -> str:
+    """The player, compiled for one of the ways in which the programs of tests/embed are run."""
+    kit = embedding.the_kit()
+    flags, before = embedding.WAYS[way]
+    if before:
+        programs.tool(before[0])
+    if flags == embedding.SANITIZED and not kit.is_sanitized:
+        raise unittest.SkipTest("this needs the sanitizers")
+    libraries = kit.shared() if way == "with the shared library" else None
+    source = os.path.join(embedding.EMBED, "deeds.c")
+    return kit.compile(f"deeds_{way.replace(' ', '_')}", [source], [f"-I{embedding.EMBED}", *flags], libraries)
+
+
+def ways() -> Iterator[tuple[str, str]]:
+    """The ways in which the player is run."""
+    for way in embedding.WAYS:
+        if way != "without exceptions":
+            yield way, way
+
+
+class Rows(unittest.TestCase):
+    """The rows of crates/deeds_player."""
+
+    @base.each(ways)
+    def test_rows(self, way: str) -> None:
+        """What is printed for them is what stands there, with either library, the sanitizers, and under valgrind."""
+        given, wanted = rows()
+        words = [*embedding.WAYS[way][1], compiled(way)]
+        run = base.ran(*words, given="".join(line + "\n" for line in given).encode(), seconds=embedding.PATIENCE)
+        self.assertEqual((run.stdout.decode().splitlines(), run.stderr.decode(), run.returncode), (wanted, "", 0))
+
+
+class Lists(unittest.TestCase):
+    """An owner's deeds on a server, and changes of what it has on offer, on random lists."""
+
+    @classmethod
+    def setUpClass(cls) -> None:
+        cls.player = compiled("with the sanitizers" if embedding.the_kit().is_sanitized else "with the archive")
+
+    @base.each_seed(deeds.SEED, deeds.COUNT, deeds.PLAYERS)
+    def test_lists(self, seed: int) -> None:
+        """What is written for each deed of the lists that an engine plays is what the model says."""
+        deeds.judge(self.player, deeds.Maker(random.Random(seed)), Embedded)
+
+    @base.each_seed(deeds.SEED, deeds.COUNT, deeds.PLAYERS)
+    def test_lists_of_the_header(self, seed: int) -> None:
+        """So is what is written for each deed that the header has."""
+        deeds.judge(self.player, Maker(random.Random(seed)), Embedded)
