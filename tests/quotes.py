@@ -178,7 +178,8 @@ class Programs(unittest.TestCase):
         for page, languages in SHOWING.items():
             for language in languages:
                 with self.subTest(page=page, language=language):
-                    self.assertEqual([block for _, block in blocks_of(page, language)], [text_of(FIRST[language])])
+                    # (what comes after it is code of another program)
+                    self.assertEqual(blocks_of(page, language)[0][1], text_of(FIRST[language]))
             with self.subTest(page):
                 self.assertEqual({language for language, _ in blocks_of(page)}, set(languages))
 

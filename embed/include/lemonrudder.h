@@ -20,7 +20,7 @@
  * Results.  Each function answers an int64_t: 0 or more, a count where the function says so and else LR_OK, which is
  * 0; below 0, an error LR_E_.., and then nothing has changed, unless the function says otherwise. lr_strerror gives
  * its text. Where a function fills a struct, `size` is that of yours, as `sizeof *request`: the front of the struct is
- * filled, as much of it as there is, and what yours has behind all that the library knows becomes 0. So a struct may
+ * filled, as much of it as there is, and what yours has after all that the library knows becomes 0. So a struct may
  * grow at its end: a program works with the library of a header that is older or newer than its own.
  *
  * Numbers.  Connections are your numbers. A moment counts 100 ns since 15 October 1582, 00:00 UTC, as an expiration
@@ -438,7 +438,7 @@ LR_API int64_t lr_server_give_up(lr_server *server, uint64_t ticket);
 /* Refuses the request of a ticket, which waits or is parked, for now: you have done nothing. A system exception,
  * LR_EX_.., with a minor code and LR_COMPLETED_NO is due to each who waits for it and wishes a reply; nothing is kept,
  * and it is asked again when it comes again. Its connection stays. LR_E_EMPTY, LR_E_RANGE, LR_E_TICKET, LR_E_ASKING,
- * and of one that waits LR_E_LOST: for want of memory it is given up, and its connection is gone. */
+ * and of one that waits LR_E_LOST: memory is short, so it is given up, and its connection is gone. */
 LR_API int64_t lr_server_refuse(lr_server *server, uint64_t ticket, uint32_t name, uint32_t minor);
 
 /* Gives up the request of a ticket, as lr_server_give_up does, and says goodbye first: CloseConnection is due (CORBA

@@ -113,6 +113,17 @@ fn what_is_parked_is_answered_in_any_order() -> Result<(), Error> {
 }
 
 #[test]
+fn what_comes_after_a_repeat_of_a_parked_request_is_served() -> Result<(), Error> {
+    let mut server = connected(&Settings::default())?;
+    let parked = park(&mut server, 1, &deposit(1, 1)?)?;
+    let octets = [deposit(2, 1)?, deposit(3, 2)?].concat();
+    let taken = server.serve(2, NOW, &octets, |request| request.answer(&long(2)?))?;
+    assert_eq!((taken, server.count(Counted::Joined)), (octets.len(), 1));
+    assert_eq!(messages(&server.take_output(2))?, [(MessageType::Reply, 3, Some(2))]);
+    server.answer(parked[0], &long(1)?)
+}
+
+#[test]
 fn while_one_waits_no_parked_one_is_answered() -> Result<(), Error> {
     let mut server = connected(&Settings::default())?;
     let parked = park(&mut server, 1, &deposit(1, 1)?)?;
