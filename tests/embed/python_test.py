@@ -974,7 +974,7 @@ class Engines(Case):
         self.assertIsNone(engine.asked())
         engine.feed(1, asked_for(2, "get"), LONG_AGO)
         second = engine.park()
-        self.assertEqual((engine.parked, engine.parked_of(1), engine.parked_of(2)), (2, 2, 0))
+        self.assertEqual((engine.parked, engine.parked_of(1), engine.parked_of(2), engine.wanted(first)), (2, 2, 0, 1))
         engine.feed(2, asked_for(9, "get"), LONG_AGO)
         self.fails(Error.PARKS, engine.park)
         self.fails(Error.ASKING, engine.answer, 1, ticket=first)
@@ -982,6 +982,7 @@ class Engines(Case):
         self.assertEqual(self.reply(engine, 2).body.unpack("q"), (5,))
         engine.feed(2, asked_for(8, "add", lr.pack("l", 7), retention=1), LONG_AGO)
         self.assertIsNone(engine.asked())
+        self.assertEqual(engine.wanted(first), 2)
         self.assertIsNone(engine.next_due())
         engine.answer(7, ticket=first)
         self.assertEqual({engine.next_due(), engine.next_due()}, {1, 2})
@@ -989,6 +990,7 @@ class Engines(Case):
         self.assertEqual((self.reply(engine, 1).request_id, self.reply(engine, 2).request_id), (1, 8))
         self.fails(Error.TICKET, engine.answer, 7, ticket=first)
         self.fails(Error.TICKET, engine.raise_system, "UNKNOWN", ticket=first)
+        self.fails(Error.TICKET, engine.wanted, first)
         self.fails(Error.PARKS, engine.farewell, 1)
         self.assertFalse(engine.is_closed(1))
         self.fails(Error.OUTCOME, engine.raise_user, OVERFLOW, ticket=second)
@@ -1867,9 +1869,9 @@ class Waits(Case):
             asked, go = [], asyncio.Event()
 
             async def function():
-                asked.append("begun")
+                asked.append(lr.current().wanted)
                 await go.wait()
-                asked.append("ended")
+                asked.append(lr.current().wanted)
                 return 5
 
             server, client = await self.pair({"op": ("", "l", function)})
@@ -1887,7 +1889,7 @@ class Waits(Case):
                 reader, writer = await asyncio.open_connection(client.host, client.port)
                 writer.write(request)
                 message, = lr.messages(await reader.read(4096))
-                self.assertEqual((message.body.unpack("l"), asked), ((5,), ["begun", "ended"]))
+                self.assertEqual((message.body.unpack("l"), asked), ((5,), [1, 0]))
                 writer.close()
         self.run_async(main())
 

@@ -2,8 +2,8 @@
 from __future__ import annotations
 
 from contextvars import ContextVar
-from dataclasses import dataclass
-from typing import Any, Mapping, Optional, Tuple
+from dataclasses import dataclass, field
+from typing import Any, Callable, Mapping, Optional, Tuple
 
 
 @dataclass(frozen=True)
@@ -29,6 +29,12 @@ class Current:
     request_id: int
     version: int
     wish: int
+    _wanted: Callable[[], int] = field(repr=False, compare=False)
+
+    @property
+    def wanted(self) -> int:
+        """How many wait for the outcome now, on connections that go on: 0 where nobody would hear it."""
+        return self._wanted()
 
     def context(self, id: int) -> Optional[bytes]:
         """The data of the first service context of an id, or None."""

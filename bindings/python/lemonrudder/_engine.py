@@ -194,6 +194,12 @@ class Engine(Held):
         """How many of those are parked that came on a connection."""
         return call(library.lr_server_parked_of, self._slot, connection)
 
+    def wanted(self, ticket: int) -> int:
+        """How many wait for the outcome of a parked request, on connections that go on.
+
+        Raises LemonrudderError (TICKET)."""
+        return call(library.lr_server_wanted, self._slot, ticket)
+
     def answer(self, *results: Any, ticket: Optional[int] = None) -> None:
         """Answers a request by its results, one for each type.
 

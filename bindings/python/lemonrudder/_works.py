@@ -85,11 +85,19 @@ class Works:
 
     def _current(self, asked: Asked, connection: Connection) -> Current:
         """What its servant can know of the request that waits."""
-        ft = asked.ft
+        ft, ticket = asked.ft, asked.ticket
         contexts = self._server._engine.contexts() if asked.contexts else ()
         return Current(asked.key, asked.operation, ft and ft.client, ft and ft.retention_id, ft and ft.expiration,
                        connection.number, connection.peer, connection.certificate, contexts, asked.request_id,
-                       asked.version, asked.wish)
+                       asked.version, asked.wish, lambda: self._wanted(ticket))
+
+    def _wanted(self, ticket: int) -> int:
+        """How many wait for an outcome, that of a request which waits among them."""
+        try:
+            return int(self._server._engine.wanted(ticket))
+        except LemonrudderError:
+            asked = None if self._server.is_closed else self._server._engine.asked()
+            return int(asked is not None and asked.ticket == ticket)
 
     def _begin(self, asked: Asked, connection: Connection, performer: Performer, returned: Awaitable[Any]) -> None:
         """Parks the request that waits, for a task to perform it; refuses it where that can't be."""
