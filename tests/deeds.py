@@ -1,18 +1,19 @@
 """Plays random lists of an owner's deeds with the program `deeds_player`, and compares with a model.
 
-A list is requests for the counter and what the owner does of each, by a seed; what is parked is settled or withdrawn
-later, and meanwhile the counter is hidden, or taken away all the same, and offered again, and the ids of clients are
-bounded. What is parked and lost its object is settled with a system exception. The lines of a list are those of
-crates/deeds_player/src/lines.rt. All that is printed must be what the model says (tests/engine_model.py): for
-each deed its connection, how it ended, and what was written. A list that fails is printed with as few lines as are found
-with which it still does, as the program takes them.
+A list is requests for the counter, one or more in a piece, and what the owner does of each, by a seed; what is parked
+is settled or withdrawn later, and meanwhile the counter is hidden, or taken away all the same, and offered again, and
+the ids of clients are bounded. What is parked and lost its object is settled with a system exception. The lines of a
+list are those of crates/deeds_player/src/lines.rt. All that is printed must be what the model says
+(tests/engine_model.py): for each deed its connection, how it ended, and what was written; at a moment that is told,
+what is kept; and what was counted. A list that fails is printed with as few lines as are found with which it still does, as
+the program takes them. tests/embed/deeds_test.py plays these lists with a library.
 """
 import random
 import unittest
 from collections import Counter, namedtuple
 
 from tests import base, giop, programs
-from tests.ends_model import Call, arguments_body, refused
+from tests.ends_model import Call, arguments_body, refused, size_of
 from tests.engine_model import FULL, NONE, NOT_NOW, Asked, Engine, GivenUp, Parked, Places, Terms
 from tests.schedules import NAMES
 from tests.smaller import smallest
@@ -27,8 +28,8 @@ LIMIT = 1048576
 GONE = refused("UNKNOWN", 0, giop.MAYBE)
 
 # what an engine counts, in the order in which it prints these
-COUNTED = ["asked", "repeated", "joined", "expired", "invalid", "log_full", "share_full", "answered", "parked", "settled",
-           "given_up", "declined", "withdrawn"]
+COUNTED = ["asked", "repeated", "joined", "expired", "invalid", "log_full", "share_full", "answered", "parked",
+           "settled", "given_up", "declined", "withdrawn"]
 
 # a line of a request: its connection, its moment, and what it asks. A deed or a change is (NAME, WORDS..)
 Asking = namedtuple("Asking", "connection now asked")
@@ -68,20 +69,17 @@ def request_words(asked):
     return f"{oneway}{asked.request_id} {asked.version} {key} {call.operation.decode()}{arguments}"
 
 
-def size_of(asked):
-    """How many octets a request has."""
+def octets_of(asked):
+    """The octets of a request."""
     call = asked.call
     contexts = [giop.ft_request(*asked.field, call.expiration)] if asked.field else []
-    return len(giop.request(asked.request_id, call.key, call.operation, arguments_body(call.arguments),
-                            minor=int(asked.version[2]), contexts=contexts))
+    return giop.request(asked.request_id, call.key, call.operation, arguments_body(call.arguments),
+                        minor=int(asked.version[2]), contexts=contexts)
 
 
 class Owned(Engine):
     """An engine, its owner, and the lines that it is given and that are printed, for a list of a maker. What the owner
     does of each request that it is asked for stands in `manners`, by the request's id."""
-
-    # what is said of a request for which there is no place to park it
-    UNPARKED = "unparked full"
 
     def __init__(self, maker):
         terms, places = maker.terms, maker.places
@@ -99,8 +97,19 @@ class Owned(Engine):
     def deed(self, line, *printed):
         """Gives a deed, played by itself, and prints what comes of it."""
         self.given += [line, "play"]
-        self.lines += printed
-        self.lines.append("done")
+        self.lines += [*printed, "done"]
+        self.flush()
+
+    def flush(self):
+        """What was written is sent."""
+
+    def written(self, _connection, words, _size):
+        """A message is written on a connection, of so many octets: what is printed of it in the entry."""
+        return words
+
+    def is_choked(self, _connection):
+        """Whether so much is due on a connection that it is fed no more."""
+        return False
 
     def refused(self, line, why):
         """Gives a deed that is refused."""
@@ -138,11 +147,11 @@ class Owned(Engine):
         """How many of the parked requests came on a connection."""
         return sum(self.origins[number] == connection for number in self.parked)
 
-    def reply_words(self, asked, came):
+    def reply_words(self, connection, asked, came):
         """What is written at once, in words."""
         if isinstance(came, Parked) or asked.wish == NONE:
             return ""
-        return f" reply {asked.request_id} {outcome_words(came)}"
+        return self.written(connection, f" reply {asked.request_id} {outcome_words(came)}", size_of(came))
 
     def ask(self, connection, asked):
         """Asks for a request: what comes of it, by what the owner does."""
@@ -151,9 +160,10 @@ class Owned(Engine):
         self.end_piece(connection)
         manner = self.manners[asked.request_id]
         if manner == "park":
-            if len(self.parked) < self.places.parked and self.parked_of(connection) < self.of_one:
+            full = self.full(connection)
+            if full is None:
                 return self.park(number, connection, asked)
-            self.refused("park", self.UNPARKED)
+            self.refused("park", full)
             manner = "answer"
         if manner == "look":
             self.look(connection, asked)
@@ -161,6 +171,12 @@ class Owned(Engine):
         if manner in ("give_up", "goodbye"):
             return self.give_up(manner, connection, asked)
         return self.answer_asked(manner, connection, asked)
+
+    def full(self, connection):
+        """What is said where there is no place to park a request of a connection, or None."""
+        if self.places.parked <= len(self.parked):
+            return "unparked full"
+        return "unparked share" if self.of_one <= self.parked_of(connection) else None
 
     def park(self, number, connection, asked):
         """Parks the request that waits."""
@@ -181,16 +197,15 @@ class Owned(Engine):
         outcome = self.apply(asked.call) if manner == "answer" else NOT_NOW
         line = f"answer {outcome_in(outcome)}" if manner == "answer" else "decline"
         self.counts["answered" if manner == "answer" else "declined"] += 1
-        self.deed(line, f"{connection} done{self.reply_words(asked, outcome)}")
+        self.deed(line, f"{connection} done{self.reply_words(connection, asked, outcome)}")
         return outcome
 
     def look(self, connection, asked):
         """Gives lines that do nothing while a request waits, and an outcome that is not its."""
-        for line in ("hide", "drop", "bound 0", "tick 1000000", "opened 1000", f"close {connection}", f"lost {connection}"):
+        ends = [f"close {connection}", f"lost {connection}"]
+        late = [line for number in list(self.parked)[:1] for line in (f"settle {number} 0", f"withdraw {number}")]
+        for line in ("hide", "drop", "bound 0", "tick 1000000", "opened 1000", *ends, *late):
             self.while_asking(line)
-        for number in list(self.parked)[:1]:
-            self.while_asking(f"settle {number} 0")
-            self.while_asking(f"withdraw {number}")
         if asked.call.operation == b"get":
             self.refused("answer overflow", "not fit")
 
@@ -218,6 +233,10 @@ class Owned(Engine):
             if wire is None or wire.is_shut:
                 return self.deed(line, f"{connection} {'refused' if wire is None else 'done'}")
             self.given += [line, "play"]
+            if self.is_choked(connection):
+                self.lines += [f"{connection} done", "left 1 0"]
+                self.do_flow()
+                continue
             try:
                 some = self.take_piece(connection, some)
             except GivenUp:
@@ -225,18 +244,18 @@ class Owned(Engine):
         return None
 
     def take_piece(self, connection, some):
-        """Takes a piece, up to the first request that is asked for or that repeats a parked one, and gives what is left."""
+        """Takes a piece up to the first request that is asked for, or that repeats a parked one, and gives the rest."""
         self.said, self.handled, self.size, self.rest, self.asking = "", 0, 0, some, False
         while self.rest:
             asked, *self.rest = self.rest
-            self.size += size_of(asked)
+            self.size += len(octets_of(asked))
             stops = self.stops
             came = self.came_of(connection, asked)
             if self.asking:
                 return self.rest
-            self.said += self.reply_words(asked, came)
+            self.said += self.reply_words(connection, asked, came)
             self.handled += 1
-            if stops != self.stops:
+            if stops != self.stops or self.is_choked(connection):
                 break
         self.end_piece(connection)
         return self.rest
@@ -244,6 +263,7 @@ class Owned(Engine):
     def end_piece(self, connection):
         """Prints what is written for a piece, and how many octets of it are taken, where some are left."""
         self.lines += [f"{connection} done{self.said}", f"left 1 {self.size}" if self.rest else "done"]
+        self.flush()
 
     def do_opened(self, number):
         is_new = self.greatest < number
@@ -260,7 +280,8 @@ class Owned(Engine):
         if self.is_going(number) and self.waits_on(number):
             return self.refused(f"close {number}", "waits")
         written, _ = self.close(number)
-        return self.deed(f"close {number}", f"{number} done{' close' if written else ''}")
+        said = self.written(number, " close", len(written)) if written else ""
+        return self.deed(f"close {number}", f"{number} done{said}")
 
     def do_late(self, verb, pick):
         """What is parked is settled or withdrawn, or what is not parked."""
@@ -274,8 +295,12 @@ class Owned(Engine):
         kept = [(key, end, came) for key, end, came in self.performed if verb == "settle" or came is not parked]
         self.performed = [(key, end, outcome if came is parked else came) for key, end, came in kept]
         del self.parked[number]
-        told = [f"{c} done reply {asked.request_id} {outcome_words(outcome)}" for c, asked in self.going(parked)]
+        told = self.told([(c, self.reply_words(c, asked, outcome)) for c, asked in self.going(parked)])
         return self.deed(f"{verb} {number}{' ' + outcome_in(outcome) if verb == 'settle' else ''}", *told)
+
+    def told(self, replies):
+        """What is printed of what those are told who waited, each on its connection."""
+        return [f"{connection} done{words}" for connection, words in replies]
 
     def outcome_of(self, number, parked):
         """The outcome of what is parked: a system exception where its object is gone, and nothing else is taken."""
@@ -311,7 +336,8 @@ class Owned(Engine):
 
     def do_counts(self):
         self.give("counts")
-        self.lines.append(" ".join(["counts", *(f"{name} {self.counts[name]}" for name in COUNTED if self.counts[name])]))
+        some = [f"{name} {self.counts[name]}" for name in COUNTED if self.counts[name]]
+        self.lines.append(" ".join(["counts", *some]))
 
 
 class Maker:
@@ -322,7 +348,7 @@ class Maker:
         capacity, share = dice.choice([(1024, 1024)] * 3 + [(2, 2), (3, 1), (1, 1), (0, 0), (5, 2)])
         self.terms = Terms(capacity, share, 0, LIMIT, 16)
         self.places = Places(dice.choice([0, 1, 2, 3, 100]), dice.choice([0, 1, 2, 10]))
-        self.of_one = self.places.parked
+        self.of_one = dice.choice([self.places.parked, self.places.parked, 1, 2])
         self.keyed, self.manners, self.steps = [], {}, []
 
     def new_request(self):
@@ -354,11 +380,20 @@ class Maker:
         self.last += 1
         return "opened", self.last
 
+    def piece(self):
+        """Requests that come at once."""
+        some = [self.request().asked for _ in range(self.dice.randint(2, 4))]
+        return "asks", self.dice.randint(1, self.last), self.now, some
+
     def step(self):
         """A step: mostly a request."""
         dice, chance = self.dice, self.dice.random()
-        if chance < 0.62:
+        if chance < 0.47:
             return self.request()
+        if chance < 0.55:
+            return self.piece()
+        if chance < 0.62:
+            return dice.choice([("counts",), ("tick", self.now + dice.choice([0, 1, 10]))])
         if chance < 0.76:
             return "late", dice.choice(["settle", "settle", "withdraw"]), dice.randrange(64)
         if chance < 0.84:
@@ -377,12 +412,13 @@ class Maker:
             self.ids += 1
             self.manners[self.ids] = "answer"
             self.steps.append(Asking(self.last, self.now, asked._replace(request_id=self.ids, wish=FULL)))
+        self.steps.append(("counts",))
         return self.steps
 
 
 def fault_of(player, engine, steps):
-    """What is wrong with what a program prints for the steps of a list, or None: the lines that were given, and those that
-    were printed."""
+    """What is wrong with what a program prints for the steps of a list, or None: the lines that were given, wanted and
+    printed."""
     for step in steps:
         engine.take(step)
     given = "".join(line + "\n" for line in engine.given)

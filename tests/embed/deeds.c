@@ -9,9 +9,12 @@
  * - What is told of a parked request is printed by the numbers of the connections, and on each as it is due.
  * - `goodbye`: the request that waits is given up, and CloseConnection is due on its connection. Where somebody waits
  *   there for a parked one it is refused: `waits`.
+ * - `due N` is how many octets are due on a connection from which on it is fed no more, set before the first one is
+ *   opened. After `hold` what is due is left so, up to `flow`, which prints all of it; the connections on which parked
+ *   requests are answered meanwhile are `named`.
  * - `restore` offers the counter again, also where requests are parked.
  * - `parked` prints how many requests are parked, and of each connection C/COUNT, where any is; `wanted` prints of each
- *   that is parked NUMBER/COUNT, how many wait for its outcome.
+ *   that is parked NUMBER/COUNT, how many wait for its outcome; `connections` how many there are, and which are closed.
  *
  * Octets are read and written without the library. What is due where no deed says so is printed too.
  */
@@ -37,6 +40,7 @@ static size_t ask_count;
 static uint64_t connections[CONNECTIONS];
 static size_t connection_count;
 static uint64_t now;
+static bool is_held;
 /* how many requests and locates had been handled when the last piece came */
 static int64_t handled_before;
 
@@ -137,7 +141,7 @@ static void put_digits(struct piece *piece, const char *digits) {
 
 /* ---- messages that are due ---- */
 
-/* Octets of a message from its header on, and where reading stands; what is not there reads as 0, and is odd. */
+/* Octets of a message from its header on, and where reading stands. What is not there reads as 0, and is odd. */
 struct reader {
   const unsigned char *octets;
   size_t size, at;
@@ -167,7 +171,7 @@ static uint64_t get_number(struct reader *reader, size_t width) {
 static const char *get_text(struct reader *reader) {
   size_t size = (size_t)get_number(reader, 4);
   const char *text = (const char *)get_octets(reader, size);
-  if (reader->is_odd || size == 0 || strlen(text) != size - 1) {
+  if (reader->is_odd || size == 0 || memchr(text, '\0', size) != text + size - 1) {
     reader->is_odd = true;
     return "";
   }
@@ -212,11 +216,16 @@ static size_t print_message(const unsigned char *octets, size_t size) {
   uint64_t length = get_number(&reader, 4);
   if (!is_giop || reader.is_odd || head[0] != 1 || head[2] != LR_ORDER_BIG || length > size - reader.at) return 0;
   reader.size = reader.at + (size_t)length;
-  if (head[3] == LR_MSG_REPLY) print_reply(&reader, head[1] == 2);
-  else if (head[3] == LR_MSG_LOCATE_REPLY) print_located(&reader);
-  else if (head[3] == LR_MSG_CLOSE_CONNECTION) printf(" close");
-  else if (head[3] == LR_MSG_ERROR) printf(" error");
-  else return 0;
+  if (head[3] == LR_MSG_REPLY)
+    print_reply(&reader, head[1] == 2);
+  else if (head[3] == LR_MSG_LOCATE_REPLY)
+    print_located(&reader);
+  else if (head[3] == LR_MSG_CLOSE_CONNECTION)
+    printf(" close");
+  else if (head[3] == LR_MSG_ERROR)
+    printf(" error");
+  else
+    return 0;
   if (reader.is_odd || reader.at != reader.size) printf(" odd");
   return reader.size;
 }
@@ -232,7 +241,7 @@ static size_t take_due(uint64_t connection, unsigned char *all) {
   }
 }
 
-/* Prints what is due on a connection: on one line, or each message on its own. */
+/* Prints what is due on a connection: on one line, or on one for each message. */
 static void print_due(uint64_t connection, const char *how, bool is_each) {
   static unsigned char all[DUE];
   size_t size = take_due(connection, all), at = 0;
@@ -247,8 +256,13 @@ static void print_due(uint64_t connection, const char *how, bool is_each) {
   if (!is_each) printf("\n");
 }
 
-/* Prints an entry of what was written. */
-static void print_entry(uint64_t connection, const char *how) { print_due(connection, how, false); }
+/* Prints an entry of what was written; what is due stays so where it is held. */
+static void print_entry(uint64_t connection, const char *how) {
+  if (is_held)
+    printf("%" PRIu64 " %s\n", connection, how);
+  else
+    print_due(connection, how, false);
+}
 
 static int by_number(const void *one, const void *other) {
   uint64_t a = *(const uint64_t *)one, b = *(const uint64_t *)other;
@@ -261,14 +275,24 @@ static void print_told(void) {
   size_t count = 0;
   while (count < CONNECTIONS && lr_server_next_due(&server, &named[count]) == 1) count++;
   qsort(named, count, sizeof named[0], by_number);
-  for (size_t index = 0; index < count; index++) print_due(named[index], "done", true);
+  for (size_t index = 0; index < count; index++) {
+    if (is_held)
+      printf("%" PRIu64 " named\n", named[index]);
+    else
+      print_due(named[index], "done", true);
+  }
 }
 
-/* Nothing is named or due after a deed. */
+/* Prints all that is due. */
+static void print_all_due(const char *how) {
+  for (size_t index = 0; index < connection_count; index++) print_due(connections[index], how, true);
+}
+
+/* Nothing is named or due after a deed, but for what is held. */
 static void print_odd(void) {
   uint64_t named;
   while (lr_server_next_due(&server, &named) == 1) printf("%" PRIu64 " is named\n", named);
-  for (size_t index = 0; index < connection_count; index++) print_due(connections[index], "is due", true);
+  if (!is_held) print_all_due("is due");
 }
 
 /* ---- deeds ---- */
@@ -354,8 +378,10 @@ static struct ended do_piece(uint64_t connection, uint64_t moment, const struct 
 static struct ended read_piece(const char *name, char *words) {
   struct piece piece = {.size = 0};
   uint64_t connection = number(parted(&words, ' ')), moment = number(parted(&words, ' '));
-  if (strcmp(name, "asks") == 0) put_requests(&piece, words);
-  else put_digits(&piece, words);
+  if (strcmp(name, "asks") == 0)
+    put_requests(&piece, words);
+  else
+    put_digits(&piece, words);
   return do_piece(connection, moment, &piece);
 }
 
@@ -401,8 +427,7 @@ static struct ended do_park(void) {
 static struct ended do_give_up(bool is_goodbye) {
   char how[64];
   lr_request asked = waiting();
-  int64_t answer =
-      is_goodbye ? lr_server_goodbye(&server, asked.ticket) : lr_server_give_up(&server, asked.ticket);
+  int64_t answer = is_goodbye ? lr_server_goodbye(&server, asked.ticket) : lr_server_give_up(&server, asked.ticket);
   if (answer == LR_E_IDLE) return refused_by("nothing asked");
   if (answer == LR_E_PARKS) return refused_by("waits");
   if (answer != LR_OK) return refused(answer);
@@ -412,15 +437,14 @@ static struct ended do_give_up(bool is_goodbye) {
   return done;
 }
 
-/* A parked request is answered, or refused where there is no outcome. What waits is none: that is not tried. A number
- * under which nothing is parked, and an outcome that is not fit, are one refusal: which of the two it is must agree with
- * whether the ticket is one. */
+/* A parked request is answered, or refused where there is no outcome. What waits is none: that is not tried. It is one
+ * refusal where nothing is parked under a number, and where the outcome is not fit: the error must be the one of these
+ * that it is. */
 static struct ended do_late(uint64_t asked, const char *outcome) {
   uint64_t ticket = asked < ask_count ? tickets[asked] : 0;
   if (ticket != 0 && waiting().ticket == ticket) return refused_by("asking");
   bool is_parked = lr_server_part(&server, ticket, LR_PART_OPERATION, NULL, 0) > 0;
-  int64_t answer =
-      outcome == NULL ? lr_server_refuse(&server, ticket, LR_EX_TRANSIENT, 0) : hand_in(ticket, outcome);
+  int64_t answer = outcome == NULL ? lr_server_refuse(&server, ticket, LR_EX_TRANSIENT, 0) : hand_in(ticket, outcome);
   if (answer == (is_parked ? LR_E_OUTCOME : LR_E_TICKET)) return refused_by("not parked");
   if (answer != LR_OK) return refused(answer);
   print_told();
@@ -491,6 +515,7 @@ static void open_server(char *words) {
     must(lr_server_set(&server, limits[index], number(parted(&words, ' '))));
   deed_count = ask_count = connection_count = 0;
   now = 0;
+  is_held = false;
 }
 
 /* Exchanges what is on offer, by the counter or by nothing. */
@@ -498,21 +523,27 @@ static void offer(bool is_hidden) {
   lr_catalogue catalogue = LR_INIT;
   open_catalogue(&catalogue, is_hidden);
   int64_t answer = lr_server_swap(&server, &catalogue);
-  if (answer == LR_E_ASKING) printf("asking\n");
-  else must(answer);
+  if (answer == LR_E_ASKING)
+    printf("asking\n");
+  else
+    must(answer);
   lr_catalogue_close(&catalogue);
 }
 
 /* .. unless requests are parked; one that waits comes first. */
 static void offer_unwanted(bool is_hidden) {
-  if (waiting().ticket == 0 && lr_server_parked(&server) > 0) printf("wanted\n");
-  else offer(is_hidden);
+  if (waiting().ticket == 0 && lr_server_parked(&server) > 0)
+    printf("wanted\n");
+  else
+    offer(is_hidden);
 }
 
-static void bound(uint64_t octets) {
-  int64_t answer = lr_server_set(&server, LR_SET_CLIENT_ID, octets);
-  if (answer == LR_E_OPEN) printf("too late\n");
-  else must(answer);
+static void set_limit(uint32_t what, uint64_t value) {
+  int64_t answer = lr_server_set(&server, what, value);
+  if (answer == LR_E_OPEN)
+    printf("too late\n");
+  else
+    must(answer);
 }
 
 static void tick(uint64_t moment) {
@@ -531,8 +562,8 @@ static void tick(uint64_t moment) {
 }
 
 static void print_counts(void) {
-  static const char *const names[] = {"asked",    "repeated",   "joined",  "expired", "malformed", "invalid",
-                                      "log_full", "share_full", "located", "dropped", "answered",  "parked",
+  static const char *const names[] = {"asked",    "repeated",   "joined",   "expired",  "malformed", "invalid",
+                                      "log_full", "share_full", "located",  "dropped",  "answered",  "parked",
                                       "settled",  "given_up",   "declined", "withdrawn"};
   printf("counts");
   for (uint32_t what = LR_COUNT_ASKED; what <= LR_COUNT_WITHDRAWN; what++) {
@@ -543,7 +574,9 @@ static void print_counts(void) {
 }
 
 static void print_parked(void) {
-  printf("parked %" PRId64, lr_server_parked(&server));
+  int64_t parked = lr_server_parked(&server), counted = lr_server_count(&server, LR_COUNT_PARKED_NOW);
+  printf("parked %" PRId64, parked);
+  if (counted != parked) printf(" but %" PRId64 " are counted", counted);
   for (size_t index = 0; index < connection_count; index++) {
     int64_t count = lr_server_parked_of(&server, connections[index]);
     if (count != 0) printf(" %" PRIu64 "/%" PRId64, connections[index], count);
@@ -560,28 +593,73 @@ static void print_wanted(void) {
   printf("\n");
 }
 
+/* How many connections there are, and which of those that were opened are closed. */
+static void print_connections(void) {
+  printf("connections %" PRId64, lr_server_count(&server, LR_COUNT_CONNECTIONS));
+  for (size_t index = 0; index < connection_count; index++)
+    if (lr_server_is_closed(&server, connections[index]) != 0) printf(" %" PRIu64, connections[index]);
+  printf("\n");
+}
+
 static void note_deed(const char *line) {
   if (deed_count == DEEDS) stop("too many deeds");
   memcpy(deeds[deed_count++], line, strlen(line) + 1);
 }
 
-/* Takes a line of a server. */
+/* Whether a line changes what is on offer. */
+static bool is_offer(const char *name) {
+  bool is_hidden = strcmp(name, "hide") == 0 || strcmp(name, "drop") == 0;
+  if (strcmp(name, "hide") == 0 || strcmp(name, "show") == 0) {
+    offer_unwanted(is_hidden);
+    return true;
+  }
+  if (!is_hidden && strcmp(name, "restore") != 0) return false;
+  offer(is_hidden);
+  return true;
+}
+
+/* Whether a line says whether what is due is held. */
+static bool is_hold(const char *name) {
+  if (strcmp(name, "hold") != 0 && strcmp(name, "flow") != 0) return false;
+  is_held = name[0] == 'h';
+  if (!is_held) print_all_due("due");
+  return true;
+}
+
+/* Whether a line asks what a server has. */
+static bool is_question(const char *name) {
+  static const struct {
+    const char *name;
+    void (*print)(void);
+  } questions[] = {
+      {"counts", print_counts}, {"parked", print_parked}, {"wanted", print_wanted}, {"connections", print_connections}};
+  for (size_t index = 0; index < sizeof questions / sizeof questions[0]; index++) {
+    if (strcmp(name, questions[index].name) != 0) continue;
+    questions[index].print();
+    return true;
+  }
+  return false;
+}
+
+/* Takes a line. */
 static void take_line(char *line) {
   char copy[LINE], *words = copy;
   memcpy(copy, line, strlen(line) + 1);
   const char *name = parted(&words, ' ');
-  if (strcmp(name, "engine") == 0) open_server(words);
-  else if (strcmp(name, "play") == 0) play();
-  else if (strcmp(name, "hide") == 0) offer_unwanted(true);
-  else if (strcmp(name, "show") == 0) offer_unwanted(false);
-  else if (strcmp(name, "drop") == 0) offer(true);
-  else if (strcmp(name, "restore") == 0) offer(false);
-  else if (strcmp(name, "bound") == 0) bound(number(words));
-  else if (strcmp(name, "counts") == 0) print_counts();
-  else if (strcmp(name, "tick") == 0) tick(number(words));
-  else if (strcmp(name, "parked") == 0) print_parked();
-  else if (strcmp(name, "wanted") == 0) print_wanted();
-  else note_deed(line);
+  if (line[0] == '\0' || line[0] == '#')
+    printf("%s\n", line);
+  else if (strcmp(name, "engine") == 0)
+    open_server(words);
+  else if (strcmp(name, "play") == 0)
+    play();
+  else if (strcmp(name, "bound") == 0)
+    set_limit(LR_SET_CLIENT_ID, number(words));
+  else if (strcmp(name, "due") == 0)
+    set_limit(LR_SET_DUE, number(words));
+  else if (strcmp(name, "tick") == 0)
+    tick(number(words));
+  else if (!is_offer(name) && !is_hold(name) && !is_question(name))
+    note_deed(line);
 }
 
 int main(void) {
@@ -590,8 +668,7 @@ int main(void) {
     char *end = strchr(line, '\n');
     if (end == NULL) stop("a line is too long");
     *end = '\0';
-    if (line[0] == '\0' || line[0] == '#') printf("%s\n", line);
-    else take_line(line);
+    take_line(line);
   }
   lr_server_close(&server);
   return 0;

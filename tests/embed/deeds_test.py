@@ -5,11 +5,13 @@ those that crates/deeds_player has, and are printed as they stand there. Both by
 has no such thing, or another:
 
 - An error says that there is no place to park a request, and not which places are taken.
-- The greatest length of a client's id is set before the first connection is opened: a list has `bound` first of all, and
-  afterwards it is too late, also while a request waits. Rows in which it changes later are left out.
+- The greatest length of a client's id is set before the first connection is opened: afterwards `bound` is too late,
+  also while a request waits. Rows in which it changes later are left out.
 - What became of each request (`heard`) is not told, but counted; why a connection ended (`ending`) is not told.
 - The connections on which octets became due by the outcome of a parked request are named in no order that is promised:
   what is told is compared by the numbers of the connections, and in its order on each.
+- Where so much is due on a connection that it is fed no more, and its stream has ended too, either may come first: what
+  is due is taken before something comes there.
 """
 from __future__ import annotations
 
@@ -21,10 +23,13 @@ from collections.abc import Iterator
 
 from tests import base, deeds, embedding, programs
 from tests.engine_model import Asked, GivenUp, Parked, Places
+from tests.giop import HEADER
 
 ROWS = os.path.join(programs.ROOT, "crates", "deeds_player")
 # the greatest length of a client's id where none is set
 LONGEST = 256
+# .. and how many octets are due on a connection from which on it is fed no more
+DUE = 1048576
 
 
 class Maker(deeds.Maker):
@@ -33,7 +38,7 @@ class Maker(deeds.Maker):
     def __init__(self, dice: random.Random) -> None:
         super().__init__(dice)
         self.places = Places(dice.choice([1, 2, 3, 100]), dice.choice([0, 1, 2, 10]))
-        self.of_one = dice.choice([self.places.parked, self.places.parked, 1, 2])
+        self.of_one = dice.choice([self.places.parked, 1, 2])
 
     def request(self) -> deeds.Asking:
         asking, dice = super().request(), self.dice
@@ -42,37 +47,81 @@ class Maker(deeds.Maker):
             self.manners[number] = "goodbye"
         return asking._replace(connection=dice.choice([asking.connection, dice.randint(1, self.last)]))
 
-    def piece(self) -> tuple:
-        """Requests that come at once, on any connection."""
-        some = [self.request().asked for _ in range(self.dice.randint(2, 4))]
-        return "asks", self.dice.randint(1, self.last), self.now, some
-
     def step(self) -> tuple:
-        dice = self.dice
-        chance = dice.random()
+        chance = self.dice.random()
         if chance < 0.1:
-            return self.piece()
-        if chance < 0.2:
             return self.opened()
         if chance < 0.85:
             return super().step()
-        tick = "tick", self.now + dice.choice([0, 1, 10])
-        return dice.choice([("counts",), ("parked",), ("wanted",), ("restore",), tick])
+        return self.dice.choice([("parked",), ("wanted",), ("connections",), ("restore",), ("hold",), ("flow",)])
 
     def made(self) -> list[tuple]:
         longest = self.dice.choice([0, 2, 6, 255, *[LONGEST] * 20])
-        self.steps = [("bound", longest), *super().made(), ("parked",), ("counts",)]
+        due = self.dice.choice([1, 32, 33, 100, DUE, DUE])
+        self.steps = [("bound", longest), ("due", due), *super().made(), ("parked",), ("connections",), ("flow",)]
         return self.steps
 
 
 class Embedded(deeds.Owned):
     """A server of the library, and its owner."""
 
-    UNPARKED = "unparked"
-
     def __init__(self, maker: Maker) -> None:
         super().__init__(maker)
         self.longest = LONGEST
+        # how many octets are due on a connection from which on it is fed no more; what is due on each, with its octets;
+        # and whether it is left there
+        self.limit, self.due, self.is_held = DUE, {}, False
+        # the connections that were opened, and those of them that were not lost
+        self.opened, self.known = set(), set()
+
+    def written(self, connection: int, words: str, size: int) -> str:
+        self.due.setdefault(connection, []).append((words, size))
+        return "" if self.is_held else words
+
+    def flush(self) -> None:
+        if not self.is_held:
+            self.due.clear()
+
+    def is_choked(self, connection: int) -> bool:
+        return self.limit <= sum(size for _, size in self.due.get(connection, []))
+
+    def told(self, replies: list[tuple[int, str]]) -> list[str]:
+        if self.is_held:
+            return [f"{connection} named" for connection in sorted({connection for connection, _ in replies})]
+        return super().told(replies)
+
+    def do_asks(self, connection: int, now: int, some: list[Asked]) -> None:
+        if not self.is_going(connection):
+            self.do_flow()
+        super().do_asks(connection, now, some)
+
+    def do_hold(self) -> None:
+        self.give("hold")
+        self.is_held = True
+
+    def do_flow(self) -> None:
+        self.give("flow")
+        self.is_held = False
+        self.lines += [f"{number} due{words}" for number, messages in sorted(self.due.items()) for words, _ in messages]
+        self.due.clear()
+
+    def do_opened(self, number: int) -> None:
+        new = {number} if self.greatest < number else set()
+        self.opened, self.known = self.opened | new, self.known | new
+        super().do_opened(number)
+
+    def do_lost(self, number: int) -> None:
+        self.due.pop(number, None)
+        self.known.discard(number)
+        super().do_lost(number)
+
+    def do_connections(self) -> None:
+        self.give("connections")
+        closed = [str(number) for number in sorted(self.opened) if not self.is_going(number)]
+        self.lines.append(" ".join([f"connections {len(self.known)}", *closed]))
+
+    def full(self, connection: int) -> str | None:
+        return None if super().full(connection) is None else "unparked"
 
     def going(self, parked: Parked) -> list[tuple[int, Asked]]:
         return sorted(super().going(parked), key=lambda waiter: waiter[0])
@@ -88,15 +137,24 @@ class Embedded(deeds.Owned):
         if self.waits_on(connection):
             self.refused("goodbye", "waits")
             return self.answer_asked("answer", connection, asked)
-        self.deed("goodbye", f"{connection} lost {self.handled} {self.handled} close")
+        said = self.written(connection, " close", HEADER)
+        self.deed("goodbye", f"{connection} lost {self.handled} {self.handled}{said}")
         self.counts["given_up"] += 1
         raise GivenUp
 
+    def is_late(self, line: str) -> bool:
+        """Gives a line that sets a limit, and says whether a connection was opened."""
+        self.give(line)
+        self.lines += ["too late"] if self.greatest >= 0 else []
+        return self.greatest >= 0
+
     def do_bound(self, octets: int) -> None:
-        if self.greatest < 0:
-            return super().do_bound(octets)
-        self.give(f"bound {octets}")
-        self.lines.append("too late")
+        if not self.is_late(f"bound {octets}"):
+            self.longest = octets
+
+    def do_due(self, octets: int) -> None:
+        if not self.is_late(f"due {octets}"):
+            self.limit = octets
 
     def do_restore(self) -> None:
         self.give("restore")
@@ -109,7 +167,8 @@ class Embedded(deeds.Owned):
 
     def do_wanted(self) -> None:
         self.give("wanted")
-        self.lines.append(" ".join(["wanted", *(f"{n}/{len(self.going(self.parked[n]))}" for n in sorted(self.parked))]))
+        some = [f"{number}/{len(self.going(parked))}" for number, parked in sorted(self.parked.items())]
+        self.lines.append(" ".join(["wanted", *some]))
 
 
 def blocks(name: str) -> list[list[str]]:
