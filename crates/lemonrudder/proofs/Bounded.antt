@@ -1,11 +1,9 @@
 -- A piece that is taken until as many octets are due as may be, whatever of those that are due was taken before.
-use Rattle.std.proofs.Common.{◌≡◌, ℕ, ◌+◌, ◌<◌, ◌≤◌, min, List, length, drop, take, Result, Ok, Err, ap, refl, sym, ◌∙◌, arith, length-drop}
+use Rattle.std.proofs.Common.{◌≡◌, ℕ, ◌+◌, ◌<◌, ◌≤◌, min, List, length, drop, take, Result, Ok, Err, ap, sym, ◌∙◌, arith, length-drop}
 use Rattle.ft_log.specs.Holding.{Holding}
-use Rattle.ft_orb.specs.Bounds.{ComesDue, IsBelow, IsFirstDue, StopsWhereDue}
+use Rattle.ft_orb.specs.Bounds.{ComesDue, IsBelow, StopsWhereDue}
 use Rattle.ft_orb.specs.History.{Event, Piece, completed}
-use Rattle.ft_orb.specs.Outputs.{output_cut}
-use Rattle.ft_orb.specs.Owners.{owned_says}
-use Rattle.ft_orb.specs.Parking.{Settings, by_number}
+use Rattle.ft_orb.specs.Parking.{Settings}
 use Rattle.ft_orb.specs.declared.engine.Fed.TheVariants as fed
 use Rattle.ft_orb.specs.declared.engine.Taken.{Taken}
 use Rattle.ft_orb.specs.declared.engine.Taken.TheVariants as taken

@@ -1,6 +1,6 @@
 -- What a call does that parks the request that waits, and what is reported of those that are parked, and of the connections on which
 -- octets came due for them.
-use Rattle.std.specs.Prelude.{◌≡◌, ◌==◌, ◌⊎◌, ℕ, ◌<◌, ◌≤◌, false, List, [], ◌∷◌, ◌++◌, length, None, Some, Result, Ok, Err}
+use Rattle.std.specs.Prelude.{◌≡◌, ◌==◌, ◌⊎◌, ℕ, ◌≤◌, false, List, [], ◌∷◌, ◌++◌, length, None, Some, Result, Ok, Err}
 use Rattle.ft_log.specs.Holding.{Holding, parked}
 use Rattle.ft_objects.specs.Families.{families_offer}
 use Rattle.ft_orb.specs.declared.events.Note.TheVariants.{Done}

@@ -1,10 +1,10 @@
 -- What a call does that answers a request that is parked, or declines it: all who wait are told.
-use Rattle.std.specs.Prelude.{◌≡◌, ◌==◌, ℕ, ◌<◌, false, List, [], ◌∷◌, length, None, Result, Ok, Err}
+use Rattle.std.specs.Prelude.{◌≡◌, ◌==◌, ℕ, ◌<◌, false, List, [], ◌∷◌, length, None, Result, Ok}
 use Rattle.ft_log.specs.Holding.{Holding, known, parked}
 use Rattle.ft_log.specs.Performed.{Performed}
 use Rattle.ft_objects.specs.Families.{families_offer}
 use Rattle.ft_orb.specs.Deeds.{Told}
-use Rattle.ft_orb.specs.History.{Event, Withdrew}
+use Rattle.ft_orb.specs.History.{Withdrew}
 use Rattle.ft_orb.specs.Parking.{CanSettle, Settings, Stays, parked_at, parked_in, put_at, told_in}
 use Rattle.ft_orb.specs.Requests.{Call}
 use Rattle.lemonrudder.specs.declared.refusal.Refusal.{Refusal}

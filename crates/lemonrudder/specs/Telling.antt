@@ -1,5 +1,5 @@
 -- How the outcome of a request that is parked is told to all who wait for it, one after another.
-use Rattle.std.specs.Prelude.{◌≡◌, ◌==◌, ◌||◌, ℕ, Bool, true, false, if◌then◌else◌, List, [], ◌∷◌, ◌++◌, Option, Some, None}
+use Rattle.std.specs.Prelude.{◌≡◌, ◌==◌, ◌||◌, ℕ, Bool, true, false, if◌then◌else◌, List, [], ◌∷◌, ◌++◌}
 use Rattle.ft_log.specs.Holding.{Holding}
 use Rattle.ft_log.specs.Performed.{Performed}
 use Rattle.ft_objects.specs.Families.{families_offer}

@@ -1,6 +1,6 @@
 //! Octets that are to be sent, and that the caller has not taken yet.
 
-ghost use Rattle.std.specs.Prelude.{◌≡◌, ◌<◌, ◌+◌, ◌↔◌, [], IsTrue, drop, length, min};
+ghost use Rattle.std.specs.Prelude.{◌≡◌, ◌+◌, [], drop, length, min};
 ghost use Rattle.lemonrudder.specs.Refusals.{filled};
 
 /// Octets that are due; the first `taken` are gone.
@@ -19,13 +19,6 @@ impl Due {
         ensures placed { IsPlaced result }
     {
         Due { octets, taken: 0 }
-    }
-
-    /// Whether octets are due.
-    pub fn is_some(&self) -> bool
-        ensures { IsTrue result ↔ 0 < length (owed self.now) }
-    {
-        self.taken < self.octets.len()
     }
 
     /// How many octets are due.

@@ -1,4 +1,4 @@
-use Rattle.std.proofs.Common.{ℕ, ◌≤◌, ap, sym, arith}
+use Rattle.std.proofs.Common.{◌≤◌, ap, sym, arith}
 use Rattle.std.proofs.lemmas.Option.{slice_get_past}
 use Rattle.lemonrudder.specs.Naming.{or_range, system_names}
 use Rattle.lemonrudder.proofs.named.system_name_of.Goals as goal

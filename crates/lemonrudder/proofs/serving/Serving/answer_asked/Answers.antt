@@ -1,4 +1,4 @@
-use Rattle.std.proofs.Common.{List, ℕ, [], ◌∷◌, ◌++◌, length, drop, refl, sym, ◌∙◌}
+use Rattle.std.proofs.Common.{[], ◌∷◌, ◌++◌, length, drop, refl, ◌∙◌}
 use Rattle.ft_objects.specs.Families.{families_offer}
 use Rattle.ft_orb.specs.Engines.{Resumes, ResumesOnce}
 use Rattle.ft_orb.specs.EnginesNow.{ResumesNow}

@@ -1,5 +1,5 @@
-use Rattle.std.proofs.Common.{Ok, Err, ap, inl, inr, refl, ◌∙◌}
-use Rattle.lemonrudder.proofs.Asked.{asked-idle, idle-by, opened-owed, opened-undone}
+use Rattle.std.proofs.Common.{Ok, Err, ap, inr, refl}
+use Rattle.lemonrudder.proofs.Asked.{opened-owed, opened-undone}
 use Rattle.lemonrudder.proofs.Idling.{not_both, not_so}
 use Rattle.lemonrudder.proofs.serving.Serving.connect.Goals as goal
 

@@ -1,4 +1,4 @@
-use Rattle.std.proofs.Common.{List, ℕ, drop, Ok, Err, ap, refl, sym, ◌∙◌}
+use Rattle.std.proofs.Common.{drop, Ok, Err, ap, refl, ◌∙◌}
 use Rattle.ft_objects.specs.Families.{families_offer}
 use Rattle.ft_orb.specs.Engines.{handled_in}
 use Rattle.ft_orb.specs.Parking.{DeclinesLate, not_now}

@@ -1,9 +1,8 @@
-use Rattle.std.proofs.Common.{◌≡◌, ℕ, ◌<◌, List, ◌++◌, drop, Ok, Err, ap, refl, sym, ◌∙◌, arith}
+use Rattle.std.proofs.Common.{◌≡◌, ℕ, List, ◌++◌, drop, Ok, Err, ap, refl, sym, ◌∙◌, arith}
 use Rattle.std.proofs.lemmas.Grind.{common_steps}
 use Rattle.ft_objects.specs.Families.{families_offer}
 use Rattle.ft_orb.specs.declared.error.CloseError.TheVariants as closing
 use Rattle.ft_orb.specs.declared.error.ServeError.TheVariants as serving
-use Rattle.ft_orb.specs.declared.events.Note.{Note}
 use Rattle.ft_orb.specs.declared.events.Note.TheVariants.{Done, Memory, Refused}
 use Rattle.ft_orb.specs.History.{Close}
 use Rattle.ft_orb.specs.Parking.{EndsLate}

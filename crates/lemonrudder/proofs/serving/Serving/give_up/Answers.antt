@@ -10,7 +10,7 @@ returns c =
     by_ticket (waiting_by c.args.ticket (waits_in c.args.self.now.engine)) (awaited_lent c.in_ok-number.field-0) _ _ _ _ c.in_ok-number.ensures (
       refl,
       c.give_up.ensures.idle,
-      (λ q. refl, refl),
+      (λ q. (refl, refl), refl),
       (c.give_up.ensures.catalogue, refl),
       c.give_up.ensures.asks,
       c.give_up.result,

@@ -1,10 +1,9 @@
-use Rattle.std.proofs.Common.{◌≡◌, Ok, Err, Some, ◌≤◌, inl, inr, ap, refl, sym, ◌∙◌, arith}
+use Rattle.std.proofs.Common.{◌≡◌, Ok, Err, ◌≤◌, inl, inr, refl, ◌∙◌, arith}
 use Rattle.std.proofs.lemmas.Grind.{common_steps}
 use Rattle.ft_orb.specs.declared.error.ParkError.TheVariants.{Full, Memory, Share}
 use Rattle.ft_orb.specs.Engines.{awaited_lent, waits_in}
 use Rattle.ft_orb.specs.Parking.{parked_count, parked_of, places_of, places_of_one}
 use Rattle.lemonrudder.specs.Tickets.{waiting_by}
-use Rattle.lemonrudder.proofs.Asked.{asked-idle, asked-still}
 use Rattle.lemonrudder.proofs.Handing.{by_ticket, open_by, waits-are}
 use Rattle.lemonrudder.proofs.Parking.{done_not, no_place, not_memory}
 use Rattle.lemonrudder.proofs.serving.Serving.park.Goals as goal

@@ -1,7 +1,7 @@
-use Rattle.std.proofs.Common.{◌<◌, List, ℕ, length, drop, refl, sym, ◌∙◌, arith}
+use Rattle.std.proofs.Common.{◌<◌, length, drop, refl, ◌∙◌, arith}
 use Rattle.std.proofs.lemmas.Grind.{common_steps}
 use Rattle.ft_objects.specs.Families.{families_offer}
-use Rattle.ft_orb.specs.Bounds.{ComesDue, StopsWhereDue, fed_in, piece_in}
+use Rattle.ft_orb.specs.Bounds.{fed_in, piece_in}
 use Rattle.ft_orb.specs.Engines.{Feeds, FeedsOnce, waits_in}
 use Rattle.ft_orb.specs.EnginesNow.{FeedsNow}
 use Rattle.ft_orb.specs.Parking.{FeedsLate}

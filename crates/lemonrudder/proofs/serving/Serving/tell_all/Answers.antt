@@ -1,4 +1,4 @@
-use Rattle.std.proofs.Common.{◌≡◌, ℕ, ◌<◌, ◌≤◌, [], Option, IsSome, refl, sym, subst, ◌∙◌, arith}
+use Rattle.std.proofs.Common.{ℕ, ◌<◌, ◌≤◌, [], Option, IsSome, refl, sym, subst, ◌∙◌, arith}
 use Rattle.ft_log.specs.Performed.{Performed}
 use Rattle.lemonrudder.proofs.Asked.{asked-idle}
 use Rattle.lemonrudder.proofs.Tellings.{tells-all, tells-next, tells-none}
